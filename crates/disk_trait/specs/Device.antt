@@ -1,0 +1,60 @@
+-- What a device means at one moment. Our own model of a disk and of the links to the outside.
+use Rattle.std.specs.Prelude.{◌≡◌, ◌≤◌, ℕ, Bool, true, List, length, map}
+
+-- one connection: the bytes that `hear` gave, whether `hear` answered 0, whether a `hear` or `say`
+-- failed on it, and the bytes that it was told
+pub record Connection : Type 0 where
+  pub heard : List ℕ
+  pub ended : Bool
+  pub failed : Bool
+  pub told : List ℕ
+
+-- The links to the outside: the counts of their faults, whether a connection is under way, the
+-- connections in the order in which they began, and whether `next_peer` said that no more will come.
+pub record Link : Type 0 where
+  pub faults : ℕ
+  pub peer_faults : ℕ
+  pub under_way : Bool
+  pub connections : List Connection
+  pub closed : Bool
+
+-- what a crash leaves: the bytes of the file, and what each connection had been told
+pub record Left : Type 0 where
+  pub image : List ℕ
+  pub told : List (List ℕ)
+
+-- A device: its length in bytes, the count of its faults, whether it is honest, whether it shows its
+-- bytes as read and tells all else, these bytes, the number of bytes handed to `write_at`, its links,
+-- the moment as a number that doesn't fall, and what a crash at a moment since another may leave.
+pub record Device : Type 1 where
+  pub size : ℕ
+  pub faults : ℕ
+  pub honest : Bool
+  pub shows : Bool
+  pub tells : Bool
+  pub seen : List ℕ
+  pub handed : ℕ
+  pub link : Link
+  pub moment : ℕ
+  pub left_since : ℕ → Left → Type 0
+
+-- what a crash may leave now
+abbrev pub may_leave : Device → Left → Type 0
+may_leave d = d.left_since d.moment
+
+-- what each connection was told
+abbrev pub told_by : Device → List (List ℕ)
+told_by d = map (λ c. c.told) d.link.connections
+
+-- the device as it reads, with what it told
+abbrev pub as_read : Device → Left
+as_read d = record { image = d.seen; told = told_by d }
+
+-- What holds of every device at every moment: what it shows has its length; what a crash since one
+-- moment may leave it may leave since any earlier one; an honest device as it reads may be left; and a
+-- crash now leaves told just what was told.
+pub record IsDevice (d : Device) : Type 0 where
+  pub length : d.shows ≡ true → length d.seen ≡ d.size
+  pub earlier : (t u : ℕ) (p : Left) → t ≤ u → u ≤ d.moment → d.left_since u p → d.left_since t p
+  pub itself : d.honest ≡ true → d.shows ≡ true → d.tells ≡ true → may_leave d (as_read d)
+  pub told : d.honest ≡ true → d.tells ≡ true → (p : Left) → may_leave d p → p.told ≡ told_by d

@@ -1,0 +1,17 @@
+//! The ground of the store: byte texts and lists, and the device that holds the file. A `Disk` says
+//! what its calls read and leave, and what a crash at any moment may leave. Nothing here knows of
+//! journals or media.
+#![tactic(auto)]
+
+mod bytes;
+mod disk;
+mod fault;
+mod listed;
+mod sure_disk;
+mod text;
+
+pub use crate::disk::Disk;
+pub use crate::fault::{Failed, Memory};
+pub use crate::listed::{Listed, NumberList, TextList};
+pub use crate::sure_disk::SureDisk;
+pub use crate::text::Text;

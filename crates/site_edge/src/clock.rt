@@ -1,0 +1,17 @@
+//! The clock of the store.
+ghost use Rattle.std.specs.Prelude.{◌≡◌, ◌∷◌, ◌++◌, [], ℕ, List, Bool, true};
+ghost use Rattle.site_edge.specs.Clocks.{IsMoment};
+
+/// A clock answers moments: whole seconds since 1970-01-01T00:00:00Z, up to the year 9999.
+pub trait Clock {
+    /// Whether it tells the moments that it gave.
+    ghost tells: { Self → Bool };
+
+    /// The moments given so far, the oldest first.
+    ghost given: { Self → List ℕ };
+
+    fn now(&mut self) -> u64
+        ensures moment { IsMoment result }
+        ensures told_before { tells self.new ≡ true → tells self.old ≡ true }
+        ensures given { tells self.new ≡ true → given self.new ≡ given self.old ++ result ∷ [] };
+}
