@@ -69,3 +69,15 @@ pub record DiskCall (step : Left → Left → Type 0) (ok : Bool) (old new : Dev
 -- a crash now leaves just these bytes
 abbrev pub LeavesOnly : List ℕ → Device → Type 0
 LeavesOnly image d = (p : Left) → may_leave d p → p.image ≡ image
+
+-- What any number of calls of a disk leave, of which all succeeded or the last one failed.
+pub record DiskCalls (ok : Bool) (old new : Device) : Type 0 where
+  pub same : SameDevice old new
+  pub link : new.link ≡ old.link
+  pub counted : IsCounted ok old.faults new.faults
+
+-- What any number of reads leave, of which all succeeded or the last one failed.
+pub record DiskReads (ok : Bool) (old new : Device) : Type 0 where
+  pub calls : DiskCalls ok old new
+  pub seen : new.seen ≡ old.seen
+  pub handed : new.handed ≡ old.handed

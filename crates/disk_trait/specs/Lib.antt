@@ -1,3 +1,4 @@
 pub mod Device
 pub mod Calls
 pub mod Fakes
+pub mod Numbers

@@ -1,5 +1,5 @@
 //! Parts of the bytes of a device in memory.
-ghost use Rattle.std.specs.Prelude.{◌≡◌, ◌≤◌, ◌+◌, length, vec_len};
+ghost use Rattle.std.specs.Prelude.{◌≡◌, ◌≤◌, ◌+◌, ◌↔◌, IsTrue, length, vec_len};
 ghost use Rattle.disk_trait.specs.Calls.{bytes_at, overwritten};
 
 /// Copies the bytes at this offset into all of `out`.
@@ -19,4 +19,11 @@ pub(crate) fn overwrite(bytes: &mut Vec<u8>, at: usize, new: &[u8])
 {
     let _size = bytes.len();
     bytes[at..at + new.len()].copy_from_slice(new);
+}
+
+/// Whether two slices have the same bytes.
+pub fn same_bytes(left: &[u8], right: &[u8]) -> bool
+    ensures { IsTrue result ↔ (left.now ≡ right.now) }
+{
+    left == right
 }

@@ -7,9 +7,11 @@ mod bytes;
 mod disk;
 mod fault;
 mod listed;
+pub mod numbers;
 mod sure_disk;
 mod text;
 
+pub use crate::bytes::same_bytes;
 pub use crate::disk::Disk;
 pub use crate::fault::{Failed, Memory};
 pub use crate::listed::{Listed, NumberList, TextList};

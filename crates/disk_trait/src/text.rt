@@ -1,7 +1,7 @@
 //! A text of bytes.
 ghost use Rattle.std.specs.Prelude.{◌≡◌, ◌↔◌, ◌∷◌, ◌++◌, [], IfOk, IsTrue, OnErr, OnOk};
 
-use crate::Memory;
+use crate::{Memory, same_bytes};
 use std::alloc::Global;
 use std::marker::Model;
 
@@ -52,7 +52,7 @@ impl Text {
     pub fn same(&self, other: &Text) -> bool
         ensures { IsTrue result ↔ (self.now ≡ other.now) }
     {
-        self.bytes() == other.bytes()
+        same_bytes(self.bytes(), other.bytes())
     }
 
     pub fn copy(&self, alloc: Global) -> Result<Text, Memory>

@@ -1,0 +1,19 @@
+use Rattle.std.proofs.Common.{◌≡◌, ◌+◌, ◌∙◌, arith}
+use Rattle.media_journal.proofs.ReadingLemmas.{half_found, no_half-long}
+use Rattle.media_journal.proofs.scan.read_half.Goals as goal
+
+-- No rows of such a length fit the half.
+pub returns-then-length-end-clause-half : goal.returns-then-length-end-clause-half
+returns-then-length-end-clause-half g c = λ shows.
+    no_half-long _ _ _ c.in_ok-length.length c.in_ok-length.ensures.short (c.in_ok-length.ensures.length shows) (omega arith)
+
+-- The length, the rows and the records were read from the image.
+pub returns-clause-half : goal.returns-clause-half
+returns-clause-half g c = λ shows.
+    let first = c.in_ok-length.ensures.reads in
+    let second = c.in_ok-rows.ensures.reads in
+    let once = first.calls.same.shows ∙ shows in
+    let text = rw first.seen at (c.in_ok-rows.ensures.text once) in
+    let place : c.args.start + 8 + c.in_ok-length.length ≡ c.args.start + (8 + c.in_ok-length.length) = omega arith in
+    let chain = rw (second.seen, first.seen, place) at (c.in_ok-chain.ensures.chain (second.calls.same.shows ∙ once)) in
+    half_found _ _ _ _ c.in_ok-length.length _ _ _ c.in_ok-length.ensures.short c.in_ok-rows.ensures.count (c.in_ok-length.ensures.length shows) text chain

@@ -1,0 +1,90 @@
+-- The file, store format 1: a header, a selector, two halves with rows and records, and media blocks.
+-- Our own format. All numbers are big-endian, and a block has 4,096 bytes.
+use Rattle.std.specs.Prelude.{◌≡◌, ◌≢◌, ◌<◌, ◌≤◌, ◌+◌, ◌*◌, ◌%◌, ◌^◌, ◌==◌, ℕ, List, [], ◌∷◌, ◌++◌, length, slice_index, codes, Option, Some, None, if◌then◌else◌}
+use Rattle.disk_trait.specs.Calls.{bytes_at}
+use Rattle.disk_trait.specs.Numbers.{u32_bytes, u64_bytes, u128_bytes}
+use Rattle.media_journal.specs.declared.header.Header.{Header}
+use Rattle.media_journal.specs.declared.record.Record.{Record}
+
+-- the eight bytes with which a store begins
+unfoldable pub magic : List ℕ
+magic = codes "TAMSST01"
+
+-- the header's 40 bytes before its gate
+unfoldable pub header_text : Header → List ℕ
+header_text h = magic ++ (u64_bytes h.blocks ++ (u64_bytes h.half ++ u128_bytes h.id))
+
+-- A gate is open where its byte is 1, and closed at every other value and past the end.
+abbrev pub IsOpenGate : List ℕ → ℕ → Type 0
+IsOpenGate image at = slice_index image at ≡ 1
+
+abbrev pub IsClosedGate : List ℕ → ℕ → Type 0
+IsClosedGate image at = slice_index image at ≢ 1
+
+-- the header is an open one: it begins with the magic, and its gate is open
+pub record HasOpenHeader (image : List ℕ) : Type 0 where
+  pub begins : bytes_at image 0 8 ≡ magic
+  pub gate : IsOpenGate image 40
+
+-- the image has this header, and it is an open one
+pub record IsHeader (image : List ℕ) (h : Header) : Type 0 where
+  pub gate : IsOpenGate image 40
+  pub text : bytes_at image 0 40 ≡ header_text h
+  pub blocks : h.blocks < 2 ^ 64
+  pub half : h.half < 2 ^ 64
+  pub id : h.id < 2 ^ 128
+
+-- what is read of an image's header: none, where it isn't an open one
+abbrev pub HeaderAnswer : List ℕ → Option Header → Type 0
+HeaderAnswer image None = ¬ (HasOpenHeader image)
+HeaderAnswer image (Some h) = IsHeader image h
+
+-- the numbers of a header that a file of so many bytes may have
+pub record AreSizes (h : Header) (size : ℕ) : Type 0 where
+  pub some_half : 1 ≤ h.half
+  pub half : h.half ≤ 65536
+  pub blocks : h.blocks ≤ 1073741824
+  pub fits : 2 * h.half + 3 ≤ h.blocks
+  pub within : 4096 * h.blocks ≤ size
+
+-- where the half begins that the selector names: A at block 2 where its byte is even, and B behind A
+abbrev pub active_start : List ℕ → ℕ → ℕ
+active_start image half = if slice_index image 4096 % 2 == 0 then 8192 else 8192 + 4096 * half
+
+-- the rows of a half with their length before them
+unfoldable pub rows_text : List ℕ → List ℕ
+rows_text rows = u64_bytes (length rows) ++ rows
+
+-- a record with its gate open: the gate, the length of the payload and the payload
+unfoldable pub record_text : List ℕ → List ℕ
+record_text payload = 1 ∷ (u32_bytes (length payload) ++ payload)
+
+-- an open record of this payload stands at this place
+pub record IsRecordAt (image : List ℕ) (at : ℕ) (payload : List ℕ) : Type 0 where
+  pub text : bytes_at image at (5 + length payload) ≡ record_text payload
+  pub short : length payload < 2 ^ 32
+
+-- open records stand one behind the other from one place up to another
+abbrev pub AreRecords : List ℕ → ℕ → List Record → ℕ → Type 0
+AreRecords image from [] to = from ≡ to
+AreRecords image from (r ∷ rs) to =
+    (r.offset ≡ from) × IsRecordAt image from r.payload × AreRecords image (from + (5 + length r.payload)) rs to
+
+-- A half that begins at one place and ends before another: its rows, its records, and the closed gate
+-- that ends them. What lies behind that gate isn't read.
+pub record HasHalf (image : List ℕ) (start end gate : ℕ) (rows : List ℕ) (records : List Record) : Type 0 where
+  pub text : bytes_at image start (8 + length rows) ≡ rows_text rows
+  pub few : length rows < 2 ^ 64
+  pub chain : AreRecords image (start + (8 + length rows)) records gate
+  pub closed : IsClosedGate image gate
+  pub within : gate < end
+
+-- the image reads as a store: its header, and the rows, records and closed gate of its active half
+pub record Reads (image : List ℕ) (h : Header) (gate : ℕ) (rows : List ℕ) (records : List Record) : Type 0 where
+  pub header : IsHeader image h
+  pub sizes : AreSizes h (length image)
+  pub half : HasHalf image (active_start image h.half) (active_start image h.half + 4096 * h.half) gate rows records
+
+-- the image doesn't read as a store
+abbrev pub IsUnreadable : List ℕ → Type 0
+IsUnreadable image = (h : Header) (gate : ℕ) (rows : List ℕ) (records : List Record) → Reads image h gate rows records → ⊥

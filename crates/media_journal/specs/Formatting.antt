@@ -1,0 +1,53 @@
+-- What formatting a device answers and leaves.
+use Rattle.std.specs.Prelude.{◌≡◌, ◌≤◌, ◌+◌, ◌*◌, ℕ, Bool, true, false, List, [], ◌∷◌, ◌++◌, length, Result, Ok, Err}
+use Rattle.disk_trait.specs.Calls.{overwritten}
+use Rattle.media_journal.specs.declared.header.Header.{Header}
+use Rattle.media_journal.specs.declared.format.Gate.{Gate}
+use Rattle.media_journal.specs.declared.format.Gate.TheVariants as gates
+use Rattle.media_journal.specs.declared.fault.FormatFault.{FormatFault}
+use Rattle.media_journal.specs.declared.fault.FormatFault.TheVariants.{AlreadyStore, TooSmall, Disk, Memory}
+use Rattle.media_journal.specs.File.{HasOpenHeader, IsOpenGate, IsClosedGate, AreSizes, Reads, rows_text}
+
+-- the numbers fit the device, and the rows a half
+pub record FitsStore (h : Header) (size : ℕ) (rows : List ℕ) : Type 0 where
+  pub sizes : AreSizes h size
+  pub room : length rows + 9 ≤ 4096 * h.half
+
+-- what formatting answers over an image, and the image that it leaves at Ok: the header, half A active
+-- with the rows, and no record
+abbrev pub FormatAnswer : List ℕ → List ℕ → Header → List ℕ → Result (Unit {0}) FormatFault → Type 0
+FormatAnswer old new h rows (Ok _) =
+    (¬ (HasOpenHeader old)) × FitsStore h (length old) rows × Reads new h (8192 + (8 + length rows)) rows []
+FormatAnswer old new h rows (Err AlreadyStore) = HasOpenHeader old
+FormatAnswer old new h rows (Err TooSmall) = (¬ (HasOpenHeader old)) × (¬ (FitsStore h (length old) rows))
+FormatAnswer old new h rows (Err Disk) = Unit {0}
+FormatAnswer old new h rows (Err Memory) = Unit {0}
+
+-- no call of the device failed
+abbrev pub format_ok : {T : Type 0} → Result T FormatFault → Bool
+format_ok (Ok x) = true
+format_ok (Err AlreadyStore) = true
+format_ok (Err TooSmall) = true
+format_ok (Err Disk) = false
+format_ok (Err Memory) = true
+
+-- what stands at the gate of an image's header
+abbrev pub GateIs : List ℕ → Gate → Type 0
+GateIs image gates.Store = HasOpenHeader image
+GateIs image gates.Stray = ¬ (HasOpenHeader image)
+GateIs image gates.Closed = ¬ (HasOpenHeader image)
+
+-- the bytes of a half without a record
+unfoldable pub half_text : List ℕ → List ℕ
+half_text rows = rows_text rows ++ 0 ∷ []
+
+-- the image with a header, a selector and half A, whose gate was opened last
+abbrev pub with_store : List ℕ → List ℕ → List ℕ → List ℕ
+with_store header half image =
+    overwritten 40 (1 ∷ []) (overwritten 8192 half (overwritten 4096 (0 ∷ []) (overwritten 0 header image)))
+
+-- the new image is the old one, whose gate may have been closed first, with a store
+pub record IsFormatted (header half old new : List ℕ) : Type 0 where
+  pub closed : List ℕ
+  pub same_length : length closed ≡ length old
+  pub store : new ≡ with_store header half closed

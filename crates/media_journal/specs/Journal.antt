@@ -1,0 +1,40 @@
+-- What a journal stands for: a place in its file, and what the file's image gives up to it.
+use Rattle.std.specs.Prelude.{◌≡◌, ◌<◌, ◌≤◌, ◌+◌, ◌-◌, ◌*◌, ◌^◌, ℕ, List, [], ◌∷◌, ◌++◌, length, take, drop}
+use Rattle.disk_trait.specs.Numbers.{u32_bytes}
+use Rattle.media_journal.specs.declared.record.Record.{Record}
+use Rattle.media_journal.specs.File.{HasHalf}
+
+-- The blocks of the file, where the journal's half begins, where its closed gate is, and the bytes from
+-- there to the half's end. The room is 0 where an open record's end passes the half.
+pub record Position : Type 0 where
+  pub blocks : ℕ
+  pub start : ℕ
+  pub gate : ℕ
+  pub room : ℕ
+
+-- a journal stays within its file
+pub record IsPosition (p : Position) : Type 0 where
+  pub blocks : p.blocks ≤ 1073741824
+  pub within : p.gate + p.room ≤ 4096 * p.blocks
+
+-- the image gives the journal these rows and records
+abbrev pub Gives : List ℕ → Position → List ℕ → List Record → Type 0
+Gives image p rows records = HasHalf image p.start (p.gate + p.room) p.gate rows records
+
+-- the position after a payload of n bytes was appended
+abbrev pub after_append : Position → ℕ → Position
+after_append p n = record p { gate = p.gate + (n + 5); room = p.room - (n + 5) }
+
+-- the bytes of a record's one write: the length of the payload, the payload and a closed gate
+unfoldable pub frame_text : List ℕ → List ℕ
+frame_text payload = u32_bytes (length payload) ++ (payload ++ 0 ∷ [])
+
+-- the payload between the length and the gate
+abbrev pub framed : List ℕ → List ℕ
+framed bytes = take (length bytes - 5) (drop 4 bytes)
+
+-- the bytes are those of a payload that isn't empty and whose length fits its field
+pub record IsFrame (bytes : List ℕ) : Type 0 where
+  pub text : bytes ≡ frame_text (framed bytes)
+  pub some : 6 ≤ length bytes
+  pub short : length bytes < 2 ^ 32 + 5

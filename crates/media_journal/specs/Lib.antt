@@ -1,0 +1,9 @@
+pub mod File
+pub mod Journal
+pub mod Scan
+pub mod Answers
+pub mod Formatting
+pub mod Opening
+pub use Rattle.disk_trait.specs.Device
+pub use Rattle.disk_trait.specs.Calls
+pub use Rattle.disk_trait.specs.Numbers

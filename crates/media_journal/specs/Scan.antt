@@ -1,0 +1,54 @@
+-- What a scan of a half finds, from one place on.
+use Rattle.std.specs.Prelude.{◌≡◌, ◌<◌, ◌≤◌, ◌+◌, ◌⊎◌, ℕ, Bool, true, false, List, length, Result, Ok, Err, Option, Some, None}
+use Rattle.media_journal.specs.declared.record.Record.{Record}
+use Rattle.media_journal.specs.declared.scan.Found.{Found}
+use Rattle.media_journal.specs.declared.scan.Found.TheVariants.{Closed, Torn, Whole}
+use Rattle.media_journal.specs.declared.fault.JournalFault.{JournalFault}
+use Rattle.media_journal.specs.declared.fault.JournalFault.TheVariants.{NotStore, Damaged, Disk, Memory}
+use Rattle.media_journal.specs.declared.scan.Half.{Half}
+use Rattle.media_journal.specs.File.{IsOpenGate, IsClosedGate, IsRecordAt, AreRecords, HasHalf}
+
+-- an open record stands at this place, and its end passes the half's end
+pub record IsTornAt (image : List ℕ) (at end : ℕ) : Type 0 where
+  pub gate : IsOpenGate image at
+  pub passes : (payload : List ℕ) → IsRecordAt image at payload → end ≤ at + (5 + length payload)
+
+-- what stands at this place of a half
+abbrev pub FoundAt : List ℕ → ℕ → ℕ → Found → Type 0
+FoundAt image at end Closed = IsClosedGate image at
+FoundAt image at end Torn = IsTornAt image at end
+FoundAt image at end (Whole payload) = IsRecordAt image at payload
+
+-- a gate fits the half behind the record that was found
+abbrev pub EndsBefore : ℕ → ℕ → Found → Type 0
+EndsBefore at end Closed = Unit {0}
+EndsBefore at end Torn = Unit {0}
+EndsBefore at end (Whole payload) = at + (5 + length payload) < end
+
+-- the place where a chain of records ends: a closed gate, or a torn record
+abbrev pub EndsAt : List ℕ → ℕ → ℕ → Bool → Type 0
+EndsAt image at end true = IsTornAt image at end
+EndsAt image at end false = IsClosedGate image at
+
+-- the records of a half from one place on, up to the place where they end
+pub record IsChain (image : List ℕ) (from end gate : ℕ) (torn : Bool) (records : List Record) : Type 0 where
+  pub chain : AreRecords image from records gate
+  pub within : gate < end
+  pub ends : EndsAt image gate end torn
+
+-- no rows and records stand between these places
+abbrev pub HasNoHalf : List ℕ → ℕ → ℕ → Type 0
+HasNoHalf image start end = (gate : ℕ) (rows : List ℕ) (records : List Record) → HasHalf image start end gate rows records → ⊥
+
+-- what was found between these places, where the records ended at a closed gate or at a torn record
+abbrev pub HalfFound : List ℕ → ℕ → ℕ → ℕ → List ℕ → List Record → Bool → Type 0
+HalfFound image start end gate rows records true = HasNoHalf image start end
+HalfFound image start end gate rows records false = HasHalf image start end gate rows records
+
+-- what is read of a half
+abbrev pub HalfAnswer : List ℕ → ℕ → ℕ → Result Half JournalFault → Type 0
+HalfAnswer image start end (Ok half) = HalfFound image start end half.chain.gate half.rows half.chain.records half.chain.torn
+HalfAnswer image start end (Err NotStore) = ⊥
+HalfAnswer image start end (Err (Damaged at)) = HasNoHalf image start end
+HalfAnswer image start end (Err Disk) = Unit {0}
+HalfAnswer image start end (Err Memory) = Unit {0}

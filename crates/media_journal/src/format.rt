@@ -1,0 +1,184 @@
+//! Formatting a device: a header, a selector and half A with its rows. At each moment the file is no
+//! store, or the new one.
+ghost use Rattle.std.specs.Prelude.{◌≡◌, ◌≤◌, ◌<◌, ◌+◌, ◌*◌, ◌∷◌, [], true, length, is_ok, IfOk, OnOk};
+ghost use Rattle.disk_trait.specs.Calls.{DiskCalls, DiskReads, overwritten};
+ghost use Rattle.media_journal.specs.File.{header_text};
+ghost use Rattle.media_journal.specs.Formatting.{FormatAnswer, GateIs, IsFormatted, format_ok, half_text};
+
+use crate::header::{BLOCK, is_open, magic};
+use crate::{FormatFault, Header};
+use disk_trait::numbers::{u64_bytes, u128_bytes};
+use disk_trait::{Disk, Failed, Memory};
+use std::alloc::Global;
+
+/// Where the header's gate is, behind its text.
+const GATE: u64 = 40;
+
+/// What stands at the header's gate before a device is formatted.
+#[derive(Clone, Copy)]
+enum Gate {
+    /// The header is that of a store, and open.
+    Store,
+    /// The gate is open, and what stands before it is no header.
+    Stray,
+    Closed,
+}
+
+/// Makes a store of a device: `blocks` blocks with `half` of them a half, the id, these rows and no
+/// record. `AlreadyStore` comes exactly where its header is an open one, and otherwise `TooSmall`
+/// exactly where the numbers don't fit the device or the rows a half.
+pub fn format_device<D: Disk>(
+    alloc: Global,
+    disk: &mut D,
+    blocks: u64,
+    half: u64,
+    id: u128,
+    rows: &[u8],
+) -> Result<(), FormatFault>
+    requires some_half { 1 ≤ half }
+    requires half { half ≤ 65536 }
+    requires blocks { blocks ≤ 1073741824 }
+    ensures calls { DiskCalls (format_ok result) (D.device disk.old) (D.device disk.new) }
+    ensures answer { (D.device disk.old).shows ≡ true
+        → FormatAnswer (D.device disk.old).seen (D.device disk.new).seen
+            record { blocks = blocks; half = half; id = id } rows.now result }
+{
+    let header = Header { blocks, half, id };
+    let gate = read_gate(disk)?;
+    if let Gate::Store = gate {
+        return Err(FormatFault::AlreadyStore);
+    }
+    if !header.fits(disk.len()) || rows.len() as u64 + 9 > BLOCK * half {
+        return Err(FormatFault::TooSmall);
+    }
+    let half = half_bytes(alloc, rows)?;
+    make_store(disk, gate, &header_bytes(&header), &half)?;
+    Ok(())
+}
+
+/// Writes the store of a device whose gate is this: it is closed first, and opened once all else is
+/// synced.
+fn make_store<D: Disk>(
+    disk: &mut D,
+    gate: Gate,
+    header: &[u8],
+    half: &[u8],
+) -> Result<(), Failed>
+    requires header { length header.now ≡ 40 }
+    requires device { 8192 + length half.now ≤ (D.device disk.old).size }
+    ensures calls { DiskCalls (is_ok result) (D.device disk.old) (D.device disk.new) }
+    ensures written { (D.device disk.old).shows ≡ true → OnOk result
+        (IsFormatted header.now half.now (D.device disk.old).seen (D.device disk.new).seen) }
+{
+    close_stray(disk, gate)?;
+    write_store(disk, header, half)?;
+    open_gate(disk)?;
+    Ok(())
+}
+
+/// What stands at the header's gate.
+fn read_gate<D: Disk>(disk: &mut D) -> Result<Gate, Failed>
+    ensures reads { DiskReads (is_ok result) (D.device disk.old) (D.device disk.new) }
+    ensures gate { (D.device disk.old).shows ≡ true → IfOk result (GateIs (D.device disk.old).seen) }
+{
+    if disk.len() <= GATE {
+        return Ok(Gate::Closed);
+    }
+    let mut bytes = [0u8; 41];
+    disk.read_at(0, &mut bytes)?;
+    Ok(gate_of(&bytes))
+}
+
+/// What stands at the gate of a file that begins with these bytes.
+fn gate_of(bytes: &[u8]) -> Gate
+    requires { length bytes.now ≡ 41 }
+    ensures { GateIs bytes.now result }
+{
+    if is_open(bytes) {
+        Gate::Store
+    } else if bytes[40] == 1 {
+        Gate::Stray
+    } else {
+        Gate::Closed
+    }
+}
+
+/// Closes the gate where it stands open without a header.
+fn close_stray<D: Disk>(disk: &mut D, gate: Gate) -> Result<(), Failed>
+    requires { 41 ≤ (D.device disk.old).size }
+    ensures calls { DiskCalls (is_ok result) (D.device disk.old) (D.device disk.new) }
+    ensures length { (D.device disk.old).shows ≡ true → OnOk result
+        (length (D.device disk.new).seen ≡ length (D.device disk.old).seen) }
+{
+    match gate {
+        Gate::Stray => close_gate(disk),
+        Gate::Store | Gate::Closed => Ok(()),
+    }
+}
+
+/// Closes the header's gate.
+fn close_gate<D: Disk>(disk: &mut D) -> Result<(), Failed>
+    requires { 41 ≤ (D.device disk.old).size }
+    ensures calls { DiskCalls (is_ok result) (D.device disk.old) (D.device disk.new) }
+    ensures written { (D.device disk.old).shows ≡ true → OnOk result
+        ((D.device disk.new).seen ≡ overwritten 40 (0 ∷ []) (D.device disk.old).seen) }
+{
+    disk.write_at(GATE, &[0])?;
+    disk.sync()
+}
+
+/// Writes all of a store but its open gate, and syncs it.
+fn write_store<D: Disk>(disk: &mut D, header: &[u8], half: &[u8]) -> Result<(), Failed>
+    requires header { length header.now ≡ 40 }
+    requires device { 8192 + length half.now ≤ (D.device disk.old).size }
+    ensures calls { DiskCalls (is_ok result) (D.device disk.old) (D.device disk.new) }
+    ensures written { (D.device disk.old).shows ≡ true → OnOk result ((D.device disk.new).seen
+        ≡ overwritten 8192 half.now (overwritten 4096 (0 ∷ [])
+            (overwritten 0 header.now (D.device disk.old).seen))) }
+{
+    disk.write_at(0, header)?;
+    disk.write_at(BLOCK, &[0])?;
+    disk.write_at(2 * BLOCK, half)?;
+    disk.sync()
+}
+
+/// Opens the header's gate.
+fn open_gate<D: Disk>(disk: &mut D) -> Result<(), Failed>
+    requires { 41 ≤ (D.device disk.old).size }
+    ensures calls { DiskCalls (is_ok result) (D.device disk.old) (D.device disk.new) }
+    ensures written { (D.device disk.old).shows ≡ true → OnOk result
+        ((D.device disk.new).seen ≡ overwritten 40 (1 ∷ []) (D.device disk.old).seen) }
+{
+    disk.write_at(GATE, &[1])?;
+    disk.sync()
+}
+
+/// The bytes of a half with these rows and no record.
+#[tactic(auto, unfolding(crate::specs::Formatting::half_text, crate::specs::File::rows_text))]
+fn half_bytes(alloc: Global, rows: &[u8]) -> Result<Vec<u8>, Memory>
+    requires { length rows.now + 9 ≤ 4096 * 65536 }
+    ensures text { IfOk result (λ bytes. bytes.items ≡ half_text rows.now) }
+    ensures len { IfOk result (λ bytes. length bytes.items ≡ 9 + length rows.now) }
+{
+    let mut bytes = Vec::with_capacity(alloc, rows.len() + 9)?;
+    bytes.extend_from_slice(&u64_bytes(rows.len() as u64))?;
+    bytes.extend_from_slice(rows)?;
+    bytes.push(0)?;
+    Ok(bytes)
+}
+
+/// The 40 bytes of a header before its gate.
+#[tactic(auto, unfolding(crate::specs::File::header_text))]
+fn header_bytes(header: &Header) -> [u8; 40]
+    ensures { result ≡ header_text header.now }
+{
+    let mut bytes = [0u8; 40];
+    let (begin, numbers) = bytes.split_at_mut(8);
+    let (blocks, numbers) = numbers.split_at_mut(8);
+    let (half, id) = numbers.split_at_mut(8);
+    begin.copy_from_slice(&magic());
+    blocks.copy_from_slice(&u64_bytes(header.blocks));
+    half.copy_from_slice(&u64_bytes(header.half));
+    id.copy_from_slice(&u128_bytes(header.id));
+    bytes
+}

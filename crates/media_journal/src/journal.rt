@@ -1,0 +1,91 @@
+//! The journal behind the rows of the active half, to which records are added.
+ghost use Rattle.std.specs.Prelude.{◌≡◌, ◌≤◌, ◌<◌, ◌+◌, ◌*◌, ◌∷◌, ◌++◌, ◌↔◌, ◌^◌, [], ℕ, List, true, false, length, is_ok, OnOk, OnErr, IsErrOf};
+ghost use Rattle.disk_trait.specs.Calls.{DiskCalls, overwritten};
+ghost use Rattle.media_journal.specs.Journal.{Gives, after_append};
+ghost use Rattle.media_journal.specs.declared.record.Record.{Record};
+
+use crate::{AppendFault, Frame};
+use disk_trait::{Disk, Failed};
+use std::marker::Model;
+
+/// Where the records of a file end, and how many bytes are left behind them in their half. It keeps no
+/// payload: contracts speak of what the device's image gives up to the closed gate.
+#[derive(Drop)]
+pub struct Journal {
+    pub(crate) blocks: u64,
+    pub(crate) start: u64,
+    pub(crate) gate: u64,
+    pub(crate) room: u64,
+}
+
+impl Model for Journal {
+    ghost use Rattle.media_journal.specs.Journal.{Position, IsPosition};
+
+    ghost Value = { Position };
+
+    ghost view = { λ j. record { blocks = j.blocks; start = j.start; gate = j.gate; room = j.room } };
+
+    ghost invariant = { λ j. IsPosition record { blocks = j.blocks; start = j.start; gate = j.gate; room = j.room } };
+}
+
+impl Journal {
+    /// The bytes from the closed gate to the end of the half. A record takes its payload's length plus 5
+    /// of them, and needs one more.
+    pub fn room(&self) -> u64
+        ensures { result ≡ self.now.room }
+    {
+        self.room
+    }
+
+    /// Adds the frame's payload as the last record. Its bytes are synced before its gate is opened, and
+    /// the open gate before the call answers. After `Disk` the journal must be opened again.
+    pub fn append<D: Disk>(&mut self, disk: &mut D, frame: &Frame) -> Result<(), AppendFault>
+        requires { 4096 * self.old.blocks ≤ (D.device disk.old).size }
+
+        // What doesn't fit is refused, and then nothing changes.
+        ensures full { IsErrOf result AppendFault.Full ↔ (self.old.room < length frame.now + 6) }
+        ensures refused { IsErrOf result AppendFault.Full → disk.new ≡ disk.old }
+        ensures err { OnErr result (self.new ≡ self.old) }
+
+        ensures moved { OnOk result (self.new ≡ after_append self.old (length frame.now)) }
+        ensures content { (D.device disk.old).shows ≡ true → OnOk result
+            ((rows : List ℕ) (records : List Record) → Gives (D.device disk.old).seen self.old rows records
+                → Gives (D.device disk.new).seen self.new rows
+                    (records ++ record { offset = self.old.gate; payload = frame.now } ∷ [])) }
+        ensures handed { (D.device disk.old).tells ≡ true → OnOk result
+            ((D.device disk.new).handed ≡ (D.device disk.old).handed + (length frame.now + 6)) }
+
+        ensures calls { OnOk result (DiskCalls true (D.device disk.old) (D.device disk.new)) }
+
+        // It doesn't give up by itself: the count of faults rose.
+        ensures failed { IsErrOf result AppendFault.Disk
+            → DiskCalls false (D.device disk.old) (D.device disk.new) }
+    {
+        let bytes = frame.bytes();
+        let length = bytes.len() as u64;
+        if length >= self.room {
+            return Err(AppendFault::Full);
+        }
+        write_record(disk, self.gate, bytes)?;
+        self.gate += length;
+        self.room -= length;
+        Ok(())
+    }
+}
+
+/// Writes a frame behind its closed gate, and then opens the gate.
+fn write_record<D: Disk>(disk: &mut D, gate: u64, frame: &[u8]) -> Result<(), Failed>
+    requires within { gate + 1 + length frame.now ≤ (D.device disk.old).size }
+    requires small { gate < 2 ^ 63 }
+    ensures calls { DiskCalls (is_ok result) (D.device disk.old) (D.device disk.new) }
+    ensures written { (D.device disk.old).shows ≡ true → OnOk result ((D.device disk.new).seen
+        ≡ overwritten gate (1 ∷ []) (overwritten (gate + 1) frame.now (D.device disk.old).seen)) }
+    ensures handed { (D.device disk.old).tells ≡ true → OnOk result
+        ((D.device disk.new).handed ≡ (D.device disk.old).handed + (length frame.now + 1)) }
+{
+    disk.write_at(gate + 1, frame)?;
+    // The frame has to be on the disk first: behind a gate that is open, what was there would count.
+    disk.sync()?;
+    disk.write_at(gate, &[1])?;
+    disk.sync()
+}

@@ -1,0 +1,21 @@
+//! The journal of the store: the file's header, the rows that a half begins with, and the records
+//! behind them. Each record is on the disk before its gate is opened. It knows nothing of what rows and
+//! payloads mean.
+#![tactic(auto)]
+
+mod fault;
+mod format;
+mod frame;
+mod header;
+mod journal;
+mod open;
+mod record;
+mod scan;
+
+pub use crate::fault::{AppendFault, FormatFault, JournalFault};
+pub use crate::format::format_device;
+pub use crate::frame::Frame;
+pub use crate::header::Header;
+pub use crate::journal::Journal;
+pub use crate::open::{Opened, open_journal};
+pub use crate::record::{Record, RecordList};

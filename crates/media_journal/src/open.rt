@@ -1,0 +1,104 @@
+//! Opening the journal of a store.
+ghost use Rattle.std.specs.Prelude.{◌≡◌, ◌≤◌, ◌<◌, ◌+◌, ◌*◌, true, length, is_ok, IfOk};
+ghost use Rattle.disk_trait.specs.Calls.{DiskReads};
+ghost use Rattle.media_journal.specs.Answers.{not_disk};
+ghost use Rattle.media_journal.specs.File.{active_start};
+ghost use Rattle.media_journal.specs.Opening.{OpenAnswer, opened_of};
+
+use crate::header::{BLOCK, read_header};
+use crate::scan::{Half, read_half};
+use crate::{Header, Journal, JournalFault, RecordList};
+use disk_trait::{Disk, Failed, Text};
+use std::alloc::Global;
+
+/// The bytes of the shortest store, which has five blocks.
+const SHORTEST: u64 = 5 * BLOCK;
+
+/// Where the selector is, whose lowest bit names the active half.
+const SELECTOR: u64 = BLOCK;
+
+/// A journal with what its active half holds.
+#[derive(Drop)]
+pub struct Opened {
+    pub journal: Journal,
+    pub rows: Text,
+    /// The records in order, those before the torn one where there is one.
+    pub found: RecordList,
+    /// The offset of the first open record whose end passes the half. The journal then has no room.
+    pub torn: Option<u64>,
+    /// The blocks of the file.
+    pub blocks: u64,
+    /// The blocks of a half.
+    pub half: u64,
+    pub id: u128,
+    /// The offset of the rows' first byte.
+    pub rows_at: u64,
+}
+
+/// Opens the journal of a device. `NotStore` comes where the device has fewer than 20,480 bytes or no
+/// open header, and `Damaged` with the offset of what can't be read.
+pub fn open_journal<D: Disk>(alloc: Global, disk: &mut D) -> Result<Opened, JournalFault>
+    ensures reads { DiskReads (not_disk result) (D.device disk.old) (D.device disk.new) }
+    ensures within { IfOk result (λ o. 4096 * o.journal.blocks ≤ (D.device disk.new).size) }
+    ensures answer { (D.device disk.old).shows ≡ true → OpenAnswer (D.device disk.old).seen result }
+{
+    let size = disk.len();
+    if size < SHORTEST {
+        return Err(JournalFault::NotStore);
+    }
+    let Some(header) = read_header(disk)? else {
+        return Err(JournalFault::NotStore);
+    };
+    if !header.fits(size) {
+        return Err(JournalFault::Damaged(8));
+    }
+    let start = read_start(disk, header.half)?;
+    let half = read_half(alloc, disk, start, start + BLOCK * header.half)?;
+    Ok(assembled(header, start, half))
+}
+
+/// Where the half begins that the selector names.
+fn read_start<D: Disk>(disk: &mut D, half: u64) -> Result<u64, Failed>
+    requires half { half ≤ 65536 }
+    requires device { 8192 ≤ (D.device disk.old).size }
+    ensures reads { DiskReads (is_ok result) (D.device disk.old) (D.device disk.new) }
+    ensures bound { IfOk result (λ start. start ≤ 8192 + 4096 * half) }
+    ensures start { (D.device disk.old).shows ≡ true
+        → IfOk result (λ start. start ≡ active_start (D.device disk.old).seen half) }
+{
+    let mut selector = [0u8];
+    disk.read_at(SELECTOR, &mut selector)?;
+    if selector[0] % 2 == 0 {
+        Ok(2 * BLOCK)
+    } else {
+        Ok(2 * BLOCK + BLOCK * half)
+    }
+}
+
+/// What was opened, from its parts.
+fn assembled(header: Header, start: u64, half: Half) -> Opened
+    requires start { start ≤ 8192 + 4096 * header.half }
+    requires sizes { header.half ≤ 65536 }
+    requires blocks { header.blocks ≤ 1073741824 }
+    requires fits { 2 * header.half + 3 ≤ header.blocks }
+    requires within { half.chain.gate < start + 4096 * header.half }
+    ensures { result ≡ opened_of header start half }
+{
+    let Half { rows, chain } = half;
+    let end = start + BLOCK * header.half;
+    Opened {
+        journal: Journal {
+            blocks: header.blocks,
+            start,
+            gate: chain.gate,
+            room: if chain.torn { 0 } else { end - chain.gate },
+        },
+        rows,
+        found: chain.records,
+        torn: chain.torn.then_some(chain.gate),
+        blocks: header.blocks,
+        half: header.half,
+        id: header.id,
+        rows_at: start + 8,
+    }
+}
