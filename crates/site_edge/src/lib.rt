@@ -5,10 +5,14 @@
 
 mod clock;
 mod fault;
+mod list_clock;
+mod memory_sink;
 mod sink;
 mod site;
 
 pub use crate::clock::Clock;
 pub use crate::fault::{LinkFailed, SinkFailed};
+pub use crate::list_clock::ListClock;
+pub use crate::memory_sink::MemorySink;
 pub use crate::sink::Sink;
 pub use crate::site::Site;
