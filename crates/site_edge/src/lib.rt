@@ -5,13 +5,15 @@
 
 mod clock;
 mod fault;
+mod file_site;
 mod list_clock;
 mod memory_sink;
 mod sink;
 mod site;
 
 pub use crate::clock::Clock;
-pub use crate::fault::{LinkFailed, SinkFailed};
+pub use crate::fault::{FileFailed, LinkFailed, SinkFailed};
+pub use crate::file_site::FileSite;
 pub use crate::list_clock::ListClock;
 pub use crate::memory_sink::MemorySink;
 pub use crate::sink::Sink;
