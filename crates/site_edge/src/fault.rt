@@ -1,6 +1,6 @@
 //! What a link or a sink answers that failed, which their counts of faults tell from a call that gave up,
 //! and what opening a file answers.
-ghost use Rattle.std.specs.Prelude.{false};
+ghost use Rattle.std.specs.Prelude.{◌≡◌, false, is_ok};
 ghost use Rattle.disk_trait.specs.Calls.{IsCounted};
 
 use std::io;
@@ -28,4 +28,22 @@ pub(crate) fn count_fault(faults: &mut u64)
     ensures { IsCounted false faults.old faults.new }
 {
     *faults = faults.saturating_add(1);
+}
+
+/// The answer of a call of the system, with this failure for each of its errors, which are counted.
+pub(crate) fn counted<E: Drop>(
+    answer: io::Result<()>,
+    faults: &mut u64,
+    failure: E,
+) -> Result<(), E>
+    ensures same { is_ok result ≡ is_ok answer }
+    ensures counted { IsCounted (is_ok result) faults.old faults.new }
+{
+    match answer {
+        Ok(()) => Ok(()),
+        Err(_) => {
+            count_fault(faults);
+            Err(failure)
+        }
+    }
 }

@@ -1,11 +1,10 @@
 //! A real file with standard input and output as its one peer. It tells nothing of content.
-ghost use Rattle.std.specs.Prelude.{◌≡◌, ◌≤◌, ◌↔◌, IfOk, IsErr, IsTrue, is_ok};
+ghost use Rattle.std.specs.Prelude.{◌≡◌, ◌≤◌, ◌↔◌, IfOk, IsErr, IsTrue};
 ghost use Rattle.std.specs.Io.{ReadsAtMost};
 ghost use Rattle.std.specs.Fd.{file_raw_fd};
-ghost use Rattle.disk_trait.specs.Calls.{IsCounted};
 ghost use Rattle.site_edge.specs.Files.{IsStandard, IsOwn, unused, file_device, file_device_is_sound};
 
-use crate::fault::count_fault;
+use crate::fault::{count_fault, counted};
 use crate::{FileFailed, LinkFailed, Site};
 use disk_trait::{Disk, Failed, Text};
 use std::fs::{File, OpenOptions};
@@ -227,19 +226,6 @@ fn read_some(input: &mut Stdin, out: &mut [u8]) -> io::Result<usize>
     Err(io::Error::from(ErrorKind::Interrupted))
 }
 
-/// The answer of a call of the system, with this failure for each of its errors, which are counted.
-fn counted<E: Drop>(answer: io::Result<()>, faults: &mut u64, failure: E) -> Result<(), E>
-    ensures { IsCounted (is_ok result) faults.old faults.new }
-{
-    match answer {
-        Ok(()) => Ok(()),
-        Err(_) => {
-            count_fault(faults);
-            Err(failure)
-        }
-    }
-}
-
 #[cfg(test)]
 mod tests {
     use super::*;
@@ -278,11 +264,13 @@ mod tests {
     }
 
     #[test]
-    fn one_peer_comes(rt: HostRuntime) -> Result<(), Fail> {
+    fn one_peer_comes_and_its_closed_input_is_a_fault(rt: HostRuntime) -> Result<(), Fail> {
         let path = Text::from_bytes(rt.alloc(), b"store")?;
         let mut site = make(&rt, &path, 0)?;
         assert_eq!(rt; site.next_peer(), Ok(true));
         site.say(b"said\n")?;
+        libc::close(libc::STDIN_FILENO);
+        assert_eq!(rt; site.hear(&mut [0; 8]), Err(LinkFailed));
         site.close_peer();
         assert_eq!(rt; site.next_peer(), Ok(false));
         Ok(())
