@@ -229,6 +229,7 @@ fn read_some(input: &mut Stdin, out: &mut [u8]) -> io::Result<usize>
 #[cfg(test)]
 mod tests {
     use super::*;
+    use std::fs;
     use std::test::Fail;
 
     fn make(rt: &HostRuntime, path: &Text, length: u64) -> Result<FileSite, FileFailed> {
@@ -264,13 +265,26 @@ mod tests {
     }
 
     #[test]
-    fn one_peer_comes_and_its_closed_input_is_a_fault(rt: HostRuntime) -> Result<(), Fail> {
+    fn the_one_peer_is_heard_to_its_end(rt: HostRuntime) -> Result<(), Fail> {
         let path = Text::from_bytes(rt.alloc(), b"store")?;
+        fs::write(&rt, "request", "GET")?;
         let mut site = make(&rt, &path, 0)?;
         assert_eq!(rt; site.next_peer(), Ok(true));
-        site.say(b"said\n")?;
+
         libc::close(libc::STDIN_FILENO);
-        assert_eq!(rt; site.hear(&mut [0; 8]), Err(LinkFailed));
+        let mut heard = [0; 5];
+        assert_eq!(rt;
+            site.hear(&mut heard),
+            Err(LinkFailed),
+            "the input is closed"
+        );
+        // The next file that opens is standard input.
+        let _input = File::open(&rt, "request")?;
+        assert_eq!(rt; site.hear(&mut heard), Ok(3));
+        assert_eq!(rt; heard.as_slice(), b"GET\0\0".as_slice());
+        assert_eq!(rt; site.hear(&mut heard), Ok(0));
+
+        site.say(b"said\n")?;
         site.close_peer();
         assert_eq!(rt; site.next_peer(), Ok(false));
         Ok(())
