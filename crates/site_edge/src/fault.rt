@@ -1,4 +1,9 @@
-//! What a link or a sink answers that failed. Their counts of faults tell it from a call that gave up.
+//! What a link or a sink answers that failed, which their counts of faults tell from a call that gave up,
+//! and what opening a file answers.
+ghost use Rattle.std.specs.Prelude.{◌≡◌, false, is_ok};
+ghost use Rattle.disk_trait.specs.Calls.{IsCounted};
+
+use std::io;
 
 /// A call to a peer failed.
 #[derive(Clone, Copy, Debug, PartialEq, Eq)]
@@ -7,3 +12,38 @@ pub struct LinkFailed;
 /// A sink took some of the bytes at most.
 #[derive(Clone, Copy, Debug, PartialEq, Eq)]
 pub struct SinkFailed;
+
+/// A file could not be opened, made, lengthened or synced, or got a standard stream's descriptor.
+#[derive(Clone, Copy, Debug, PartialEq, Eq)]
+pub struct FileFailed;
+
+impl From<io::Error> for FileFailed {
+    fn from(_: io::Error) -> Self {
+        FileFailed
+    }
+}
+
+/// Counts one more fault. The last value of a `u64` stands still.
+pub(crate) fn count_fault(faults: &mut u64)
+    ensures { IsCounted false faults.old faults.new }
+{
+    *faults = faults.saturating_add(1);
+}
+
+/// The answer of a call of the system, with this failure for each of its errors, which are counted.
+pub(crate) fn counted<E: Drop>(
+    answer: io::Result<()>,
+    faults: &mut u64,
+    failure: E,
+) -> Result<(), E>
+    ensures same { is_ok result ≡ is_ok answer }
+    ensures counted { IsCounted (is_ok result) faults.old faults.new }
+{
+    match answer {
+        Ok(()) => Ok(()),
+        Err(_) => {
+            count_fault(faults);
+            Err(failure)
+        }
+    }
+}

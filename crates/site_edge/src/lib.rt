@@ -1,14 +1,24 @@
 //! The edge of the store: the site that it serves (a device with links to its peers), the clock that
 //! it reads and the sink that its notes go to. Each is a trait with a written meaning, beside a fake
-//! in memory that meets it in full.
+//! in memory that meets it in full, and a real one that counts its faults and tells nothing of content.
 #![tactic(auto)]
 
 mod clock;
 mod fault;
+mod file_site;
+mod host_clock;
+mod host_sink;
+mod list_clock;
+mod memory_sink;
 mod sink;
 mod site;
 
 pub use crate::clock::Clock;
-pub use crate::fault::{LinkFailed, SinkFailed};
+pub use crate::fault::{FileFailed, LinkFailed, SinkFailed};
+pub use crate::file_site::FileSite;
+pub use crate::host_clock::HostClock;
+pub use crate::host_sink::HostSink;
+pub use crate::list_clock::ListClock;
+pub use crate::memory_sink::MemorySink;
 pub use crate::sink::Sink;
 pub use crate::site::Site;

@@ -1,0 +1,84 @@
+//! The machine's clock.
+ghost use Rattle.std.specs.Prelude.{◌≡◌, ◌/◌, [], false, min, IfOk, OnErr};
+ghost use Rattle.std.specs.Duration.{as_nanos};
+ghost use Rattle.site_edge.specs.Clocks.{IsMoment};
+
+use crate::Clock;
+use std::io;
+use std::marker::Model;
+use std::rt::Clock as MachineClock;
+use std::time::Duration;
+
+/// The last second of the year 9999.
+const LAST_MOMENT: u64 = 253_402_300_799;
+
+const NANOS_PER_SECOND: u64 = 1_000_000_000;
+
+/// Gives the machine's time, cut to the range of moments. Where a reading fails it gives the moment
+/// before, and 0 at first. It tells none. Contracts see the moment that it gave last.
+#[derive(Drop)]
+pub struct HostClock<R: MachineClock> {
+    machine: R,
+    last: u64,
+}
+
+impl<R: MachineClock> Model for HostClock<R> {
+    ghost use Rattle.std.specs.Prelude.{ℕ};
+    ghost use Rattle.site_edge.specs.Clocks.{IsMoment};
+
+    ghost Value = { ℕ };
+
+    ghost view = { λ c. c.last };
+
+    ghost invariant = { λ c. IsMoment c.last };
+}
+
+impl<R: MachineClock> HostClock<R> {
+    pub fn new(machine: R) -> HostClock<R>
+        ensures { result ≡ 0 }
+    {
+        HostClock { machine, last: 0 }
+    }
+}
+
+impl<R: MachineClock> Clock for HostClock<R> {
+    ghost tells = { λ _. false };
+
+    ghost given = { λ _. [] };
+
+    fn now(&mut self) -> u64 {
+        self.last = moment_of(self.machine.since_1970(), self.last);
+        self.last
+    }
+}
+
+/// The moment of this reading, or the moment before where it failed.
+fn moment_of(reading: io::Result<Duration>, before: u64) -> u64
+    requires { IsMoment before }
+    ensures moment { IsMoment result }
+    ensures read { IfOk reading (λ time. result ≡ min (as_nanos time / NANOS_PER_SECOND) LAST_MOMENT) }
+    ensures failed { OnErr reading (result ≡ before) }
+{
+    match reading {
+        Ok(time) => time.as_secs().min(LAST_MOMENT),
+        Err(_) => before,
+    }
+}
+
+#[cfg(test)]
+mod tests {
+    use super::*;
+
+    /// A reading of any clock.
+    fn read<C: Clock>(clock: &mut C) -> u64 {
+        clock.now()
+    }
+
+    #[test]
+    fn the_machine_is_set_to_this_century(rt: HostRuntime) {
+        let mut clock = HostClock::new(rt);
+        let first = read(&mut clock);
+        assert!(rt; first > 1_700_000_000, "it read {first}");
+        assert!(rt; first < 4_102_444_800, "it read {first}");
+    }
+}

@@ -1,0 +1,85 @@
+//! A clock over a list of moments.
+ghost use Rattle.std.specs.Prelude.{◌≡◌, All};
+ghost use Rattle.site_edge.specs.Clocks.{IsMoment, not_begun, moment_after, listing_tells, listing_given};
+
+use crate::Clock;
+use disk_trait::NumberList;
+use std::marker::Model;
+
+/// Gives the moments of a list in order, then its last one again and again, and 0 where the list is
+/// empty. It counts them, and tells none once there were more than a `u64` counts.
+#[derive(Drop)]
+pub struct ListClock {
+    moments: NumberList,
+    count: Option<u64>,
+}
+
+impl Model for ListClock {
+    ghost use Rattle.std.specs.Prelude.{All};
+    ghost use Rattle.site_edge.specs.Clocks.{IsMoment, Listing};
+
+    ghost Value = { Listing };
+
+    ghost view = { λ c. record { moments = c.moments; count = c.count } };
+
+    ghost invariant = { λ c. All IsMoment c.moments };
+}
+
+impl ListClock {
+    /// A clock that gave no moment yet. It takes no memory.
+    pub fn new(moments: NumberList) -> ListClock
+        requires { All IsMoment moments }
+        ensures { result ≡ not_begun moments }
+    {
+        ListClock {
+            moments,
+            count: Some(0),
+        }
+    }
+}
+
+impl Clock for ListClock {
+    ghost tells = { listing_tells };
+
+    ghost given = { listing_given };
+
+    fn now(&mut self) -> u64 {
+        let count = self.count.unwrap_or(u64::MAX);
+        self.count = count.checked_add(1);
+        moment_at(self.moments.numbers(), count)
+    }
+}
+
+/// The moment that comes after so many others.
+fn moment_at(moments: &[u64], count: u64) -> u64
+    ensures { result ≡ moment_after moments.now count }
+{
+    match moments.len().checked_sub(1) {
+        Some(last) => moments[last.min(count as usize)],
+        None => 0,
+    }
+}
+
+#[cfg(test)]
+mod tests {
+    use super::*;
+    use std::test::Fail;
+
+    /// A reading of any clock.
+    fn read<C: Clock>(clock: &mut C) -> u64 {
+        clock.now()
+    }
+
+    #[test]
+    fn the_last_moment_comes_again_and_again(rt: HostRuntime) -> Result<(), Fail> {
+        let moments = NumberList::from_slice(rt.alloc(), &[9, 5, 253_402_300_799])?;
+        let mut clock = ListClock::new(moments);
+        for wanted in [9, 5, 253_402_300_799, 253_402_300_799, 253_402_300_799] {
+            assert_eq!(rt; read(&mut clock), wanted);
+        }
+        let mut empty = ListClock::new(NumberList::new(rt.alloc()));
+        assert_eq!(rt; read(&mut empty), 0);
+        assert_eq!(rt; read(&mut empty), 0);
+        Ok(())
+    }
+}

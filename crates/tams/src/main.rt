@@ -1,0 +1,104 @@
+//! The program. It makes the file, the peer, the clock and the sink that its words name, and hands them
+//! to the top call, which does the rest. What fails before that call it reports itself.
+#![tactic(auto)]
+
+ghost use Rattle.std.specs.Prelude.{◌≡◌};
+
+use disk_trait::{Memory, Text, TextList};
+use site_edge::{FileFailed, FileSite, HostClock, HostSink, Sink};
+use std::env;
+use std::fs::File;
+use std::io::{ErrorKind, Stderr, Stdin, Stdout};
+use std::process::ExitCode;
+use std::rt::{Clock, Env, Files};
+use tams_top::{NoSite, Wanted};
+
+/// The status where the file can't be opened, made, lengthened or synced.
+const DISK_FAULT: u8 = 3;
+
+/// The status where there is no memory for the words, what they name, or the site.
+const NO_MEMORY: u8 = 4;
+
+/// The three standard streams.
+#[derive(Clone, Copy)]
+struct Streams {
+    input: Stdin,
+    output: Stdout,
+    error: Stderr,
+}
+
+fn main(rt: HostRuntime) -> ExitCode {
+    let streams = Streams {
+        input: rt.stdin(),
+        output: rt.stdout(),
+        error: rt.stderr(),
+    };
+    let status = match status_of(&rt, streams) {
+        Ok(status) => status,
+        Err(Memory) => report(
+            &mut HostSink::output(streams.output),
+            b"no memory\n",
+            NO_MEMORY,
+        ),
+    };
+    ExitCode::from(status)
+}
+
+/// The status of the command that the arguments ask for.
+fn status_of<R: Files<File = File> + Env + Clock + AllocGlobal>(
+    rt: &R,
+    streams: Streams,
+) -> Result<u8, Memory> {
+    let words = words_of(rt)?;
+    let wanted = tams_top::devices(rt.alloc(), &words)?;
+    let mut clock = HostClock::new(rt);
+    let mut notes = notes_of(&wanted, &words, streams);
+    let opened = match &wanted {
+        Wanted::Nothing => {
+            let mut site = NoSite;
+            return Ok(tams_top::run(rt.alloc(), &words, &mut site, &mut clock, &mut notes));
+        }
+        Wanted::Plain(path) => FileSite::open(rt, path, streams.input, streams.output),
+        Wanted::Fresh(path, length) => {
+            FileSite::make(rt, path, *length, streams.input, streams.output)
+        }
+    };
+    Ok(match opened {
+        Ok(mut site) => tams_top::run(rt.alloc(), &words, &mut site, &mut clock, &mut notes),
+        Err(FileFailed) => report(&mut notes, b"disk fault\n", DISK_FAULT),
+    })
+}
+
+/// The arguments behind the program's name. Where one isn't UTF-8 there are no words at all, which no
+/// command takes.
+fn words_of<R: Env + AllocGlobal>(rt: &R) -> Result<TextList, Memory> {
+    let mut words = TextList::new(rt.alloc());
+    match env::args(rt) {
+        Ok(arguments) => {
+            for argument in arguments.skip(1) {
+                words.push(Text::from_vec(argument.into_bytes()))?;
+            }
+            Ok(words)
+        }
+        Err(error) if error.kind() == ErrorKind::OutOfMemory => Err(Memory),
+        Err(_) => Ok(words),
+    }
+}
+
+/// Standard error for a `replay`, whose answers go to standard output, and standard output for all else.
+fn notes_of(wanted: &Wanted, words: &TextList, streams: Streams) -> HostSink {
+    match (wanted, words.items()) {
+        (Wanted::Plain(_), [command, ..]) if command.bytes() == b"replay".as_slice() => {
+            HostSink::error(streams.error)
+        }
+        _ => HostSink::output(streams.output),
+    }
+}
+
+/// Puts this line to the notes. A fault of theirs changes no status.
+fn report(notes: &mut HostSink, line: &[u8], status: u8) -> u8
+    ensures { result ≡ status }
+{
+    let _ = notes.put(line);
+    status
+}
