@@ -17,7 +17,7 @@ front-frame_text : (payload : List ℕ) → bytes_at (frame_text payload) 0 (4 +
 unfolding frame_text
 front-frame_text payload =
     let size : 4 + length payload ≡ length (u32_bytes (length payload) ++ payload) =
-        omega (arith, length-append (u32_bytes (length payload)) payload, length-u32_bytes (length payload)) in
+    omega (arith, length-append (u32_bytes (length payload)) payload, length-u32_bytes (length payload)) in
     ap₂ take size (sym (append_assoc (u32_bytes (length payload)) payload (0 ∷ []))) ∙ take-append_seam (u32_bytes (length payload) ++ payload) (0 ∷ [])
 
 -- the gate of a frame is closed
@@ -46,12 +46,12 @@ module _ (image payload : List ℕ) (gate : ℕ) (fits : gate + (6 + length payl
   recorded-record short =
       let one : gate + 0 ≡ gate = omega arith in
       let gate_is : bytes_at (recorded image gate payload) gate 1 ≡ 1 ∷ [] =
-          rw one at (bytes_at-written gate (1 ∷ []) _ opened_fits 0 1 (omega arith)) in
+      rw one at (bytes_at-written gate (1 ∷ []) _ opened_fits 0 1 (omega arith)) in
       let none : gate + 1 + 0 ≡ gate + 1 = omega arith in
       let behind : bytes_at (recorded image gate payload) (gate + 1) (4 + length payload) ≡ u32_bytes (length payload) ++ payload =
-          bytes_at-behind gate (1 ∷ []) _ opened_fits (gate + 1) (4 + length payload) (omega arith) (omega (arith, length-overwritten (gate + 1) (frame_text payload) image framed_fits))
-          ∙ (rw none at (bytes_at-written (gate + 1) (frame_text payload) image framed_fits 0 (4 + length payload) (omega (arith, length-frame_text payload))))
-          ∙ front-frame_text payload in
+      bytes_at-behind gate (1 ∷ []) _ opened_fits (gate + 1) (4 + length payload) (omega arith) (omega (arith, length-overwritten (gate + 1) (frame_text payload) image framed_fits))
+      ∙ (rw none at (bytes_at-written (gate + 1) (frame_text payload) image framed_fits 0 (4 + length payload) (omega (arith, length-frame_text payload))))
+      ∙ front-frame_text payload in
       let size : 5 + length payload ≡ 1 + (4 + length payload) = omega arith in
       record {
         text = rw size (bytes_at-add (recorded image gate payload) gate 1 (4 + length payload) ∙ ap₂ ◌++◌ gate_is behind);

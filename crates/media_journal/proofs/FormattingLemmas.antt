@@ -23,15 +23,15 @@ GateIs-front image Closed h = λ has. h (has_front image has)
 pub length-header_text : (h : Header) → length (header_text h) ≡ 40
 unfolding header_text
 length-header_text h =
-    omega
-    ( arith
-    , length-append magic (u64_bytes h.blocks ++ (u64_bytes h.half ++ u128_bytes h.id))
-    , length-append (u64_bytes h.blocks) (u64_bytes h.half ++ u128_bytes h.id)
-    , length-append (u64_bytes h.half) (u128_bytes h.id)
-    , length-magic
-    , length-u64_bytes h.blocks
-    , length-u64_bytes h.half
-    , length-u128_bytes h.id
+    omega (
+      arith,
+      length-append magic (u64_bytes h.blocks ++ (u64_bytes h.half ++ u128_bytes h.id)),
+      length-append (u64_bytes h.blocks) (u64_bytes h.half ++ u128_bytes h.id),
+      length-append (u64_bytes h.half) (u128_bytes h.id),
+      length-magic,
+      length-u64_bytes h.blocks,
+      length-u64_bytes h.half,
+      length-u128_bytes h.id,
     )
 
 length-rows_text : (rows : List ℕ) → length (rows_text rows) ≡ 8 + length rows

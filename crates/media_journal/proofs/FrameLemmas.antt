@@ -15,7 +15,7 @@ unfolding frame_text
 framed-frame_text payload =
     let fits : length (frame_text payload) - 5 ≡ length payload = omega (arith, length-frame_text payload) in
     let behind : drop 4 (frame_text payload) ≡ payload ++ 0 ∷ [] =
-        ap (λ n. drop n (frame_text payload)) (sym (length-u32_bytes (length payload))) ∙ drop-append_seam (u32_bytes (length payload)) _ in
+    ap (λ n. drop n (frame_text payload)) (sym (length-u32_bytes (length payload))) ∙ drop-append_seam (u32_bytes (length payload)) _ in
     ap₂ take fits behind ∙ take-append_seam payload (0 ∷ [])
 
 pub is_frame : (payload : List ℕ) → 0 < length payload → length payload < 2 ^ 32 → IsFrame (frame_text payload)

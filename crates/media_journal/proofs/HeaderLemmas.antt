@@ -47,7 +47,7 @@ pub one_header : (image : List ℕ) (a b : Header) → IsHeader image a → IsHe
 unfolding header_text
 one_header image a b first second =
     let texts : magic ++ (u64_bytes a.blocks ++ (u64_bytes a.half ++ u128_bytes a.id)) ≡ magic ++ (u64_bytes b.blocks ++ (u64_bytes b.half ++ u128_bytes b.id)) =
-        sym first.text ∙ second.text in
+    sym first.text ∙ second.text in
     let numbers = same_rest 8 magic _ magic _ length-magic length-magic texts in
     let blocks = same_u64 a.blocks b.blocks first.blocks second.blocks (same_front 8 (u64_bytes a.blocks) _ (u64_bytes b.blocks) _ (length-u64_bytes a.blocks) (length-u64_bytes b.blocks) numbers) in
     let behind = same_rest 8 (u64_bytes a.blocks) _ (u64_bytes b.blocks) _ (length-u64_bytes a.blocks) (length-u64_bytes b.blocks) numbers in

@@ -23,9 +23,9 @@ one_payload : (image : List ℕ) (at : ℕ) (p q : List ℕ) → IsRecordAt imag
 unfolding record_text
 one_payload image at p q first second =
     let size : length p ≡ length q =
-        same_u32 (length p) (length q) first.short second.short (sym (record_length image at p first) ∙ record_length image at q second) in
+    same_u32 (length p) (length q) first.short second.short (sym (record_length image at p first) ∙ record_length image at q second) in
     let texts : u32_bytes (length p) ++ p ≡ u32_bytes (length q) ++ q =
-        ap (drop 1) (sym first.text ∙ ap (λ n. bytes_at image at (5 + n)) size ∙ second.text) in
+    ap (drop 1) (sym first.text ∙ ap (λ n. bytes_at image at (5 + n)) size ∙ second.text) in
     same_rest 4 (u32_bytes (length p)) p (u32_bytes (length q)) q (length-u32_bytes (length p)) (length-u32_bytes (length q)) texts
 
 -- what follows a chain that was read, in any other that ends at a closed gate
@@ -42,7 +42,7 @@ continues image from (r ∷ rs) (q ∷ qs) mid to h chain closed =
     let tail = subst (λ (p : List ℕ). AreRecords image (from + (5 + length p)) qs to) (sym payload) chain.2 in
     let more = continues image (from + (5 + length r.payload)) rs qs mid to h.2 tail closed in
     let same : q ≡ r =
-        ap₂ (λ (o : ℕ) (p : List ℕ). let s : Record = record { offset = o; payload = p } in s) (chain.0 ∙ sym h.0) (sym payload) in
+    ap₂ (λ (o : ℕ) (p : List ℕ). let s : Record = record { offset = o; payload = p } in s) (chain.0 ∙ sym h.0) (sym payload) in
     record { rest = more.rest; is = ap₂ ◌∷◌ same more.is; chain = more.chain }
 
 -- the length of the rows that a half may have
@@ -69,12 +69,12 @@ no_half-torn image start end n mid found short prefix chain torn gate rows recor
     let more = continues image (start + (8 + n)) found records mid gate chain other h.closed in
     torn_ends image mid end gate more.rest torn more.chain h.closed h.within
   where
-  torn_ends : (image : List ℕ) (mid end gate : ℕ) (rest : List Record) → IsTornAt image mid end → AreRecords image mid rest gate → IsClosedGate image gate → gate < end → ⊥
-  torn_ends image mid end gate [] torn e closed within = closed (subst (λ (at : ℕ). IsOpenGate image at) e torn.gate)
-  torn_ends image mid end gate (r ∷ rs) torn h closed within =
-      let fits : mid + (5 + length r.payload) ≤ gate = chain_bounds image (mid + (5 + length r.payload)) rs gate h.2 in
-      let passes = torn.passes r.payload h.1 in
-      omega arith
+    torn_ends : (image : List ℕ) (mid end gate : ℕ) (rest : List Record) → IsTornAt image mid end → AreRecords image mid rest gate → IsClosedGate image gate → gate < end → ⊥
+    torn_ends image mid end gate [] torn e closed within = closed (subst (λ (at : ℕ). IsOpenGate image at) e torn.gate)
+    torn_ends image mid end gate (r ∷ rs) torn h closed within =
+        let fits : mid + (5 + length r.payload) ≤ gate = chain_bounds image (mid + (5 + length r.payload)) rs gate h.2 in
+        let passes = torn.passes r.payload h.1 in
+        omega arith
 
 -- the length, the rows and the chain make a half
 pub is_half : (image : List ℕ) (start end gate n : ℕ) (rows : List ℕ) (found : List Record) → n < 2 ^ 64 → length rows ≡ n → u64_bytes n ≡ bytes_at image start 8 → rows ≡ bytes_at image (start + 8) n → AreRecords image (start + (8 + n)) found gate → IsClosedGate image gate → gate < end → HasHalf image start end gate rows found

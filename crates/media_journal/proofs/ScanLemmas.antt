@@ -20,7 +20,7 @@ is_record image at n payload within short size gate prefix rest =
     let place : at + 1 + 4 ≡ at + 5 = omega arith in
     let one : bytes_at image at 1 ≡ 1 ∷ [] = bytes_at-one image at within ∙ ap (λ x. x ∷ []) gate in
     let behind : bytes_at image (at + 1) (4 + n) ≡ u32_bytes (length payload) ++ payload =
-        bytes_at-add image (at + 1) 4 n ∙ ap₂ ◌++◌ (sym prefix ∙ ap u32_bytes (sym size)) (rw place (sym rest)) in
+    bytes_at-add image (at + 1) 4 n ∙ ap₂ ◌++◌ (sym prefix ∙ ap u32_bytes (sym size)) (rw place (sym rest)) in
     record {
       text = rw five (bytes_at-add image at 1 (4 + n) ∙ ap₂ ◌++◌ one behind);
       short = omega arith;

@@ -41,7 +41,7 @@ pub fn format_device<D: Disk>(
     ensures calls { DiskCalls (format_ok result) (D.device disk.old) (D.device disk.new) }
     ensures answer { (D.device disk.old).shows ≡ true
         → FormatAnswer (D.device disk.old).seen (D.device disk.new).seen
-            record { blocks = blocks; half = half; id = id } rows.now result }
+        record { blocks = blocks; half = half; id = id } rows.now result }
 {
     let header = Header { blocks, half, id };
     let gate = read_gate(disk)?;
@@ -58,12 +58,7 @@ pub fn format_device<D: Disk>(
 
 /// Writes the store of a device whose gate is this: it is closed first, and opened once all else is
 /// synced.
-fn make_store<D: Disk>(
-    disk: &mut D,
-    gate: Gate,
-    header: &[u8],
-    half: &[u8],
-) -> Result<(), Failed>
+fn make_store<D: Disk>(disk: &mut D, gate: Gate, header: &[u8], half: &[u8]) -> Result<(), Failed>
     requires header { length header.now ≡ 40 }
     requires device { 8192 + length half.now ≤ (D.device disk.old).size }
     ensures calls { DiskCalls (is_ok result) (D.device disk.old) (D.device disk.new) }
@@ -134,7 +129,7 @@ fn write_store<D: Disk>(disk: &mut D, header: &[u8], half: &[u8]) -> Result<(), 
     ensures calls { DiskCalls (is_ok result) (D.device disk.old) (D.device disk.new) }
     ensures written { (D.device disk.old).shows ≡ true → OnOk result ((D.device disk.new).seen
         ≡ overwritten 8192 half.now (overwritten 4096 (0 ∷ [])
-            (overwritten 0 header.now (D.device disk.old).seen))) }
+        (overwritten 0 header.now (D.device disk.old).seen))) }
 {
     disk.write_at(0, header)?;
     disk.write_at(BLOCK, &[0])?;

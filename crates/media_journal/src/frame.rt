@@ -2,8 +2,8 @@
 ghost use Rattle.std.specs.Prelude.{◌≡◌, ◌<◌, ◌+◌, ◌^◌, IfOk, length};
 ghost use Rattle.media_journal.specs.Journal.{frame_text};
 
-use disk_trait::numbers::u32_bytes;
 use disk_trait::Memory;
+use disk_trait::numbers::u32_bytes;
 use std::alloc::Global;
 use std::marker::Model;
 

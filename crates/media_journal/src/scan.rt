@@ -119,12 +119,7 @@ pub(crate) fn read_chain<D: Disk>(
 }
 
 /// Reads what stands at this place.
-fn read_record<D: Disk>(
-    alloc: Global,
-    disk: &mut D,
-    at: u64,
-    end: u64,
-) -> Result<Found, ReadFault>
+fn read_record<D: Disk>(alloc: Global, disk: &mut D, at: u64, end: u64) -> Result<Found, ReadFault>
     requires within { at < end }
     requires device { end ≤ (D.device disk.old).size }
     ensures reads { DiskReads (read_ok result) (D.device disk.old) (D.device disk.new) }

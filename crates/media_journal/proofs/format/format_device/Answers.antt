@@ -16,10 +16,10 @@ returns g c = record {
       let header : Header = record { blocks = c.args.blocks; half = c.args.half; id = c.args.id } in
       let sizes : AreSizes header c.len.result = search rules in
       let fits : FitsStore header (length (g.D.Disk.device c.args.disk.now).seen) c.args.rows.now =
-          record { sizes = rw size sizes; room = omega arith } in
-      let made = c.in_ok-make_store.ensures.written (first.calls.same.shows ∙ shows) in
-      ( not_store _ c.in_ok-gate.gate c.in_default.not-Store (c.in_ok-gate.ensures.gate shows)
-      , fits
-      , reads_formatted _ _ header c.args.rows.now fits c.ranges.id.fits (rw (c.header_bytes.ensures, c.deref.ensures.value, c.in_ok-half.ensures.text, first.seen) at made)
+      record { sizes = rw size sizes; room = omega arith } in
+      let made = c.in_ok-make_store.ensures.written (first.calls.same.shows ∙ shows) in (
+        not_store _ c.in_ok-gate.gate c.in_default.not-Store (c.in_ok-gate.ensures.gate shows),
+        fits,
+        reads_formatted _ _ header c.args.rows.now fits c.ranges.id.fits (rw (c.header_bytes.ensures, c.deref.ensures.value, c.in_ok-half.ensures.text, first.seen) at made),
       );
 }

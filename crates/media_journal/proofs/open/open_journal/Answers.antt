@@ -25,8 +25,8 @@ returns-in_err-half-clause-answer g c = λ shows.
     let once = first.calls.same.shows ∙ shows in
     let place = rw first.seen at (c.in_ok-start.ensures.start once) in
     let answer =
-        subst (λ (image : List ℕ). HalfAnswer image c.in_ok-start.start (c.in_ok-start.start + 4096 * c.in-Some.header.half) (Err c.in_err-half.field-0.0))
-        (second.seen ∙ first.seen) (c.in_err-half.ensures.half (second.calls.same.shows ∙ once)) in
+    subst (λ (image : List ℕ). HalfAnswer image c.in_ok-start.start (c.in_ok-start.start + 4096 * c.in-Some.header.half) (Err c.in_err-half.field-0.0))
+    (second.seen ∙ first.seen) (c.in_err-half.ensures.half (second.calls.same.shows ∙ once)) in
     rw (p.1, p.2) (open_fault _ _ _ _ header (omega (arith, size)) place answer)
 
 -- The header, the selector and the half were read from the image.

@@ -1,0 +1,3 @@
+pub mod Ids
+pub mod Request
+pub mod Change
