@@ -1,13 +1,15 @@
 -- What the two writes of a record leave in an image.
-use Rattle.std.proofs.Common.{◌≡◌, ◌<◌, ◌≤◌, ◌+◌, ◌-◌, ◌*◌, ◌^◌, ℕ, List, [], ◌∷◌, ◌++◌, length, take, drop, get_or, refl, sym, ap, ap₂, ◌∙◌, subst, arith, length-append, append_assoc}
+use Rattle.std.proofs.Common.{◌≡◌, ◌<◌, ◌≤◌, ◌+◌, ◌-◌, ◌*◌, ◌%◌, ◌==◌, ◌^◌, ℕ, true, false, List, [], ◌∷◌, ◌++◌, length, take, drop, get_or, slice_index, refl, sym, ap, ap₂, ◌∙◌, subst, arith, length-append, append_assoc}
 use Rattle.std.proofs.lemmas.List.{places}
+use Rattle.std.specs.Prelude.{if◌then◌else◌}
 use Rattle.std.proofs.Math.Seq.{take-append_seam}
 use Rattle.disk_trait.specs.Calls.{bytes_at, overwritten}
 use Rattle.disk_trait.specs.Numbers.{u32_bytes}
 use Rattle.disk_trait.proofs.NumberLemmas.{length-u32_bytes}
-use Rattle.disk_trait.proofs.OverwriteLemmas.{length-overwritten, get_or-behind, get_or-written, bytes_at-add, bytes_at-before, bytes_at-behind, bytes_at-written}
+use Rattle.disk_trait.proofs.OverwriteLemmas.{length-overwritten, get_or-before, get_or-behind, get_or-written, bytes_at-add, bytes_at-before, bytes_at-behind, bytes_at-written}
 use Rattle.media_journal.specs.declared.record.Record.{Record}
-use Rattle.media_journal.specs.File.{HasHalf, IsRecordAt, record_text}
+use Rattle.media_journal.specs.declared.header.Header.{Header}
+use Rattle.media_journal.specs.File.{HasHalf, IsRecordAt, active_start, record_text}
 use Rattle.media_journal.specs.Journal.{Position, Gives, after_append, frame_text}
 use Rattle.media_journal.proofs.FrameLemmas.{length-frame_text}
 use Rattle.media_journal.proofs.ChainLemmas.{chain_bounds, chain_kept, chain_push}
@@ -25,6 +27,11 @@ gate-frame_text : (payload : List ℕ) → get_or (frame_text payload) (4 + leng
 unfolding frame_text
 gate-frame_text payload = let four = length-u32_bytes (length payload) in grind (arith, places)
 
+-- each half begins behind the first two blocks
+active_start-least : (image : List ℕ) (half : ℕ) → 8192 ≤ active_start image half
+active_start-least image half =
+    elim (slice_index image 4096 % 2 == 0) as (λ b. 8192 ≤ (if b then 8192 else 8192 + 4096 * half)) [ true ↦ omega arith | false ↦ omega arith ]
+
 -- the image once the gate was opened behind the frame
 abbrev pub recorded : List ℕ → ℕ → List ℕ → List ℕ
 recorded image gate payload = overwritten gate (1 ∷ []) (overwritten (gate + 1) (frame_text payload) image)
@@ -40,6 +47,13 @@ module _ (image payload : List ℕ) (gate : ℕ) (fits : gate + (6 + length payl
   pub recorded-before : (i n : ℕ) → i + n ≤ gate → bytes_at (recorded image gate payload) i n ≡ bytes_at image i n
   recorded-before i n h =
       bytes_at-before gate (1 ∷ []) _ opened_fits i n h ∙ bytes_at-before (gate + 1) (frame_text payload) image framed_fits i n (omega arith)
+
+  recorded-byte : (i : ℕ) → i < gate → get_or (recorded image gate payload) i 0 ≡ get_or image i 0
+  recorded-byte i h =
+      get_or-before gate (1 ∷ []) _ opened_fits i 0 h ∙ get_or-before (gate + 1) (frame_text payload) image framed_fits i 0 (omega arith)
+
+  length-recorded : length (recorded image gate payload) ≡ length image
+  length-recorded = length-overwritten gate (1 ∷ []) _ opened_fits ∙ length-overwritten (gate + 1) (frame_text payload) image framed_fits
 
   pub recorded-record : length payload < 2 ^ 32 → IsRecordAt (recorded image gate payload) gate payload
   unfolding record_text
@@ -64,16 +78,42 @@ module _ (image payload : List ℕ) (gate : ℕ) (fits : gate + (6 + length payl
       get_or-behind gate (1 ∷ []) _ opened_fits (gate + (5 + length payload)) 0 (omega arith)
       ∙ rw place (get_or-written (gate + 1) (frame_text payload) image framed_fits (4 + length payload) 0 (omega (arith, length-frame_text payload)) ∙ gate-frame_text payload)
 
--- the image gives the journal one record more
-pub gives_more : (image : List ℕ) (p : Position) (rows : List ℕ) (records : List Record) (payload : List ℕ) → p.gate + p.room ≤ length image → length payload + 6 ≤ p.room → length payload < 2 ^ 32 → Gives image p rows records → Gives (recorded image p.gate payload) (after_append p (length payload)) rows (records ++ record { offset = p.gate; payload = payload } ∷ [])
-gives_more image p rows records payload within room short h =
-    let fits : p.gate + (6 + length payload) ≤ length image = omega arith in
-    let bound : p.start + (8 + length rows) ≤ p.gate = chain_bounds image _ records p.gate h.chain in
+-- the half has one record more
+half_more : (image : List ℕ) (start end gate : ℕ) (rows : List ℕ) (records : List Record) (payload : List ℕ) → end ≤ length image → gate + (6 + length payload) ≤ end → length payload < 2 ^ 32 → HasHalf image start end gate rows records → HasHalf (recorded image gate payload) start end (gate + (length payload + 5)) rows (records ++ record { offset = gate; payload = payload } ∷ [])
+half_more image start end gate rows records payload within room short h =
+    let fits : gate + (6 + length payload) ≤ length image = omega arith in
+    let bound : start + (8 + length rows) ≤ gate = chain_bounds image _ records gate h.chain in
     let place : length payload + 5 ≡ 5 + length payload = omega arith in
     record {
-      text = recorded-before image payload p.gate fits p.start (8 + length rows) bound ∙ h.text;
+      text = recorded-before image payload gate fits start (8 + length rows) bound ∙ h.text;
       few = h.few;
-      chain = rw place (chain_push _ _ records p.gate payload (chain_kept image _ _ records p.gate (recorded-before image payload p.gate fits) h.chain) (recorded-record image payload p.gate fits short));
-      closed = λ one. let shut : get_or (recorded image p.gate payload) (p.gate + (length payload + 5)) 0 ≡ 0 = rw place (recorded-gate image payload p.gate fits) in cc;
+      chain = rw place (chain_push _ _ records gate payload (chain_kept image _ _ records gate (recorded-before image payload gate fits) h.chain) (recorded-record image payload gate fits short));
+      closed = λ one. let shut : get_or (recorded image gate payload) (gate + (length payload + 5)) 0 ≡ 0 = rw place (recorded-gate image payload gate fits) in cc;
       within = omega arith;
+    }
+
+-- the image gives the journal one record more
+pub gives_more : (image : List ℕ) (p : Position) (h : Header) (rows : List ℕ) (records : List Record) (payload : List ℕ) → p.gate + p.room ≤ length image → length payload + 6 ≤ p.room → length payload < 2 ^ 32 → Gives image p h rows records → Gives (recorded image p.gate payload) (after_append p (length payload)) h rows (records ++ record { offset = p.gate; payload = payload } ∷ [])
+gives_more image p h rows records payload within room short g =
+    let fits : p.gate + (6 + length payload) ≤ length image = omega arith in
+    let bound : active_start image h.half + (8 + length rows) ≤ p.gate = chain_bounds image _ records p.gate g.reads.half.chain in
+    let behind : 8192 ≤ active_start image h.half = active_start-least image h.half in
+    let start : active_start (recorded image p.gate payload) h.half ≡ active_start image h.half =
+        ap (λ (byte : ℕ). if byte % 2 == 0 then 8192 else 8192 + 4096 * h.half) (recorded-byte image payload p.gate fits 4096 (omega arith)) in
+    let size = length-recorded image payload p.gate fits in
+    record {
+      reads = record {
+        header = record {
+          gate = recorded-byte image payload p.gate fits 40 (omega arith) ∙ g.reads.header.gate;
+          text = recorded-before image payload p.gate fits 0 40 (omega arith) ∙ g.reads.header.text;
+          blocks = g.reads.header.blocks;
+          half = g.reads.header.half;
+          id = g.reads.header.id;
+        };
+        sizes = rw size g.reads.sizes;
+        half = rw start (half_more image _ _ p.gate rows records payload (omega (arith, g.room)) (omega (arith, g.room)) short g.reads.half);
+      };
+      start = g.start ∙ sym start;
+      room = rw start (omega (arith, g.room));
+      blocks = g.blocks;
     }

@@ -48,7 +48,7 @@ unfolding half_of
 opened_half image h rows records gate true header sizes within found = (refl, refl, unreadable-half image h header found)
 opened_half image h rows records gate false header sizes within found =
     let end : gate + (active_start image h.half + 4096 * h.half - gate) ≡ active_start image h.half + 4096 * h.half = omega arith in
-    (record { header = header; sizes = sizes; half = found }, rw end found)
+    record { reads = record { header = header; sizes = sizes; half = found }; start = refl; room = end; blocks = refl }
 
 pub is_opened : (image : List ℕ) (h : Header) (start : ℕ) (half : Half) → IsHeader image h → 20480 ≤ length image → AreSizes h (length image) → start ≡ active_start image h.half → half.chain.gate < start + 4096 * h.half → HalfFound image start (start + 4096 * h.half) half.chain.gate half.rows half.chain.records half.chain.torn → IsOpened image (opened_of h start half)
 unfolding half_of

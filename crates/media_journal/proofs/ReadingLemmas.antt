@@ -1,14 +1,16 @@
 -- An image gives one reading: what was found of it is all that any reading of it says.
-use Rattle.std.proofs.Common.{◌≡◌, ◌<◌, ◌≤◌, ◌+◌, ◌*◌, ◌^◌, ℕ, Bool, true, false, List, [], ◌∷◌, ◌++◌, length, take, drop, get_or, refl, sym, ap, ap₂, ◌∙◌, subst, arith}
+use Rattle.std.proofs.Common.{◌≡◌, ◌<◌, ◌≤◌, ◌+◌, ◌*◌, ◌^◌, ℕ, Bool, true, false, List, [], ◌∷◌, ◌++◌, length, take, drop, get_or, refl, sym, ap, ap₂, ◌∙◌, subst, arith, append-nil}
 use Rattle.std.proofs.Math.Seq.{take-append_seam, drop-append_seam}
 use Rattle.disk_trait.specs.Calls.{bytes_at}
 use Rattle.disk_trait.specs.Numbers.{u32_bytes, u64_bytes}
 use Rattle.disk_trait.proofs.NumberLemmas.{length-u32_bytes, length-u64_bytes, same_u32, same_u64, same_rest}
 use Rattle.disk_trait.proofs.OverwriteLemmas.{bytes_at-add, bytes_at-bytes_at, get_or-bytes_at}
+use Rattle.media_journal.specs.declared.header.Header.{Header}
 use Rattle.media_journal.specs.declared.record.Record.{Record}
-use Rattle.media_journal.specs.File.{IsOpenGate, IsClosedGate, IsRecordAt, AreRecords, HasHalf, record_text, rows_text}
+use Rattle.media_journal.specs.File.{IsOpenGate, IsClosedGate, IsRecordAt, AreRecords, HasHalf, Reads, active_start, record_text, rows_text}
 use Rattle.media_journal.specs.Scan.{IsTornAt, IsChain, HasNoHalf, HalfFound}
 use Rattle.media_journal.proofs.ChainLemmas.{chain_bounds}
+use Rattle.media_journal.proofs.HeaderLemmas.{one_header}
 use Rattle.media_journal.proofs.ScanLemmas.{record_length}
 
 -- a record's gate is open
@@ -93,3 +95,29 @@ half_found image start end gate n true rows found short size prefix text h =
     no_half-torn image start end n gate found short prefix h.chain h.ends
 half_found image start end gate n false rows found short size prefix text h =
     is_half image start end gate n rows found short size prefix text h.chain h.ends h.within
+
+-- two readings of a half are one
+no_more : (image : List ℕ) (mid to : ℕ) (found : List Record) (rest : List Record) → IsClosedGate image mid → AreRecords image mid rest to → found ++ rest ≡ found
+no_more image mid to found [] closed chain = append-nil found
+no_more image mid to found (r ∷ rs) closed chain = absurd (closed (record_gate image mid r.payload chain.1))
+
+pub one_half : (image : List ℕ) (start end g k : ℕ) (rows other : List ℕ) (rs qs : List Record) → HasHalf image start end g rows rs → HasHalf image start end k other qs → (other ≡ rows) × (qs ≡ rs)
+unfolding rows_text
+one_half image start end g k rows other rs qs first second =
+    let size : length other ≡ length rows =
+        same_u64 (length other) (length rows) second.few first.few (sym (half_length image start end k other qs second) ∙ half_length image start end g rows rs first) in
+    let texts : u64_bytes (length other) ++ other ≡ u64_bytes (length rows) ++ rows =
+        sym second.text ∙ ap (λ n. bytes_at image start (8 + n)) size ∙ first.text in
+    let chain = subst (λ (n : ℕ). AreRecords image (start + (8 + n)) qs k) size second.chain in
+    let more = continues image (start + (8 + length rows)) rs qs g k first.chain chain second.closed in
+    ( same_rest 8 (u64_bytes (length other)) other (u64_bytes (length rows)) rows (length-u64_bytes (length other)) (length-u64_bytes (length rows)) texts
+    , more.is ∙ no_more image g k rs more.rest first.closed more.chain
+    )
+
+-- two readings of an image are one
+pub one_reading : (image : List ℕ) (h j : Header) (g k : ℕ) (rows other : List ℕ) (rs qs : List Record) → Reads image h g rows rs → Reads image j k other qs → (j ≡ h) × (other ≡ rows) × (qs ≡ rs)
+one_reading image h j g k rows other rs qs first second =
+    let header = one_header image j h second.header first.header in
+    let half = subst (λ (x : Header). HasHalf image (active_start image x.half) (active_start image x.half + 4096 * x.half) k other qs) header second.half in
+    let same = one_half image _ _ g k rows other rs qs first.half half in
+    (header, same.0, same.1)

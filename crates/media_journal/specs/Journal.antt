@@ -2,7 +2,8 @@
 use Rattle.std.specs.Prelude.{◌≡◌, ◌<◌, ◌≤◌, ◌+◌, ◌-◌, ◌*◌, ◌^◌, ℕ, List, [], ◌∷◌, ◌++◌, length, take, drop}
 use Rattle.disk_trait.specs.Numbers.{u32_bytes}
 use Rattle.media_journal.specs.declared.record.Record.{Record}
-use Rattle.media_journal.specs.File.{HasHalf}
+use Rattle.media_journal.specs.declared.header.Header.{Header}
+use Rattle.media_journal.specs.File.{Reads, active_start}
 
 -- The blocks of the file, where the journal's half begins, where its closed gate is, and the bytes from
 -- there to the half's end. The room is 0 where an open record's end passes the half.
@@ -17,9 +18,13 @@ pub record IsPosition (p : Position) : Type 0 where
   pub blocks : p.blocks ≤ 1073741824
   pub within : p.gate + p.room ≤ 4096 * p.blocks
 
--- the image gives the journal these rows and records
-abbrev pub Gives : List ℕ → Position → List ℕ → List Record → Type 0
-Gives image p rows records = HasHalf image p.start (p.gate + p.room) p.gate rows records
+-- The image gives the journal these rows and records: it reads as a store with this header, whose active
+-- half is the journal's, and whose records end at the journal's gate.
+pub record Gives (image : List ℕ) (p : Position) (h : Header) (rows : List ℕ) (records : List Record) : Type 0 where
+  pub reads : Reads image h p.gate rows records
+  pub start : p.start ≡ active_start image h.half
+  pub room : p.gate + p.room ≡ active_start image h.half + 4096 * h.half
+  pub blocks : p.blocks ≡ h.blocks
 
 -- the position after a payload of n bytes was appended
 abbrev pub after_append : Position → ℕ → Position

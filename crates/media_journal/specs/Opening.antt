@@ -5,7 +5,7 @@ use Rattle.media_journal.specs.declared.open.Opened.{Opened}
 use Rattle.media_journal.specs.declared.scan.Half.{Half}
 use Rattle.media_journal.specs.declared.fault.JournalFault.{JournalFault}
 use Rattle.media_journal.specs.declared.fault.JournalFault.TheVariants.{NotStore, Damaged, Disk, Memory}
-use Rattle.media_journal.specs.File.{HasOpenHeader, IsHeader, AreSizes, active_start, Reads, IsUnreadable}
+use Rattle.media_journal.specs.File.{HasOpenHeader, IsHeader, AreSizes, active_start, IsUnreadable}
 use Rattle.media_journal.specs.Journal.{Gives}
 
 -- a file of at least five blocks whose header is an open one
@@ -37,7 +37,7 @@ opened_of h start half = record {
 
 -- the image reads as what was opened, or an open record of it is torn and it doesn't read at all
 abbrev pub OpenedHalf : List ℕ → Opened → Option ℕ → Type 0
-OpenedHalf image o None = Reads image (header_of o) o.journal.gate o.rows o.found × Gives image o.journal o.rows o.found
+OpenedHalf image o None = Gives image o.journal (header_of o) o.rows o.found
 OpenedHalf image o (Some at) = (at ≡ o.journal.gate) × (o.journal.room ≡ 0) × IsUnreadable image
 
 -- what was opened of the image of a store

@@ -2,6 +2,7 @@
 ghost use Rattle.std.specs.Prelude.{◌≡◌, ◌≤◌, ◌<◌, ◌+◌, ◌*◌, ◌∷◌, ◌++◌, ◌↔◌, ◌^◌, [], ℕ, List, true, false, length, is_ok, OnOk, OnErr, IsErrOf};
 ghost use Rattle.disk_trait.specs.Calls.{DiskCalls, overwritten};
 ghost use Rattle.media_journal.specs.Journal.{Gives, after_append};
+ghost use Rattle.media_journal.specs.declared.header.Header.{Header};
 ghost use Rattle.media_journal.specs.declared.record.Record.{Record};
 
 use crate::{AppendFault, Frame};
@@ -49,9 +50,10 @@ impl Journal {
 
         ensures moved { OnOk result (self.new ≡ after_append self.old (length frame.now)) }
         ensures content { (D.device disk.old).shows ≡ true → OnOk result
-            ((rows : List ℕ) (records : List Record) → Gives (D.device disk.old).seen self.old rows records
-            → Gives (D.device disk.new).seen self.new rows
-            (records ++ record { offset = self.old.gate; payload = frame.now } ∷ [])) }
+            ((h : Header) (rows : List ℕ) (records : List Record)
+                → Gives (D.device disk.old).seen self.old h rows records
+                → Gives (D.device disk.new).seen self.new h rows
+                    (records ++ record { offset = self.old.gate; payload = frame.now } ∷ [])) }
         ensures handed { (D.device disk.old).tells ≡ true → OnOk result
             ((D.device disk.new).handed ≡ (D.device disk.old).handed + (length frame.now + 6)) }
 
