@@ -40,6 +40,7 @@ pub struct Opened {
 pub fn open_journal<D: Disk>(alloc: Global, disk: &mut D) -> Result<Opened, JournalFault>
     ensures reads { DiskReads (not_disk result) (D.device disk.old) (D.device disk.new) }
     ensures within { IfOk result (λ o. 4096 * o.journal.blocks ≤ (D.device disk.new).size) }
+    ensures sizes { IfOk result (λ o. 2 * o.half + 3 ≤ o.blocks) }
     ensures answer { (D.device disk.old).shows ≡ true → OpenAnswer (D.device disk.old).seen result }
 {
     let size = disk.len();

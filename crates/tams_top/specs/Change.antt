@@ -1,5 +1,5 @@
 -- Changes in bytes: the PUT of a video flow, as the journal's records keep it.
-use Rattle.std.specs.Prelude.{◌<◌, ◌≤◌, ◌^◌, ℕ, List, [], ◌∷◌, ◌++◌, replicate}
+use Rattle.std.specs.Prelude.{◌<◌, ◌≤◌, ◌^◌, ℕ, List, ◌∷◌, ◌++◌, replicate}
 use Rattle.disk_trait.specs.Numbers.{u64_bytes, u128_bytes}
 use Rattle.tams_top.specs.declared.change.Change.{Change}
 

@@ -3,7 +3,9 @@
 #![tactic(auto)]
 
 mod change;
+mod library;
 mod request;
+mod store;
 
 pub use crate::change::Change;
 pub use crate::request::FlowPut;

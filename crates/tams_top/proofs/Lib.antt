@@ -1,0 +1,3 @@
+pub mod ChangeLemmas
+mod FoldLemmas
+mod OpenLemmas

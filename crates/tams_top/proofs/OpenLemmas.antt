@@ -1,0 +1,38 @@
+-- What was opened of an image decides for which state it stands.
+use Rattle.std.proofs.Common.{◌≡◌, ◌≢◌, ℕ, List, Option, Some, None, Ok, Err, sym, ◌∙◌, subst}
+use Rattle.media_journal.specs.declared.header.Header.{Header}
+use Rattle.media_journal.specs.declared.record.Record.{Record}
+use Rattle.media_journal.specs.declared.open.Opened.{Opened}
+use Rattle.media_journal.specs.Journal.{Gives}
+use Rattle.media_journal.specs.Opening.{IsOpened, OpenedHalf, header_of}
+use Rattle.media_journal.proofs.ReadingLemmas.{one_reading}
+use Rattle.tams_top.specs.declared.library.Library.{Library}
+use Rattle.tams_top.specs.declared.store.StoreFault.{StoreFault}
+use Rattle.tams_top.specs.declared.store.StoreFault.TheVariants.{Damaged, Memory}
+use Rattle.tams_top.specs.Library.{empty_library}
+use Rattle.tams_top.specs.Store.{Folds, StandsFor, empty_rows}
+use Rattle.tams_top.specs.Opening.{StandsForNone}
+use Rattle.tams_top.specs.Folding.{IsFoldRefused, PartAnswer}
+
+-- what the image gives where no record is torn
+gives_of : (image : List ℕ) (o : Opened) → o.torn ≡ None → IsOpened image o → Gives image o.journal (header_of o) o.rows o.found
+gives_of image o whole is = subst (OpenedHalf image o) whole is.half
+
+-- other rows than those of the empty library
+pub no_state-rows : (image : List ℕ) (o : Opened) → o.torn ≡ None → IsOpened image o → o.rows ≢ empty_rows → StandsForNone image
+no_state-rows image o whole is other s stands =
+    let gives = gives_of image o whole is in
+    let same = one_reading image _ _ _ _ _ _ _ _ gives.reads stands.reads in
+    other (sym same.1)
+
+-- records that fold to no library
+pub no_state-fold : (image : List ℕ) (o : Opened) → o.torn ≡ None → IsOpened image o → ((to : Library) → Folds o.found (empty_library (header_of o)) to → ⊥) → StandsForNone image
+no_state-fold image o whole is refused s stands =
+    let gives = gives_of image o whole is in
+    let same = one_reading image _ _ _ _ _ _ _ _ gives.reads stands.reads in
+    let found = subst (λ (rs : List Record). Folds rs (empty_library stands.header) s.library) same.2 stands.folds in
+    refused s.library (subst (λ (h : Header). Folds o.found (empty_library h) s.library) same.0 found)
+
+pub part_fault : (image : List ℕ) (o : Opened) (fault : StoreFault) → o.torn ≡ None → IsOpened image o → IsFoldRefused o.found (empty_library (header_of o)) fault → PartAnswer image (Err fault)
+part_fault image o (Damaged at) whole is refused = no_state-fold image o whole is refused
+part_fault image o Memory whole is refused = tt

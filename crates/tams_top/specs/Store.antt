@@ -1,0 +1,42 @@
+-- What the image of a store stands for.
+use Rattle.std.specs.Prelude.{◌≡◌, ◌-◌, ◌+◌, ◌*◌, ℕ, List, [], ◌∷◌, Option, Some, None, replicate, ◌++◌}
+use Rattle.media_journal.specs.declared.header.Header.{Header}
+use Rattle.media_journal.specs.declared.record.Record.{Record}
+use Rattle.media_journal.specs.File.{Reads, active_start}
+use Rattle.tams_top.specs.declared.change.Change.{Change}
+use Rattle.tams_top.specs.declared.library.Library.{Library}
+use Rattle.tams_top.specs.Change.{IsChange, change_text}
+use Rattle.tams_top.specs.Library.{applied, empty_library}
+
+-- the rows of the empty library: one row, of the numbers, with the next serial 1
+unfoldable pub empty_rows : List ℕ
+empty_rows = 8 ∷ 0 ∷ 0 ∷ 0 ∷ 8 ∷ 0 ∷ 0 ∷ 0 ∷ 0 ∷ 0 ∷ 0 ∷ 0 ∷ 1 ∷ []
+
+-- The records' payloads are changes, which take one library to another in order.
+abbrev pub Folds : List Record → Library → Library → Type 0
+Folds [] from to = to ≡ from
+Folds (r ∷ rs) from to =
+    (c : Change) × IsChange c × (r.payload ≡ change_text c) × ((next : Library) × (applied c from ≡ Some next) × Folds rs next to)
+
+-- a state: a library, and the bytes that are left in the journal's half
+pub record State : Type 0 where
+  pub library : Library
+  pub room : ℕ
+
+-- The image stands for a state: it reads as a store whose rows are those of the empty library, and whose
+-- records fold to the state's library. The room is the half's bytes less the place of the closed gate.
+pub record StandsFor (image : List ℕ) (s : State) : Type 0 where
+  pub header : Header
+  pub gate : ℕ
+  pub records : List Record
+  pub reads : Reads image header gate empty_rows records
+  pub folds : Folds records (empty_library header) s.library
+  pub room : s.room ≡ (active_start image header.half + 4096 * header.half) - gate
+
+-- what a record makes of a library
+abbrev pub StepOf : Record → Library → Library → Type 0
+StepOf r from next = (c : Change) × IsChange c × (r.payload ≡ change_text c) × (applied c from ≡ Some next)
+
+-- a record makes nothing of a library: its payload is no change, or its change is refused
+abbrev pub IsRefused : Record → Library → Type 0
+IsRefused r from = (c : Change) (next : Library) → IsChange c → r.payload ≡ change_text c → applied c from ≡ Some next → ⊥

@@ -1,0 +1,120 @@
+//! The store: a journal, and the library that its records make.
+ghost use Rattle.std.specs.Prelude.{◌≡◌, ◌≤◌, ◌+◌, ◌*◌, ℕ, List, true, IfOk, IfErr};
+ghost use Rattle.disk_trait.specs.Calls.{DiskReads};
+ghost use Rattle.media_journal.specs.Answers.{not_disk};
+ghost use Rattle.media_journal.specs.Opening.{IsOpened};
+ghost use Rattle.tams_top.specs.Store.{Folds, StepOf, empty_rows};
+ghost use Rattle.tams_top.specs.Folding.{IsFoldRefused, IsStepRefused, PartAnswer};
+ghost use Rattle.tams_top.specs.Opening.{StoreAnswer};
+
+use crate::change::read_change;
+use crate::library::Library;
+use disk_trait::{Disk, Memory, same_bytes};
+use media_journal::{Header, Journal, JournalFault, Opened, Record, open_journal};
+use std::alloc::Global;
+
+/// A journal with the library that its records fold to.
+#[derive(Drop)]
+pub(crate) struct Store {
+    pub(crate) journal: Journal,
+    pub(crate) library: Library,
+}
+
+/// Why what was opened is no store.
+#[derive(Clone, Copy, Debug, PartialEq, Eq)]
+enum StoreFault {
+    /// From this offset on the file stands for no library.
+    Damaged(u64),
+    Memory,
+}
+
+impl From<Memory> for StoreFault {
+    ghost use Rattle.tams_top.specs.declared.store.StoreFault.TheVariants as faults;
+
+    ghost from_gives = { λ _ e. e ≡ faults.Memory };
+
+    fn from(_: Memory) -> Self {
+        StoreFault::Memory
+    }
+}
+
+impl From<StoreFault> for JournalFault {
+    ghost use Rattle.tams_top.specs.Folding.{as_journal_fault};
+
+    ghost from_gives = { λ fault e. e ≡ as_journal_fault fault };
+
+    fn from(fault: StoreFault) -> Self {
+        match fault {
+            StoreFault::Damaged(at) => JournalFault::Damaged(at),
+            StoreFault::Memory => JournalFault::Memory,
+        }
+    }
+}
+
+/// Opens the store of a device.
+pub(crate) fn open_store<D: Disk>(alloc: Global, disk: &mut D) -> Result<Store, JournalFault>
+    ensures reads { DiskReads (not_disk result) (D.device disk.old) (D.device disk.new) }
+    ensures within { IfOk result (λ s. 4096 * s.journal.blocks ≤ (D.device disk.new).size) }
+    ensures answer { (D.device disk.old).shows ≡ true → StoreAnswer (D.device disk.old).seen result }
+{
+    let opened = open_journal(alloc, disk)?;
+    Ok(store_of(alloc, opened)?)
+}
+
+/// The store of what was opened.
+fn store_of(alloc: Global, opened: Opened) -> Result<Store, StoreFault>
+    requires { 2 * opened.half + 3 ≤ opened.blocks }
+    ensures journal { IfOk result (λ s. s.journal ≡ opened.journal) }
+    ensures answer { (image : List ℕ) → IsOpened image opened → PartAnswer image result }
+{
+    if let Some(at) = opened.torn {
+        return Err(StoreFault::Damaged(at));
+    }
+    if !same_bytes(opened.rows.bytes(), &empty_rows()) {
+        return Err(StoreFault::Damaged(opened.rows_at));
+    }
+    let header = Header {
+        blocks: opened.blocks,
+        half: opened.half,
+        id: opened.id,
+    };
+    let library = fold(alloc, opened.found.items(), Library::empty(alloc, header))?;
+    Ok(Store {
+        journal: opened.journal,
+        library,
+    })
+}
+
+/// The rows of the empty library.
+#[tactic(auto, unfolding(crate::specs::Store::empty_rows))]
+pub(crate) fn empty_rows() -> [u8; 13]
+    ensures { result ≡ empty_rows }
+{
+    [8, 0, 0, 0, 8, 0, 0, 0, 0, 0, 0, 0, 1]
+}
+
+/// The library that the records make of this one, in order.
+fn fold(alloc: Global, records: &[Record], empty: Library) -> Result<Library, StoreFault>
+    ensures folded { IfOk result (Folds records.now empty) }
+    ensures refused { IfErr result (λ fault. IsFoldRefused records.now empty fault) }
+{
+    let mut library = empty;
+    for record in records {
+        library = step(alloc, record, &library)?;
+    }
+    Ok(library)
+}
+
+/// The library that a record makes of this one.
+fn step(alloc: Global, record: &Record, library: &Library) -> Result<Library, StoreFault>
+    ensures next { IfOk result (StepOf record.now library.now) }
+    ensures refused { IfErr result (λ fault. IsStepRefused record.now library.now fault) }
+{
+    let Some(change) = read_change(record.payload.bytes()) else {
+        return Err(StoreFault::Damaged(record.offset));
+    };
+    match library.after(alloc, &change)? {
+        Some(next) => Ok(next),
+        None => Err(StoreFault::Damaged(record.offset)),
+    }
+}
