@@ -1,1 +1,3 @@
 mod TornLemmas
+mod HistoryLemmas
+mod MemoryDiskLemmas

@@ -1,3 +1,6 @@
 pub mod Device
 pub mod Calls
 pub mod Fakes
+pub mod History
+pub mod MemoryDisk
+pub mod MemoryDiskLaws

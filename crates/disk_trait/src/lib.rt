@@ -6,12 +6,15 @@
 mod bytes;
 mod disk;
 mod fault;
+mod history;
 mod listed;
+mod memory_disk;
 mod sure_disk;
 mod text;
 
 pub use crate::disk::Disk;
 pub use crate::fault::{Failed, Memory};
 pub use crate::listed::{Listed, NumberList, TextList};
+pub use crate::memory_disk::MemoryDisk;
 pub use crate::sure_disk::SureDisk;
 pub use crate::text::Text;
