@@ -1,6 +1,6 @@
 //! A disk in memory. It keeps all its calls, fails at the calls that it is told, and knows what a crash
 //! within each call may leave.
-ghost use Rattle.std.specs.Prelude.{◌≡◌, ◌≤◌, ◌+◌, ◌-◌, ◌^◌, ◌&&◌, ◌↔◌, [], min, Bool, true, false, length, is_ok, IfOk, IsTrue, IsFalse, Contains, replicate, if◌then◌else◌};
+ghost use Rattle.std.specs.Prelude.{◌≡◌, ◌<◌, ◌≤◌, ◌+◌, ◌-◌, ◌^◌, ◌&&◌, ◌↔◌, [], min, Bool, true, false, length, is_ok, IfOk, IsTrue, IsFalse, Contains, replicate, if◌then◌else◌};
 ghost use Rattle.disk_trait.specs.Calls.{LeavesOnly};
 ghost use Rattle.disk_trait.specs.History.{seen_of};
 ghost use Rattle.disk_trait.specs.MemoryDisk.{memory_device, fresh_disk, counted_on, Makes, DiskCalled};
@@ -30,7 +30,8 @@ impl Model for MemoryDisk {
 impl MemoryDisk {
     /// A disk of so many zeros, whose calls with these numbers fail.
     pub fn new(alloc: Global, length: u64, fail: NumberList) -> Result<MemoryDisk, Memory>
-        ensures { IfOk result (λ disk. disk ≡ fresh_disk (replicate length 0) fail) }
+        ensures disk { IfOk result (λ disk. disk ≡ fresh_disk (replicate length 0) fail) }
+        ensures durable { IfOk result (λ disk. LeavesOnly (replicate length 0) (memory_device disk)) }
     {
         let zeros = Text::from_vec(vec![in alloc; 0u8; length as usize]?);
         Ok(MemoryDisk::from_bytes(alloc, zeros, fail))
@@ -55,6 +56,14 @@ impl MemoryDisk {
         ensures { result ≡ self.now.starved }
     {
         self.starved
+    }
+
+    /// How many calls have a number so far.
+    pub fn calls(&self) -> u64
+        ensures made { result ≡ length self.now.past.calls }
+        ensures small { result < 2 ^ 63 }
+    {
+        self.history.made()
     }
 
     /// The bytes as a read gives them.
