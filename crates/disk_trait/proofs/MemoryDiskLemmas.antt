@@ -1,6 +1,6 @@
 -- What one more call does to what a crash may leave of a disk in memory.
 use Rattle.std.proofs.Common.{◌≡◌, ◌≤◌, ◌+◌, ◌⊎◌, ◌↔◌, ◌&&◌, not, cond, ◌++◌, ◌∷◌, [], ℕ, Bool, true, false, List, length, inl, inr, refl, sym, ap, subst, arith}
-use Rattle.std.proofs.lemmas.List.{take-append-le, length_push}
+use Rattle.std.proofs.lemmas.List.{length_push}
 use Rattle.std.proofs.lemmas.Bool.{cases_lt}
 use Rattle.std.proofs.lemmas.Bool.Decides.{nat_tests}
 use Rattle.std.proofs.lemmas.List.Sums.{sum_by_push}
@@ -9,7 +9,7 @@ use Rattle.disk_trait.specs.Device.{Left}
 use Rattle.disk_trait.specs.Calls.{LeavesOnly, SameDevice, Torn, Follows, Elapses, DiskCall, IsCounted, Rose, overwritten}
 use Rattle.disk_trait.specs.History.{IsQuiet, Past, kept_bytes, seen_after, seen_after_call, seen_of, with_call, has_passed, has_failed}
 use Rattle.disk_trait.specs.MemoryDisk.{DiskState, LeavesAt, LeavesSince, left_after, left_after_call, memory_device, Makes, FailsAsListed, DiskCalled, next_number, counted_on, after_make, step_of}
-use Rattle.disk_trait.specs.MemoryDiskLaws.{torn-put_over, length-kept_bytes, itself_after, leaves_at_last, length-put_over}
+use Rattle.disk_trait.specs.MemoryDiskLaws.{torn-put_over, length-kept_bytes, itself_after, leaves_at_last, leaves_at_more, length-put_over}
 use Rattle.disk_trait.specs.declared.history.Call.{Call}
 use Rattle.disk_trait.specs.declared.history.Call.TheVariants.{Read, Write, Sync}
 use Rattle.disk_trait.proofs.HistoryLemmas.{seen_after-push, seen_after-write}
@@ -32,11 +32,6 @@ step_itself : (call : Call) (p : Left) → step_of call p p
 step_itself (Read passed) p = refl
 step_itself (Write at bytes passed) p = record { image = torn_itself at (length bytes) p.image; told = refl }
 step_itself (Sync passed) p = refl
-
--- the images at an earlier moment stay what they were
-leaves_at_more : (call : Call) (past : Past) (moment : ℕ) (image : List ℕ) → moment ≤ length past.calls → LeavesAt (with_call call past) moment image ≡ LeavesAt past moment image
-leaves_at_more call past moment image within =
-    ap (λ calls. left_after calls past.first (λ i. i ≡ past.first) image) (take-append-le moment past.calls (call ∷ []) within)
 
 -- a crash after the call leaves what one could leave before it, after the call's step
 last_follows : (call : Call) (past : Past) (p : Left) → LeavesAt (with_call call past) (length past.calls + 1) p.image → p.told ≡ [] → Follows (step_of call) (LeavesSince past (length past.calls)) p
@@ -148,7 +143,7 @@ fails_as_listed call false disk listed = record { never_falls = counted_on_never
 
 called : (call : Call) (noted : Bool) (disk : DiskState) → (IsFalse (has_passed call) ↔ Contains disk.fail (next_number disk)) → DiskCalled disk (after_make noted call disk) (noted && has_passed call)
 called call true disk listed = record { fails = fails_as_listed call true disk listed; fail = refl; past = inr (call, refl) }
-called call false disk listed = record { fails = fails_as_listed call false disk listed; fail = refl; past = inl refl }
+called call false disk listed = record { fails = fails_as_listed call false disk listed; fail = refl; past = inl (refl, counted_on_rises disk.starved) }
 
 pub disk_called : (call : Call) (old new : DiskState) (ok : Bool) → Makes call old new ok → DiskCalled old new ok
 disk_called call old new ok made = rw (made.after, made.answer) (called call made.noted old made.listed)

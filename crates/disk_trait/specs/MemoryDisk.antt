@@ -84,11 +84,11 @@ pub record FailsAsListed (number : ℕ) (fail : List ℕ) (before now : ℕ) (ok
   pub starved : before < now → IsFalse ok
   pub only : IsFalse ok → Contains fail number ⊎ Rose before now
 
--- What a call leaves of a disk in memory. It is noted as the last of the calls, or starved.
+-- What a call leaves of a disk in memory: it was starved, or noted as the last of the calls.
 pub record DiskCalled (old new : DiskState) (ok : Bool) : Type 0 where
   pub fails : FailsAsListed (next_number old) old.fail old.starved new.starved ok
   pub fail : new.fail ≡ old.fail
-  pub past : (new.past ≡ old.past) ⊎ ((call : Call) × (new.past ≡ with_call call old.past))
+  pub past : ((new.past ≡ old.past) × Rose old.starved new.starved) ⊎ ((call : Call) × (new.past ≡ with_call call old.past))
 
 -- what a call does to what a crash leaves
 abbrev pub step_of : Call → Left → Left → Type 0

@@ -1,10 +1,10 @@
 -- The laws of a disk in memory: at every moment it means a device, as it reads it may be left, and at
 -- first nothing is pending.
 use Rattle.std.proofs.Common.{◌≡◌, ◌≤◌, ◌/◌, [], ◌∷◌, ℕ, Bool, true, false, List, length, refl, sym, ap, subst, arith, rules, length-append, length-take, length-drop}
-use Rattle.std.proofs.lemmas.List.{places, same_lists, take_all}
+use Rattle.std.proofs.lemmas.List.{places, same_lists, take_all, take-append-le}
 use Rattle.disk_trait.specs.Device.{IsDevice}
 use Rattle.disk_trait.specs.Calls.{Torn}
-use Rattle.disk_trait.specs.History.{Past, put_over, kept_bytes, seen_after, seen_after_call, seen_of}
+use Rattle.disk_trait.specs.History.{Past, put_over, kept_bytes, seen_after, seen_after_call, seen_of, with_call}
 use Rattle.disk_trait.specs.MemoryDisk.{DiskState, LeavesAt, left_after, left_after_call, memory_device}
 use Rattle.disk_trait.specs.declared.history.Call.{Call}
 use Rattle.disk_trait.specs.declared.history.Call.TheVariants.{Read, Write, Sync}
@@ -39,6 +39,15 @@ itself_after (call ∷ later) seen left now = itself_after later (seen_after_cal
 pub leaves_at_last : (past : Past) (image : List ℕ) → LeavesAt past (length past.calls) image ≡ left_after past.calls past.first (λ i. i ≡ past.first) image
 leaves_at_last past image = ap (λ calls. left_after calls past.first (λ i. i ≡ past.first) image) (take_all (length past.calls) past.calls (omega arith))
 
+-- the images at an earlier moment stay what they were
+pub leaves_at_more : (call : Call) (past : Past) (moment : ℕ) (image : List ℕ) → moment ≤ length past.calls → LeavesAt (with_call call past) moment image ≡ LeavesAt past moment image
+leaves_at_more call past moment image within =
+    ap (λ calls. left_after calls past.first (λ i. i ≡ past.first) image) (take-append-le moment past.calls (call ∷ []) within)
+
+-- as it reads it may be left now
+pub itself_at_last : (past : Past) → LeavesAt past (length past.calls) (seen_of past)
+itself_at_last past = subst (λ T. T) (sym (leaves_at_last past (seen_of past))) (itself_after past.calls past.first (λ i. i ≡ past.first) refl)
+
 pub memory_device_is_sound : (disk : DiskState) → IsDevice (memory_device disk)
 memory_device_is_sound disk = record {
   length = λ _. refl;
@@ -47,7 +56,7 @@ memory_device_is_sound disk = record {
     moment = length disk.past.calls;
     later = omega arith;
     within = omega arith;
-    image = subst (λ T. T) (sym (leaves_at_last disk.past (seen_of disk.past))) (itself_after disk.past.calls disk.past.first (λ i. i ≡ disk.past.first) refl);
+    image = itself_at_last disk.past;
     told = refl;
   };
   told = λ _ _ p left. left.told;

@@ -3,3 +3,7 @@ pub mod Clocks
 pub mod Sinks
 pub use Rattle.disk_trait.specs.Device
 pub use Rattle.disk_trait.specs.Calls
+pub mod Lines
+pub mod Tallies
+pub mod MemorySite
+pub mod MemorySiteLaws

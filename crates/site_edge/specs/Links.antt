@@ -2,7 +2,7 @@
 -- and said bytes have one order of moments, and saying bytes adds each prefix of them to what a crash
 -- leaves told.
 use Rattle.std.specs.Prelude.{◌≡◌, ℕ, zero, suc, Bool, true, false, ◌||◌, not, List, [], ◌∷◌, ◌++◌, take, Result, Ok, Err, IsTrue}
-use Rattle.disk_trait.specs.Device.{Device, Left, Connection, Link}
+use Rattle.disk_trait.specs.Device.{Device, Left, Connection}
 use Rattle.disk_trait.specs.Calls.{SameDevice, IsCounted, Elapses, Unchanged}
 
 -- what was sent of these bytes: all of them, or a prefix where the call failed

@@ -5,10 +5,17 @@
 
 mod clock;
 mod fault;
+mod line;
+mod memory_site;
+mod peer_list;
 mod sink;
 mod site;
+mod span;
+mod tally;
 
 pub use crate::clock::Clock;
 pub use crate::fault::{LinkFailed, SinkFailed};
+pub use crate::memory_site::MemorySite;
+pub use crate::peer_list::PeerList;
 pub use crate::sink::Sink;
 pub use crate::site::Site;

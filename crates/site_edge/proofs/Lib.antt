@@ -1,0 +1,5 @@
+mod LineLemmas
+mod ConnectionLemmas
+mod MomentLemmas
+mod KeptLemmas
+mod LinkLemmas
