@@ -1,3 +1,5 @@
 pub mod NumberLemmas
 pub mod OverwriteLemmas
 mod TornLemmas
+mod HistoryLemmas
+mod MemoryDiskLemmas

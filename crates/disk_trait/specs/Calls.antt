@@ -1,8 +1,8 @@
 -- What the calls of a disk read and leave, whether they succeed or fail. Our own model: between two
 -- syncs each written range may hold any bytes, and after a sync that succeeded a crash leaves what a
 -- read gives.
-use Rattle.std.specs.Prelude.{◌≡◌, ◌<◌, ◌≤◌, ◌+◌, ◌^◌, ◌⊎◌, ℕ, Bool, true, List, ◌++◌, length, take, drop, IsTrue, IsFalse}
-use Rattle.disk_trait.specs.Device.{Device, Left, Link, may_leave}
+use Rattle.std.specs.Prelude.{◌≡◌, ◌<◌, ◌≤◌, ◌+◌, ◌^◌, ◌⊎◌, ℕ, Bool, List, ◌++◌, length, take, drop, IsTrue, IsFalse}
+use Rattle.disk_trait.specs.Device.{Device, Left, may_leave}
 
 -- the n bytes at this offset
 abbrev pub bytes_at : List ℕ → ℕ → ℕ → List ℕ

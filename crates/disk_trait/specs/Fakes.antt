@@ -1,5 +1,5 @@
 -- What a device in memory means that keeps no calls: it shows its bytes and tells nothing else.
-use Rattle.std.specs.Prelude.{◌≡◌, ℕ, Bool, true, false, List, [], length, refl}
+use Rattle.std.specs.Prelude.{ℕ, true, false, List, [], length, refl}
 use Rattle.disk_trait.specs.Device.{Device, IsDevice, Link}
 
 -- no link, and no fault of one

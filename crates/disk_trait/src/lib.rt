@@ -6,8 +6,10 @@
 mod bytes;
 mod disk;
 mod fault;
+mod history;
 mod listed;
 pub mod numbers;
+mod memory_disk;
 mod sure_disk;
 mod text;
 
@@ -15,5 +17,6 @@ pub use crate::bytes::same_bytes;
 pub use crate::disk::Disk;
 pub use crate::fault::{Failed, Memory};
 pub use crate::listed::{Listed, NumberList, TextList};
+pub use crate::memory_disk::MemoryDisk;
 pub use crate::sure_disk::SureDisk;
 pub use crate::text::Text;

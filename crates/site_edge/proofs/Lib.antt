@@ -1,1 +1,6 @@
 mod SendLemmas
+mod LineLemmas
+mod ConnectionLemmas
+mod MomentLemmas
+mod KeptLemmas
+mod LinkLemmas

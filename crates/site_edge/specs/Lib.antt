@@ -4,3 +4,7 @@ pub mod Sinks
 pub mod Files
 pub use Rattle.disk_trait.specs.Device
 pub use Rattle.disk_trait.specs.Calls
+pub mod Lines
+pub mod Tallies
+pub mod MemorySite
+pub mod MemorySiteLaws

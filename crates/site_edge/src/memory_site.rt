@@ -1,0 +1,288 @@
+//! A site in memory: a disk in memory, and peers whose bytes are given beforehand.
+ghost use Rattle.std.specs.Prelude.{◌≡◌, ◌<◌, ◌≤◌, ◌+◌, ◌^◌, ◌&&◌, length, if◌then◌else◌, IfOk, IfSome, IsSome, IsTrue, MatchOption, OnErr, OnOk, Some, slice_get};
+ghost use Rattle.disk_trait.specs.Device.{told_by};
+ghost use Rattle.disk_trait.specs.History.{kept_bytes};
+ghost use Rattle.site_edge.specs.Links.{change_last};
+ghost use Rattle.site_edge.specs.Lines.{heard_more, marked, told_more, with_connection};
+ghost use Rattle.site_edge.specs.MemorySite.{after_next, after_tell, connections_of, is_one_left, fresh_site, site_device};
+
+use crate::line::Line;
+use crate::span::{Added, Span};
+use crate::tally::{Tally, count, count_peer, has_number, passes};
+use crate::{LinkFailed, PeerList, Site};
+use disk_trait::{Disk, Failed, Memory, MemoryDisk, NumberList, Text};
+use std::alloc::Global;
+use std::marker::Model;
+
+/// A site in memory whose calls of `next_peer`, `hear` and `say` are numbered from 1.
+#[derive(Drop)]
+pub struct MemorySite {
+    alloc: Global,
+    disk: MemoryDisk,
+    tally: Tally,
+    lines: Vec<Line>,
+    waiting: Vec<Text>,
+    piece: usize,
+    under_way: bool,
+    closed: bool,
+    spans: Vec<Span>,
+    since: u64,
+}
+
+impl Model for MemorySite {
+    ghost use Rattle.site_edge.specs.MemorySite.{IsKept, SiteState};
+
+    ghost Value = { SiteState };
+
+    ghost view = { λ s. record {
+      disk = s.disk;
+      tally = s.tally;
+      talks = s.lines.items;
+      waiting = s.waiting.items;
+      piece = s.piece;
+      under_way = s.under_way;
+      closed = s.closed;
+      spans = s.spans.items;
+      since = s.since;
+    } };
+
+    ghost invariant = { λ s. IsKept (record {
+      disk = s.disk;
+      tally = s.tally;
+      talks = s.lines.items;
+      waiting = s.waiting.items;
+      piece = s.piece;
+      under_way = s.under_way;
+      closed = s.closed;
+      spans = s.spans.items;
+      since = s.since;
+    }) };
+}
+
+impl MemorySite {
+    /// A site over this disk. The peers come in order, one `hear` gives at most `piece` bytes, and the
+    /// link calls with these numbers fail. It takes no memory.
+    pub fn new(
+        alloc: Global,
+        disk: MemoryDisk,
+        peers: PeerList,
+        piece: usize,
+        fail: NumberList,
+    ) -> MemorySite
+        requires { 0 < piece }
+        ensures { result ≡ fresh_site disk peers piece fail }
+    {
+        MemorySite {
+            alloc,
+            disk,
+            tally: Tally {
+                fail,
+                made: 0,
+                starved: 0,
+                faults: 0,
+                peer_faults: 0,
+            },
+            lines: Vec::new(alloc),
+            waiting: peers.into_vec(),
+            piece,
+            under_way: false,
+            closed: false,
+            spans: Vec::new(alloc),
+            since: 0,
+        }
+    }
+
+    /// How often a link call found no memory, or had no number. Such a call fails, and nothing else
+    /// comes of it than of a failing call that sends nothing.
+    pub fn starved(&self) -> u64
+        ensures { result ≡ self.now.tally.starved }
+    {
+        self.tally.starved
+    }
+
+    /// What the peer of this number was told. The peers count from 0.
+    pub fn said(&self, peer: usize) -> &[u8]
+        requires { peer < length (connections_of self.now) }
+        ensures { slice_get (told_by (site_device self.now)) peer ≡ Some result.now }
+    {
+        self.lines[peer].told()
+    }
+
+    pub fn disk(&self) -> &MemoryDisk
+        ensures { result.now ≡ self.now.disk }
+    {
+        &self.disk
+    }
+
+    /// Begins the connection of the next peer, and says whether one was left.
+    fn begin_next(&mut self) -> Result<bool, Memory>
+        ensures ok { OnOk result (self.new ≡ after_next self.old) }
+        ensures came { IfOk result (λ came. came ≡ is_one_left self.old.waiting) }
+        ensures err { OnErr result (self.new ≡ self.old) }
+    {
+        if self.waiting.is_empty() {
+            self.under_way = false;
+            self.closed = true;
+            return Ok(false);
+        }
+        self.lines.reserve(1)?;
+        let ended = Span {
+            from: self.since,
+            to: self.disk.calls(),
+            adds: Added::Peer,
+        };
+        self.spans.push(ended)?;
+        let sends = self.waiting.remove(0);
+        self.lines.push(Line::new(self.alloc, sends))?;
+        self.since = self.disk.calls();
+        self.under_way = true;
+        Ok(true)
+    }
+
+    /// The same for a call that passes by its number. None where there is no number or no memory.
+    fn try_next(&mut self, passes: bool) -> Option<bool>
+        requires { IsTrue passes → self.old.tally.made + 1 < 2 ^ 64 }
+        ensures numbered { IsSome result → self.old.tally.made + 1 < 2 ^ 64 }
+        ensures next { MatchOption result (self.new ≡ self.old)
+            (λ _. self.new ≡ (if passes then after_next self.old else self.old)) }
+        ensures came { IfSome result (λ came. came ≡ (passes && is_one_left self.old.waiting)) }
+    {
+        if passes {
+            self.begin_next().ok()
+        } else {
+            has_number(&self.tally).then_some(false)
+        }
+    }
+
+    /// Tells the last peer these bytes.
+    fn tell(&mut self, bytes: &[u8]) -> Result<(), Memory>
+        requires { 0 < length self.old.talks }
+        ensures ok { OnOk result (self.new ≡ after_tell bytes.now self.old) }
+        ensures err { OnErr result (self.new ≡ self.old) }
+    {
+        self.spans.reserve(1)?;
+        let adds = Added::Bytes(Text::from_bytes(self.alloc, bytes)?);
+        tell_last(&mut self.lines, bytes)?;
+        let ended = Span {
+            from: self.since,
+            to: self.disk.calls(),
+            adds,
+        };
+        self.spans.push(ended)?;
+        self.since = self.disk.calls();
+        Ok(())
+    }
+
+    /// The same, if the call has a number and there is memory.
+    fn try_tell(&mut self, bytes: &[u8]) -> bool
+        requires { 0 < length self.old.talks }
+        ensures numbered { IsTrue result → self.old.tally.made + 1 < 2 ^ 64 }
+        ensures told { self.new ≡ (if result then after_tell bytes.now self.old else self.old) }
+    {
+        has_number(&self.tally) && self.tell(bytes).is_ok()
+    }
+}
+
+impl Disk for MemorySite {
+    ghost use Rattle.site_edge.specs.MemorySite.{site_device, SiteDiskCalled};
+    ghost use Rattle.site_edge.specs.MemorySiteLaws.{site_device_is_sound};
+
+    ghost device = { site_device };
+
+    ghost fails = { SiteDiskCalled };
+
+    ghost sound = { site_device_is_sound };
+
+    fn len(&self) -> u64 {
+        self.disk.len()
+    }
+
+    fn read_at(&mut self, at: u64, out: &mut [u8]) -> Result<(), Failed> {
+        self.disk.read_at(at, out)
+    }
+
+    fn write_at(&mut self, at: u64, bytes: &[u8]) -> Result<(), Failed> {
+        self.disk.write_at(at, bytes)
+    }
+
+    fn sync(&mut self) -> Result<(), Failed> {
+        self.disk.sync()
+    }
+}
+
+impl Site for MemorySite {
+    ghost use Rattle.site_edge.specs.MemorySite.{SiteCalled};
+
+    ghost link_fails = { SiteCalled };
+
+    fn next_peer(&mut self) -> Result<bool, LinkFailed> {
+        let passes = passes(&self.tally);
+        let came = self.try_next(passes);
+        count_peer(&mut self.tally, came.is_some(), passes)?;
+        Ok(came.unwrap_or(false))
+    }
+
+    fn hear(&mut self, out: &mut [u8]) -> Result<usize, LinkFailed> {
+        let numbered = has_number(&self.tally);
+        let passes = passes(&self.tally);
+        match count(&mut self.tally, numbered, passes) {
+            Ok(()) => Ok(hear_last(&mut self.lines, out, self.piece)),
+            Err(failed) => {
+                mark_last(&mut self.lines, false);
+                Err(failed)
+            }
+        }
+    }
+
+    fn say(&mut self, bytes: &[u8]) -> Result<(), LinkFailed> {
+        let passes = passes(&self.tally);
+        let noted = self.try_tell(sent_of(bytes, passes));
+        let answer = count(&mut self.tally, noted, passes);
+        mark_last(&mut self.lines, answer.is_ok());
+        answer
+    }
+
+    fn close_peer(&mut self) {
+        self.under_way = false;
+    }
+}
+
+/// The bytes that a `say` sends: all of them, or their first half where it fails.
+fn sent_of(bytes: &[u8], passes: bool) -> &[u8]
+    ensures { result.now ≡ kept_bytes passes bytes.now }
+{
+    if passes {
+        bytes
+    } else {
+        bytes.split_at(bytes.len() / 2).0
+    }
+}
+
+/// Marks the last connection, unless the call on it passed.
+fn mark_last(lines: &mut Vec<Line>, passed: bool)
+    requires { 0 < length lines.old.items }
+    ensures { lines.new.items ≡ change_last (with_connection (marked passed)) lines.old.items }
+{
+    let last = lines.len() - 1;
+    lines[last].mark(passed);
+}
+
+fn hear_last(lines: &mut Vec<Line>, out: &mut [u8], piece: usize) -> usize
+    requires some { 0 < length lines.old.items }
+    requires not_empty { 0 < length out.old }
+    requires piece { 0 < piece }
+    ensures within { result ≤ length out.old }
+    ensures heard { lines.new.items ≡ change_last (with_connection (heard_more result out.new)) lines.old.items }
+{
+    let last = lines.len() - 1;
+    lines[last].hear(out, piece)
+}
+
+fn tell_last(lines: &mut Vec<Line>, bytes: &[u8]) -> Result<(), Memory>
+    requires { 0 < length lines.old.items }
+    ensures ok { OnOk result (lines.new.items ≡ change_last (with_connection (told_more bytes.now)) lines.old.items) }
+    ensures err { OnErr result (lines.new.items ≡ lines.old.items) }
+{
+    let last = lines.len() - 1;
+    lines[last].tell(bytes)
+}
