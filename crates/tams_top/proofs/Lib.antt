@@ -1,3 +1,4 @@
 pub mod ChangeLemmas
 mod FoldLemmas
 mod OpenLemmas
+pub mod RequestLemmas

@@ -4,6 +4,9 @@ use Rattle.std.specs.List.{flat_map}
 use Rattle.tams_top.specs.declared.change.Change.{Change}
 use Rattle.tams_top.specs.declared.request.FlowPut.{FlowPut}
 use Rattle.tams_top.specs.declared.request.Front.TheVariants.{More, Unbuilt, Whole}
+use Rattle.tams_top.specs.declared.replay.Ending.{Ending}
+use Rattle.tams_top.specs.declared.replay.Ending.TheVariants.{Complete, Cut}
+use Rattle.tams_top.specs.declared.replay.Ending.TheVariants as endings
 use Rattle.tams_top.specs.Request.{IsFront, request_text}
 use Rattle.tams_top.specs.Library.{applied, flow_of}
 use Rattle.tams_top.specs.Store.{State}
@@ -46,24 +49,18 @@ unfoldable pub unbuilt_text : List ℕ
 unbuilt_text =
     codes "HTTP/1.1 501 Not Implemented\r\nContent-Length: 19\r\nContent-Type: application/json\r\nConnection: close\r\n\r\n{\"type\":\"NotBuilt\"}"
 
--- how a connection ended: with its bytes, within a request, or with an answer that ends it
-pub data Ending : Type 0 where
-  complete : Ending
-  cut : Ending
-  unbuilt : Ending
-
 -- the last answer of a connection
 abbrev pub last_answer : Ending → List ℕ
-last_answer complete = []
-last_answer cut = []
-last_answer unbuilt = unbuilt_text
+last_answer Complete = []
+last_answer Cut = []
+last_answer endings.Unbuilt = unbuilt_text
 
 -- What the bytes behind the last request that was taken are, by the way in which the connection ended:
 -- none; the front of a request; or what is no request that is built, one that isn't accepted among them.
 abbrev pub EndsWith : State → List ℕ → Ending → Type 0
-EndsWith s rest complete = rest ≡ []
-EndsWith s rest cut = (rest ≢ []) × IsFront rest More
-EndsWith s rest unbuilt = IsFront rest Unbuilt ⊎ ((put : FlowPut) × IsFront rest (Whole put) × (is_accepted s put ≡ false))
+EndsWith s rest Complete = rest ≡ []
+EndsWith s rest Cut = (rest ≢ []) × IsFront rest More
+EndsWith s rest endings.Unbuilt = IsFront rest Unbuilt ⊎ ((put : FlowPut) × IsFront rest (Whole put) × (is_accepted s put ≡ false))
 
 -- A connection from its beginning to its end, from one state to another: the requests that were taken in
 -- order, the bytes behind them and the way in which it ended; what was heard spells them, each took one

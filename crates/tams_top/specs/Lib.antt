@@ -6,3 +6,4 @@ pub mod Store
 pub mod History
 pub mod Opening
 pub mod Folding
+pub mod Serving

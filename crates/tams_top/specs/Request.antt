@@ -1,5 +1,5 @@
 -- The requests that the bytes of a connection spell. One kind is built: the PUT of a video flow.
-use Rattle.std.specs.Prelude.{◌≡◌, ◌<◌, ◌≤◌, ◌+◌, ◌^◌, ◌⊎◌, ℕ, suc, List, [], ◌∷◌, ◌++◌, length, take, drop, codes, Option, Some, None, option_map, nat_eq, if◌then◌else◌}
+use Rattle.std.specs.Prelude.{◌≡◌, ◌<◌, ◌≤◌, ◌^◌, ◌⊎◌, ℕ, suc, List, [], ◌∷◌, ◌++◌, length, take, drop, codes, Option, Some, None, option_map, nat_eq, if◌then◌else◌}
 use Rattle.std.specs.List.{starts_with}
 use Rattle.std.specs.Fmt.{decimal}
 use Rattle.tams_top.specs.Ids.{id_text}
@@ -32,6 +32,12 @@ request_text put = head_text put.flow 87 ++ body_text put.source
 abbrev pub head_len : List ℕ → Option ℕ
 head_len [] = None
 head_len (c ∷ cs) = if starts_with nat_eq (c ∷ cs) head_end then Some 4 else option_map suc (head_len cs)
+
+-- a body's length in digits: at least 1, at most 1,048,576
+pub record IsLength (digits : List ℕ) (n : ℕ) : Type 0 where
+  pub some : 1 ≤ n
+  pub most : n ≤ 1048576
+  pub digits_are : digits ≡ decimal n
 
 -- these bytes are a head of that kind
 pub record IsHead (text : List ℕ) (head : Head) : Type 0 where

@@ -4,8 +4,10 @@
 
 mod change;
 mod library;
+mod replay;
 mod request;
 mod store;
+mod unread;
 
 pub use crate::change::Change;
 pub use crate::request::FlowPut;

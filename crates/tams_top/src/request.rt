@@ -1,4 +1,15 @@
 //! Requests from the bytes of a connection.
+ghost use Rattle.std.specs.Prelude.{◌≡◌, ◌<◌, ◌≤◌, ◌^◌, ◌++◌, ◌↔◌, ℕ, IfSome, IsNone, IsTrue, length, take, drop};
+ghost use Rattle.std.specs.Fmt.{decimal};
+ghost use Rattle.tams_top.specs.Ids.{id_text};
+ghost use Rattle.tams_top.specs.Request.{BehindHead, IsFront, IsHead, IsHeadFront, IsLength, body_text, head_len};
+ghost use Rattle.tams_top.specs.declared.request.Front.{Front};
+ghost use Rattle.tams_top.specs.declared.request.FlowPut.{FlowPut};
+ghost use Rattle.tams_top.specs.declared.request.Head.{Head};
+ghost use Rattle.tams_top.specs.declared.request.HeadFront.{HeadFront};
+
+use disk_trait::same_bytes;
+use uuid::Uuid;
 
 /// A head of the kind that is built: the flow's id, and the length of the body in bytes.
 #[derive(Clone, Copy, Debug, PartialEq, Eq)]
@@ -34,4 +45,227 @@ pub(crate) enum Front {
     Unbuilt,
     /// A request.
     Whole(FlowPut),
+}
+
+/// A head ends within so many bytes.
+const HEAD_LIMIT: usize = 16_384;
+
+/// A body has at most so many bytes.
+const BODY_LIMIT: u64 = 1_048_576;
+
+/// The bytes of a head before its number: the two parts round an id of 36 bytes.
+const LINE_SIZE: usize = 74;
+
+/// What stands at the front of these bytes.
+pub(crate) fn read_front(bytes: &[u8]) -> Front
+    ensures front { IsFront bytes.now result }
+    ensures whole { (put : FlowPut) → result ≡ Front.Whole put → 167 ≤ length bytes.now }
+{
+    match read_head_front(bytes) {
+        HeadFront::More => Front::More,
+        HeadFront::Unbuilt => Front::Unbuilt,
+        HeadFront::Whole(head, size) => read_behind(bytes, head, size),
+    }
+}
+
+/// What stands at the front of bytes that begin with a head of this size.
+fn read_behind(bytes: &[u8], head: Head, size: usize) -> Front
+    ensures { BehindHead bytes.now (HeadFront.Whole head size) result }
+{
+    let rest = bytes_behind(bytes, size);
+    if (rest.len() as u64) < head.length {
+        return Front::More;
+    }
+    match read_body(first_bytes(rest, head.length as usize)) {
+        Some(source) => Front::Whole(FlowPut {
+            flow: head.flow,
+            source,
+        }),
+        None => Front::Unbuilt,
+    }
+}
+
+/// The head at the front of these bytes.
+fn read_head_front(bytes: &[u8]) -> HeadFront
+    ensures { IsHeadFront bytes.now result }
+{
+    match head_len(first_bytes(bytes, HEAD_LIMIT)) {
+        None if bytes.len() < HEAD_LIMIT => HeadFront::More,
+        None => HeadFront::Unbuilt,
+        Some(size) => match read_head(first_bytes(bytes, size)) {
+            Some(head) => HeadFront::Whole(head, size),
+            None => HeadFront::Unbuilt,
+        },
+    }
+}
+
+/// The number of bytes up to and with the first empty line.
+fn head_len(bytes: &[u8]) -> Option<usize>
+    ensures { result ≡ head_len bytes.now }
+{
+    for at in 0..bytes.len() {
+        if bytes_behind(bytes, at).starts_with(b"\r\n\r\n") {
+            return Some(at + 4);
+        }
+    }
+    None
+}
+
+/// The head that a whole text spells.
+fn read_head(text: &[u8]) -> Option<Head>
+    ensures found { IfSome result (λ head. IsHead text.now head) }
+    ensures none { IsNone result → (head : Head) → IsHead text.now head → ⊥ }
+{
+    if text.len() < LINE_SIZE + 4 {
+        return None;
+    }
+    let (line, rest) = text.split_at(LINE_SIZE);
+    let (digits, end) = rest.split_at(rest.len() - 4);
+    if !same_bytes(end, b"\r\n\r\n") {
+        return None;
+    }
+    let flow = id_between(line, b"PUT /flows/", b" HTTP/1.1\r\nContent-Length: ")?;
+    let length = read_length(digits)?;
+    Some(Head { flow, length })
+}
+
+/// The source in a whole body.
+fn read_body(body: &[u8]) -> Option<u128>
+    ensures found { IfSome result (λ source. body.now ≡ body_text source) }
+    ensures none { IsNone result → (source : ℕ) → source < 2 ^ 128 → body.now ≡ body_text source → ⊥ }
+{
+    id_between(
+        body,
+        b"{\"source_id\":\"",
+        b"\",\"format\":\"urn:x-nmos:format:video\"}",
+    )
+}
+
+/// The id that a text has between two others.
+fn id_between(text: &[u8], before: &[u8], after: &[u8]) -> Option<u128>
+    ensures found { IfSome result (λ id. text.now ≡ before.now ++ (id_text id ++ after.now)) }
+    ensures none { IsNone result
+        → (id : ℕ) → id < 2 ^ 128 → text.now ≡ before.now ++ (id_text id ++ after.now) → ⊥ }
+{
+    if text.len() < before.len() || text.len() - before.len() < 36 {
+        return None;
+    }
+    let (front, rest) = text.split_at(before.len());
+    let (id, behind) = rest.split_at(36);
+    if !same_bytes(front, before) || !same_bytes(behind, after) {
+        return None;
+    }
+    read_id(id)
+}
+
+/// The id that a text spells in lower case.
+fn read_id(text: &[u8]) -> Option<u128>
+    ensures found { IfSome result (λ id. text.now ≡ id_text id) }
+    ensures none { IsNone result → (id : ℕ) → id < 2 ^ 128 → text.now ≡ id_text id → ⊥ }
+{
+    let Ok(parsed) = Uuid::try_parse_ascii(text) else {
+        return None;
+    };
+    let id = parsed.as_u128();
+    if is_id_text(text, id) { Some(id) } else { None }
+}
+
+/// Whether this is the text of an id.
+fn is_id_text(text: &[u8], id: u128) -> bool
+    ensures { IsTrue result ↔ (text.now ≡ id_text id) }
+{
+    let mut buffer = Uuid::encode_buffer();
+    let printed = Uuid::from_u128(id).hyphenated().encode_lower(&mut buffer);
+    same_bytes(text, printed.as_bytes())
+}
+
+/// The length that digits spell: at least 1, with no leading zero and no sign.
+fn read_length(digits: &[u8]) -> Option<u64>
+    ensures found { IfSome result (λ n. IsLength digits.now n) }
+    ensures none { IsNone result → (n : ℕ) → IsLength digits.now n → ⊥ }
+{
+    // No digit, or a sign or a zero in front.
+    if digits.is_empty() || digits[0] <= b'0' {
+        return None;
+    }
+    let Ok(text) = str::from_utf8(digits) else {
+        return None;
+    };
+    let Ok(length) = text.parse::<u64>() else {
+        return None;
+    };
+    if length == 0 || length > BODY_LIMIT {
+        return None;
+    }
+    Some(length)
+}
+
+/// The first so many bytes, or all where there are fewer.
+fn first_bytes(bytes: &[u8], count: usize) -> &[u8]
+    ensures { result.now ≡ take count bytes.now }
+{
+    if count >= bytes.len() {
+        return bytes;
+    }
+    bytes.split_at(count).0
+}
+
+/// The bytes behind the first so many, or none where there are fewer.
+fn bytes_behind(bytes: &[u8], count: usize) -> &[u8]
+    ensures { result.now ≡ drop count bytes.now }
+{
+    if count >= bytes.len() {
+        return &[];
+    }
+    bytes.split_at(count).1
+}
+
+#[cfg(test)]
+mod tests {
+    use super::*;
+
+    const REQUEST: &[u8; 167] =
+        b"PUT /flows/00000000-0000-4000-8000-0000000000f1 HTTP/1.1\r\nContent-Length: 87\r\n\r\n{\"source_id\":\"00000000-0000-4000-8000-0000000000a1\",\"format\":\"urn:x-nmos:format:video\"}";
+
+    /// The request with these bytes in place of those from `at` on.
+    fn changed(at: usize, new: &[u8]) -> [u8; 167] {
+        let mut bytes = *REQUEST;
+        if at <= 167 && new.len() <= 167 - at {
+            bytes[at..at + new.len()].copy_from_slice(new);
+        }
+        bytes
+    }
+
+    #[test]
+    fn a_request_is_whole_with_its_last_byte(rt: HostRuntime) {
+        let put = FlowPut {
+            flow: 0x4000_8000_0000_0000_00f1,
+            source: 0x4000_8000_0000_0000_00a1,
+        };
+        assert_eq!(rt; read_front(REQUEST), Front::Whole(put), "whole");
+        for count in 0..167 {
+            let prefix = first_bytes(REQUEST, count);
+            assert_eq!(rt; read_front(prefix), Front::More, "{count} bytes");
+        }
+    }
+
+    #[test]
+    fn other_requests_are_unbuilt(rt: HostRuntime) {
+        let cases: [(usize, &[u8]); 6] = [
+            (0, b"GET"),
+            (45, b"F1"),
+            (74, b"087\r\n\r\n"),
+            (74, b"0\r\n\r\n"),
+            (74, b"1048577\r\n\r\n"),
+            (160, b"audio"),
+        ];
+        for (at, new) in cases {
+            let bytes = changed(at, new);
+            assert_eq!(rt; read_front(&bytes), Front::Unbuilt, "{new:?}");
+        }
+        assert_eq!(rt; read_front(&[b'a'; 16_383]), Front::More, "no line yet");
+        assert_eq!(rt; read_front(&[b'a'; 16_384]), Front::Unbuilt, "no line");
+        let longer = changed(74, b"88");
+        assert_eq!(rt; read_front(&longer), Front::More, "a longer body");
+    }
 }
