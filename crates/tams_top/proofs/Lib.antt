@@ -1,4 +1,8 @@
 pub mod ChangeLemmas
 mod FoldLemmas
+mod GoingLemmas
 mod OpenLemmas
 pub mod RequestLemmas
+mod ServingLemmas
+mod WordLemmas
+pub mod WordTheorems

@@ -1,4 +1,5 @@
 pub mod Ids
+pub mod Words
 pub mod Request
 pub mod Change
 pub mod Library

@@ -3,11 +3,14 @@
 #![tactic(auto)]
 
 mod change;
+mod fault;
 mod library;
 mod replay;
 mod request;
 mod store;
 mod unread;
+mod words;
 
 pub use crate::change::Change;
 pub use crate::request::FlowPut;
+pub use crate::words::{Command, Wanted, devices};
