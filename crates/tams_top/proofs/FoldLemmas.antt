@@ -1,5 +1,5 @@
 -- Records that fold to a library, one after another.
-use Rattle.std.proofs.Common.{◌≡◌, ◌<◌, ◌+◌, ℕ, suc, List, [], ◌∷◌, ◌++◌, length, drop, get_or, Option, Some, None, refl, sym, ap, ◌∙◌, subst, drop-cons, add-one}
+use Rattle.std.proofs.Common.{◌≡◌, ◌<◌, ◌+◌, ℕ, suc, List, [], ◌∷◌, ◌++◌, length, drop, get_or, Some, None, refl, sym, ap, ◌∙◌, subst, drop-cons, add-one}
 use Rattle.media_journal.specs.declared.record.Record.{Record}
 use Rattle.tams_top.specs.declared.change.Change.{Change}
 use Rattle.tams_top.specs.declared.library.Library.{Library}

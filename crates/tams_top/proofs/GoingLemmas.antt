@@ -1,10 +1,8 @@
 -- A connection that is being served: its beginning, a turn, and its end.
-use Rattle.std.proofs.Common.{◌≡◌, ◌≤◌, ◌+◌, ◌*◌, ◌<◌, ◌^◌, ℕ, Bool, true, false, List, [], ◌∷◌, ◌++◌, Ok, Err, refl, sym, ◌∙◌, arith}
-use Rattle.std.specs.Prelude.{IsTrue, IsFalse}
+use Rattle.std.proofs.Common.{◌≡◌, ℕ, Bool, true, List, [], refl, sym, ◌∙◌, arith}
 use Rattle.std.proofs.lemmas.Bool.{false≢true}
 use Rattle.disk_trait.specs.Device.{Device, Connection}
 use Rattle.disk_trait.specs.Calls.{SameDevice, IsCounted}
-use Rattle.site_edge.specs.Links.{fresh}
 use Rattle.tams_top.specs.declared.store.Store.{Store}
 use Rattle.tams_top.specs.Store.{State}
 use Rattle.tams_top.specs.Opening.{Keeps, state_of}

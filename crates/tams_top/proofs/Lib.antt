@@ -3,6 +3,7 @@ mod FoldLemmas
 mod GoingLemmas
 mod OpenLemmas
 pub mod RequestLemmas
+mod RunningLemmas
 mod ServingLemmas
 mod WordLemmas
 pub mod WordTheorems

@@ -1,19 +1,17 @@
 -- How the run of a connection goes on, and how it ends.
-use Rattle.std.proofs.Common.{◌≡◌, ◌≢◌, ◌≤◌, ◌+◌, ◌||◌, ℕ, Err, Bool, true, false, not, List, [], ◌∷◌, ◌++◌, length, drop, map, refl, sym, ap, ap₂, ◌∙◌, subst, inl, inr, append_assoc, append-nil, arith}
+use Rattle.std.proofs.Common.{◌≡◌, ℕ, Err, Bool, true, false, List, [], ◌∷◌, ◌++◌, drop, map, refl, sym, ap, ap₂, ◌∙◌, subst, append_assoc, append-nil, arith}
 use Rattle.std.proofs.Math.Seq.{drop-append_seam}
 use Rattle.std.proofs.lemmas.List.{flat_map_more}
 use Rattle.std.specs.List.{flat_map}
 use Rattle.disk_trait.specs.Device.{Device, Connection, Link}
 use Rattle.disk_trait.specs.Calls.{DiskCalls, IsCounted}
-use Rattle.site_edge.specs.Links.{Said, Sends, change_last, after_say, fresh}
+use Rattle.site_edge.specs.Links.{Said, change_last, after_say, fresh}
 use Rattle.tams_top.specs.declared.request.FlowPut.{FlowPut}
-use Rattle.tams_top.specs.declared.request.Front.TheVariants.{More, Whole}
-use Rattle.tams_top.specs.declared.request.Front.TheVariants as fronts
 use Rattle.tams_top.specs.declared.replay.Ending.{Ending}
-use Rattle.tams_top.specs.declared.replay.Ending.TheVariants.{Complete, Cut, Unbuilt}
-use Rattle.tams_top.specs.Request.{BeginsWith, IsFront, request_text}
+use Rattle.tams_top.specs.declared.replay.Ending.TheVariants.{Unbuilt}
+use Rattle.tams_top.specs.Request.{BeginsWith, request_text}
 use Rattle.tams_top.specs.Store.{State}
-use Rattle.tams_top.specs.History.{Taken, Follows, Leads, EndsWith, Serves, created_text, unbuilt_text, last_answer}
+use Rattle.tams_top.specs.History.{Taken, Follows, Leads, EndsWith, created_text, unbuilt_text, last_answer}
 use Rattle.tams_top.specs.declared.fault.MakeFault.{MakeFault}
 use Rattle.tams_top.specs.declared.fault.MakeFault.TheVariants as making
 use Rattle.tams_top.specs.Serving.{Reached, IsServed, SiteCalls, connection_of, was_heard_out, disk_held, link_held, make_held, as_run_fault}
@@ -53,11 +51,11 @@ pub reached_put : (from : State) (before : List Connection) (begun : List ℕ) (
 reached_put from before begun old new given unread moment put to next r begins follows under_way said =
     let t : Taken = record { put = put; moment = moment } in
     let rest : drop 167 unread ≡ begins.rest =
-        ap (drop 167) begins.is ∙ ap (λ n. drop n (request_text put ++ begins.rest)) (sym (length-request_text put)) ∙ drop-append_seam (request_text put) begins.rest in
+    ap (drop 167) begins.is ∙ ap (λ n. drop n (request_text put ++ begins.rest)) (sym (length-request_text put)) ∙ drop-append_seam (request_text put) begins.rest in
     let heard : flat_map (λ (x : Taken). request_text x.put) r.taken ++ unread ≡ flat_map (λ (x : Taken). request_text x.put) (r.taken ++ t ∷ []) ++ drop 167 unread =
-        ap (λ u. flat_map (λ (x : Taken). request_text x.put) r.taken ++ u) begins.is
-        ∙ sym (append_assoc (flat_map (λ (x : Taken). request_text x.put) r.taken) (request_text put) begins.rest)
-        ∙ ap₂ ◌++◌ (sym (flat_map-push (λ (x : Taken). request_text x.put) r.taken t)) (sym rest) in
+    ap (λ u. flat_map (λ (x : Taken). request_text x.put) r.taken ++ u) begins.is
+    ∙ sym (append_assoc (flat_map (λ (x : Taken). request_text x.put) r.taken) (request_text put) begins.rest)
+    ∙ ap₂ ◌++◌ (sym (flat_map-push (λ (x : Taken). request_text x.put) r.taken t)) (sym rest) in
     record {
       taken = r.taken ++ t ∷ [];
       leads = leads_push from r.taken to t next r.leads follows;

@@ -8,3 +8,4 @@ pub mod History
 pub mod Opening
 pub mod Folding
 pub mod Serving
+pub mod Running

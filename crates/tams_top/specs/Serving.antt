@@ -1,5 +1,5 @@
 -- Where the run of one connection has come, and how it ends.
-use Rattle.std.specs.Prelude.{◌≡◌, ◌≤◌, ◌+◌, ◌*◌, ℕ, Bool, true, false, List, [], ◌∷◌, ◌++◌, length, map, Result, Ok, Err}
+use Rattle.std.specs.Prelude.{◌≡◌, ◌≤◌, ℕ, Bool, true, false, List, [], ◌∷◌, ◌++◌, length, map, Result, Ok, Err}
 use Rattle.std.specs.List.{flat_map}
 use Rattle.disk_trait.specs.Device.{Device, Connection}
 use Rattle.disk_trait.specs.Calls.{SameDevice, IsCounted}

@@ -9,10 +9,10 @@ ghost use Rattle.tams_top.specs.Serving.{HeardMore, IsServed, NextIs, SiteCalls,
 ghost use Rattle.tams_top.specs.declared.request.Front.TheVariants.{Whole};
 ghost use Rattle.tams_top.specs.Store.{State};
 
+use crate::fault::RunFault;
 use crate::request::{Front, read_front};
 use crate::store::Store;
 use crate::unread::Unread;
-use crate::fault::RunFault;
 use crate::{Change, FlowPut};
 use site_edge::{Clock, Site};
 use std::alloc::Global;
@@ -98,8 +98,8 @@ fn take_put<X: Site, C: Clock>(
         (Keeps (X.device site.old).seen store.old → Keeps (X.device site.new).seen store.new) }
     ensures goes { (X.device site.old).tells ≡ true → C.tells clock.new ≡ true → OnOk result
         ((from : State) (before : List Connection) (begun : List ℕ)
-            → Reached from before begun (X.device site.old) (C.given clock.old) unread.old (state_of store.old)
-            → Reached from before begun (X.device site.new) (C.given clock.new) unread.new (state_of store.new)) }
+        → Reached from before begun (X.device site.old) (C.given clock.old) unread.old (state_of store.old)
+        → Reached from before begun (X.device site.new) (C.given clock.new) unread.new (state_of store.new)) }
 {
     let change = Change {
         moment: clock.now(),
@@ -113,11 +113,7 @@ fn take_put<X: Site, C: Clock>(
 }
 
 /// Hears more of the peer's bytes into the unread ones: false at their end.
-fn hear_more<X: Site>(
-    site: &mut X,
-    unread: &mut Unread,
-    piece: &mut [u8],
-) -> Result<bool, RunFault>
+fn hear_more<X: Site>(site: &mut X, unread: &mut Unread, piece: &mut [u8]) -> Result<bool, RunFault>
     requires under_way { (X.device site.old).link.under_way ≡ true }
     requires piece { 0 < length piece.old }
     ensures calls { SiteCalls (disk_held result) (link_held result) (X.device site.old) (X.device site.new) }
@@ -168,9 +164,9 @@ fn take_turn<X: Site, C: Clock>(
         (Keeps (X.device site.old).seen store.old → Keeps (X.device site.new).seen store.new) }
     ensures goes { (X.device site.old).tells ≡ true → C.tells clock.new ≡ true → IfOk result (λ t.
         (from : State) (before : List Connection) (begun : List ℕ)
-            → Reached from before begun (X.device site.old) (C.given clock.old) unread.old (state_of store.old)
-            → TurnAnswer from before begun (X.device site.new) (C.given clock.new) unread.new
-                (state_of store.new) t) }
+        → Reached from before begun (X.device site.old) (C.given clock.old) unread.old (state_of store.old)
+        → TurnAnswer from before begun (X.device site.new) (C.given clock.new) unread.new
+        (state_of store.new) t) }
 {
     match next_step(store, unread) {
         Next::Make(put) => {
@@ -226,8 +222,8 @@ pub(crate) fn serve<X: Site, C: Clock>(
         (Keeps (X.device site.old).seen store.old → Keeps (X.device site.new).seen store.new) }
     ensures served { (X.device site.old).tells ≡ true → C.tells clock.new ≡ true → IfOk result (λ s.
         (before : List Connection) → (X.device site.old).link.connections ≡ before ++ fresh ∷ []
-            → IsServed (state_of store.old) before (C.given clock.old) (X.device site.new)
-                (C.given clock.new) s.ending (state_of store.new)) }
+        → IsServed (state_of store.old) before (C.given clock.old) (X.device site.new)
+        (C.given clock.new) s.ending (state_of store.new)) }
 {
     let mut unread = Unread::new(alloc);
     let mut buffer = vec![in alloc; 0u8; PIECE]?;

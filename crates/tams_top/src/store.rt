@@ -12,7 +12,9 @@ use crate::fault::MakeFault;
 use crate::library::Library;
 use crate::{Change, FlowPut};
 use disk_trait::{Disk, Memory, same_bytes};
-use media_journal::{AppendFault, Frame, Header, Journal, JournalFault, Opened, Record, open_journal};
+use media_journal::{
+    AppendFault, Frame, Header, Journal, JournalFault, Opened, Record, open_journal,
+};
 use std::alloc::Global;
 
 /// The bytes that a change's record takes from the journal's room, which needs one more.

@@ -1,7 +1,6 @@
-use Rattle.std.proofs.Common.{◌≡◌, ◌∙◌, sym, arith}
+use Rattle.std.proofs.Common.{◌∙◌}
 use Rattle.std.proofs.lemmas.Result.{err_from_is_err_and}
 use Rattle.tams_top.specs.Opening.{state_of}
-use Rattle.tams_top.specs.Serving.{disk_held, link_held}
 use Rattle.tams_top.proofs.GoingLemmas.{going_first, going_more, calls_more}
 use Rattle.tams_top.proofs.replay.serve.Goals as goal
 

@@ -1,4 +1,4 @@
-use Rattle.std.proofs.Common.{◌≡◌, true, ap, ◌∙◌, rules}
+use Rattle.std.proofs.Common.{true, ap, ◌∙◌}
 use Rattle.std.proofs.lemmas.Result.{err_from_is_err_and}
 use Rattle.disk_trait.specs.Device.{Link}
 use Rattle.site_edge.specs.Links.{change_last, after_say}
@@ -22,6 +22,6 @@ returns-clause-goes g c = λ tells telling from before begun r.
     let whole = said_whole created_text _ _ said (calls.same.tells ∙ tells) in
     let connections = whole ∙ ap (λ (l : Link). change_last (after_say true created_text) l.connections) calls.link in
     let follows : Follows (state_of c.args.store.now) record { put = c.args.put; moment = c.now.result } (state_of c.make.new.self) =
-        record { accepted = c.requires.accepted; library = c.in_ok-make.ensures.library; room = c.in_ok-make.ensures.room } in
+    record { accepted = c.requires.accepted; library = c.in_ok-make.ensures.library; room = c.in_ok-make.ensures.room } in
     rw (c.take.ensures, c.now.ensures.given telling)
     (reached_put from before begun _ _ _ _ c.now.result c.args.put _ _ r (begins_with _ _ c.requires.begins) follows (c.in_ok-say.ensures.said.under_way ∙ ap (λ (l : Link). l.under_way) calls.link ∙ c.requires.under_way) connections)

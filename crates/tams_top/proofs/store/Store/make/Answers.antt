@@ -1,11 +1,10 @@
-use Rattle.std.proofs.Common.{◌≡◌, ◌++◌, [], ◌∷◌, sym, ◌∙◌, refl}
+use Rattle.std.proofs.Common.{◌++◌, [], ◌∷◌, sym, ◌∙◌}
 use Rattle.tams_top.specs.Store.{empty_rows}
 use Rattle.tams_top.proofs.FoldLemmas.{fold_push}
 use Rattle.tams_top.proofs.store.Store.make.Goals as goal
 
 -- The image gives the journal one record more, which makes the next library of the last one.
 pub returns-in-Ok-clause-keeps : goal.returns-in-Ok-clause-keeps
-
 returns-in-Ok-clause-keeps g c = λ shows keeps.
     record {
       header = keeps.header;
