@@ -1,3 +1,4 @@
 mod TornLemmas
 mod HistoryLemmas
 mod MemoryDiskLemmas
+mod StopLemmas

@@ -9,7 +9,7 @@ use Rattle.disk_trait.specs.declared.history.Call.TheVariants.{Read, Write, Sync
 
 -- what a crash may leave after this call, by what a read gave and what one could leave before it
 abbrev pub left_after_call : Call → List ℕ → (List ℕ → Type 0) → List ℕ → Type 0
-left_after_call (Read passed) seen left image = left image
+left_after_call (Read at n passed) seen left image = left image
 left_after_call (Write at bytes passed) seen left image = (old : List ℕ) × left old × Torn at (length bytes) old image
 left_after_call (Sync true) seen left image = image ≡ seen
 left_after_call (Sync false) seen left image = left image
@@ -92,6 +92,6 @@ pub record DiskCalled (old new : DiskState) (ok : Bool) : Type 0 where
 
 -- what a call does to what a crash leaves
 abbrev pub step_of : Call → Left → Left → Type 0
-step_of (Read passed) = Unchanged
+step_of (Read at n passed) = Unchanged
 step_of (Write at bytes passed) = TornWrite at (length bytes)
 step_of (Sync passed) = Unchanged
