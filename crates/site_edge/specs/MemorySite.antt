@@ -1,10 +1,10 @@
 -- What a site in memory means. Its disk calls and its said bytes have one order of moments.
-use Rattle.std.specs.Prelude.{◌≡◌, ◌<◌, ◌≤◌, ◌+◌, min, ℕ, Bool, true, false, List, [], ◌∷◌, ◌++◌, length, map, take, slice_index_or, All}
+use Rattle.std.specs.Prelude.{if◌then◌else◌, ◌==◌, ◌≡◌, ◌<◌, ◌≤◌, ◌+◌, min, ℕ, Bool, true, false, List, [], ◌∷◌, ◌++◌, length, map, take, slice_index_or, All}
 use Rattle.disk_trait.specs.Device.{Device, Link, Connection, Left}
-use Rattle.disk_trait.specs.History.{Past}
+use Rattle.disk_trait.specs.History.{Past, kept_bytes}
 use Rattle.disk_trait.specs.MemoryDisk.{DiskState, DiskCalled, LeavesAt, memory_device}
 use Rattle.site_edge.specs.Links.{Sends, change_last, fresh}
-use Rattle.site_edge.specs.Lines.{Talk, with_connection, told_more}
+use Rattle.site_edge.specs.Lines.{Talk, rest_of, with_connection, told_more}
 use Rattle.site_edge.specs.Tallies.{CountsCall}
 use Rattle.site_edge.specs.declared.tally.Tally.{Tally}
 use Rattle.site_edge.specs.declared.span.Span.{Span}
@@ -145,8 +145,27 @@ pub record SiteDiskCalled (old new : SiteState) (ok : Bool) : Type 0 where
   pub disk : DiskCalled old.disk new.disk ok
   pub rest : new ≡ record old { disk = new.disk }
 
+-- the bytes of all its peers, of those that came and of those that are still to come
+abbrev pub peers_of : SiteState → List (List ℕ)
+peers_of site = map (λ talk. talk.sends) site.talks ++ site.waiting
+
 -- what a link call leaves of a site in memory
 pub record SiteCalled (old new : SiteState) (ok : Bool) : Type 0 where
   pub counts : CountsCall old.tally new.tally ok
   pub disk : new.disk ≡ old.disk
   pub piece : new.piece ≡ old.piece
+  pub peers : peers_of new ≡ peers_of old
+
+-- the bytes of the last peer that weren't heard yet
+abbrev pub rest_of_last : List Talk → List ℕ
+rest_of_last [] = []
+rest_of_last (talk ∷ []) = rest_of talk
+rest_of_last (talk ∷ next ∷ later) = rest_of_last (next ∷ later)
+
+-- what a `say` sends: all bytes, their first half where its number fails, and none where it was starved
+abbrev pub sent_by : SiteState → SiteState → Bool → List ℕ → List ℕ
+sent_by old new ok bytes = if new.tally.made == old.tally.made then [] else kept_bytes ok bytes
+
+-- the site once the connection that was under way was ended
+abbrev pub after_close : SiteState → SiteState
+after_close site = record site { under_way = false }
