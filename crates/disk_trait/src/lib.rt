@@ -10,6 +10,8 @@ mod history;
 mod listed;
 mod memory_disk;
 mod sure_disk;
+#[cfg(test)]
+mod tests;
 mod text;
 
 pub use crate::disk::Disk;

@@ -106,6 +106,13 @@ impl MemorySite {
         self.tally.starved
     }
 
+    /// How many peers came so far.
+    pub fn connections(&self) -> usize
+        ensures { result ≡ length (connections_of self.now) }
+    {
+        self.lines.len()
+    }
+
     /// What the peer of this number was told. The peers count from 0.
     pub fn said(&self, peer: usize) -> &[u8]
         requires { peer < length (connections_of self.now) }
