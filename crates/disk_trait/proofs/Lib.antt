@@ -2,3 +2,4 @@ mod TornLemmas
 mod HistoryLemmas
 mod MemoryDiskLemmas
 mod StopLemmas
+pub mod Theorems

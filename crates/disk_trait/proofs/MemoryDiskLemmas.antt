@@ -134,7 +134,7 @@ fails_as_listed call false disk listed = record { never_falls = counted_on_never
 
 called : (call : Call) (noted : Bool) (disk : DiskState) → (IsFalse (has_passed call) ↔ Contains disk.fail (next_number disk)) → DiskCalled disk (after_make noted call disk) (noted && has_passed call)
 called call true disk listed = record { fails = fails_as_listed call true disk listed; fail = refl; past = inr (call, refl) }
-called call false disk listed = record { fails = fails_as_listed call false disk listed; fail = refl; past = inl (refl, counted_on_rises disk.starved) }
+called call false disk listed = record { fails = fails_as_listed call false disk listed; fail = refl; past = inl (record { past = refl; rose = counted_on_rises disk.starved }) }
 
 pub disk_called : (call : Call) (old new : DiskState) (ok : Bool) → Makes call old new ok → DiskCalled old new ok
 disk_called call old new ok made = rw (made.after, made.answer) (called call made.noted old made.listed)

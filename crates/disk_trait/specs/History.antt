@@ -1,4 +1,4 @@
--- What a device in memory has been through. Its calls are kept in order, and all else follows from them.
+-- What a device in memory has been through. Its calls are kept in order; all else follows from them.
 use Rattle.std.specs.Prelude.{◌+◌, zero, suc, ◌≤◌, Option, None, option_map, unwrap_or, slice_get, All, ◌≡◌, ◌/◌, ◌∷◌, ◌++◌, [], ℕ, Bool, true, false, not, List, length, take}
 use Rattle.disk_trait.specs.Calls.{overwritten}
 use Rattle.disk_trait.specs.declared.history.Call.{Call}
@@ -79,7 +79,9 @@ stopped_within kept (Sync passed) image = image
 -- the image of a stop within the call of this number, with all earlier calls done
 abbrev pub stopped : Past → ℕ → ℕ → List ℕ
 stopped past zero kept = past.first
-stopped past (suc n) kept = unwrap_or (option_map (λ call. stopped_within kept call (seen_after (take n past.calls) past.first)) (slice_get past.calls n)) past.first
+stopped past (suc n) kept =
+    let before = seen_after (take n past.calls) past.first in
+    unwrap_or (option_map (λ call. stopped_within kept call before) (slice_get past.calls n)) past.first
 
 -- these bytes are what the calls made of those at first, each within them
 pub record IsReplayed (past : Past) (bytes : List ℕ) : Type 0 where

@@ -4,3 +4,4 @@ pub mod Fakes
 pub mod History
 pub mod MemoryDisk
 pub mod MemoryDiskLaws
+pub mod Moments

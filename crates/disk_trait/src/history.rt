@@ -15,8 +15,8 @@ pub enum Call {
     Sync { passed: bool },
 }
 
-/// The bytes of a device, what they were at first, and all calls since. Until the first write those at
-/// first are those of now.
+/// The bytes of a device, what they were at first, and all calls since. Until the first write those
+/// at first are those of now.
 #[derive(Drop)]
 pub(crate) struct History {
     alloc: Global,
@@ -119,7 +119,8 @@ impl History {
         })
     }
 
-    /// The image of a stop within a call after so many bytes of its range, with all earlier calls done.
+    /// The image of a stop within a call after so many bytes of its range, with all earlier calls
+    /// done.
     pub(crate) fn stop_image(&self, alloc: Global, call: u64, kept: u64) -> Result<Text, Memory>
         requires { IsSomeAnd (range_length self.now call) (λ length. kept ≤ length) }
         ensures { IfOk result (λ image. image ≡ stopped self.now call kept) }

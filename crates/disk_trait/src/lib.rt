@@ -5,6 +5,7 @@
 
 mod bytes;
 mod disk;
+mod duplicate;
 mod fault;
 mod history;
 mod listed;
@@ -15,6 +16,7 @@ mod tests;
 mod text;
 
 pub use crate::disk::Disk;
+pub use crate::duplicate::Duplicate;
 pub use crate::fault::{Failed, Memory};
 pub use crate::listed::{Listed, NumberList, TextList};
 pub use crate::memory_disk::MemoryDisk;

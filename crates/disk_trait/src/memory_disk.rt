@@ -1,5 +1,5 @@
-//! A disk in memory. It keeps all its calls, fails at the calls that it is told, and knows what a crash
-//! within each call may leave.
+//! A disk in memory. It keeps all its calls, fails at the calls that it is told, and knows what a
+//! crash within each call may leave.
 ghost use Rattle.std.specs.Prelude.{length as list_length, ◌≡◌, ◌<◌, ◌≤◌, ◌+◌, ◌-◌, ◌^◌, ◌&&◌, ◌↔◌, [], min, Bool, true, false, length, is_ok, IfOk, IsSomeAnd, IsTrue, IsFalse, Contains, replicate, if◌then◌else◌};
 ghost use Rattle.disk_trait.specs.Calls.{LeavesOnly};
 ghost use Rattle.disk_trait.specs.History.{range_length, seen_of, stopped};
@@ -31,14 +31,15 @@ impl MemoryDisk {
     /// A disk of so many zeros, whose calls with these numbers fail.
     pub fn new(alloc: Global, length: u64, fail: NumberList) -> Result<MemoryDisk, Memory>
         ensures disk { IfOk result (λ disk. disk ≡ fresh_disk (replicate length 0) fail) }
-        ensures durable { IfOk result (λ disk. LeavesOnly (replicate length 0) (memory_device disk)) }
+        ensures durable { IfOk result (λ disk.
+            LeavesOnly (replicate length 0) (memory_device disk)) }
     {
         let zeros = Text::from_vec(vec![in alloc; 0u8; length as usize]?);
         Ok(MemoryDisk::from_bytes(alloc, zeros, fail))
     }
 
-    /// A disk with these bytes, whose calls with these numbers fail. It takes no memory, and at first
-    /// nothing is pending.
+    /// A disk with these bytes, whose calls with these numbers fail. It takes no memory, and at
+    /// first nothing is pending.
     pub fn from_bytes(alloc: Global, bytes: Text, fail: NumberList) -> MemoryDisk
         ensures disk { result ≡ fresh_disk bytes fail }
         ensures durable { LeavesOnly bytes (memory_device result) }
@@ -50,8 +51,8 @@ impl MemoryDisk {
         }
     }
 
-    /// How often a call found no memory for its entry in the list of calls. Such a call fails, has no
-    /// number and changes nothing else.
+    /// How often a call found no memory for its entry in the list of calls. Such a call fails, has
+    /// no number and changes nothing else.
     pub fn starved(&self) -> u64
         ensures { result ≡ self.now.starved }
     {
@@ -80,8 +81,8 @@ impl MemoryDisk {
         self.history.range_length(call)
     }
 
-    /// The image of a stop within a call after `kept` bytes of its range, with all earlier calls done. The
-    /// calls count from 1.
+    /// The image of a stop within a call after `kept` bytes of its range, with all earlier calls
+    /// done. The calls count from 1.
     pub fn stop_image(&self, alloc: Global, call: u64, kept: u64) -> Result<Text, Memory>
         requires { IsSomeAnd (range_length self.now.past call) (λ length. kept ≤ length) }
         ensures image { IfOk result (λ image. image ≡ stopped self.now.past call kept) }
@@ -94,7 +95,8 @@ impl MemoryDisk {
 
     fn make_read(&mut self, at: u64, length: u64) -> Result<(), Failed>
         requires { at + length ≤ list_length (seen_of self.old.past) }
-        ensures { (passed : Bool) × Makes (Call.Read at length passed) self.old self.new (is_ok result) }
+        ensures { (passed : Bool)
+            × Makes (Call.Read at length passed) self.old self.new (is_ok result) }
     {
         let passes = !is_listed(&self.fail, self.history.made() + 1);
         let call = Call::Read {
@@ -108,7 +110,8 @@ impl MemoryDisk {
 
     fn make_write(&mut self, at: u64, bytes: &[u8]) -> Result<(), Failed>
         requires { at + length bytes.now ≤ length (seen_of self.old.past) }
-        ensures { (passed : Bool) × Makes (Call.Write at bytes.now passed) self.old self.new (is_ok result) }
+        ensures { (passed : Bool)
+            × Makes (Call.Write at bytes.now passed) self.old self.new (is_ok result) }
     {
         let passes = !is_listed(&self.fail, self.history.made() + 1);
         let noted = self.history.write(at, bytes, passes).is_ok();

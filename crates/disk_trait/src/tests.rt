@@ -103,3 +103,39 @@ fn a_stop_keeps_part_of_a_write(rt: HostRuntime) -> Result<(), Fail> {
     }
     Ok(())
 }
+
+fn copied<T: Duplicate>(alloc: Global, value: &T) -> Result<T, Memory> {
+    value.duplicate(alloc)
+}
+
+#[test]
+fn lists_and_texts_keep_what_was_pushed(rt: HostRuntime) -> Result<(), Fail> {
+    let alloc = rt.alloc();
+    let mut text = Text::new(alloc);
+    text.push(b'a')?;
+    text.append(b"bc")?;
+    let copy = copied(alloc, &text)?;
+    assert!(rt; copy.same(&text));
+    assert_eq!(rt; copy.into_vec().as_slice(), b"abc".as_slice());
+    let mut texts = TextList::new(alloc);
+    texts.push(text.copy(alloc)?)?;
+    assert_eq!(rt; texts.items().len(), 1);
+    let numbers = copied(alloc, &NumberList::from_slice(alloc, &[3, 1])?)?;
+    assert_eq!(rt; numbers.numbers(), [3, 1].as_slice());
+    Ok(())
+}
+
+#[test]
+fn a_new_disk_is_zero(rt: HostRuntime) -> Result<(), Fail> {
+    let alloc = rt.alloc();
+    let none = NumberList::new(alloc);
+    let disk = MemoryDisk::new(alloc, 3, none)?;
+    assert_eq!(rt; disk.image(), [0, 0, 0].as_slice());
+    let mut sure = SureDisk::new(alloc, 2)?;
+    assert_eq!(rt; sure.len(), 2);
+    let mut out = [9; 2];
+    assert_eq!(rt; sure.write_at(1, &[7]), Ok(()));
+    assert_eq!(rt; sure.read_at(0, &mut out), Ok(()));
+    assert_eq!(rt; out.as_slice(), [0, 7].as_slice());
+    Ok(())
+}

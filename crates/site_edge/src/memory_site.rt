@@ -6,7 +6,7 @@ ghost use Rattle.disk_trait.specs.History.{kept_bytes, seen_of};
 ghost use Rattle.disk_trait.specs.MemoryDisk.{memory_device};
 ghost use Rattle.site_edge.specs.Links.{LinkCall, Begins, Tells, Heard, Said, NextPeer, Closed, change_last};
 ghost use Rattle.site_edge.specs.Lines.{heard_more, marked, told_more, with_connection};
-ghost use Rattle.site_edge.specs.MemorySite.{SiteCalled, after_close, after_next, after_tell, connections_of, is_one_left, fresh_site, rest_of_last, sent_by, site_device, told_of};
+ghost use Rattle.site_edge.specs.MemorySite.{SiteCalled, after_close, after_next, after_tell, connections_of, is_one_left, fresh_site, rest_of_last, sent_by, site_device, told_also, told_of};
 
 use crate::line::Line;
 use crate::span::{Added, Span};
@@ -62,8 +62,8 @@ impl Model for MemorySite {
 }
 
 impl MemorySite {
-    /// A site over this disk. The peers come in order, one `hear` gives at most `piece` bytes, and the
-    /// link calls with these numbers fail. It takes no memory.
+    /// A site over this disk. The peers come in order, one `hear` gives at most `piece` bytes, and
+    /// the link calls with these numbers fail. It takes no memory.
     pub fn new(
         alloc: Global,
         disk: MemoryDisk,
@@ -231,7 +231,8 @@ impl Site for MemorySite {
     fn next_peer(&mut self) -> Result<bool, LinkFailed>
         ensures call { LinkCall (Begins result) (Begins result) (is_ok result)
             (site_device self.old) (site_device self.new) }
-        ensures peers { IsCounted (is_ok result) self.old.tally.peer_faults self.new.tally.peer_faults }
+        ensures peers { IsCounted (is_ok result)
+            self.old.tally.peer_faults self.new.tally.peer_faults }
         ensures next { NextPeer result (site_device self.old) (site_device self.new) }
         ensures fails { SiteCalled self.old self.new (is_ok result) }
 
@@ -248,14 +249,16 @@ impl Site for MemorySite {
         requires under_way { self.old.under_way ≡ true }
         requires not_empty { 0 < length out.old }
         ensures within { IfOk result (λ count. count ≤ length out.old) }
-        ensures call { LinkCall Unchanged Unchanged (is_ok result) (site_device self.old) (site_device self.new) }
+        ensures call { LinkCall Unchanged Unchanged (is_ok result)
+            (site_device self.old) (site_device self.new) }
         ensures heard { Heard result out.new (site_device self.old) (site_device self.new) }
         ensures fails { SiteCalled self.old self.new (is_ok result) }
 
         // The next bytes of the peer, at most a piece of them; 0 exactly at their end.
         ensures piece { IfOk result (λ count. count ≤ self.old.piece) }
         ensures end { IfOk result (λ count. (count ≡ 0) ↔ (rest_of_last self.old.talks ≡ [])) }
-        ensures bytes { IfOk result (λ count. take count out.new ≡ take count (rest_of_last self.old.talks)) }
+        ensures bytes { IfOk result (λ count.
+            take count out.new ≡ take count (rest_of_last self.old.talks)) }
     {
         let numbered = has_number(&self.tally);
         let passes = passes(&self.tally);
@@ -270,14 +273,14 @@ impl Site for MemorySite {
 
     fn say(&mut self, bytes: &[u8]) -> Result<(), LinkFailed>
         requires { self.old.under_way ≡ true }
-        ensures call { LinkCall (Tells false bytes.now) (Tells (is_ok result) bytes.now) (is_ok result)
-            (site_device self.old) (site_device self.new) }
+        ensures call { LinkCall (Tells false bytes.now) (Tells (is_ok result) bytes.now)
+            (is_ok result) (site_device self.old) (site_device self.new) }
         ensures said { Said (is_ok result) bytes.now (site_device self.old) (site_device self.new) }
         ensures fails { SiteCalled self.old self.new (is_ok result) }
 
         // All bytes, the first half of them where its number fails, or none where it was starved.
-        ensures sent { told_of self.new
-            ≡ change_last (λ told. told ++ sent_by self.old self.new (is_ok result) bytes.now) (told_of self.old) }
+        ensures sent { told_of self.new ≡ told_also
+            (sent_by self.old self.new (is_ok result) bytes.now) (told_of self.old) }
     {
         let passes = passes(&self.tally);
         let noted = self.try_tell(sent_of(bytes, passes));
@@ -288,7 +291,8 @@ impl Site for MemorySite {
 
     fn close_peer(&mut self)
         requires { self.old.under_way ≡ true }
-        ensures call { LinkCall Unchanged Unchanged true (site_device self.old) (site_device self.new) }
+        ensures call { LinkCall Unchanged Unchanged true
+            (site_device self.old) (site_device self.new) }
         ensures closed { Closed (site_device self.old) (site_device self.new) }
         ensures after { self.new ≡ after_close self.old }
     {
@@ -324,7 +328,8 @@ fn hear_last(lines: &mut Vec<Line>, out: &mut [u8], piece: usize) -> usize
     ensures piece { result ≤ piece }
     ensures end { (result ≡ 0) ↔ (rest_of_last lines.old.items ≡ []) }
     ensures bytes { take result out.new ≡ take result (rest_of_last lines.old.items) }
-    ensures heard { lines.new.items ≡ change_last (with_connection (heard_more result out.new)) lines.old.items }
+    ensures heard { lines.new.items
+        ≡ change_last (with_connection (heard_more result out.new)) lines.old.items }
 {
     let last = lines.len() - 1;
     lines[last].hear(out, piece)
@@ -332,7 +337,8 @@ fn hear_last(lines: &mut Vec<Line>, out: &mut [u8], piece: usize) -> usize
 
 fn tell_last(lines: &mut Vec<Line>, bytes: &[u8]) -> Result<(), Memory>
     requires { 0 < length lines.old.items }
-    ensures ok { OnOk result (lines.new.items ≡ change_last (with_connection (told_more bytes.now)) lines.old.items) }
+    ensures ok { OnOk result (lines.new.items
+        ≡ change_last (with_connection (told_more bytes.now)) lines.old.items) }
     ensures err { OnErr result (lines.new.items ≡ lines.old.items) }
 {
     let last = lines.len() - 1;

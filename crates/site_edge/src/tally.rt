@@ -6,8 +6,8 @@ ghost use Rattle.site_edge.specs.Tallies.{CountsCall};
 use crate::LinkFailed;
 use disk_trait::NumberList;
 
-/// The numbers of the calls that fail, the number of the last call, how many calls were starved, and
-/// the counts of link faults and of peer faults.
+/// The numbers of the calls that fail, the number of the last call, how many calls were starved,
+/// and the counts of link faults and of peer faults.
 #[derive(Drop)]
 pub struct Tally {
     pub fail: NumberList,

@@ -4,8 +4,8 @@ use disk_trait::{Disk, MemoryDisk, NumberList, Text};
 use std::alloc::Global;
 use std::test::Fail;
 
-/// Two peers over a disk of four bytes: one `hear` gives at most two bytes, and the fourth and the sixth
-/// link call fail.
+/// Two peers over a disk of four bytes: one `hear` gives at most two bytes, and the fourth and the
+/// sixth link call fail.
 fn two_peers(alloc: Global) -> Result<MemorySite, disk_trait::Memory> {
     let bytes = Text::from_bytes(alloc, b"disk")?;
     let disk = MemoryDisk::from_bytes(alloc, bytes, NumberList::from_slice(alloc, &[])?);
