@@ -9,8 +9,8 @@ mod duplicate;
 mod fault;
 mod history;
 mod listed;
-pub mod numbers;
 mod memory_disk;
+pub mod numbers;
 mod sure_disk;
 #[cfg(test)]
 mod tests;

@@ -9,6 +9,8 @@ mod outcome;
 mod replay;
 mod request;
 mod store;
+#[cfg(test)]
+mod tests;
 mod top;
 mod unread;
 mod words;
