@@ -3,3 +3,5 @@ pub mod OverwriteLemmas
 mod TornLemmas
 mod HistoryLemmas
 mod MemoryDiskLemmas
+mod StopLemmas
+pub mod Theorems

@@ -7,29 +7,26 @@ use Rattle.std.proofs.lemmas.List.Sums.{sum_by_push}
 use Rattle.std.specs.Prelude.{Result, Ok, Err, is_ok, OnOk, IsFalse, Contains}
 use Rattle.disk_trait.specs.Device.{Left}
 use Rattle.disk_trait.specs.Calls.{LeavesOnly, SameDevice, Torn, Follows, Elapses, DiskCall, IsCounted, Rose, overwritten}
-use Rattle.disk_trait.specs.History.{IsQuiet, Past, kept_bytes, seen_after, seen_after_call, seen_of, with_call, has_passed, has_failed}
+use Rattle.disk_trait.specs.History.{IsQuiet, Past, kept_bytes, seen_of, with_call, has_passed, has_failed}
 use Rattle.disk_trait.specs.MemoryDisk.{DiskState, LeavesAt, LeavesSince, left_after, left_after_call, memory_device, Makes, FailsAsListed, DiskCalled, next_number, counted_on, after_make, step_of}
-use Rattle.disk_trait.specs.MemoryDiskLaws.{torn-put_over, length-kept_bytes, itself_after, leaves_at_last, leaves_at_more, length-put_over}
+use Rattle.disk_trait.specs.MemoryDiskLaws.{torn-put_over, length-kept_bytes, itself_after, leaves_at_last, leaves_at_more}
 use Rattle.disk_trait.specs.declared.history.Call.{Call}
 use Rattle.disk_trait.specs.declared.history.Call.TheVariants.{Read, Write, Sync}
-use Rattle.disk_trait.proofs.HistoryLemmas.{seen_after-push, seen_after-write}
-
-left_after-push : (calls : List Call) (call : Call) (seen : List ℕ) (left : List ℕ → Type 0) → left_after (calls ++ call ∷ []) seen left ≡ left_after_call call (seen_after calls seen) (left_after calls seen left)
-left_after-push [] call seen left = refl
-left_after-push (earlier ∷ calls) call seen left = left_after-push calls call (seen_after_call earlier seen) (left_after_call earlier seen left)
+use Rattle.disk_trait.proofs.StopLemmas.{length-seen_after_call}
+use Rattle.disk_trait.proofs.HistoryLemmas.{left_after-push, seen_after-push, seen_after-write}
 
 torn_itself : (at n : ℕ) (image : List ℕ) → Torn at n image image
 torn_itself at n image = record { before = refl; after = refl; same_length = refl }
 
 -- an image after a call is one from before it, after the call's step
 image_follows : (call : Call) (seen : List ℕ) (left : List ℕ → Type 0) (told : List (List ℕ)) (image : List ℕ) → left seen → left_after_call call seen left image → (old : List ℕ) × left old × step_of call (record { image = old; told = told }) (record { image = image; told = told })
-image_follows (Read passed) seen left told image now after = (image, after, refl)
+image_follows (Read at n passed) seen left told image now after = (image, after, refl)
 image_follows (Write at bytes passed) seen left told image now after = (after.0, after.1, record { image = after.2; told = refl })
 image_follows (Sync true) seen left told image now after = (seen, now, ap (λ i. record { image = i; told = told }) after)
 image_follows (Sync false) seen left told image now after = (image, after, refl)
 
 step_itself : (call : Call) (p : Left) → step_of call p p
-step_itself (Read passed) p = refl
+step_itself (Read at n passed) p = refl
 step_itself (Write at bytes passed) p = record { image = torn_itself at (length bytes) p.image; told = refl }
 step_itself (Sync passed) p = refl
 
@@ -94,12 +91,6 @@ elapses call false disk = record {
   keeps = λ t p le left. left;
 }
 
--- no call changes what a read gives in length
-length-seen_after_call : (call : Call) (seen : List ℕ) → length (seen_after_call call seen) ≡ length seen
-length-seen_after_call (Read passed) seen = refl
-length-seen_after_call (Write at bytes passed) seen = length-put_over at (kept_bytes passed bytes) seen
-length-seen_after_call (Sync passed) seen = refl
-
 same_device : (call : Call) (noted : Bool) (disk : DiskState) → SameDevice (memory_device disk) (memory_device (after_make noted call disk))
 same_device call true disk = record {
   size = rw seen_after-push (length-seen_after_call call (seen_of disk.past));
@@ -143,7 +134,7 @@ fails_as_listed call false disk listed = record { never_falls = counted_on_never
 
 called : (call : Call) (noted : Bool) (disk : DiskState) → (IsFalse (has_passed call) ↔ Contains disk.fail (next_number disk)) → DiskCalled disk (after_make noted call disk) (noted && has_passed call)
 called call true disk listed = record { fails = fails_as_listed call true disk listed; fail = refl; past = inr (call, refl) }
-called call false disk listed = record { fails = fails_as_listed call false disk listed; fail = refl; past = inl (refl, counted_on_rises disk.starved) }
+called call false disk listed = record { fails = fails_as_listed call false disk listed; fail = refl; past = inl (record { past = refl; rose = counted_on_rises disk.starved }) }
 
 pub disk_called : (call : Call) (old new : DiskState) (ok : Bool) → Makes call old new ok → DiskCalled old new ok
 disk_called call old new ok made = rw (made.after, made.answer) (called call made.noted old made.listed)

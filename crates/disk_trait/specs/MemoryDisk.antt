@@ -9,15 +9,17 @@ use Rattle.disk_trait.specs.declared.history.Call.TheVariants.{Read, Write, Sync
 
 -- what a crash may leave after this call, by what a read gave and what one could leave before it
 abbrev pub left_after_call : Call → List ℕ → (List ℕ → Type 0) → List ℕ → Type 0
-left_after_call (Read passed) seen left image = left image
-left_after_call (Write at bytes passed) seen left image = (old : List ℕ) × left old × Torn at (length bytes) old image
+left_after_call (Read at n passed) seen left image = left image
+left_after_call (Write at bytes passed) seen left image =
+    (old : List ℕ) × left old × Torn at (length bytes) old image
 left_after_call (Sync true) seen left image = image ≡ seen
 left_after_call (Sync false) seen left image = left image
 
 -- what a crash may leave after these calls
 abbrev pub left_after : List Call → List ℕ → (List ℕ → Type 0) → List ℕ → Type 0
 left_after [] seen left = left
-left_after (call ∷ later) seen left = left_after later (seen_after_call call seen) (left_after_call call seen left)
+left_after (call ∷ later) seen left =
+    left_after later (seen_after_call call seen) (left_after_call call seen left)
 
 -- a crash after so many calls, or within the last of them, may leave this image
 abbrev pub LeavesAt : Past → ℕ → List ℕ → Type 0
@@ -40,7 +42,11 @@ pub record DiskState : Type 0 where
 
 -- a disk with these bytes that made no call yet
 abbrev pub fresh_disk : List ℕ → List ℕ → DiskState
-fresh_disk bytes fail = record { past = record { first = bytes; calls = [] }; fail = fail; starved = 0 }
+fresh_disk bytes fail = record {
+  past = record { first = bytes; calls = [] };
+  fail = fail;
+  starved = 0;
+}
 
 -- the device of a disk in memory
 abbrev pub memory_device : DiskState → Device
@@ -84,14 +90,19 @@ pub record FailsAsListed (number : ℕ) (fail : List ℕ) (before now : ℕ) (ok
   pub starved : before < now → IsFalse ok
   pub only : IsFalse ok → Contains fail number ⊎ Rose before now
 
+-- A call was starved: it changed nothing of the past, and the count of such calls rose.
+pub record IsStarved (old new : DiskState) : Type 0 where
+  pub past : new.past ≡ old.past
+  pub rose : Rose old.starved new.starved
+
 -- What a call leaves of a disk in memory: it was starved, or noted as the last of the calls.
 pub record DiskCalled (old new : DiskState) (ok : Bool) : Type 0 where
   pub fails : FailsAsListed (next_number old) old.fail old.starved new.starved ok
   pub fail : new.fail ≡ old.fail
-  pub past : ((new.past ≡ old.past) × Rose old.starved new.starved) ⊎ ((call : Call) × (new.past ≡ with_call call old.past))
+  pub past : IsStarved old new ⊎ ((call : Call) × (new.past ≡ with_call call old.past))
 
 -- what a call does to what a crash leaves
 abbrev pub step_of : Call → Left → Left → Type 0
-step_of (Read passed) = Unchanged
+step_of (Read at n passed) = Unchanged
 step_of (Write at bytes passed) = TornWrite at (length bytes)
 step_of (Sync passed) = Unchanged

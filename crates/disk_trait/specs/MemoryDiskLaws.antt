@@ -26,7 +26,7 @@ torn-put_over at n bytes image short = record {
 
 -- a disk as it reads may be left, if it could before the call
 itself_after_call : (call : Call) (seen : List ℕ) (left : List ℕ → Type 0) → left seen → left_after_call call seen left (seen_after_call call seen)
-itself_after_call (Read passed) seen left now = now
+itself_after_call (Read at n passed) seen left now = now
 itself_after_call (Write at bytes passed) seen left now = (seen, now, torn-put_over at (length bytes) (kept_bytes passed bytes) seen (length-kept_bytes passed bytes))
 itself_after_call (Sync true) seen left now = refl
 itself_after_call (Sync false) seen left now = now

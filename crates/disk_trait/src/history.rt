@@ -1,23 +1,22 @@
 //! All that was done with the bytes of a device in memory.
-ghost use Rattle.std.specs.Prelude.{◌≡◌, ◌<◌, ◌≤◌, ◌+◌, ◌^◌, ◌++◌, ◌∷◌, [], length, unwrap_or, OnErr, OnOk};
-ghost use Rattle.disk_trait.specs.History.{IsQuiet, kept_bytes, seen_of, with_call};
+ghost use Rattle.std.specs.Prelude.{◌≡◌, ◌<◌, ◌≤◌, ◌+◌, ◌^◌, ◌++◌, ◌∷◌, [], length, unwrap_or, All, IfOk, IsSomeAnd, OnErr, OnOk};
+ghost use Rattle.disk_trait.specs.History.{IsQuiet, kept_bytes, length_of, range_end, range_length, seen_after, seen_after_call, seen_of, stopped, stopped_within, with_call};
 
 use crate::bytes::overwrite;
 use crate::{Memory, Text};
 use std::alloc::Global;
 use std::marker::Model;
 
-/// A call of a device in memory. The `bool` says whether it passed. A write comes with its offset and
-/// the bytes that were handed in.
+/// A call of a device in memory: its range, the bytes that were handed in, and whether it passed.
 #[derive(Drop)]
 pub enum Call {
-    Read(bool),
-    Write(u64, Text, bool),
-    Sync(bool),
+    Read { at: u64, length: u64, passed: bool },
+    Write { at: u64, bytes: Text, passed: bool },
+    Sync { passed: bool },
 }
 
-/// The bytes of a device, what they were at first, and all calls since. Until the first write those at
-/// first are those of now.
+/// The bytes of a device, what they were at first, and all calls since. Until the first write those
+/// at first are those of now.
 #[derive(Drop)]
 pub(crate) struct History {
     alloc: Global,
@@ -27,14 +26,15 @@ pub(crate) struct History {
 }
 
 impl Model for History {
-    ghost use Rattle.std.specs.Prelude.{◌≡◌, unwrap_or};
-    ghost use Rattle.disk_trait.specs.History.{Past, seen_after};
+    ghost use Rattle.std.specs.Prelude.{unwrap_or};
+    ghost use Rattle.disk_trait.specs.History.{IsReplayed, Past};
 
     ghost Value = { Past };
 
     ghost view = { λ h. record { first = unwrap_or h.first h.bytes.items; calls = h.calls.items } };
 
-    ghost invariant = { λ h. seen_after h.calls.items (unwrap_or h.first h.bytes.items) ≡ h.bytes.items };
+    ghost invariant = { λ h. IsReplayed
+        record { first = unwrap_or h.first h.bytes.items; calls = h.calls.items } h.bytes.items };
 }
 
 impl History {
@@ -69,7 +69,8 @@ impl History {
 
     /// Notes a call that leaves the bytes as they are.
     pub(crate) fn note(&mut self, call: Call) -> Result<(), Memory>
-        requires { IsQuiet call }
+        requires quiet { IsQuiet call }
+        requires within { range_end call ≤ length (seen_of self.old) }
         ensures ok { OnOk result (self.new ≡ with_call call self.old) }
         ensures err { OnErr result (self.new ≡ self.old) }
     {
@@ -85,9 +86,81 @@ impl History {
     {
         keep_first(self.alloc, &mut self.first, &self.bytes)?;
         let handed = Text::from_bytes(self.alloc, bytes)?;
-        self.calls.push(Call::Write(at, handed, passes))?;
+        self.calls.push(Call::Write {
+            at,
+            bytes: handed,
+            passed: passes,
+        })?;
         overwrite(&mut self.bytes, at as usize, kept(bytes, passes));
         Ok(())
+    }
+
+    /// The bytes at first.
+    fn first(&self) -> &[u8]
+        ensures { result.now ≡ self.now.first }
+    {
+        match &self.first {
+            Some(first) => first.bytes(),
+            None => self.bytes.as_slice(),
+        }
+    }
+
+    /// The length of the range of a call, where it was made. The calls count from 1.
+    pub(crate) fn range_length(&self, call: u64) -> Option<u64>
+        ensures { result ≡ range_length self.now call }
+    {
+        if call == 0 || call > self.made() {
+            return None;
+        }
+        Some(match &self.calls[call as usize - 1] {
+            Call::Read { length, .. } => *length,
+            Call::Write { bytes, .. } => bytes.bytes().len() as u64,
+            Call::Sync { .. } => 0,
+        })
+    }
+
+    /// The image of a stop within a call after so many bytes of its range, with all earlier calls
+    /// done.
+    pub(crate) fn stop_image(&self, alloc: Global, call: u64, kept: u64) -> Result<Text, Memory>
+        requires { IsSomeAnd (range_length self.now call) (λ length. kept ≤ length) }
+        ensures { IfOk result (λ image. image ≡ stopped self.now call kept) }
+    {
+        let mut image = Vec::from_slice(alloc, self.first())?;
+        let before = call as usize - 1;
+        make_all_again(&mut image, &self.calls[..before]);
+        stop_within(&mut image, &self.calls[before], kept);
+        Ok(Text::from_vec(image))
+    }
+}
+
+/// Makes calls again on an image.
+fn make_all_again(image: &mut Vec<u8>, calls: &[Call])
+    requires { All (λ call. range_end call ≤ length image.old.items) calls.now }
+    ensures { image.new.items ≡ seen_after calls.now image.old.items }
+{
+    for call in calls {
+        make_again(image, call);
+    }
+}
+
+/// Makes a call again on an image.
+fn make_again(image: &mut Vec<u8>, call: &Call)
+    requires { range_end call.now ≤ length image.old.items }
+    ensures { image.new.items ≡ seen_after_call call.now image.old.items }
+{
+    if let Call::Write { at, bytes, passed } = call {
+        overwrite(image, *at as usize, kept(bytes.bytes(), *passed));
+    }
+}
+
+/// Makes so many bytes of a call again.
+fn stop_within(image: &mut Vec<u8>, call: &Call, kept: u64)
+    requires within { range_end call.now ≤ length image.old.items }
+    requires kept { kept ≤ length_of call.now }
+    ensures { image.new.items ≡ stopped_within kept call.now image.old.items }
+{
+    if let Call::Write { at, bytes, .. } = call {
+        overwrite(image, *at as usize, bytes.bytes().split_at(kept as usize).0);
     }
 }
 

@@ -5,16 +5,20 @@
 
 mod bytes;
 mod disk;
+mod duplicate;
 mod fault;
 mod history;
 mod listed;
 pub mod numbers;
 mod memory_disk;
 mod sure_disk;
+#[cfg(test)]
+mod tests;
 mod text;
 
 pub use crate::bytes::same_bytes;
 pub use crate::disk::Disk;
+pub use crate::duplicate::Duplicate;
 pub use crate::fault::{Failed, Memory};
 pub use crate::listed::{Listed, NumberList, TextList};
 pub use crate::memory_disk::MemoryDisk;

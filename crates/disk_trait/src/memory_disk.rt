@@ -1,9 +1,9 @@
-//! A disk in memory. It keeps all its calls, fails at the calls that it is told, and knows what a crash
-//! within each call may leave.
-ghost use Rattle.std.specs.Prelude.{◌≡◌, ◌<◌, ◌≤◌, ◌+◌, ◌-◌, ◌^◌, ◌&&◌, ◌↔◌, [], min, Bool, true, false, length, is_ok, IfOk, IsTrue, IsFalse, Contains, replicate, if◌then◌else◌};
+//! A disk in memory. It keeps all its calls, fails at the calls that it is told, and knows what a
+//! crash within each call may leave.
+ghost use Rattle.std.specs.Prelude.{length as list_length, ◌≡◌, ◌<◌, ◌≤◌, ◌+◌, ◌-◌, ◌^◌, ◌&&◌, ◌↔◌, [], min, Bool, true, false, length, is_ok, IfOk, IsSomeAnd, IsTrue, IsFalse, Contains, replicate, if◌then◌else◌};
 ghost use Rattle.disk_trait.specs.Calls.{LeavesOnly};
-ghost use Rattle.disk_trait.specs.History.{seen_of};
-ghost use Rattle.disk_trait.specs.MemoryDisk.{memory_device, fresh_disk, counted_on, Makes, DiskCalled};
+ghost use Rattle.disk_trait.specs.History.{range_length, seen_of, stopped};
+ghost use Rattle.disk_trait.specs.MemoryDisk.{LeavesAt, memory_device, fresh_disk, counted_on, Makes, DiskCalled};
 
 use crate::bytes::copy_out;
 use crate::history::{Call, History};
@@ -31,14 +31,15 @@ impl MemoryDisk {
     /// A disk of so many zeros, whose calls with these numbers fail.
     pub fn new(alloc: Global, length: u64, fail: NumberList) -> Result<MemoryDisk, Memory>
         ensures disk { IfOk result (λ disk. disk ≡ fresh_disk (replicate length 0) fail) }
-        ensures durable { IfOk result (λ disk. LeavesOnly (replicate length 0) (memory_device disk)) }
+        ensures durable { IfOk result (λ disk.
+            LeavesOnly (replicate length 0) (memory_device disk)) }
     {
         let zeros = Text::from_vec(vec![in alloc; 0u8; length as usize]?);
         Ok(MemoryDisk::from_bytes(alloc, zeros, fail))
     }
 
-    /// A disk with these bytes, whose calls with these numbers fail. It takes no memory, and at first
-    /// nothing is pending.
+    /// A disk with these bytes, whose calls with these numbers fail. It takes no memory, and at
+    /// first nothing is pending.
     pub fn from_bytes(alloc: Global, bytes: Text, fail: NumberList) -> MemoryDisk
         ensures disk { result ≡ fresh_disk bytes fail }
         ensures durable { LeavesOnly bytes (memory_device result) }
@@ -50,8 +51,8 @@ impl MemoryDisk {
         }
     }
 
-    /// How often a call found no memory for its entry in the list of calls. Such a call fails, has no
-    /// number and changes nothing else.
+    /// How often a call found no memory for its entry in the list of calls. Such a call fails, has
+    /// no number and changes nothing else.
     pub fn starved(&self) -> u64
         ensures { result ≡ self.now.starved }
     {
@@ -73,17 +74,44 @@ impl MemoryDisk {
         self.history.bytes()
     }
 
-    fn make_read(&mut self) -> Result<(), Failed>
-        ensures { (passed : Bool) × Makes (Call.Read passed) self.old self.new (is_ok result) }
+    /// The length of the range of a call, where it was made. The calls count from 1.
+    pub fn range_length(&self, call: u64) -> Option<u64>
+        ensures { result ≡ range_length self.now.past call }
+    {
+        self.history.range_length(call)
+    }
+
+    /// The image of a stop within a call after `kept` bytes of its range, with all earlier calls
+    /// done. The calls count from 1.
+    pub fn stop_image(&self, alloc: Global, call: u64, kept: u64) -> Result<Text, Memory>
+        requires { IsSomeAnd (range_length self.now.past call) (λ length. kept ≤ length) }
+        ensures image { IfOk result (λ image. image ≡ stopped self.now.past call kept) }
+
+        // A crash within the call may leave it.
+        ensures leaves { IfOk result (LeavesAt self.now.past call) }
+    {
+        self.history.stop_image(alloc, call, kept)
+    }
+
+    fn make_read(&mut self, at: u64, length: u64) -> Result<(), Failed>
+        requires { at + length ≤ list_length (seen_of self.old.past) }
+        ensures { (passed : Bool)
+            × Makes (Call.Read at length passed) self.old self.new (is_ok result) }
     {
         let passes = !is_listed(&self.fail, self.history.made() + 1);
-        let noted = self.history.note(Call::Read(passes)).is_ok();
+        let call = Call::Read {
+            at,
+            length,
+            passed: passes,
+        };
+        let noted = self.history.note(call).is_ok();
         answer(&mut self.starved, noted, passes)
     }
 
     fn make_write(&mut self, at: u64, bytes: &[u8]) -> Result<(), Failed>
         requires { at + length bytes.now ≤ length (seen_of self.old.past) }
-        ensures { (passed : Bool) × Makes (Call.Write at bytes.now passed) self.old self.new (is_ok result) }
+        ensures { (passed : Bool)
+            × Makes (Call.Write at bytes.now passed) self.old self.new (is_ok result) }
     {
         let passes = !is_listed(&self.fail, self.history.made() + 1);
         let noted = self.history.write(at, bytes, passes).is_ok();
@@ -94,7 +122,8 @@ impl MemoryDisk {
         ensures { (passed : Bool) × Makes (Call.Sync passed) self.old self.new (is_ok result) }
     {
         let passes = !is_listed(&self.fail, self.history.made() + 1);
-        let noted = self.history.note(Call::Sync(passes)).is_ok();
+        let call = Call::Sync { passed: passes };
+        let noted = self.history.note(call).is_ok();
         answer(&mut self.starved, noted, passes)
     }
 }
@@ -114,7 +143,7 @@ impl Disk for MemoryDisk {
     }
 
     fn read_at(&mut self, at: u64, out: &mut [u8]) -> Result<(), Failed> {
-        self.make_read()?;
+        self.make_read(at, out.len() as u64)?;
         copy_out(self.image(), at as usize, out);
         Ok(())
     }

@@ -3,6 +3,6 @@ mod ChainLemmas
 mod FormattingLemmas
 mod FrameLemmas
 mod HeaderLemmas
-mod OpeningLemmas
+pub mod OpeningLemmas
 pub mod ReadingLemmas
 mod ScanLemmas

@@ -3,7 +3,8 @@ use Rattle.std.proofs.Common.{◌≡◌, ◌<◌, ◌+◌, ◌∷◌, [], ℕ, z
 use Rattle.std.specs.Prelude.{slice_get}
 use Rattle.disk_trait.specs.Device.{Connection}
 use Rattle.site_edge.specs.Links.{change_last, after_hear}
-use Rattle.site_edge.specs.Lines.{Talk, with_connection, heard_more}
+use Rattle.site_edge.specs.MemorySite.{rest_of_last}
+use Rattle.site_edge.specs.Lines.{rest_of, Talk, with_connection, heard_more}
 
 -- a write at the last place
 pub set_last : {A : Type 0} (f : A → A) (xs : List A) (n : ℕ) (x y : A) → n + 1 ≡ length xs → x ≡ get_or xs n x → y ≡ f x → set xs n y ≡ change_last f xs
@@ -59,3 +60,15 @@ pub told_at : (talks : List Talk) (n : ℕ) (talk : Talk) → n < length talks �
 told_at [] n talk within at = absurd (omega (arith, within))
 told_at (t ∷ talks) zero talk within at = ap (λ x. Some x.connection.told) (sym at)
 told_at (t ∷ talks) (suc n) talk within at = told_at talks n talk (omega (arith, within)) at
+
+-- the peers send what they sent before, whatever became of the last connection
+pub peers_kept : (f : Connection → Connection) (talks : List Talk) → map (λ talk. talk.sends) (change_last (with_connection f) talks) ≡ map (λ talk. talk.sends) talks
+peers_kept f talks = map-change_last (λ talk. talk.sends) (with_connection f) (λ sends. sends) talks (λ talk. refl) ∙ change_last_same (λ sends. sends) _ (λ sends. refl)
+
+-- the last peer, by its place
+pub rest_of_last_at : (talks : List Talk) (n : ℕ) (talk : Talk) → n + 1 ≡ length talks → talk ≡ get_or talks n talk → rest_of_last talks ≡ rest_of talk
+rest_of_last_at [] n talk last at = absurd (omega (arith, last))
+rest_of_last_at (t ∷ []) zero talk last at = ap rest_of (sym at)
+rest_of_last_at (t ∷ []) (suc n) talk last at = absurd (omega (arith, last))
+rest_of_last_at (t ∷ u ∷ talks) zero talk last at = absurd (omega (arith, last))
+rest_of_last_at (t ∷ u ∷ talks) (suc n) talk last at = rest_of_last_at (u ∷ talks) n talk (omega (arith, last)) at

@@ -1,6 +1,7 @@
 -- What each link call leaves of a site in memory.
-use Rattle.std.proofs.Common.{◌≡◌, ◌++◌, ◌∷◌, ◌&&◌, ◌||◌, ◌/◌, [], drop, ℕ, Bool, true, false, List, length, map, Option, Some, None, Result, Ok, Err, if◌then◌else◌, unwrap_or, refl, sym, ap, ◌∙◌}
-use Rattle.std.specs.Prelude.{MatchOption, IfSome, is_some, is_ok}
+use Rattle.std.proofs.Common.{arith, ◌+◌, ◌≡◌, ◌++◌, ◌∷◌, ◌&&◌, ◌||◌, ◌/◌, [], drop, ℕ, Bool, true, false, List, length, map, Option, Some, None, Result, Ok, Err, if◌then◌else◌, unwrap_or, refl, sym, ap, ◌∙◌}
+use Rattle.std.proofs.lemmas.Bool.Decides.{nat_tests}
+use Rattle.std.specs.Prelude.{◌==◌, MatchOption, IfSome, is_some, is_ok}
 use Rattle.std.proofs.lemmas.List.{append-nil, append_assoc, map-append, take-append-drop}
 use Rattle.disk_trait.specs.Device.{Connection, Left}
 use Rattle.disk_trait.specs.Calls.{IsCounted, Elapses, Unchanged}
@@ -10,8 +11,8 @@ use Rattle.site_edge.specs.Lines.{Talk, with_connection, marked, told_more}
 use Rattle.site_edge.specs.Tallies.{CountsCall}
 use Rattle.site_edge.specs.declared.tally.Tally.{Tally}
 use Rattle.site_edge.specs.declared.span.Added.TheVariants.{Peer, Bytes}
-use Rattle.site_edge.specs.MemorySite.{SiteState, SiteCalled, IsKept, after_next, next_of, after_tell, is_one_left, told_of, connections_of, site_device}
-use Rattle.site_edge.proofs.ConnectionLemmas.{change_last-change_last, change_last_same, connection_changed, told_changed, told_kept}
+use Rattle.site_edge.specs.MemorySite.{peers_of, sent_by, SiteState, SiteCalled, IsKept, after_next, next_of, after_tell, is_one_left, told_of, connections_of, site_device}
+use Rattle.site_edge.proofs.ConnectionLemmas.{peers_kept, change_last-change_last, change_last_same, connection_changed, told_changed, told_kept}
 use Rattle.site_edge.proofs.MomentLemmas.{EndsBy, SameLeft, ended_time, quiet_time, same_time, with_span}
 
 -- a link call, by its count of faults and its time
@@ -170,7 +171,7 @@ failed_at E e site tally counts peers =
       call = link_call Unchanged Unchanged false site new refl counts.counted (quiet_time Unchanged site new (λ p. refl) (record { past = refl; spans = refl; since = refl; told = refl }));
       peers = peers;
       next = record { under_way = refl; connections = λ _. refl; closed = λ _. refl };
-      fails = record { counts = counts; disk = refl; piece = refl };
+      fails = record { counts = counts; disk = refl; piece = refl; peers = refl };
     }
 
 pub peer_failed : (E : Type 0) (e : E) (passes : Bool) (came : Option Bool) (old mid : SiteState) (tally : Tally) → MatchOption came (mid ≡ old) (λ _. mid ≡ (if passes then after_next old else old)) → (is_some came && passes) ≡ false → CountsCall mid.tally tally false → IsCounted false mid.tally.peer_faults tally.peer_faults → WaitsForPeer {E = E} (Err e) old (record mid { tally = tally })
@@ -190,12 +191,16 @@ same_tally : (waiting : List (List ℕ)) (site : SiteState) → (next_of waiting
 same_tally [] site = refl
 same_tally (sends ∷ later) site = refl
 
+same_peers : (waiting : List (List ℕ)) (site : SiteState) → site.waiting ≡ waiting → peers_of (next_of waiting site) ≡ peers_of site
+same_peers [] site is = refl
+same_peers (sends ∷ later) site is = rw is (simp (map-append, append_assoc))
+
 came_at : (E : Type 0) (site : SiteState) (tally : Tally) → IsKept site → CountsCall site.tally tally true → IsCounted true site.tally.peer_faults tally.peer_faults → WaitsForPeer {E = E} (Ok (is_one_left site.waiting)) site (record (after_next site) { tally = tally })
 came_at E site tally kept counts peers = record {
   call = next_call E site.waiting site tally kept counts.counted;
   peers = peers;
   next = next_clause E site.waiting site tally;
-  fails = record { counts = counts; disk = same_disk site.waiting site; piece = same_piece site.waiting site };
+  fails = record { counts = counts; disk = same_disk site.waiting site; piece = same_piece site.waiting site; peers = same_peers site.waiting site refl };
 }
 
 pub peer_came : (E : Type 0) (passes : Bool) (came : Option Bool) (old mid : SiteState) (tally : Tally) → IsKept old → MatchOption came (mid ≡ old) (λ _. mid ≡ (if passes then after_next old else old)) → IfSome came (λ b. b ≡ (passes && is_one_left old.waiting)) → (is_some came && passes) ≡ true → CountsCall mid.tally tally true → IsCounted true mid.tally.peer_faults tally.peer_faults → WaitsForPeer {E = E} (Ok (unwrap_or came false)) old (record mid { tally = tally })
@@ -203,3 +208,39 @@ peer_came E passes came old mid tally kept next is_left passed counts peers =
     let after = passed_next passes came old mid next passed in
     let tallies = ap (λ site. site.tally) after ∙ same_tally old.waiting old in
     rw (after, passed_came passes came (is_one_left old.waiting) is_left passed) (came_at E old tally kept (rw tallies at counts) (rw tallies at peers))
+
+-- what a call on the last connection leaves that isn't seen in the device
+pub changed_fails : (ok : Bool) (change : Connection → Connection) (site : SiteState) (tally : Tally) (talks : List Talk) → talks ≡ change_last (with_connection change) site.talks → CountsCall site.tally tally ok → SiteCalled site (record site { tally = tally; talks = talks }) ok
+changed_fails ok change site tally talks is counts = record {
+  counts = counts;
+  disk = refl;
+  piece = refl;
+  peers = ap (λ sends. sends ++ site.waiting) (ap (map (λ talk. talk.sends)) is ∙ peers_kept change site.talks);
+}
+
+pub said_fails : (noted passes : Bool) (bytes : List ℕ) (site mid : SiteState) (tally : Tally) (talks : List Talk) → mid ≡ (if noted then after_tell (kept_bytes passes bytes) site else site) → talks ≡ change_last (with_connection (marked (noted && passes))) mid.talks → CountsCall mid.tally tally (noted && passes) → SiteCalled site (record mid { tally = tally; talks = talks }) (noted && passes)
+said_fails true passes bytes site mid tally talks mid_is is counts =
+    let changed = said_changed passes (kept_bytes passes bytes) site.talks talks (is ∙ ap (λ m. change_last (with_connection (marked passes)) m.talks) mid_is) in
+    rw mid_is (record {
+      counts = rw mid_is at counts;
+      disk = refl;
+      piece = refl;
+      peers = ap (λ sends. sends ++ site.waiting) (ap (map (λ talk. talk.sends)) changed ∙ peers_kept (after_say passes (kept_bytes passes bytes)) site.talks);
+    })
+said_fails false passes bytes site mid tally talks mid_is is counts =
+    rw mid_is (changed_fails false (marked false) site tally talks (is ∙ ap (λ m. change_last (with_connection (marked false)) m.talks) mid_is) (rw mid_is at counts))
+
+-- what was sent, by whether the call took a number
+sent_if : (noted : Bool) (n m : ℕ) (bytes : List ℕ) → m ≡ (if noted then n + 1 else n) → (if noted then bytes else []) ≡ (if m == n then [] else bytes)
+sent_if true n m bytes is = rw is (grind (arith, nat_tests))
+sent_if false n m bytes is = rw is (grind (arith, nat_tests))
+
+pub said_sent : (noted passes : Bool) (bytes : List ℕ) (site mid : SiteState) (tally : Tally) (talks : List Talk) → mid ≡ (if noted then after_tell (kept_bytes passes bytes) site else site) → talks ≡ change_last (with_connection (marked (noted && passes))) mid.talks → tally.made ≡ (if noted then mid.tally.made + 1 else mid.tally.made) → told_of (record mid { tally = tally; talks = talks }) ≡ change_last (λ t. t ++ sent_by site (record mid { tally = tally; talks = talks }) (noted && passes) bytes) (told_of site)
+said_sent true passes bytes site mid tally talks mid_is is number =
+    let changed = said_changed passes (kept_bytes passes bytes) site.talks talks (is ∙ ap (λ m. change_last (with_connection (marked passes)) m.talks) mid_is) in
+    let sent : kept_bytes passes bytes ≡ (if tally.made == site.tally.made then [] else kept_bytes passes bytes) = sent_if true site.tally.made tally.made (kept_bytes passes bytes) (rw mid_is at number) in
+    said_told passes (kept_bytes passes bytes) site.talks talks changed ∙ ap (λ bytes. change_last (λ t. t ++ bytes) (told_of site)) sent
+said_sent false passes bytes site mid tally talks mid_is is number =
+    let marks : talks ≡ change_last (with_connection (marked false)) site.talks = is ∙ ap (λ m. change_last (with_connection (marked false)) m.talks) mid_is in
+    let sent : [] ≡ (if tally.made == site.tally.made then [] else kept_bytes false bytes) = sent_if false site.tally.made tally.made (kept_bytes false bytes) (rw mid_is at number) in
+    ap (λ ts. map (λ c. c.told) (map (λ talk. talk.connection) ts)) marks ∙ (told_kept (marked false) site.talks (λ c. refl) ∙ (sym (change_last_same (λ t. t ++ []) (told_of site) append-nil) ∙ ap (λ bytes. change_last (λ t. t ++ bytes) (told_of site)) sent))

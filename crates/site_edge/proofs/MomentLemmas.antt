@@ -165,7 +165,7 @@ noted_disk_time step site disk call told_stays kept inner is =
 disk_time : (step : Left → Left → Type 0) (ok : Bool) (site : SiteState) (disk : DiskState) → LeavesTold step → IsKept site → DiskCall step ok (memory_device site.disk) (memory_device disk) → DiskCalled site.disk disk ok → Elapses step step (site_device site) (site_device (record site { disk = disk }))
 disk_time step ok site disk told_stays kept made called =
     elim called.past [
-      | inl starved ↦ quiet_time step site (record site { disk = disk }) told_stays.itself (record { past = starved.0; spans = refl; since = refl; told = refl })
+      | inl starved ↦ quiet_time step site (record site { disk = disk }) told_stays.itself (record { past = starved.past; spans = refl; since = refl; told = refl })
       | inr noted ↦ noted_disk_time step site disk noted.0 told_stays kept made.time noted.1
     ]
 
@@ -214,12 +214,12 @@ abbrev pub ended_by : Added → SiteState → Span
 ended_by adds site = record { from = site.since; to = disk_calls site; adds = adds }
 
 -- what was told before a span that stood already
-told_before : (site : SiteState) (last : Span) (n : ℕ) → n ≤ length site.spans → told_after (take n (site.spans ++ last ∷ [])) [] ≡ told_after (take n site.spans) []
-told_before site last n within = ap (λ spans. told_after spans []) (take-append-le n site.spans (last ∷ []) within)
+spans_before : (site : SiteState) (last : Span) (n : ℕ) → n ≤ length site.spans → told_after (take n (site.spans ++ last ∷ [])) [] ≡ told_after (take n site.spans) []
+spans_before site last n within = ap (λ spans. told_after spans []) (take-append-le n site.spans (last ∷ []) within)
 
 -- what was told before the last span
 told_before_last : (site : SiteState) (last : Span) → IsKept site → told_after (take (length site.spans) (site.spans ++ last ∷ [])) [] ≡ told_of site
-told_before_last site last kept = told_before site last (length site.spans) (omega arith) ∙ (ap (λ spans. told_after spans []) (take_all (length site.spans) site.spans (omega arith)) ∙ kept.told)
+told_before_last site last kept = spans_before site last (length site.spans) (omega arith) ∙ (ap (λ spans. told_after spans []) (take_all (length site.spans) site.spans (omega arith)) ∙ kept.told)
 
 -- the site with one more span
 abbrev pub with_span : Added → SiteState → List Talk → SiteState
@@ -232,10 +232,10 @@ keeps_ended adds site talks t p kept (now left told) =
     earlier (length site.spans) last (omega (arith, length_push site.spans last)) (get_or_at site.spans last [] last (length site.spans) refl) (ended_in _ _ _ _ t p.image kept.since left) (told ∙ sym (told_before_last site last kept))
 keeps_ended adds site talks t p kept (earlier n span within at left told) =
     let last = ended_by adds site in
-    earlier n span (omega (arith, within, length_push site.spans last)) (get_or_append_left site.spans (last ∷ []) span n within ∙ at) left (told ∙ sym (told_before site last n (omega (arith, within))))
+    earlier n span (omega (arith, within, length_push site.spans last)) (get_or_append_left site.spans (last ∷ []) span n within ∙ at) left (told ∙ sym (spans_before site last n (omega (arith, within))))
 keeps_ended adds site talks t p kept (ending n span within at left so_far) =
     let last = ended_by adds site in
-    ending n span (omega (arith, within, length_push site.spans last)) (get_or_append_left site.spans (last ∷ []) span n within ∙ at) left (subst (λ told. SoFar span.adds told p.told) (sym (told_before site last n (omega (arith, within)))) so_far)
+    ending n span (omega (arith, within, length_push site.spans last)) (get_or_append_left site.spans (last ∷ []) span n within ∙ at) left (subst (λ told. SoFar span.adds told p.told) (sym (spans_before site last n (omega (arith, within)))) so_far)
 
 -- an image that the disk may leave now, and what was told by then
 follows_at : (step : Left → Left → Type 0) (site : SiteState) (p : Left) → LeavesAt site.disk.past (disk_calls site) p.image → step (record { image = p.image; told = told_of site }) p → Follows step (SiteLeaves site (disk_calls site + length site.spans)) p
@@ -271,7 +271,7 @@ split_ended step adds site talks t p kept steps (now left told) =
 split_ended step adds site talks t p kept steps (earlier n span within at left told) =
     let last = ended_by adds site in
     elim (cases_lt n (length site.spans)) [
-      | inl old ↦ inl (earlier n span old (sym (get_or_append_left site.spans (last ∷ []) span n old) ∙ at) left (told ∙ told_before site last n (omega (arith, old))))
+      | inl old ↦ inl (earlier n span old (sym (get_or_append_left site.spans (last ∷ []) span n old) ∙ at) left (told ∙ spans_before site last n (omega (arith, old))))
       | inr past ↦
           let is = is_last site last span n within past at in
           let there : LeavesIn site.disk.past site.since (disk_calls site) (length site.spans) t p.image = subst (λ s. LeavesIn site.disk.past s.from s.to (length site.spans) t p.image) is.1 (subst (λ m. LeavesIn site.disk.past span.from span.to m t p.image) is.0 left) in
@@ -287,7 +287,7 @@ split_ended step adds site talks t p kept steps (earlier n span within at left t
 split_ended step adds site talks t p kept steps (ending n span within at left so_far) =
     let last = ended_by adds site in
     elim (cases_lt n (length site.spans)) [
-      | inl old ↦ inl (ending n span old (sym (get_or_append_left site.spans (last ∷ []) span n old) ∙ at) left (subst (λ told. SoFar span.adds told p.told) (told_before site last n (omega (arith, old))) so_far))
+      | inl old ↦ inl (ending n span old (sym (get_or_append_left site.spans (last ∷ []) span n old) ∙ at) left (subst (λ told. SoFar span.adds told p.told) (spans_before site last n (omega (arith, old))) so_far))
       | inr past ↦
           let is = is_last site last span n within past at in
           let there : LeavesIn site.disk.past (disk_calls site) (disk_calls site) n t p.image = subst (λ s. LeavesIn site.disk.past s.to s.to n t p.image) is.1 left in

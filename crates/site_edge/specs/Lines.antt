@@ -23,7 +23,8 @@ marked passed connection = record connection { failed = connection.failed || not
 abbrev pub told_more : List ℕ → Connection → Connection
 told_more bytes connection = record connection { told = connection.told ++ bytes }
 
--- a connection that heard so many of the bytes in `out` more, or came to the end of the peer's bytes
+-- a connection that heard so many of the bytes in `out` more, or came to the end of the bytes
 abbrev pub heard_more : ℕ → List ℕ → Connection → Connection
 heard_more zero out connection = record connection { ended = true }
-heard_more (suc n) out connection = record connection { heard = connection.heard ++ take (suc n) out }
+heard_more (suc n) out connection =
+    record connection { heard = connection.heard ++ take (suc n) out }

@@ -1,10 +1,10 @@
 -- What a site in memory means. Its disk calls and its said bytes have one order of moments.
-use Rattle.std.specs.Prelude.{◌≡◌, ◌<◌, ◌≤◌, ◌+◌, min, ℕ, Bool, true, false, List, [], ◌∷◌, ◌++◌, length, map, take, slice_index_or, All}
+use Rattle.std.specs.Prelude.{if◌then◌else◌, ◌==◌, ◌≡◌, ◌<◌, ◌≤◌, ◌+◌, min, ℕ, Bool, true, false, List, [], ◌∷◌, ◌++◌, length, map, take, slice_index_or, All}
 use Rattle.disk_trait.specs.Device.{Device, Link, Connection, Left}
-use Rattle.disk_trait.specs.History.{Past}
+use Rattle.disk_trait.specs.History.{Past, kept_bytes}
 use Rattle.disk_trait.specs.MemoryDisk.{DiskState, DiskCalled, LeavesAt, memory_device}
 use Rattle.site_edge.specs.Links.{Sends, change_last, fresh}
-use Rattle.site_edge.specs.Lines.{Talk, with_connection, told_more}
+use Rattle.site_edge.specs.Lines.{Talk, rest_of, with_connection, told_more}
 use Rattle.site_edge.specs.Tallies.{CountsCall}
 use Rattle.site_edge.specs.declared.tally.Tally.{Tally}
 use Rattle.site_edge.specs.declared.span.Span.{Span}
@@ -21,10 +21,10 @@ abbrev pub told_after : List Span → List (List ℕ) → List (List ℕ)
 told_after [] told = told
 told_after (span ∷ later) told = told_after later (add_to told span.adds)
 
--- A site in memory: its disk, the numbers and counts of its link calls, the peers that came, the bytes
--- of those that are still to come, at most how many bytes one `hear` gives, whether a connection is
--- under way, whether it was said that no more will come, the spans that have ended, and how many disk
--- calls had been made when the last of them ended.
+-- A site in memory: its disk, the numbers and counts of its link calls, the peers that came, the
+-- bytes of those that are still to come, at most how many bytes one `hear` gives, whether a
+-- connection is under way, whether it was said that no more will come, the spans that have ended,
+-- and how many disk calls had been made when the last of them ended.
 pub record SiteState : Type 0 where
   pub disk : DiskState
   pub tally : Tally
@@ -62,8 +62,8 @@ told_of site = map (λ connection. connection.told) (connections_of site)
 abbrev pub disk_calls : SiteState → ℕ
 disk_calls site = length site.disk.past.calls
 
--- A crash may leave this image at a moment since t, within the stretch from one number of disk calls to
--- another; so many moments more came from the spans before it.
+-- A crash may leave this image at a moment since t, within the stretch from one number of disk calls
+-- to another; so many moments more came from the spans before it.
 pub record LeavesIn (past : Past) (from to before t : ℕ) (image : List ℕ) : Type 0 where
   pub moment : ℕ
   pub begun : from ≤ moment
@@ -75,14 +75,34 @@ pub record LeavesIn (past : Past) (from to before t : ℕ) (image : List ℕ) : 
 -- what was told so far while a link call adds to it: any prefix of the bytes
 abbrev pub SoFar : Added → List (List ℕ) → List (List ℕ) → Type 0
 SoFar Peer before told = ⊥
-SoFar (Bytes sent) before told = (part : List ℕ) × Sends false sent part × (told ≡ change_last (λ t. t ++ part) before)
+SoFar (Bytes sent) before told =
+    (part : List ℕ) × Sends false sent part × (told ≡ change_last (λ t. t ++ part) before)
+
+-- in the stretch that goes on
+abbrev pub LeavesNow : SiteState → ℕ → List ℕ → Type 0
+LeavesNow site t =
+    LeavesIn site.disk.past (min site.since (disk_calls site)) (disk_calls site) (length site.spans) t
+
+-- what was told before the span of this place
+abbrev pub told_before : SiteState → ℕ → List (List ℕ)
+told_before site n = told_after (take n site.spans) []
 
 -- A crash at a moment since t may leave this: in the stretch that goes on, in one that has ended, or
 -- within the call that ended it.
 pub data SiteLeaves (site : SiteState) (t : ℕ) (p : Left) : Type 0 where
-  now : LeavesIn site.disk.past (min site.since (disk_calls site)) (disk_calls site) (length site.spans) t p.image → p.told ≡ told_of site → SiteLeaves site t p
-  earlier : (n : ℕ) (span : Span) → n < length site.spans → slice_index_or site.spans n span ≡ span → LeavesIn site.disk.past span.from span.to n t p.image → p.told ≡ told_after (take n site.spans) [] → SiteLeaves site t p
-  ending : (n : ℕ) (span : Span) → n < length site.spans → slice_index_or site.spans n span ≡ span → LeavesIn site.disk.past span.to span.to n t p.image → SoFar span.adds (told_after (take n site.spans) []) p.told → SiteLeaves site t p
+  now : LeavesNow site t p.image → p.told ≡ told_of site → SiteLeaves site t p
+  earlier : (n : ℕ) (span : Span)
+      → n < length site.spans
+      → slice_index_or site.spans n span ≡ span
+      → LeavesIn site.disk.past span.from span.to n t p.image
+      → p.told ≡ told_before site n
+      → SiteLeaves site t p
+  ending : (n : ℕ) (span : Span)
+      → n < length site.spans
+      → slice_index_or site.spans n span ≡ span
+      → LeavesIn site.disk.past span.to span.to n t p.image
+      → SoFar span.adds (told_before site n) p.told
+      → SiteLeaves site t p
 
 -- its links
 abbrev pub link_of : SiteState → Link
@@ -129,10 +149,12 @@ after_next site = next_of site.waiting site
 
 -- the site once it told the last connection these bytes
 abbrev pub after_tell : List ℕ → SiteState → SiteState
-after_tell sent site = record (end_span (Bytes sent) site) { talks = change_last (with_connection (told_more sent)) site.talks }
+after_tell sent site = record (end_span (Bytes sent) site) {
+  talks = change_last (with_connection (told_more sent)) site.talks;
+}
 
--- What a site in memory keeps: a connection that is under way has begun, spans end in the past, and what
--- was told is what the spans added.
+-- What a site in memory keeps: a connection that is under way has begun, spans end in the past, and
+-- what was told is what the spans added.
 pub record IsKept (site : SiteState) : Type 0 where
   pub piece : 0 < site.piece
   pub under_way : site.under_way ≡ true → 0 < length site.talks
@@ -145,8 +167,31 @@ pub record SiteDiskCalled (old new : SiteState) (ok : Bool) : Type 0 where
   pub disk : DiskCalled old.disk new.disk ok
   pub rest : new ≡ record old { disk = new.disk }
 
+-- the bytes of all its peers, of those that came and of those that are still to come
+abbrev pub peers_of : SiteState → List (List ℕ)
+peers_of site = map (λ talk. talk.sends) site.talks ++ site.waiting
+
 -- what a link call leaves of a site in memory
 pub record SiteCalled (old new : SiteState) (ok : Bool) : Type 0 where
   pub counts : CountsCall old.tally new.tally ok
   pub disk : new.disk ≡ old.disk
   pub piece : new.piece ≡ old.piece
+  pub peers : peers_of new ≡ peers_of old
+
+-- the bytes of the last peer that weren't heard yet
+abbrev pub rest_of_last : List Talk → List ℕ
+rest_of_last [] = []
+rest_of_last (talk ∷ []) = rest_of talk
+rest_of_last (talk ∷ next ∷ later) = rest_of_last (next ∷ later)
+
+-- what a `say` sends: all bytes, their first half where its number fails, none where it was starved
+abbrev pub sent_by : SiteState → SiteState → Bool → List ℕ → List ℕ
+sent_by old new ok bytes = if new.tally.made == old.tally.made then [] else kept_bytes ok bytes
+
+-- these bytes, told to the last connection
+abbrev pub told_also : List ℕ → List (List ℕ) → List (List ℕ)
+told_also sent = change_last (λ t. t ++ sent)
+
+-- the site once the connection that was under way was ended
+abbrev pub after_close : SiteState → SiteState
+after_close site = record site { under_way = false }

@@ -17,6 +17,8 @@ mod sink;
 mod site;
 mod span;
 mod tally;
+#[cfg(test)]
+mod tests;
 
 pub use crate::clock::Clock;
 pub use crate::fault::{FileFailed, LinkFailed, SinkFailed};

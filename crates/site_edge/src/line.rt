@@ -1,5 +1,5 @@
 //! One peer of a site in memory.
-ghost use Rattle.std.specs.Prelude.{◌≡◌, ◌<◌, ◌≤◌, ◌↔◌, [], length, OnErr, OnOk};
+ghost use Rattle.std.specs.Prelude.{◌≡◌, ◌<◌, ◌≤◌, ◌↔◌, [], length, take, OnErr, OnOk};
 ghost use Rattle.site_edge.specs.Links.{fresh};
 ghost use Rattle.site_edge.specs.Lines.{heard_more, marked, rest_of, told_more, with_connection};
 
@@ -63,6 +63,7 @@ impl Line {
         ensures within { result ≤ length out.old }
         ensures piece { result ≤ piece }
         ensures end { (result ≡ 0) ↔ (rest_of self.old ≡ []) }
+        ensures bytes { take result out.new ≡ take result (rest_of self.old) }
         ensures heard { self.new ≡ with_connection (heard_more result out.new) self.old }
     {
         let rest = self.sends.bytes().split_at(self.heard).1;

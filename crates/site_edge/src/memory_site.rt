@@ -1,10 +1,12 @@
 //! A site in memory: a disk in memory, and peers whose bytes are given beforehand.
-ghost use Rattle.std.specs.Prelude.{◌≡◌, ◌<◌, ◌≤◌, ◌+◌, ◌^◌, ◌&&◌, length, if◌then◌else◌, IfOk, IfSome, IsSome, IsTrue, MatchOption, OnErr, OnOk, Some, slice_get};
+ghost use Rattle.std.specs.Prelude.{false, true, is_ok, take, [], ◌++◌, ◌↔◌, ◌≡◌, ◌<◌, ◌≤◌, ◌+◌, ◌^◌, ◌&&◌, length, if◌then◌else◌, IfOk, IfSome, IsSome, IsTrue, MatchOption, OnErr, OnOk, Some, slice_get};
 ghost use Rattle.disk_trait.specs.Device.{told_by};
-ghost use Rattle.disk_trait.specs.History.{kept_bytes};
-ghost use Rattle.site_edge.specs.Links.{change_last};
+ghost use Rattle.disk_trait.specs.Calls.{IsCounted, LeavesOnly, Unchanged};
+ghost use Rattle.disk_trait.specs.History.{kept_bytes, seen_of};
+ghost use Rattle.disk_trait.specs.MemoryDisk.{memory_device};
+ghost use Rattle.site_edge.specs.Links.{LinkCall, Begins, Tells, Heard, Said, NextPeer, Closed, change_last};
 ghost use Rattle.site_edge.specs.Lines.{heard_more, marked, told_more, with_connection};
-ghost use Rattle.site_edge.specs.MemorySite.{after_next, after_tell, connections_of, is_one_left, fresh_site, site_device};
+ghost use Rattle.site_edge.specs.MemorySite.{SiteCalled, after_close, after_next, after_tell, connections_of, is_one_left, fresh_site, rest_of_last, sent_by, site_device, told_also, told_of};
 
 use crate::line::Line;
 use crate::span::{Added, Span};
@@ -60,8 +62,8 @@ impl Model for MemorySite {
 }
 
 impl MemorySite {
-    /// A site over this disk. The peers come in order, one `hear` gives at most `piece` bytes, and the
-    /// link calls with these numbers fail. It takes no memory.
+    /// A site over this disk. The peers come in order, one `hear` gives at most `piece` bytes, and
+    /// the link calls with these numbers fail. It takes no memory.
     pub fn new(
         alloc: Global,
         disk: MemoryDisk,
@@ -70,7 +72,11 @@ impl MemorySite {
         fail: NumberList,
     ) -> MemorySite
         requires { 0 < piece }
-        ensures { result ≡ fresh_site disk peers piece fail }
+        ensures site { result ≡ fresh_site disk peers piece fail }
+
+        // Where a crash of the disk leaves what a read gives, one of the site does so too.
+        ensures durable { LeavesOnly (seen_of disk.past) (memory_device disk)
+            → LeavesOnly (seen_of disk.past) (site_device result) }
     {
         MemorySite {
             alloc,
@@ -98,6 +104,13 @@ impl MemorySite {
         ensures { result ≡ self.now.tally.starved }
     {
         self.tally.starved
+    }
+
+    /// How many peers came so far.
+    pub fn connections(&self) -> usize
+        ensures { result ≡ length (connections_of self.now) }
+    {
+        self.lines.len()
     }
 
     /// What the peer of this number was told. The peers count from 0.
@@ -215,14 +228,38 @@ impl Site for MemorySite {
 
     ghost link_fails = { SiteCalled };
 
-    fn next_peer(&mut self) -> Result<bool, LinkFailed> {
+    fn next_peer(&mut self) -> Result<bool, LinkFailed>
+        ensures call { LinkCall (Begins result) (Begins result) (is_ok result)
+            (site_device self.old) (site_device self.new) }
+        ensures peers { IsCounted (is_ok result)
+            self.old.tally.peer_faults self.new.tally.peer_faults }
+        ensures next { NextPeer result (site_device self.old) (site_device self.new) }
+        ensures fails { SiteCalled self.old self.new (is_ok result) }
+
+        // A connection begins exactly where a peer is left.
+        ensures came { IfOk result (λ came. came ≡ is_one_left self.old.waiting) }
+    {
         let passes = passes(&self.tally);
         let came = self.try_next(passes);
         count_peer(&mut self.tally, came.is_some(), passes)?;
         Ok(came.unwrap_or(false))
     }
 
-    fn hear(&mut self, out: &mut [u8]) -> Result<usize, LinkFailed> {
+    fn hear(&mut self, out: &mut [u8]) -> Result<usize, LinkFailed>
+        requires under_way { self.old.under_way ≡ true }
+        requires not_empty { 0 < length out.old }
+        ensures within { IfOk result (λ count. count ≤ length out.old) }
+        ensures call { LinkCall Unchanged Unchanged (is_ok result)
+            (site_device self.old) (site_device self.new) }
+        ensures heard { Heard result out.new (site_device self.old) (site_device self.new) }
+        ensures fails { SiteCalled self.old self.new (is_ok result) }
+
+        // The next bytes of the peer, at most a piece of them; 0 exactly at their end.
+        ensures piece { IfOk result (λ count. count ≤ self.old.piece) }
+        ensures end { IfOk result (λ count. (count ≡ 0) ↔ (rest_of_last self.old.talks ≡ [])) }
+        ensures bytes { IfOk result (λ count.
+            take count out.new ≡ take count (rest_of_last self.old.talks)) }
+    {
         let numbered = has_number(&self.tally);
         let passes = passes(&self.tally);
         match count(&mut self.tally, numbered, passes) {
@@ -234,7 +271,17 @@ impl Site for MemorySite {
         }
     }
 
-    fn say(&mut self, bytes: &[u8]) -> Result<(), LinkFailed> {
+    fn say(&mut self, bytes: &[u8]) -> Result<(), LinkFailed>
+        requires { self.old.under_way ≡ true }
+        ensures call { LinkCall (Tells false bytes.now) (Tells (is_ok result) bytes.now)
+            (is_ok result) (site_device self.old) (site_device self.new) }
+        ensures said { Said (is_ok result) bytes.now (site_device self.old) (site_device self.new) }
+        ensures fails { SiteCalled self.old self.new (is_ok result) }
+
+        // All bytes, the first half of them where its number fails, or none where it was starved.
+        ensures sent { told_of self.new ≡ told_also
+            (sent_by self.old self.new (is_ok result) bytes.now) (told_of self.old) }
+    {
         let passes = passes(&self.tally);
         let noted = self.try_tell(sent_of(bytes, passes));
         let answer = count(&mut self.tally, noted, passes);
@@ -242,7 +289,13 @@ impl Site for MemorySite {
         answer
     }
 
-    fn close_peer(&mut self) {
+    fn close_peer(&mut self)
+        requires { self.old.under_way ≡ true }
+        ensures call { LinkCall Unchanged Unchanged true
+            (site_device self.old) (site_device self.new) }
+        ensures closed { Closed (site_device self.old) (site_device self.new) }
+        ensures after { self.new ≡ after_close self.old }
+    {
         self.under_way = false;
     }
 }
@@ -272,7 +325,11 @@ fn hear_last(lines: &mut Vec<Line>, out: &mut [u8], piece: usize) -> usize
     requires not_empty { 0 < length out.old }
     requires piece { 0 < piece }
     ensures within { result ≤ length out.old }
-    ensures heard { lines.new.items ≡ change_last (with_connection (heard_more result out.new)) lines.old.items }
+    ensures piece { result ≤ piece }
+    ensures end { (result ≡ 0) ↔ (rest_of_last lines.old.items ≡ []) }
+    ensures bytes { take result out.new ≡ take result (rest_of_last lines.old.items) }
+    ensures heard { lines.new.items
+        ≡ change_last (with_connection (heard_more result out.new)) lines.old.items }
 {
     let last = lines.len() - 1;
     lines[last].hear(out, piece)
@@ -280,7 +337,8 @@ fn hear_last(lines: &mut Vec<Line>, out: &mut [u8], piece: usize) -> usize
 
 fn tell_last(lines: &mut Vec<Line>, bytes: &[u8]) -> Result<(), Memory>
     requires { 0 < length lines.old.items }
-    ensures ok { OnOk result (lines.new.items ≡ change_last (with_connection (told_more bytes.now)) lines.old.items) }
+    ensures ok { OnOk result (lines.new.items
+        ≡ change_last (with_connection (told_more bytes.now)) lines.old.items) }
     ensures err { OnErr result (lines.new.items ≡ lines.old.items) }
 {
     let last = lines.len() - 1;

@@ -1,13 +1,13 @@
 //! Which link calls of a site in memory fail, and how many did.
-ghost use Rattle.std.specs.Prelude.{◌≡◌, ◌<◌, ◌+◌, ◌^◌, ◌&&◌, ◌↔◌, is_ok, Contains, IsTrue, IsFalse};
+ghost use Rattle.std.specs.Prelude.{◌≡◌, ◌<◌, ◌+◌, ◌^◌, ◌&&◌, ◌↔◌, if◌then◌else◌, is_ok, Contains, IsTrue, IsFalse};
 ghost use Rattle.disk_trait.specs.Calls.{IsCounted};
 ghost use Rattle.site_edge.specs.Tallies.{CountsCall};
 
 use crate::LinkFailed;
 use disk_trait::NumberList;
 
-/// The numbers of the calls that fail, the number of the last call, how many calls were starved, and
-/// the counts of link faults and of peer faults.
+/// The numbers of the calls that fail, the number of the last call, how many calls were starved,
+/// and the counts of link faults and of peer faults.
 #[derive(Drop)]
 pub struct Tally {
     pub fail: NumberList,
@@ -43,6 +43,7 @@ pub(crate) fn count(tally: &mut Tally, noted: bool, passes: bool) -> Result<(), 
         → (IsFalse passes ↔ Contains tally.old.fail (tally.old.made + 1)) }
     ensures answer { is_ok result ≡ (noted && passes) }
     ensures counts { CountsCall tally.old tally.new (is_ok result) }
+    ensures number { tally.new.made ≡ (if noted then tally.old.made + 1 else tally.old.made) }
     ensures peer_faults { tally.new.peer_faults ≡ tally.old.peer_faults }
 {
     if noted {

@@ -1,5 +1,5 @@
 -- Records that fold to a library, one after another.
-use Rattle.std.proofs.Common.{◌≡◌, ◌<◌, ◌+◌, ℕ, suc, List, [], ◌∷◌, length, drop, get_or, Option, Some, None, refl, sym, ap, ◌∙◌, subst, drop-cons, add-one}
+use Rattle.std.proofs.Common.{◌≡◌, ◌<◌, ◌+◌, ℕ, suc, List, [], ◌∷◌, ◌++◌, length, drop, get_or, Some, None, refl, sym, ap, ◌∙◌, subst, drop-cons, add-one}
 use Rattle.media_journal.specs.declared.record.Record.{Record}
 use Rattle.tams_top.specs.declared.change.Change.{Change}
 use Rattle.tams_top.specs.declared.library.Library.{Library}
@@ -58,3 +58,8 @@ no_fold rs i r empty from within is on refused to all =
 pub fold_refused : (rs : List Record) (i : ℕ) (r : Record) (empty from : Library) (fault : StoreFault) → i < length rs → r ≡ get_or rs i r → ((x : Library) → Folds rs empty x → Folds (drop i rs) from x) → IsStepRefused r from fault → IsFoldRefused rs empty fault
 fold_refused rs i r empty from (Damaged at) within is on refused = no_fold rs i r empty from within is on refused
 fold_refused rs i r empty from Memory within is on refused = tt
+
+-- one record more at the end
+pub fold_push : (rs : List Record) (r : Record) (from mid next : Library) → Folds rs from mid → StepOf r mid next → Folds (rs ++ r ∷ []) from next
+fold_push [] r from mid next e s = subst (λ (x : Library). StepOf r x next → Folds (r ∷ []) from next) (sym e) (λ t. (t.0, t.1, t.2, (next, t.3, refl))) s
+fold_push (q ∷ qs) r from mid next h s = (h.0, h.1, h.2, (h.3.0, h.3.1, fold_push qs r h.3.0 mid next h.3.2 s))

@@ -1,5 +1,5 @@
 -- What was opened of an image decides for which state it stands.
-use Rattle.std.proofs.Common.{◌≡◌, ◌≢◌, ℕ, List, Option, Some, None, Ok, Err, sym, ◌∙◌, subst}
+use Rattle.std.proofs.Common.{◌≡◌, ◌≢◌, ℕ, List, None, Err, sym, subst}
 use Rattle.media_journal.specs.declared.header.Header.{Header}
 use Rattle.media_journal.specs.declared.record.Record.{Record}
 use Rattle.media_journal.specs.declared.open.Opened.{Opened}
@@ -10,7 +10,7 @@ use Rattle.tams_top.specs.declared.library.Library.{Library}
 use Rattle.tams_top.specs.declared.store.StoreFault.{StoreFault}
 use Rattle.tams_top.specs.declared.store.StoreFault.TheVariants.{Damaged, Memory}
 use Rattle.tams_top.specs.Library.{empty_library}
-use Rattle.tams_top.specs.Store.{Folds, StandsFor, empty_rows}
+use Rattle.tams_top.specs.Store.{Folds, empty_rows}
 use Rattle.tams_top.specs.Opening.{StandsForNone}
 use Rattle.tams_top.specs.Folding.{IsFoldRefused, PartAnswer}
 

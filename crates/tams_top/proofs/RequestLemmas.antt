@@ -1,6 +1,6 @@
 -- Laws of requests in bytes: their lengths and parts, and what stands at the front of bytes.
-use Rattle.std.proofs.Common.{◌≡◌, ◌<◌, ◌≤◌, ◌+◌, ◌-◌, ◌^◌, ℕ, zero, suc, Bool, true, false, List, [], ◌∷◌, ◌++◌, length, take, drop, get_or, All, codes, Option, Some, None, Result, Ok, IsOk, IfOk, ◌↔◌, option_map, nat_eq, if◌then◌else◌, inl, inr, sym, refl, ap, ap₂, subst, ◌∙◌, arith, length-append, append_assoc, lit<}
-use Rattle.std.proofs.lemmas.List.{take_at, drop_at, take-append-drop, at_drop_all, length-take, length-drop, drop-drop}
+use Rattle.std.proofs.Common.{◌≡◌, ◌<◌, ◌≤◌, ◌+◌, ◌-◌, ◌^◌, ℕ, zero, suc, Bool, false, List, [], ◌∷◌, ◌++◌, length, take, drop, get_or, All, codes, Option, Some, None, Result, Ok, IsOk, IfOk, ◌↔◌, option_map, nat_eq, if◌then◌else◌, inl, inr, sym, refl, ap, ap₂, subst, ◌∙◌, arith, length-append, append_assoc, lit<}
+use Rattle.std.proofs.lemmas.List.{take_at, drop_at, take-append-drop, length-take, length-drop, drop-drop}
 use Rattle.std.proofs.lemmas.Fmt.{decimal_digit, decimal_step, first_decimal, decimal_nonempty, decimal-digits_value, parse-decimal, IsAscii-decimal}
 use Rattle.std.proofs.lemmas.Str.{IsUtf8-from_ascii}
 use Rattle.std.proofs.lemmas.Str.Parse.{IsNumeralModel, numerals_by_value, tells_digits, parse_plain}
@@ -179,25 +179,10 @@ shifted : (o : Option ℕ) (at : ℕ) → option_map (λ k. at + k) (option_map 
 shifted None at = refl
 shifted (Some k) at = ap Some (omega arith)
 
-kept : (o : Option ℕ) → o ≡ option_map (λ k. 0 + k) o
-kept None = refl
-kept (Some k) = ap Some (omega arith)
-
-pub seeks_first : (bytes : List ℕ) → SeeksFrom bytes 0
-seeks_first bytes = record { same = kept (head_len bytes) }
-
 pub seeks_more : (bytes : List ℕ) (at : ℕ) → SeeksFrom bytes at → at < length bytes → starts_with nat_eq (drop at bytes) head_end ≡ false → SeeksFrom bytes (at + 1)
 unfolding here_or_later
 seeks_more bytes at seeks h not_here =
     record { same = seeks.same ∙ ap (option_map (λ k. at + k)) (head_len-at bytes at h ∙ ap (λ (b : Bool). here_or_later b (head_len (drop (at + 1) bytes))) not_here) ∙ shifted (head_len (drop (at + 1) bytes)) at }
-
-pub seeks_found : (bytes : List ℕ) (at : ℕ) → SeeksFrom bytes at → at < length bytes → starts_with nat_eq (drop at bytes) head_end ≡ true → head_len bytes ≡ Some (at + 4)
-unfolding here_or_later
-seeks_found bytes at seeks h here =
-    seeks.same ∙ ap (option_map (λ k. at + k)) (head_len-at bytes at h ∙ ap (λ (b : Bool). here_or_later b (head_len (drop (at + 1) bytes))) here)
-
-pub seeks_all : (bytes : List ℕ) (at : ℕ) → SeeksFrom bytes at → length bytes ≤ at → head_len bytes ≡ None
-seeks_all bytes at seeks h = seeks.same ∙ ap (option_map (λ k. at + k)) (at_drop_all head_len bytes at h)
 
 -- a whole request stands at the front of bytes that begin with its text
 begins : (bytes : List ℕ) (put : FlowPut) (front : HeadFront) → IsHeadFront bytes front → BehindHead bytes front (Whole put) → BeginsWith bytes put

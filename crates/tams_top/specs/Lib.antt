@@ -1,4 +1,5 @@
 pub mod Ids
+pub mod Words
 pub mod Request
 pub mod Change
 pub mod Library
@@ -7,3 +8,4 @@ pub mod History
 pub mod Opening
 pub mod Folding
 pub mod Serving
+pub mod Running

@@ -1,6 +1,6 @@
 -- The library: what the store keeps, and what a change makes of it. A source is there while a flow names
 -- it, and has no member of its own yet.
-use Rattle.std.specs.Prelude.{◌≡◌, ◌-◌, ◌+◌, ◌*◌, ◌==◌, ℕ, Bool, true, false, List, [], ◌∷◌, ◌++◌, Option, Some, None, find, filter, nat_lt, if◌then◌else◌}
+use Rattle.std.specs.Prelude.{◌-◌, ◌+◌, ◌*◌, ◌==◌, ℕ, List, [], ◌∷◌, ◌++◌, Option, Some, None, find, filter, nat_lt, if◌then◌else◌}
 use Rattle.media_journal.specs.declared.header.Header.{Header}
 use Rattle.tams_top.specs.declared.change.Change.{Change}
 use Rattle.tams_top.specs.declared.library.Flow.{Flow}

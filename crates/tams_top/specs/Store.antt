@@ -1,5 +1,5 @@
 -- What the image of a store stands for.
-use Rattle.std.specs.Prelude.{◌≡◌, ◌-◌, ◌+◌, ◌*◌, ℕ, List, [], ◌∷◌, Option, Some, None, replicate, ◌++◌}
+use Rattle.std.specs.Prelude.{◌≡◌, ◌-◌, ◌+◌, ◌*◌, ℕ, List, [], ◌∷◌, Some}
 use Rattle.media_journal.specs.declared.header.Header.{Header}
 use Rattle.media_journal.specs.declared.record.Record.{Record}
 use Rattle.media_journal.specs.File.{Reads, active_start}

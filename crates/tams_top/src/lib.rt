@@ -3,11 +3,17 @@
 #![tactic(auto)]
 
 mod change;
+mod fault;
 mod library;
+mod outcome;
 mod replay;
 mod request;
 mod store;
+mod top;
 mod unread;
+mod words;
 
 pub use crate::change::Change;
 pub use crate::request::FlowPut;
+pub use crate::top::run;
+pub use crate::words::{Command, Wanted, devices};

@@ -43,7 +43,11 @@ impl Library {
     pub(crate) fn flow(&self, id: u128) -> Option<Flow>
         ensures { result ≡ flow_of id self.now.flows }
     {
-        self.flows.items().iter().copied().find(|flow| flow.id == id)
+        self.flows
+            .items()
+            .iter()
+            .copied()
+            .find(|flow| flow.id == id)
     }
 
     #[tactic(auto, unfolding(crate::specs::Library::applied))]
@@ -95,11 +99,19 @@ fn with_flow(alloc: Global, flows: &[Flow], flow: Flow) -> Result<FlowList, Memo
 fn flows_below(alloc: Global, flows: &[Flow], id: u128) -> Result<Vec<Flow>, AllocError>
     ensures { IfOk result (λ list. list.items ≡ filter (λ f. nat_lt f.id id) flows.now) }
 {
-    flows.iter().copied().filter(|flow| flow.id < id).collect(alloc)
+    flows
+        .iter()
+        .copied()
+        .filter(|flow| flow.id < id)
+        .collect(alloc)
 }
 
 fn flows_above(alloc: Global, flows: &[Flow], id: u128) -> Result<Vec<Flow>, AllocError>
     ensures { IfOk result (λ list. list.items ≡ filter (λ f. nat_lt id f.id) flows.now) }
 {
-    flows.iter().copied().filter(|flow| id < flow.id).collect(alloc)
+    flows
+        .iter()
+        .copied()
+        .filter(|flow| id < flow.id)
+        .collect(alloc)
 }

@@ -132,7 +132,8 @@ fn read_head(text: &[u8]) -> Option<Head>
 /// The source in a whole body.
 fn read_body(body: &[u8]) -> Option<u128>
     ensures found { IfSome result (λ source. body.now ≡ body_text source) }
-    ensures none { IsNone result → (source : ℕ) → source < 2 ^ 128 → body.now ≡ body_text source → ⊥ }
+    ensures none { IsNone result
+        → (source : ℕ) → source < 2 ^ 128 → body.now ≡ body_text source → ⊥ }
 {
     id_between(
         body,
@@ -224,8 +225,10 @@ fn bytes_behind(bytes: &[u8], count: usize) -> &[u8]
 mod tests {
     use super::*;
 
-    const REQUEST: &[u8; 167] =
-        b"PUT /flows/00000000-0000-4000-8000-0000000000f1 HTTP/1.1\r\nContent-Length: 87\r\n\r\n{\"source_id\":\"00000000-0000-4000-8000-0000000000a1\",\"format\":\"urn:x-nmos:format:video\"}";
+    const REQUEST: &[u8; 167] = b"PUT /flows/00000000-0000-4000-8000-0000000000f1 HTTP/1.1\r\n\
+        Content-Length: 87\r\n\r\n\
+        {\"source_id\":\"00000000-0000-4000-8000-0000000000a1\",\
+        \"format\":\"urn:x-nmos:format:video\"}";
 
     /// The request with these bytes in place of those from `at` on.
     fn changed(at: usize, new: &[u8]) -> [u8; 167] {

@@ -1,6 +1,6 @@
 //! The store: a journal, and the library that its records make.
-ghost use Rattle.std.specs.Prelude.{◌≡◌, ◌≤◌, ◌+◌, ◌*◌, ℕ, List, true, IfOk, IfErr};
-ghost use Rattle.disk_trait.specs.Calls.{DiskReads};
+ghost use Rattle.std.specs.Prelude.{◌≡◌, ◌≤◌, ◌+◌, ◌*◌, ℕ, List, true, IfOk, IfErr, OnErr, OnOk, Some};
+ghost use Rattle.disk_trait.specs.Calls.{DiskCalls, DiskReads};
 ghost use Rattle.media_journal.specs.Answers.{not_disk};
 ghost use Rattle.media_journal.specs.Opening.{IsOpened};
 ghost use Rattle.tams_top.specs.Store.{Folds, StepOf, empty_rows};
@@ -8,16 +8,73 @@ ghost use Rattle.tams_top.specs.Folding.{IsFoldRefused, IsStepRefused, PartAnswe
 ghost use Rattle.tams_top.specs.Opening.{StoreAnswer};
 
 use crate::change::read_change;
+use crate::fault::MakeFault;
 use crate::library::Library;
+use crate::{Change, FlowPut};
 use disk_trait::{Disk, Memory, same_bytes};
-use media_journal::{Header, Journal, JournalFault, Opened, Record, open_journal};
+use media_journal::{
+    AppendFault, Frame, Header, Journal, JournalFault, Opened, Record, open_journal,
+};
 use std::alloc::Global;
+
+/// The bytes that a change's record takes from the journal's room, which needs one more.
+const RECORD: u64 = 63;
 
 /// A journal with the library that its records fold to.
 #[derive(Drop)]
 pub(crate) struct Store {
     pub(crate) journal: Journal,
     pub(crate) library: Library,
+}
+
+impl Store {
+    ghost use Rattle.tams_top.specs.Change.{IsChange};
+    ghost use Rattle.tams_top.specs.History.{is_accepted};
+    ghost use Rattle.tams_top.specs.Library.{applied};
+    ghost use Rattle.tams_top.specs.Opening.{Keeps, state_of};
+    ghost use Rattle.tams_top.specs.Serving.{make_held};
+
+    /// Whether a put is accepted: its flow isn't kept, and its record fits the room.
+    pub(crate) fn accepts(&self, put: &FlowPut) -> bool
+        ensures { result ≡ is_accepted (state_of self.now) put.now }
+    {
+        self.library.flow(put.flow).is_none() && RECORD < self.journal.room()
+    }
+
+    /// Makes a change of a flow that isn't kept: its record is on the disk before the library has it.
+    /// All memory is taken before the first write. After `Disk` the store must be opened again.
+    #[tactic(auto, unfolding(crate::specs::Library::applied))]
+    pub(crate) fn make<D: Disk>(
+        &mut self,
+        alloc: Global,
+        disk: &mut D,
+        change: &Change,
+    ) -> Result<(), MakeFault>
+        requires accepted { is_accepted (state_of self.old)
+            record { flow = change.now.flow; source = change.now.source } ≡ true }
+        requires valid { IsChange change.now }
+        requires device { 4096 * self.old.journal.blocks ≤ (D.device disk.old).size }
+        ensures calls { DiskCalls (make_held result) (D.device disk.old) (D.device disk.new) }
+        ensures err { OnErr result (self.new ≡ self.old) }
+        ensures blocks { self.new.journal.blocks ≡ self.old.journal.blocks }
+        ensures library { OnOk result (applied change.now self.old.library ≡ Some self.new.library) }
+        ensures room { OnOk result (self.new.journal.room + 63 ≡ self.old.journal.room) }
+        ensures keeps { (D.device disk.old).shows ≡ true → OnOk result
+            (Keeps (D.device disk.old).seen self.old → Keeps (D.device disk.new).seen self.new) }
+    {
+        let Some(library) = self.library.after(alloc, change)? else {
+            unreachable!();
+        };
+        let frame = Frame::new(alloc, &change.bytes())?;
+        match self.journal.append(disk, &frame) {
+            Ok(()) => {
+                self.library = library;
+                Ok(())
+            }
+            Err(AppendFault::Disk) => Err(MakeFault::Disk),
+            Err(AppendFault::Full) => unreachable!(),
+        }
+    }
 }
 
 /// Why what was opened is no store.

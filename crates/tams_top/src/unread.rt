@@ -1,5 +1,5 @@
 //! The bytes of a connection that were heard and not yet taken.
-ghost use Rattle.std.specs.Prelude.{◌≡◌, ◌≤◌, ◌++◌, [], drop, length, OnErr, OnOk};
+ghost use Rattle.std.specs.Prelude.{◌≡◌, ◌≤◌, ◌↔◌, ◌++◌, [], drop, length, IsTrue, OnErr, OnOk};
 
 use disk_trait::Memory;
 use std::alloc::Global;
@@ -38,6 +38,12 @@ impl Unread {
     {
         let (_, unread) = self.bytes.as_slice().split_at(self.start);
         unread
+    }
+
+    pub(crate) fn is_empty(&self) -> bool
+        ensures { IsTrue result ↔ (self.now ≡ []) }
+    {
+        matches!(self.bytes(), [])
     }
 
     /// Takes so many bytes from the front.

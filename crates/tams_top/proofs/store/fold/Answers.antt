@@ -14,7 +14,7 @@ returns-in_err-library-clause-refused c =
 pub loop-record-preserved : goal.loop-record-preserved
 loop-record-preserved c =
     let i = c.loop-record.record-index in
-    let within : c.loop-record.record-index < length c.args.records.now = omega arith in
-    ( (λ to. turn_back _ c.loop-record.record-index c.record-item.result c.args.empty c.loop-record.library _ to within c.record-item.is c.in_ok-library.ensures.next c.loop-record.invariant.0)
-    , (λ to. turn_on _ c.loop-record.record-index c.record-item.result c.args.empty c.loop-record.library _ to within c.record-item.is c.in_ok-library.ensures.next c.loop-record.invariant.1)
+    let within : c.loop-record.record-index < length c.args.records.now = omega arith in (
+      (λ to. turn_back _ c.loop-record.record-index c.record-item.result c.args.empty c.loop-record.library _ to within c.record-item.is c.in_ok-library.ensures.next c.loop-record.invariant.0),
+      (λ to. turn_on _ c.loop-record.record-index c.record-item.result c.args.empty c.loop-record.library _ to within c.record-item.is c.in_ok-library.ensures.next c.loop-record.invariant.1),
     )

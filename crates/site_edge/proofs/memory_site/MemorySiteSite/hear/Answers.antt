@@ -3,7 +3,7 @@ use Rattle.site_edge.specs.Lines.{heard_more, marked}
 use Rattle.site_edge.specs.declared.fault.LinkFailed.{LinkFailed}
 use Rattle.site_edge.proofs.ConnectionLemmas.{told-heard_more, heard_more-is}
 use Rattle.site_edge.proofs.KeptLemmas.{kept_changed}
-use Rattle.site_edge.proofs.LinkLemmas.{silent_call, changed_to, failed_mark, heard_clause}
+use Rattle.site_edge.proofs.LinkLemmas.{changed_fails, silent_call, changed_to, failed_mark, heard_clause}
 use Rattle.site_edge.proofs.memory_site.MemorySiteSite.hear.Goals as goal
 
 pub invariant_of-self : goal.invariant_of-self
@@ -25,3 +25,9 @@ returns-in-Err-clause-call c = rw (← c.self.view_is) (silent_call _ (marked fa
 
 pub returns-in-Err-clause-heard : goal.returns-in-Err-clause-heard
 returns-in-Err-clause-heard c = rw (← c.self.view_is) (heard_clause LinkFailed (Err c.in-Err.failed) c.args.out.now _ c.count.new.tally c.mark_last.new.lines.items c.in-Err.ensures.peer_faults (changed_to (marked false) _ _ _ (failed_mark LinkFailed c.in-Err.failed c.args.out.now) c.mark_last.ensures))
+
+pub returns-in-Ok-clause-fails : goal.returns-in-Ok-clause-fails
+returns-in-Ok-clause-fails c = rw (← c.self.view_is) (changed_fails _ (heard_more c.hear_last.result c.hear_last.new.out) _ c.count.new.tally c.hear_last.new.lines.items c.hear_last.ensures.heard c.in-Ok.ensures.counts)
+
+pub returns-in-Err-clause-fails : goal.returns-in-Err-clause-fails
+returns-in-Err-clause-fails c = rw (← c.self.view_is) (changed_fails _ (marked false) _ c.count.new.tally c.mark_last.new.lines.items c.mark_last.ensures c.in-Err.ensures.counts)

@@ -1,0 +1,84 @@
+-- The words of a command line, without the program's name, and the commands that they spell.
+use Rattle.std.specs.Prelude.{◌≡◌, ◌≢◌, ◌≤◌, ◌*◌, ◌-◌, ◌⊎◌, ℕ, List, [], ◌∷◌, length, slice_index, codes, Option, Some, None, option_map, nat_eq, IsTrue, All}
+use Rattle.std.specs.List.{starts_with}
+use Rattle.std.specs.Fmt.{decimal}
+use Rattle.std.specs.Int.{w128, from_be_bytes}
+use Rattle.uuid.specs.Text.{parsed}
+use Rattle.tams_top.specs.declared.words.Command.{Command}
+use Rattle.tams_top.specs.declared.words.Command.TheVariants.{Format, Replay}
+use Rattle.tams_top.specs.declared.words.Wanted.{Wanted}
+use Rattle.tams_top.specs.declared.words.Wanted.TheVariants.{Nothing, Plain, Fresh}
+
+-- a word that is not empty and does not begin with `-`
+pub record IsPlain (word : List ℕ) : Type 0 where
+  pub some : 1 ≤ length word
+  pub first : slice_index word 0 ≢ 45
+
+-- the word is a number from 1 to the most, in decimal without sign or leading zero
+pub record IsNumber (most : ℕ) (word : List ℕ) (n : ℕ) : Type 0 where
+  pub text : word ≡ decimal n
+  pub least : 1 ≤ n
+  pub fits : n ≤ most
+
+-- the id that a word spells, in any of the four forms of a UUID's text
+unfoldable pub id_of : List ℕ → Option ℕ
+id_of word = option_map (from_be_bytes w128) (parsed word)
+
+-- a printed character of ASCII but for the quote, `<` and `>`
+pub record IsBaseByte (c : ℕ) : Type 0 where
+  pub least : 33 ≤ c
+  pub most : c ≤ 126
+  pub quote : c ≢ 34
+  pub less : c ≢ 60
+  pub greater : c ≢ 62
+
+-- the word begins with one of the two schemes
+abbrev pub HasScheme : List ℕ → Type 0
+HasScheme word =
+    IsTrue (starts_with nat_eq word (codes "http://")) ⊎ IsTrue (starts_with nat_eq word (codes "https://"))
+
+-- the word is an address that paths are put behind, so it does not end in `/`
+pub record IsBase (word : List ℕ) : Type 0 where
+  pub least : 8 ≤ length word
+  pub most : length word ≤ 200
+  pub bytes : All IsBaseByte word
+  pub scheme : HasScheme word
+  pub last : slice_index word (length word - 1) ≢ 47
+
+-- format PATH BLOCKS HALF STORE_ID
+pub record IsFormat (words : List (List ℕ)) (path : List ℕ) (blocks half id : ℕ) : Type 0 where
+  pub blocks_word : List ℕ
+  pub half_word : List ℕ
+  pub id_word : List ℕ
+  pub words_are : words ≡ codes "format" ∷ path ∷ blocks_word ∷ half_word ∷ id_word ∷ []
+  pub blocks_is : IsNumber 1073741824 blocks_word blocks
+  pub half_is : IsNumber 65536 half_word half
+  pub id_is : id_of id_word ≡ Some id
+
+-- replay PATH BASE
+pub record IsReplay (words : List (List ℕ)) (path base : List ℕ) : Type 0 where
+  pub words_are : words ≡ codes "replay" ∷ path ∷ base ∷ []
+  pub base_is : IsBase base
+
+-- the words are the command's name and its own words, each of its form
+abbrev pub HasForm : List (List ℕ) → Command → Type 0
+HasForm words (Format path blocks half id) = IsFormat words path blocks half id
+HasForm words (Replay path base) = IsReplay words path base
+
+-- the words are in the command set, and spell this command
+pub record IsCommand (words : List (List ℕ)) (command : Command) : Type 0 where
+  pub plain : All IsPlain words
+  pub form : HasForm words command
+
+-- the command that words have the form of, or that they have the form of none
+abbrev pub FormIs : List (List ℕ) → Option Command → Type 0
+FormIs words (Some command) = HasForm words command
+FormIs words None = (command : Command) → HasForm words command → ⊥
+
+-- What the program opens for these words: a file of a length in bytes for `format`, a file that is there
+-- for `replay`, and nothing for words that are no command.
+abbrev pub WantedFor : List (List ℕ) → Wanted → Type 0
+WantedFor words Nothing = (command : Command) → IsCommand words command → ⊥
+WantedFor words (Plain path) = (base : List ℕ) × IsCommand words (Replay path base)
+WantedFor words (Fresh path bytes) =
+    (blocks half id : ℕ) × (bytes ≡ 4096 * blocks) × IsCommand words (Format path blocks half id)

@@ -1,0 +1,84 @@
+//! What a run ends with: its status, and its line in the notes.
+ghost use Rattle.std.specs.Prelude.{◌≡◌};
+
+use itoa::Buffer;
+use site_edge::{Sink, SinkFailed};
+
+/// How a run ended.
+#[derive(Clone, Copy, Debug, PartialEq, Eq)]
+pub(crate) enum Outcome {
+    /// A store of so many blocks was made, with so many a half and so many for media.
+    Formatted { blocks: u64, half: u64, media: u64 },
+    /// The input was read to its end, or to a request that ends the connection.
+    Served { requests: u64, changes: u64 },
+    /// The input ended within a request.
+    Cut,
+    BadWords,
+    NotStore,
+    AlreadyStore,
+    TooSmall,
+    /// The file stands for no library from this offset on, in bytes.
+    Damaged(u64),
+    DiskFault,
+    NoMemory,
+    LinkFault,
+}
+
+impl Outcome {
+    ghost use Rattle.tams_top.specs.Running.{status_of};
+
+    pub(crate) fn status(self) -> u8
+        ensures { result ≡ status_of self }
+    {
+        match self {
+            Outcome::Formatted { .. } | Outcome::Served { .. } => 0,
+            Outcome::BadWords => 1,
+            Outcome::NotStore | Outcome::AlreadyStore | Outcome::TooSmall | Outcome::Damaged(_) =>
+                2,
+            Outcome::DiskFault => 3,
+            Outcome::NoMemory => 4,
+            Outcome::LinkFault => 5,
+            Outcome::Cut => 6,
+        }
+    }
+
+    /// Puts the outcome's line into the notes. It takes no memory.
+    pub(crate) fn put_line<N: Sink>(self, notes: &mut N) -> Result<(), SinkFailed> {
+        match self {
+            Outcome::Formatted {
+                blocks,
+                half,
+                media,
+            } => {
+                put_number(notes, b"formatted ", blocks)?;
+                put_number(notes, b" blocks, ", half)?;
+                put_number(notes, b" per half, ", media)?;
+                notes.put(b" for media\n")
+            }
+            Outcome::Served { requests, changes } => {
+                put_number(notes, b"ok: ", requests)?;
+                put_number(notes, b" requests, ", changes)?;
+                notes.put(b" changes\n")
+            }
+            Outcome::Damaged(at) => {
+                put_number(notes, b"damaged at ", at)?;
+                notes.put(b"\n")
+            }
+            Outcome::BadWords => notes.put(b"bad words\n"),
+            Outcome::NotStore => notes.put(b"not a store\n"),
+            Outcome::AlreadyStore => notes.put(b"already a store\n"),
+            Outcome::TooSmall => notes.put(b"too small\n"),
+            Outcome::DiskFault => notes.put(b"disk fault\n"),
+            Outcome::NoMemory => notes.put(b"no memory\n"),
+            Outcome::LinkFault => notes.put(b"link fault\n"),
+            Outcome::Cut => notes.put(b"input ended within a request\n"),
+        }
+    }
+}
+
+/// Puts a text and a number behind it.
+fn put_number<N: Sink>(notes: &mut N, text: &[u8], number: u64) -> Result<(), SinkFailed> {
+    let mut buffer = Buffer::new();
+    notes.put(text)?;
+    notes.put(buffer.format(number).as_bytes())
+}

@@ -1,0 +1,294 @@
+//! The words of the command line, and what the program opens for them.
+ghost use Rattle.std.specs.Prelude.{◌≡◌, ◌∷◌, [], ◌↔◌, ℕ, All, IfOk, IfSome, IsNone, IsTrue};
+ghost use Rattle.tams_top.specs.Words.{IsPlain, IsNumber, id_of, IsBaseByte, HasScheme, IsBase, FormIs, IsCommand, WantedFor};
+ghost use Rattle.tams_top.specs.declared.words.Command.{Command};
+
+use disk_trait::{Memory, Text, TextList, same_bytes};
+use std::alloc::Global;
+use std::str;
+use uuid::Uuid;
+
+/// Bytes of a block.
+const BLOCK: u64 = 4096;
+
+/// The most blocks that a store may have.
+const MOST_BLOCKS: u64 = 1_073_741_824;
+
+/// The most blocks that a half may have.
+const MOST_HALF: u64 = 65_536;
+
+/// Bytes of the shortest address, and of the longest.
+const LEAST_BASE: usize = 8;
+
+const MOST_BASE: usize = 200;
+
+/// A command, with what its words say.
+#[derive(Drop)]
+pub enum Command {
+    /// Makes an empty store of so many blocks, of which each half has so many, under an id.
+    Format {
+        path: Text,
+        blocks: u64,
+        half: u64,
+        id: u128,
+    },
+    /// Serves one connection, on standard input and output.
+    Replay {
+        path: Text,
+        base: Text,
+    },
+}
+
+/// What the program opens for its words.
+#[derive(Drop)]
+pub enum Wanted {
+    /// Nothing, as the words are no command.
+    Nothing,
+    /// The file at this path.
+    Plain(Text),
+    /// The file at this path, with this length in bytes at least.
+    Fresh(Text, u64),
+}
+
+/// What the program has to open before it runs these words.
+pub fn devices(alloc: Global, words: &TextList) -> Result<Wanted, Memory>
+    ensures { IfOk result (WantedFor words.now) }
+{
+    match read_words(alloc, words)? {
+        Some(Command::Format { path, blocks, .. }) => Ok(Wanted::Fresh(path, BLOCK * blocks)),
+        Some(Command::Replay { path, .. }) => Ok(Wanted::Plain(path)),
+        None => Ok(Wanted::Nothing),
+    }
+}
+
+/// The command that these words spell, if they are in the command set.
+pub(crate) fn read_words(alloc: Global, words: &TextList) -> Result<Option<Command>, Memory>
+    ensures found { IfOk result (λ c. IfSome c (IsCommand words.now)) }
+    ensures none { IfOk result
+        (λ c. IsNone c → (command : Command) → IsCommand words.now command → ⊥) }
+{
+    let items = words.items();
+    if !are_plain(items) {
+        return Ok(None);
+    }
+    match items {
+        [name, path, blocks, half, id] => read_format(alloc, name, path, blocks, half, id),
+        [name, path, base] => read_replay(alloc, name, path, base),
+        _ => Ok(None),
+    }
+}
+
+/// The command that five words spell by their forms.
+fn read_format(
+    alloc: Global,
+    name: &Text,
+    path: &Text,
+    blocks: &Text,
+    half: &Text,
+    id: &Text,
+) -> Result<Option<Command>, Memory>
+    ensures { IfOk result (FormIs (name.now ∷ path.now ∷ blocks.now ∷ half.now ∷ id.now ∷ [])) }
+{
+    if !same_bytes(name.bytes(), b"format") {
+        return Ok(None);
+    }
+    let Some(blocks) = read_number(blocks.bytes(), MOST_BLOCKS) else {
+        return Ok(None);
+    };
+    let Some(half) = read_number(half.bytes(), MOST_HALF) else {
+        return Ok(None);
+    };
+    let Some(id) = read_id(id.bytes()) else {
+        return Ok(None);
+    };
+    let path = path.copy(alloc)?;
+    Ok(Some(Command::Format {
+        path,
+        blocks,
+        half,
+        id,
+    }))
+}
+
+/// The command that three words spell by their forms.
+fn read_replay(
+    alloc: Global,
+    name: &Text,
+    path: &Text,
+    base: &Text,
+) -> Result<Option<Command>, Memory>
+    ensures { IfOk result (FormIs (name.now ∷ path.now ∷ base.now ∷ [])) }
+{
+    if !same_bytes(name.bytes(), b"replay") || !is_base(base.bytes()) {
+        return Ok(None);
+    }
+    Ok(Some(Command::Replay {
+        path: path.copy(alloc)?,
+        base: base.copy(alloc)?,
+    }))
+}
+
+/// Whether no word is empty or begins with `-`.
+fn are_plain(words: &[Text]) -> bool
+    ensures { IsTrue result ↔ All IsPlain words.now }
+{
+    words.iter().all(|word| is_plain(word.bytes()))
+}
+
+fn is_plain(word: &[u8]) -> bool
+    ensures { IsTrue result ↔ IsPlain word.now }
+{
+    !word.is_empty() && word[0] != b'-'
+}
+
+/// The number that a word is, if it is one from 1 to the most.
+fn read_number(word: &[u8], most: u64) -> Option<u64>
+    ensures found { IfSome result (IsNumber most word.now) }
+    ensures none { IsNone result → (n : ℕ) → IsNumber most word.now n → ⊥ }
+{
+    // `parse` reads a leading `+` and leading zeros too, and all of them stand below `1`.
+    if word.is_empty() || word[0] < b'1' {
+        return None;
+    }
+    let Ok(text) = str::from_utf8(word) else {
+        return None;
+    };
+    match text.parse::<u64>() {
+        Ok(number) if number <= most => Some(number),
+        _ => None,
+    }
+}
+
+/// The id that a word is, in any of the four forms of a UUID's text.
+fn read_id(word: &[u8]) -> Option<u128>
+    ensures { result ≡ id_of word.now }
+{
+    match Uuid::try_parse_ascii(word) {
+        Ok(id) => Some(id.as_u128()),
+        Err(_) => None,
+    }
+}
+
+/// Whether a word is an address that paths can be put behind.
+fn is_base(word: &[u8]) -> bool
+    ensures { IsTrue result ↔ IsBase word.now }
+{
+    LEAST_BASE <= word.len()
+        && word.len() <= MOST_BASE
+        && word[word.len() - 1] != b'/'
+        && has_scheme(word)
+        && word.iter().all(|byte| is_base_byte(*byte))
+}
+
+fn has_scheme(word: &[u8]) -> bool
+    ensures { IsTrue result ↔ HasScheme word.now }
+{
+    word.starts_with(b"http://") || word.starts_with(b"https://")
+}
+
+fn is_base_byte(byte: u8) -> bool
+    ensures { IsTrue result ↔ IsBaseByte byte }
+{
+    (33..=126).contains(&byte) && byte != b'"' && byte != b'<' && byte != b'>'
+}
+
+#[cfg(test)]
+mod tests {
+    use super::*;
+    use std::test::Fail;
+
+    /// An address of 200 bytes.
+    const LONG: &str = "http://store.example/234567890/234567890/234567890\
+        /234567890/234567890/234567890/234567890/234567890\
+        /234567890/234567890/234567890/234567890/234567890\
+        /234567890/234567890/234567890/234567890/234567890";
+
+    /// What `devices` answers for the words between bars: `nothing`, `plain PATH` or `fresh PATH BYTES`.
+    fn answer(alloc: Global, line: &str) -> Result<String, Fail> {
+        let mut words = TextList::new(alloc);
+        for word in line.split('|') {
+            words.push(Text::from_bytes(alloc, word.as_bytes())?)?;
+        }
+        Ok(match devices(alloc, &words)? {
+            Wanted::Nothing => format!(in alloc; "nothing")?,
+            Wanted::Plain(path) => format!(in alloc; "plain {}", str::from_utf8(path.bytes())?)?,
+            Wanted::Fresh(path, length) => {
+                format!(in alloc; "fresh {} {length}", str::from_utf8(path.bytes())?)?
+            }
+        })
+    }
+
+    #[test]
+    fn words_name_what_is_opened(rt: HostRuntime) -> Result<(), Fail> {
+        for (line, expected) in [
+            (
+                "format|/s|4|1|f81d4fae-7dec-11d0-a765-00a0c91e6bf6",
+                "fresh /s 16384",
+            ),
+            (
+                "format|a b|1073741824|65536|{F81D4FAE-7DEC-11D0-A765-00A0C91E6BF6}",
+                "fresh a b 4398046511104",
+            ),
+            ("replay|/s|http://a", "plain /s"),
+            (
+                "replay|format|https://store.example:8000/flows",
+                "plain format",
+            ),
+        ] {
+            let answered = answer(rt.alloc(), line)?;
+            assert_eq!(rt; answered.as_str(), expected, "{line}");
+        }
+        let longest = format!(in rt.alloc(); "replay|/s|{LONG}")?;
+        assert_eq!(rt; answer(rt.alloc(), &longest)?.as_str(), "plain /s");
+        let longer = format!(in rt.alloc(); "replay|/s|{LONG}c")?;
+        assert_eq!(rt; answer(rt.alloc(), &longer)?.as_str(), "nothing");
+        Ok(())
+    }
+
+    #[test]
+    fn no_command_opens_nothing(rt: HostRuntime) -> Result<(), Fail> {
+        for line in [
+            // another first word
+            "",
+            "Format|/s|4|1|f81d4fae-7dec-11d0-a765-00a0c91e6bf6",
+            "serve|/s|http://a",
+            // another number of words
+            "format|/s|4|1",
+            "format|/s|4|1|f81d4fae-7dec-11d0-a765-00a0c91e6bf6|x",
+            "format|/s|http://a",
+            "replay|/s",
+            "replay|/s|http://a|x",
+            "replay|/s|4|1|f81d4fae-7dec-11d0-a765-00a0c91e6bf6",
+            // an empty word, or one with `-` first
+            "replay||http://a",
+            "replay|/s|",
+            "replay|-s|http://a",
+            "format|-|4|1|f81d4fae-7dec-11d0-a765-00a0c91e6bf6",
+            // no number of its range
+            "format|/s|08|1|f81d4fae-7dec-11d0-a765-00a0c91e6bf6",
+            "format|/s|0|1|f81d4fae-7dec-11d0-a765-00a0c91e6bf6",
+            "format|/s|+8|1|f81d4fae-7dec-11d0-a765-00a0c91e6bf6",
+            "format|/s|8a|1|f81d4fae-7dec-11d0-a765-00a0c91e6bf6",
+            "format|/s|1073741825|1|f81d4fae-7dec-11d0-a765-00a0c91e6bf6",
+            "format|/s|18446744073709551617|1|f81d4fae-7dec-11d0-a765-00a0c91e6bf6",
+            "format|/s|4|0|f81d4fae-7dec-11d0-a765-00a0c91e6bf6",
+            "format|/s|4|65537|f81d4fae-7dec-11d0-a765-00a0c91e6bf6",
+            // no id
+            "format|/s|4|1|f81d4fae-7dec-11d0-a765-00a0c91e6bf",
+            "format|/s|4|1|f81d4fae-7dec-11d0-a765-00a0c91e6bfg",
+            // no address
+            "replay|/s|http://",
+            "replay|/s|http://a/",
+            "replay|/s|http://a b",
+            "replay|/s|http://a<b",
+            "replay|/s|http://a>b",
+            "replay|/s|http://a\"b",
+            "replay|/s|http://a\x7f",
+            "replay|/s|HTTP://a.example",
+            "replay|/s|ftp://a.example",
+        ] {
+            assert_eq!(rt; answer(rt.alloc(), line)?.as_str(), "nothing", "{line}");
+        }
+        Ok(())
+    }
+}
