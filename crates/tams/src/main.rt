@@ -4,14 +4,15 @@
 
 ghost use Rattle.std.specs.Prelude.{◌≡◌};
 
-use disk_trait::{Memory, Text, TextList};
-use site_edge::{FileFailed, FileSite, HostClock, HostSink, Sink};
+use disk_trait::{Memory, MemoryDisk, NumberList, Text, TextList};
+use site_edge::{FileFailed, FileSite, HostClock, HostSink, MemorySite, PeerList, Sink};
+use std::alloc::Global;
 use std::env;
 use std::fs::File;
 use std::io::{ErrorKind, Stderr, Stdin, Stdout};
 use std::process::ExitCode;
 use std::rt::{Clock, Env, Files};
-use tams_top::{NoSite, Wanted};
+use tams_top::Wanted;
 
 /// The status where the file can't be opened, made, lengthened or synced.
 const DISK_FAULT: u8 = 3;
@@ -55,7 +56,7 @@ fn status_of<R: Files<File = File> + Env + Clock + AllocGlobal>(
     let mut notes = notes_of(&wanted, &words, streams);
     let opened = match &wanted {
         Wanted::Nothing => {
-            let mut site = NoSite;
+            let mut site = empty_site(rt.alloc());
             return Ok(tams_top::run(rt.alloc(), &words, &mut site, &mut clock, &mut notes));
         }
         Wanted::Plain(path) => FileSite::open(rt, path, streams.input, streams.output),
@@ -67,6 +68,12 @@ fn status_of<R: Files<File = File> + Env + Clock + AllocGlobal>(
         Ok(mut site) => tams_top::run(rt.alloc(), &words, &mut site, &mut clock, &mut notes),
         Err(FileFailed) => report(&mut notes, b"disk fault\n", DISK_FAULT),
     })
+}
+
+/// A site without bytes and peers, for what names no file.
+fn empty_site(alloc: Global) -> MemorySite {
+    let disk = MemoryDisk::from_bytes(alloc, Text::new(alloc), NumberList::new(alloc));
+    MemorySite::new(alloc, disk, PeerList::new(alloc), 1, NumberList::new(alloc))
 }
 
 /// The arguments behind the program's name. Where one isn't UTF-8 there are no words at all, which no

@@ -1,0 +1,10 @@
+pub mod SpanPoints
+pub mod Machines
+pub mod Numerals
+pub mod TsMachine
+pub mod Capping
+pub mod RangeMachine
+pub mod Readings
+pub mod Appending
+pub mod Canonical
+pub mod Theorems
