@@ -9,7 +9,7 @@ use std::marker::Model;
 
 /// A call of a device in memory: its range, the bytes that were handed in, and whether it passed.
 #[derive(Drop)]
-pub enum Call {
+pub(crate) enum Call {
     Read { at: u64, length: u64, passed: bool },
     Write { at: u64, bytes: Text, passed: bool },
     Sync { passed: bool },

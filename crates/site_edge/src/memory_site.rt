@@ -152,7 +152,8 @@ impl MemorySite {
         Ok(true)
     }
 
-    /// The same for a call that passes by its number. None where there is no number or no memory.
+    /// Begins the connection of the next peer where the call passes by its number. None where the
+    /// call has no number or there is no memory.
     fn try_next(&mut self, passes: bool) -> Option<bool>
         requires { IsTrue passes → self.old.tally.made + 1 < 2 ^ 64 }
         ensures numbered { IsSome result → self.old.tally.made + 1 < 2 ^ 64 }
@@ -186,7 +187,7 @@ impl MemorySite {
         Ok(())
     }
 
-    /// The same, if the call has a number and there is memory.
+    /// Tells the last peer these bytes, if the call has a number and there is memory.
     fn try_tell(&mut self, bytes: &[u8]) -> bool
         requires { 0 < length self.old.talks }
         ensures numbered { IsTrue result → self.old.tally.made + 1 < 2 ^ 64 }

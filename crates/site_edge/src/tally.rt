@@ -9,7 +9,7 @@ use disk_trait::NumberList;
 /// The numbers of the calls that fail, the number of the last call, how many calls were starved,
 /// and the counts of link faults and of peer faults.
 #[derive(Drop)]
-pub struct Tally {
+pub(crate) struct Tally {
     pub fail: NumberList,
     pub made: u64,
     pub starved: u64,
