@@ -6,7 +6,7 @@ use Rattle.media_journal.specs.declared.format.Gate.{Gate}
 use Rattle.media_journal.specs.declared.format.Gate.TheVariants as gates
 use Rattle.media_journal.specs.declared.fault.FormatFault.{FormatFault}
 use Rattle.media_journal.specs.declared.fault.FormatFault.TheVariants.{AlreadyStore, TooSmall, Disk, Memory}
-use Rattle.media_journal.specs.File.{HasOpenHeader, IsOpenGate, IsClosedGate, AreSizes, Reads, rows_text}
+use Rattle.media_journal.specs.File.{HasOpenHeader, AreSizes, Reads, rows_text}
 
 -- the numbers fit the device, and the rows a half
 pub record FitsStore (h : Header) (size : ℕ) (rows : List ℕ) : Type 0 where
@@ -22,6 +22,14 @@ FormatAnswer old new h rows (Err AlreadyStore) = HasOpenHeader old
 FormatAnswer old new h rows (Err TooSmall) = (¬ (HasOpenHeader old)) × (¬ (FitsStore h (length old) rows))
 FormatAnswer old new h rows (Err Disk) = Unit {0}
 FormatAnswer old new h rows (Err Memory) = Unit {0}
+
+-- what holds where formatting is refused
+abbrev pub OnRefusal : Result (Unit {0}) FormatFault → Type 0 → Type 0
+OnRefusal (Ok _) T = Unit {0}
+OnRefusal (Err AlreadyStore) T = T
+OnRefusal (Err TooSmall) T = T
+OnRefusal (Err Disk) T = Unit {0}
+OnRefusal (Err Memory) T = Unit {0}
 
 -- no call of the device failed
 abbrev pub format_ok : {T : Type 0} → Result T FormatFault → Bool

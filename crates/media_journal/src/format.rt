@@ -3,7 +3,7 @@
 ghost use Rattle.std.specs.Prelude.{◌≡◌, ◌≤◌, ◌<◌, ◌+◌, ◌*◌, ◌∷◌, [], true, length, is_ok, IfOk, OnOk};
 ghost use Rattle.disk_trait.specs.Calls.{DiskCalls, DiskReads, overwritten};
 ghost use Rattle.media_journal.specs.File.{header_text};
-ghost use Rattle.media_journal.specs.Formatting.{FormatAnswer, GateIs, IsFormatted, format_ok, half_text};
+ghost use Rattle.media_journal.specs.Formatting.{FormatAnswer, GateIs, IsFormatted, OnRefusal, format_ok, half_text};
 
 use crate::header::{BLOCK, is_open, magic};
 use crate::{FormatFault, Header};
@@ -42,6 +42,7 @@ pub fn format_device<D: Disk>(
     ensures answer { (D.device disk.old).shows ≡ true
         → FormatAnswer (D.device disk.old).seen (D.device disk.new).seen
         record { blocks = blocks; half = half; id = id } rows.now result }
+    ensures refused { OnRefusal result (DiskReads true (D.device disk.old) (D.device disk.new)) }
 {
     let header = Header { blocks, half, id };
     let gate = read_gate(disk)?;

@@ -15,7 +15,7 @@ use Rattle.tams_top.specs.declared.store.Store.{Store}
 use Rattle.tams_top.specs.Store.{State, StandsFor, empty_rows}
 use Rattle.tams_top.specs.Opening.{Keeps, StandsForNone, state_of}
 use Rattle.tams_top.specs.Serving.{IsServed, connection_of, was_heard_out}
-use Rattle.tams_top.specs.Running.{CommandEnds, Connected, FormatEnds, IsOutcome, RefusedFor, Replayed, ReplayEnds, RunEnds, Tells, formatted_state, status_of}
+use Rattle.tams_top.specs.Running.{CommandEnds, Connected, FormatEnds, IsOutcome, RefusedFor, Replayed, ReplayEnds, RunEnds, Tells, Untouched, formatted_state, status_of}
 use Rattle.tams_top.specs.Words.{IsCommand}
 use Rattle.tams_top.specs.declared.words.Command.{Command}
 use Rattle.tams_top.specs.declared.words.Command.TheVariants.{Format, Replay}
@@ -121,9 +121,9 @@ module _ (old new : Device) (h : Header) where
   format_words BadWords ends s = ends
   format_words _ ends s = absurd (omega arith)
 
-  format_refused : (o : Outcome) → FormatEnds old new h o → status_of o ≡ 2 → old.shows ≡ true → HasOpenHeader old.seen ⊎ (FitsStore h (length old.seen) empty_rows → ⊥)
-  format_refused AlreadyStore ends s = λ shows. inl (ends shows)
-  format_refused TooSmall ends s = λ shows. inr (ends shows)
+  format_refused : (o : Outcome) → FormatEnds old new h o → status_of o ≡ 2 → Untouched old new × (old.shows ≡ true → HasOpenHeader old.seen ⊎ ¬ (FitsStore h (length old.seen) empty_rows))
+  format_refused AlreadyStore ends s = (ends.1, λ shows. inl (ends.0 shows))
+  format_refused TooSmall ends s = (ends.1, λ shows. inr (ends.0 shows))
   format_refused NotStore ends s = absurd ends
   format_refused (Damaged at) ends s = absurd ends
   format_refused _ ends s = absurd (omega arith)
@@ -154,9 +154,9 @@ module _ (old new : Device) (clock : Bool) (begun given : List ℕ) where
   replay_words BadWords ends s = ends
   replay_words _ ends s = absurd (omega arith)
 
-  replay_refused : (o : Outcome) → ReplayEnds old new clock begun given o → status_of o ≡ 2 → old.shows ≡ true → StandsForNone old.seen
-  replay_refused NotStore ends s = λ shows. no_store old.seen (ends shows)
-  replay_refused (Damaged at) ends s = λ shows. (ends shows).1
+  replay_refused : (o : Outcome) → ReplayEnds old new clock begun given o → status_of o ≡ 2 → Untouched old new × (old.shows ≡ true → StandsForNone old.seen)
+  replay_refused NotStore ends s = (ends.1, λ shows. no_store old.seen (ends.0 shows))
+  replay_refused (Damaged at) ends s = (ends.1, ends.0)
   replay_refused AlreadyStore ends s = absurd ends
   replay_refused TooSmall ends s = absurd ends
   replay_refused _ ends s = absurd (omega arith)
@@ -180,8 +180,8 @@ module _ (old new : Device) (clock : Bool) (begun given : List ℕ) where
 
 -- What each status says of the end of a run.
 module _ (words : List (List ℕ)) (old new : Device) (clock : Bool) (begun given : List ℕ) (o : Outcome) where
-  by_end : (P : Type 0) → (status_of o ≡ 4 → P) → (status_of o ≡ 1 → ((command : Command) → IsCommand words command → ⊥) → P) → ((command : Command) → IsCommand words command → CommandEnds old new clock begun given o command → P) → RunEnds words old new clock begun given o → P
-  by_end P memory bad ends run = elim run [ inl is ↦ memory (ap status_of is) | inr rest ↦ elim rest [ inl none ↦ bad (ap status_of none.0) none.1 | inr c ↦ ends c.0 c.1 c.2 ] ]
+  by_end : (P : Type 0) → (status_of o ≡ 4 → P) → (status_of o ≡ 1 → ((command : Command) → IsCommand words command → ⊥) → Untouched old new → P) → ((command : Command) → IsCommand words command → CommandEnds old new clock begun given o command → P) → RunEnds words old new clock begun given o → P
+  by_end P memory bad ends run = elim run [ inl is ↦ memory (ap status_of is) | inr rest ↦ elim rest [ inl none ↦ bad (ap status_of none.0) none.1 none.2 | inr c ↦ ends c.0 c.1 c.2 ] ]
 
   command_most : (command : Command) → CommandEnds old new clock begun given o command → status_of o ≤ 6
   command_most (Format path blocks half id) ends = format_most old new _ o ends
@@ -191,9 +191,9 @@ module _ (words : List (List ℕ)) (old new : Device) (clock : Bool) (begun give
   command_words (Format path blocks half id) ends s = format_words old new _ o ends s
   command_words (Replay path base) ends s = replay_words old new clock begun given o ends s
 
-  command_refused : (command : Command) → CommandEnds old new clock begun given o command → status_of o ≡ 2 → old.shows ≡ true → RefusedFor old.seen command
-  command_refused (Format path blocks half id) ends s shows = format_refused old new _ o ends s shows
-  command_refused (Replay path base) ends s shows = replay_refused old new clock begun given o ends s shows
+  command_refused : (command : Command) → CommandEnds old new clock begun given o command → status_of o ≡ 2 → Untouched old new × (old.shows ≡ true → RefusedFor old.seen command)
+  command_refused (Format path blocks half id) ends s = format_refused old new _ o ends s
+  command_refused (Replay path base) ends s = replay_refused old new clock begun given o ends s
 
   command_disk : (command : Command) → CommandEnds old new clock begun given o command → status_of o ≡ 3 → Rose old.faults new.faults
   command_disk (Format path blocks half id) ends s = format_disk old new _ o ends s
@@ -208,29 +208,31 @@ module _ (words : List (List ℕ)) (old new : Device) (clock : Bool) (begun give
   command_cut (Replay path base) ends s tells = replay_cut old new clock begun given o ends s tells
 
   pub run_most : RunEnds words old new clock begun given o → status_of o ≤ 6
-  run_most run = by_end (status_of o ≤ 6) (λ s. omega (arith, s)) (λ s none. omega (arith, s)) (λ c is ends. command_most c ends) run
+  run_most run = by_end (status_of o ≤ 6) (λ s. omega (arith, s)) (λ s none same. omega (arith, s)) (λ c is ends. command_most c ends) run
 
-  pub run_words : RunEnds words old new clock begun given o → status_of o ≡ 1 → (command : Command) → IsCommand words command → ⊥
-  run_words run s = by_end ((command : Command) → IsCommand words command → ⊥) (λ f. absurd (omega (arith, s, f))) (λ f none. none) (λ c is ends. absurd (command_words c ends s)) run
+  pub run_words : RunEnds words old new clock begun given o → status_of o ≡ 1 → ((command : Command) → IsCommand words command → ⊥) × Untouched old new
+  run_words run s = by_end (((command : Command) → IsCommand words command → ⊥) × Untouched old new) (λ f. absurd (omega (arith, s, f))) (λ f none same. (none, same)) (λ c is ends. absurd (command_words c ends s)) run
 
-  pub run_refused : RunEnds words old new clock begun given o → status_of o ≡ 2 → old.shows ≡ true → (command : Command) × IsCommand words command × RefusedFor old.seen command
-  run_refused run s shows = by_end ((command : Command) × IsCommand words command × RefusedFor old.seen command) (λ f. absurd (omega (arith, s, f))) (λ f none. absurd (omega (arith, s, f))) (λ c is ends. (c, is, command_refused c ends s shows)) run
+  pub run_refused : RunEnds words old new clock begun given o → status_of o ≡ 2 → Untouched old new × ((command : Command) × IsCommand words command × (old.shows ≡ true → RefusedFor old.seen command))
+  run_refused run s = by_end (Untouched old new × ((command : Command) × IsCommand words command × (old.shows ≡ true → RefusedFor old.seen command))) (λ f. absurd (omega (arith, s, f))) (λ f none same. absurd (omega (arith, s, f))) (λ c is ends.
+          let refused = command_refused c ends s in
+          (refused.0, (c, is, refused.1))) run
 
   pub run_disk : RunEnds words old new clock begun given o → status_of o ≡ 3 → Rose old.faults new.faults
-  run_disk run s = by_end (Rose old.faults new.faults) (λ f. absurd (omega (arith, s, f))) (λ f none. absurd (omega (arith, s, f))) (λ c is ends. command_disk c ends s) run
+  run_disk run s = by_end (Rose old.faults new.faults) (λ f. absurd (omega (arith, s, f))) (λ f none same. absurd (omega (arith, s, f))) (λ c is ends. command_disk c ends s) run
 
   pub run_link : RunEnds words old new clock begun given o → status_of o ≡ 5 → Rose old.link.faults new.link.faults
-  run_link run s = by_end (Rose old.link.faults new.link.faults) (λ f. absurd (omega (arith, s, f))) (λ f none. absurd (omega (arith, s, f))) (λ c is ends. command_link c ends s) run
+  run_link run s = by_end (Rose old.link.faults new.link.faults) (λ f. absurd (omega (arith, s, f))) (λ f none same. absurd (omega (arith, s, f))) (λ c is ends. command_link c ends s) run
 
   pub run_cut : RunEnds words old new clock begun given o → status_of o ≡ 6 → Tells old clock → Replayed old new begun given endings.Cut
-  run_cut run s tells = by_end (Replayed old new begun given endings.Cut) (λ f. absurd (omega (arith, s, f))) (λ f none. absurd (omega (arith, s, f))) (λ c is ends. command_cut c ends s tells) run
+  run_cut run s tells = by_end (Replayed old new begun given endings.Cut) (λ f. absurd (omega (arith, s, f))) (λ f none same. absurd (omega (arith, s, f))) (λ c is ends. command_cut c ends s tells) run
 
   pub run_formatted : RunEnds words old new clock begun given o → status_of o ≡ 0 → old.shows ≡ true → (path : List ℕ) (blocks half id : ℕ) → IsCommand words (Format path blocks half id) → StandsFor new.seen (formatted_state record { blocks = blocks; half = half; id = id })
   run_formatted run s shows path blocks half id wanted =
-      by_end (StandsFor new.seen (formatted_state record { blocks = blocks; half = half; id = id })) (λ f. absurd (omega (arith, s, f))) (λ f none. absurd (omega (arith, s, f))) (λ c is ends.
+      by_end (StandsFor new.seen (formatted_state record { blocks = blocks; half = half; id = id })) (λ f. absurd (omega (arith, s, f))) (λ f none same. absurd (omega (arith, s, f))) (λ c is ends.
       format_done old new record { blocks = blocks; half = half; id = id } o (subst (λ (x : Command). CommandEnds old new clock begun given o x) (one_command words c (Format path blocks half id) is wanted) ends) s shows) run
 
   pub run_served : RunEnds words old new clock begun given o → status_of o ≡ 0 → Tells old clock → (path base : List ℕ) → IsCommand words (Replay path base) → (ending : Ending) × (ending ≢ endings.Cut) × Replayed old new begun given ending
   run_served run s tells path base wanted =
-      by_end ((ending : Ending) × (ending ≢ endings.Cut) × Replayed old new begun given ending) (λ f. absurd (omega (arith, s, f))) (λ f none. absurd (omega (arith, s, f))) (λ c is ends.
+      by_end ((ending : Ending) × (ending ≢ endings.Cut) × Replayed old new begun given ending) (λ f. absurd (omega (arith, s, f))) (λ f none same. absurd (omega (arith, s, f))) (λ c is ends.
       replay_served old new clock begun given o (subst (λ (x : Command). CommandEnds old new clock begun given o x) (one_command words c (Replay path base) is wanted) ends) s tells) run

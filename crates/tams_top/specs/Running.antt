@@ -87,11 +87,17 @@ pub record Tells (d : Device) (clock : Bool) : Type 0 where
 abbrev pub formatted_state : Header → State
 formatted_state h = record { library = empty_library h; room = 4096 * h.half - 21 }
 
+-- nothing was written, heard or said
+pub record Untouched (old new : Device) : Type 0 where
+  pub seen : new.seen ≡ old.seen
+  pub handed : new.handed ≡ old.handed
+  pub link : new.link ≡ old.link
+
 -- the ends of `format`, each with its cause
 abbrev pub FormatEnds : Device → Device → Header → Outcome → Type 0
 FormatEnds old new h (Formatted blocks half media) = old.shows ≡ true → StandsFor new.seen (formatted_state h)
-FormatEnds old new h AlreadyStore = old.shows ≡ true → HasOpenHeader old.seen
-FormatEnds old new h TooSmall = old.shows ≡ true → FitsStore h (length old.seen) empty_rows → ⊥
+FormatEnds old new h AlreadyStore = (old.shows ≡ true → HasOpenHeader old.seen) × Untouched old new
+FormatEnds old new h TooSmall = (old.shows ≡ true → ¬ (FitsStore h (length old.seen) empty_rows)) × Untouched old new
 FormatEnds old new h DiskFault = Rose old.faults new.faults
 FormatEnds old new h NoMemory = Unit {0}
 FormatEnds old new h (Served requests changes) = ⊥
@@ -105,8 +111,8 @@ FormatEnds old new h LinkFault = ⊥
 abbrev pub ReplayEnds : Device → Device → Bool → List ℕ → List ℕ → Outcome → Type 0
 ReplayEnds old new clock begun given (Served requests changes) = Tells old clock → (ending : Ending) × (ending ≢ endings.Cut) × Replayed old new begun given ending
 ReplayEnds old new clock begun given Cut = Tells old clock → Replayed old new begun given endings.Cut
-ReplayEnds old new clock begun given NotStore = old.shows ≡ true → IsStore old.seen → ⊥
-ReplayEnds old new clock begun given (Damaged at) = old.shows ≡ true → IsStore old.seen × StandsForNone old.seen
+ReplayEnds old new clock begun given NotStore = (old.shows ≡ true → ¬ (IsStore old.seen)) × Untouched old new
+ReplayEnds old new clock begun given (Damaged at) = (old.shows ≡ true → StandsForNone old.seen) × Untouched old new
 ReplayEnds old new clock begun given DiskFault = Rose old.faults new.faults
 ReplayEnds old new clock begun given LinkFault = Rose old.link.faults new.link.faults
 ReplayEnds old new clock begun given NoMemory = Unit {0}
@@ -120,15 +126,16 @@ abbrev pub CommandEnds : Device → Device → Bool → List ℕ → List ℕ �
 CommandEnds old new clock begun given o (Format path blocks half id) = FormatEnds old new record { blocks = blocks; half = half; id = id } o
 CommandEnds old new clock begun given o (Replay path base) = ReplayEnds old new clock begun given o
 
--- the ends of a run: no memory to read the words, words that are no command, or the end of their command
+-- the ends of a run: no memory to read the words, words that are no command, which leave the site as it
+-- was, or the end of their command
 abbrev pub RunEnds : List (List ℕ) → Device → Device → Bool → List ℕ → List ℕ → Outcome → Type 0
 RunEnds words old new clock begun given o =
     (o ≡ NoMemory)
-    ⊎ (((o ≡ BadWords) × ((command : Command) → IsCommand words command → ⊥))
+    ⊎ (((o ≡ BadWords) × ((command : Command) → IsCommand words command → ⊥) × Untouched old new)
     ⊎ ((command : Command) × IsCommand words command × CommandEnds old new clock begun given o command))
 
--- Why a command is refused: there is a store already, or the numbers make none of the file's length; and
--- the file stands for no state.
+-- why a command is refused: there is a store already, or the numbers make none of the file's length; and
+-- the file stands for no state
 abbrev pub RefusedFor : List ℕ → Command → Type 0
-RefusedFor image (Format path blocks half id) = HasOpenHeader image ⊎ (FitsStore record { blocks = blocks; half = half; id = id } (length image) empty_rows → ⊥)
+RefusedFor image (Format path blocks half id) = HasOpenHeader image ⊎ ¬ (FitsStore record { blocks = blocks; half = half; id = id } (length image) empty_rows)
 RefusedFor image (Replay path base) = StandsForNone image

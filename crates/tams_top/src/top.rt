@@ -2,7 +2,7 @@
 ghost use Rattle.std.specs.Prelude.{◌≡◌, ◌≢◌, ◌≤◌, ◌*◌, ℕ, List, true, IfOk};
 ghost use Rattle.disk_trait.specs.Calls.{Rose};
 ghost use Rattle.tams_top.specs.Opening.{Keeps, state_of};
-ghost use Rattle.tams_top.specs.Running.{Connected, FormatEnds, IsOutcome, RefusedFor, ReplayEnds, Replayed, RunEnds, Tells, formatted_state};
+ghost use Rattle.tams_top.specs.Running.{Connected, FormatEnds, IsOutcome, RefusedFor, ReplayEnds, Replayed, RunEnds, Tells, Untouched, formatted_state};
 ghost use Rattle.tams_top.specs.Serving.{SiteCalls, disk_held, link_held};
 ghost use Rattle.tams_top.specs.Store.{StandsFor};
 ghost use Rattle.tams_top.specs.Words.{IsCommand};
@@ -30,9 +30,11 @@ pub fn run<X: Site, C: Clock, N: Sink>(
     notes: &mut N,
 ) -> u8
     ensures status { result ≤ 6 }
-    ensures words { result ≡ 1 → (command : Command) → IsCommand words.now command → ⊥ }
-    ensures refused { result ≡ 2 → (X.device site.old).shows ≡ true → (command : Command)
-        × IsCommand words.now command × RefusedFor (X.device site.old).seen command }
+    ensures words { result ≡ 1 → ((command : Command) → IsCommand words.now command → ⊥)
+        × Untouched (X.device site.old) (X.device site.new) }
+    ensures refused { result ≡ 2 → Untouched (X.device site.old) (X.device site.new)
+        × ((command : Command) × IsCommand words.now command
+            × ((X.device site.old).shows ≡ true → RefusedFor (X.device site.old).seen command)) }
     ensures disk { result ≡ 3 → Rose (X.device site.old).faults (X.device site.new).faults }
     ensures link { result ≡ 5 → Rose (X.device site.old).link.faults (X.device site.new).link.faults }
     ensures formatted { result ≡ 0 → (X.device site.old).shows ≡ true

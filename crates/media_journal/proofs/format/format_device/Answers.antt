@@ -1,4 +1,4 @@
-use Rattle.std.proofs.Common.{◌≡◌, ◌+◌, ◌*◌, ◌≤◌, ◌∙◌, length, sym, arith, rules}
+use Rattle.std.proofs.Common.{◌∙◌, length, sym, arith, rules}
 use Rattle.media_journal.specs.declared.header.Header.{Header}
 use Rattle.media_journal.specs.File.{AreSizes}
 use Rattle.media_journal.specs.Formatting.{FitsStore}
@@ -9,6 +9,7 @@ use Rattle.media_journal.proofs.format.format_device.Goals as goal
 pub returns : goal.returns
 returns g c = record {
   calls = search rules;
+  refused = tt;
   answer = λ shows.
       let first = c.in_ok-gate.ensures.reads in
       let whole = (g.met.D.Disk.sound c.args.disk.now).length shows in

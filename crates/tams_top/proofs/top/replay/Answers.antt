@@ -1,11 +1,19 @@
-use Rattle.std.proofs.Common.{◌∙◌}
+use Rattle.std.proofs.Common.{◌≡◌, true, ◌∙◌}
+use Rattle.media_journal.specs.Opening.{IsStore}
+use Rattle.tams_top.specs.Opening.{StandsForNone}
 use Rattle.tams_top.specs.Running.{Tells}
 use Rattle.tams_top.proofs.RunningLemmas.{replayed, replay_ends}
 use Rattle.tams_top.proofs.top.replay.Goals as goal
 
 -- The file stands for no state.
 pub returns-in-Err-Damaged : goal.returns-in-Err-Damaged
-returns-in-Err-Damaged g c = λ shows. rw c.in-Err-Damaged.field-0-is at (c.in-Err-Damaged.ensures.answer shows)
+returns-in-Err-Damaged g c =
+    let reads = c.in-Err-Damaged.ensures.reads in
+    let image = (g.X.Disk.device c.args.site.now).seen in
+    let stands = λ (shows : (g.X.Disk.device c.args.site.now).shows ≡ true).
+        let answer : IsStore image × StandsForNone image = rw c.in-Err-Damaged.field-0-is at (c.in-Err-Damaged.ensures.answer shows) in
+        answer.1 in
+    (stands, record { seen = reads.seen; handed = reads.handed; link = reads.calls.link })
 
 -- The connection was served to its end.
 pub returns-in-Ok-connect : goal.returns-in-Ok-connect
