@@ -8,3 +8,5 @@ pub mod Lines
 pub mod Tallies
 pub mod MemorySite
 pub mod MemorySiteLaws
+pub use Rattle.disk_trait.specs.History
+pub use Rattle.disk_trait.specs.MemoryDisk
