@@ -215,8 +215,8 @@ module _ (words : List (List ℕ)) (old new : Device) (clock : Bool) (begun give
 
   pub run_refused : RunEnds words old new clock begun given o → status_of o ≡ 2 → Untouched old new × ((command : Command) × IsCommand words command × (old.shows ≡ true → RefusedFor old.seen command))
   run_refused run s = by_end (Untouched old new × ((command : Command) × IsCommand words command × (old.shows ≡ true → RefusedFor old.seen command))) (λ f. absurd (omega (arith, s, f))) (λ f none same. absurd (omega (arith, s, f))) (λ c is ends.
-          let refused = command_refused c ends s in
-          (refused.0, (c, is, refused.1))) run
+      let refused = command_refused c ends s in
+      (refused.0, (c, is, refused.1))) run
 
   pub run_disk : RunEnds words old new clock begun given o → status_of o ≡ 3 → Rose old.faults new.faults
   run_disk run s = by_end (Rose old.faults new.faults) (λ f. absurd (omega (arith, s, f))) (λ f none same. absurd (omega (arith, s, f))) (λ c is ends. command_disk c ends s) run

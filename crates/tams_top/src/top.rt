@@ -34,7 +34,7 @@ pub fn run<X: Site, C: Clock, N: Sink>(
         × Untouched (X.device site.old) (X.device site.new) }
     ensures refused { result ≡ 2 → Untouched (X.device site.old) (X.device site.new)
         × ((command : Command) × IsCommand words.now command
-            × ((X.device site.old).shows ≡ true → RefusedFor (X.device site.old).seen command)) }
+        × ((X.device site.old).shows ≡ true → RefusedFor (X.device site.old).seen command)) }
     ensures disk { result ≡ 3 → Rose (X.device site.old).faults (X.device site.new).faults }
     ensures link { result ≡ 5 → Rose (X.device site.old).link.faults (X.device site.new).link.faults }
     ensures formatted { result ≡ 0 → (X.device site.old).shows ≡ true

@@ -11,8 +11,8 @@ returns-in-Err-Damaged g c =
     let reads = c.in-Err-Damaged.ensures.reads in
     let image = (g.X.Disk.device c.args.site.now).seen in
     let stands = λ (shows : (g.X.Disk.device c.args.site.now).shows ≡ true).
-        let answer : IsStore image × StandsForNone image = rw c.in-Err-Damaged.field-0-is at (c.in-Err-Damaged.ensures.answer shows) in
-        answer.1 in
+    let answer : IsStore image × StandsForNone image = rw c.in-Err-Damaged.field-0-is at (c.in-Err-Damaged.ensures.answer shows) in
+    answer.1 in
     (stands, record { seen = reads.seen; handed = reads.handed; link = reads.calls.link })
 
 -- The connection was served to its end.
