@@ -163,15 +163,15 @@ fn fold(alloc: Global, records: &[Record], empty: Library) -> Result<Library, St
 }
 
 /// The library that a record makes of this one.
-fn step(alloc: Global, record: &Record, library: &Library) -> Result<Library, StoreFault>
-    ensures next { IfOk result (StepOf record.now library.now) }
-    ensures refused { IfErr result (λ fault. IsStepRefused record.now library.now fault) }
+fn step(alloc: Global, entry: &Record, library: &Library) -> Result<Library, StoreFault>
+    ensures next { IfOk result (StepOf entry.now library.now) }
+    ensures refused { IfErr result (λ fault. IsStepRefused entry.now library.now fault) }
 {
-    let Some(change) = read_change(record.payload.bytes()) else {
-        return Err(StoreFault::Damaged(record.offset));
+    let Some(change) = read_change(entry.payload.bytes()) else {
+        return Err(StoreFault::Damaged(entry.offset));
     };
     match library.after(alloc, &change)? {
         Some(next) => Ok(next),
-        None => Err(StoreFault::Damaged(record.offset)),
+        None => Err(StoreFault::Damaged(entry.offset)),
     }
 }
