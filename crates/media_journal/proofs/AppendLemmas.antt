@@ -99,7 +99,7 @@ gives_more image p h rows records payload within room short g =
     let bound : active_start image h.half + (8 + length rows) ≤ p.gate = chain_bounds image _ records p.gate g.reads.half.chain in
     let behind : 8192 ≤ active_start image h.half = active_start-least image h.half in
     let start : active_start (recorded image p.gate payload) h.half ≡ active_start image h.half =
-        ap (λ (byte : ℕ). if byte % 2 == 0 then 8192 else 8192 + 4096 * h.half) (recorded-byte image payload p.gate fits 4096 (omega arith)) in
+    ap (λ (byte : ℕ). if byte % 2 == 0 then 8192 else 8192 + 4096 * h.half) (recorded-byte image payload p.gate fits 4096 (omega arith)) in
     let size = length-recorded image payload p.gate fits in
     record {
       reads = record {

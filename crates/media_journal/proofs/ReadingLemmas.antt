@@ -105,13 +105,13 @@ pub one_half : (image : List ℕ) (start end g k : ℕ) (rows other : List ℕ) 
 unfolding rows_text
 one_half image start end g k rows other rs qs first second =
     let size : length other ≡ length rows =
-        same_u64 (length other) (length rows) second.few first.few (sym (half_length image start end k other qs second) ∙ half_length image start end g rows rs first) in
+    same_u64 (length other) (length rows) second.few first.few (sym (half_length image start end k other qs second) ∙ half_length image start end g rows rs first) in
     let texts : u64_bytes (length other) ++ other ≡ u64_bytes (length rows) ++ rows =
-        sym second.text ∙ ap (λ n. bytes_at image start (8 + n)) size ∙ first.text in
+    sym second.text ∙ ap (λ n. bytes_at image start (8 + n)) size ∙ first.text in
     let chain = subst (λ (n : ℕ). AreRecords image (start + (8 + n)) qs k) size second.chain in
-    let more = continues image (start + (8 + length rows)) rs qs g k first.chain chain second.closed in
-    ( same_rest 8 (u64_bytes (length other)) other (u64_bytes (length rows)) rows (length-u64_bytes (length other)) (length-u64_bytes (length rows)) texts
-    , more.is ∙ no_more image g k rs more.rest first.closed more.chain
+    let more = continues image (start + (8 + length rows)) rs qs g k first.chain chain second.closed in (
+      same_rest 8 (u64_bytes (length other)) other (u64_bytes (length rows)) rows (length-u64_bytes (length other)) (length-u64_bytes (length rows)) texts,
+      more.is ∙ no_more image g k rs more.rest first.closed more.chain,
     )
 
 -- two readings of an image are one

@@ -51,9 +51,9 @@ impl Journal {
         ensures moved { OnOk result (self.new ≡ after_append self.old (length frame.now)) }
         ensures content { (D.device disk.old).shows ≡ true → OnOk result
             ((h : Header) (rows : List ℕ) (records : List Record)
-                → Gives (D.device disk.old).seen self.old h rows records
-                → Gives (D.device disk.new).seen self.new h rows
-                    (records ++ record { offset = self.old.gate; payload = frame.now } ∷ [])) }
+            → Gives (D.device disk.old).seen self.old h rows records
+            → Gives (D.device disk.new).seen self.new h rows
+            (records ++ record { offset = self.old.gate; payload = frame.now } ∷ [])) }
         ensures handed { (D.device disk.old).tells ≡ true → OnOk result
             ((D.device disk.new).handed ≡ (D.device disk.old).handed + (length frame.now + 6)) }
 
