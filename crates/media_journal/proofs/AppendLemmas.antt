@@ -1,5 +1,5 @@
 -- What the two writes of a record leave in an image.
-use Rattle.std.proofs.Common.{◌≡◌, ◌<◌, ◌≤◌, ◌+◌, ◌-◌, ◌*◌, ◌%◌, ◌==◌, ◌^◌, ℕ, true, false, List, [], ◌∷◌, ◌++◌, length, take, drop, get_or, slice_index, refl, sym, ap, ap₂, ◌∙◌, subst, arith, length-append, append_assoc}
+use Rattle.std.proofs.Common.{◌≡◌, ◌<◌, ◌≤◌, ◌+◌, ◌*◌, ◌%◌, ◌==◌, ◌^◌, ℕ, true, false, List, [], ◌∷◌, ◌++◌, length, take, get_or, slice_index, sym, ap, ap₂, ◌∙◌, arith, length-append, append_assoc}
 use Rattle.std.proofs.lemmas.List.{places}
 use Rattle.std.specs.Prelude.{if◌then◌else◌}
 use Rattle.std.proofs.Math.Seq.{take-append_seam}

@@ -1,8 +1,8 @@
 -- Records that stand one behind the other.
-use Rattle.std.proofs.Common.{◌≡◌, ◌<◌, ◌≤◌, ◌+◌, ◌^◌, ℕ, List, [], ◌∷◌, ◌++◌, length, refl, sym, ◌∙◌, subst, arith}
+use Rattle.std.proofs.Common.{◌≡◌, ◌≤◌, ◌+◌, ℕ, List, [], ◌∷◌, ◌++◌, length, refl, sym, ◌∙◌, subst, arith}
 use Rattle.disk_trait.specs.Calls.{bytes_at}
 use Rattle.media_journal.specs.declared.record.Record.{Record}
-use Rattle.media_journal.specs.File.{AreRecords, IsRecordAt, record_text}
+use Rattle.media_journal.specs.File.{AreRecords, IsRecordAt}
 
 pub chain_bounds : (image : List ℕ) (from : ℕ) (rs : List Record) (to : ℕ) → AreRecords image from rs to → from ≤ to
 chain_bounds image from [] to e = omega (arith, e)

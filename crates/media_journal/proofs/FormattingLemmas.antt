@@ -1,8 +1,7 @@
 -- What formatting leaves in an image.
-use Rattle.std.proofs.Common.{◌≡◌, ◌<◌, ◌≤◌, ◌+◌, ◌*◌, ◌%◌, ◌^◌, ◌==◌, ℕ, Bool, List, [], ◌∷◌, ◌++◌, length, take, get_or, refl, sym, ap, ◌∙◌, subst, arith, length-append}
+use Rattle.std.proofs.Common.{◌≡◌, ◌<◌, ◌≤◌, ◌+◌, ◌^◌, ℕ, List, [], ◌∷◌, ◌++◌, length, take, get_or, refl, sym, ap, ◌∙◌, subst, arith, length-append}
 use Rattle.std.proofs.lemmas.List.{places}
 use Rattle.std.proofs.Math.Seq.{take-append_seam, take-length}
-use Rattle.std.specs.Prelude.{if◌then◌else◌}
 use Rattle.disk_trait.specs.Calls.{bytes_at, overwritten}
 use Rattle.disk_trait.specs.Numbers.{u64_bytes, u128_bytes}
 use Rattle.disk_trait.proofs.NumberLemmas.{length-u64_bytes, length-u128_bytes}
@@ -10,7 +9,7 @@ use Rattle.disk_trait.proofs.OverwriteLemmas.{length-overwritten, get_or-before,
 use Rattle.media_journal.specs.declared.header.Header.{Header}
 use Rattle.media_journal.specs.declared.format.Gate.{Gate}
 use Rattle.media_journal.specs.declared.format.Gate.TheVariants.{Store, Stray, Closed}
-use Rattle.media_journal.specs.File.{magic, header_text, rows_text, IsHeader, AreSizes, HasHalf, active_start, Reads, HasOpenHeader}
+use Rattle.media_journal.specs.File.{magic, header_text, rows_text, active_start, Reads, HasOpenHeader}
 use Rattle.media_journal.specs.Formatting.{FitsStore, GateIs, IsFormatted, half_text, with_store}
 use Rattle.media_journal.proofs.HeaderLemmas.{length-magic, has_front, front_has}
 

@@ -1,5 +1,5 @@
 -- What was read of an image decides what it reads as.
-use Rattle.std.proofs.Common.{◌≡◌, ◌<◌, ◌≤◌, ◌+◌, ◌-◌, ◌*◌, ◌^◌, ℕ, Bool, true, false, List, ◌++◌, length, take, Result, Ok, Err, Some, None, refl, sym, ap, ◌∙◌, subst, arith}
+use Rattle.std.proofs.Common.{◌≡◌, ◌<◌, ◌≤◌, ◌+◌, ◌-◌, ◌*◌, ℕ, Bool, true, false, List, length, take, Err, refl, sym, ap, ◌∙◌, subst, arith}
 use Rattle.std.proofs.Math.Seq.{take-append_seam}
 use Rattle.disk_trait.specs.Calls.{bytes_at}
 use Rattle.disk_trait.proofs.OverwriteLemmas.{bytes_at-bytes_at}
@@ -8,7 +8,7 @@ use Rattle.media_journal.specs.declared.record.Record.{Record}
 use Rattle.media_journal.specs.declared.scan.Half.{Half}
 use Rattle.media_journal.specs.declared.fault.JournalFault.{JournalFault}
 use Rattle.media_journal.specs.declared.fault.JournalFault.TheVariants.{NotStore, Damaged, Disk, Memory}
-use Rattle.media_journal.specs.File.{magic, header_text, IsHeader, AreSizes, HasHalf, active_start, Reads, IsUnreadable}
+use Rattle.media_journal.specs.File.{magic, header_text, IsHeader, AreSizes, HasHalf, active_start, IsUnreadable}
 use Rattle.media_journal.specs.Scan.{HasNoHalf, HalfAnswer, HalfFound}
 use Rattle.media_journal.specs.Opening.{IsStore, IsOpened, OpenAnswer, OpenedHalf, opened_of}
 use Rattle.media_journal.proofs.HeaderLemmas.{one_header, length-magic}

@@ -1,6 +1,6 @@
 -- An image gives one reading: what was found of it is all that any reading of it says.
 use Rattle.std.proofs.Common.{◌≡◌, ◌<◌, ◌≤◌, ◌+◌, ◌*◌, ◌^◌, ℕ, Bool, true, false, List, [], ◌∷◌, ◌++◌, length, take, drop, get_or, refl, sym, ap, ap₂, ◌∙◌, subst, arith, append-nil}
-use Rattle.std.proofs.Math.Seq.{take-append_seam, drop-append_seam}
+use Rattle.std.proofs.Math.Seq.{take-append_seam}
 use Rattle.disk_trait.specs.Calls.{bytes_at}
 use Rattle.disk_trait.specs.Numbers.{u32_bytes, u64_bytes}
 use Rattle.disk_trait.proofs.NumberLemmas.{length-u32_bytes, length-u64_bytes, same_u32, same_u64, same_rest}

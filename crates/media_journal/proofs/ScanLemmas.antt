@@ -1,5 +1,5 @@
 -- A record that was read from an image, and what one would say that isn't there.
-use Rattle.std.proofs.Common.{◌≡◌, ◌<◌, ◌≤◌, ◌+◌, ◌^◌, ℕ, suc, List, [], ◌∷◌, ◌++◌, length, take, drop, get_or, refl, sym, ap, ap₂, ◌∙◌, arith, add-one, drop-cons}
+use Rattle.std.proofs.Common.{◌≡◌, ◌<◌, ◌+◌, ◌^◌, ℕ, List, [], ◌∷◌, ◌++◌, length, take, get_or, sym, ap, ap₂, ◌∙◌, arith, drop-cons}
 use Rattle.std.proofs.Math.Seq.{take-append_seam}
 use Rattle.disk_trait.specs.Calls.{bytes_at}
 use Rattle.disk_trait.specs.Numbers.{u32_bytes}

@@ -6,7 +6,7 @@ use Rattle.media_journal.specs.declared.format.Gate.{Gate}
 use Rattle.media_journal.specs.declared.format.Gate.TheVariants as gates
 use Rattle.media_journal.specs.declared.fault.FormatFault.{FormatFault}
 use Rattle.media_journal.specs.declared.fault.FormatFault.TheVariants.{AlreadyStore, TooSmall, Disk, Memory}
-use Rattle.media_journal.specs.File.{HasOpenHeader, IsOpenGate, IsClosedGate, AreSizes, Reads, rows_text}
+use Rattle.media_journal.specs.File.{HasOpenHeader, AreSizes, Reads, rows_text}
 
 -- the numbers fit the device, and the rows a half
 pub record FitsStore (h : Header) (size : ℕ) (rows : List ℕ) : Type 0 where

@@ -1,4 +1,4 @@
-use Rattle.std.proofs.Common.{◌≡◌, ◌+◌, ◌*◌, ◌≤◌, ◌∙◌, length, sym, arith, rules}
+use Rattle.std.proofs.Common.{◌∙◌, length, sym, arith, rules}
 use Rattle.media_journal.specs.declared.header.Header.{Header}
 use Rattle.media_journal.specs.File.{AreSizes}
 use Rattle.media_journal.specs.Formatting.{FitsStore}

@@ -1,5 +1,4 @@
-use Rattle.std.proofs.Common.{◌≡◌, ◌+◌, ℕ, length, ◌∙◌, sym, ap, arith, rules}
-use Rattle.media_journal.specs.File.{AreRecords, IsRecordAt}
+use Rattle.std.proofs.Common.{◌≡◌, ◌+◌, length, ◌∙◌, arith, rules}
 use Rattle.media_journal.proofs.ChainLemmas.{chain_push}
 use Rattle.media_journal.proofs.scan.read_chain.Goals as goal
 

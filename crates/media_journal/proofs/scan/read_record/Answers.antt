@@ -1,6 +1,4 @@
-use Rattle.std.proofs.Common.{◌≡◌, ◌+◌, ℕ, length, ◌∙◌, arith, rules}
-use Rattle.disk_trait.specs.Numbers.{u32_bytes}
-use Rattle.disk_trait.specs.Calls.{bytes_at}
+use Rattle.std.proofs.Common.{◌∙◌, arith, rules}
 use Rattle.media_journal.specs.File.{IsOpenGate}
 use Rattle.media_journal.proofs.ScanLemmas.{is_record, is_torn}
 use Rattle.media_journal.proofs.scan.read_record.Goals as goal

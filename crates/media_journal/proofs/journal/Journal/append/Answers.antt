@@ -1,4 +1,4 @@
-use Rattle.std.proofs.Common.{◌≡◌, ◌+◌, ◌≤◌, ℕ, length, ap, arith}
+use Rattle.std.proofs.Common.{ap, arith}
 use Rattle.media_journal.specs.Journal.{Position}
 use Rattle.media_journal.proofs.FrameLemmas.{length-frame_text}
 use Rattle.media_journal.proofs.AppendLemmas.{gives_more}
