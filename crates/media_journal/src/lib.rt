@@ -11,6 +11,8 @@ mod journal;
 mod open;
 mod record;
 mod scan;
+#[cfg(test)]
+mod tests;
 
 pub use crate::fault::{AppendFault, FormatFault, JournalFault};
 pub use crate::format::format_device;
