@@ -1,5 +1,5 @@
 -- Parts of an image, and what an image has after a write.
-use Rattle.std.proofs.Common.{◌≡◌, ◌<◌, ◌≤◌, ◌+◌, ◌-◌, ℕ, List, ◌++◌, length, take, drop, get_or, sym, ◌∙◌, arith, rules}
+use Rattle.std.proofs.Common.{◌≡◌, ◌<◌, ◌≤◌, ◌+◌, ℕ, List, ◌++◌, length, get_or, sym, ◌∙◌, arith, rules}
 use Rattle.std.proofs.lemmas.List.{places, same_lists}
 use Rattle.disk_trait.specs.Calls.{bytes_at, overwritten}
 

@@ -1,5 +1,5 @@
 -- Whole numbers as the file spells them: in so many bytes, the highest first.
-use Rattle.std.specs.Prelude.{◌≡◌, ◌<◌, ◌/◌, ◌%◌, ◌^◌, ℕ, List, ◌++◌}
+use Rattle.std.specs.Prelude.{◌/◌, ◌%◌, ◌^◌, ℕ, List, ◌++◌}
 use Rattle.std.specs.Int.{w32, w64, to_be_bytes}
 
 -- in 4 bytes

@@ -120,6 +120,9 @@ fn lists_and_texts_keep_what_was_pushed(rt: HostRuntime) -> Result<(), Fail> {
     let mut texts = TextList::new(alloc);
     texts.push(text.copy(alloc)?)?;
     assert_eq!(rt; texts.items().len(), 1);
+    let again = copied(alloc, &texts)?;
+    assert_eq!(rt; again.items().len(), 1);
+    assert!(rt; again.items()[0].same(&text));
     let numbers = copied(alloc, &NumberList::from_slice(alloc, &[3, 1])?)?;
     assert_eq!(rt; numbers.numbers(), [3, 1].as_slice());
     Ok(())
@@ -137,5 +140,6 @@ fn a_new_disk_is_zero(rt: HostRuntime) -> Result<(), Fail> {
     assert_eq!(rt; sure.write_at(1, &[7]), Ok(()));
     assert_eq!(rt; sure.read_at(0, &mut out), Ok(()));
     assert_eq!(rt; out.as_slice(), [0, 7].as_slice());
+    assert_eq!(rt; sure.sync(), Ok(()));
     Ok(())
 }

@@ -4,3 +4,4 @@ mod ConnectionLemmas
 mod MomentLemmas
 mod KeptLemmas
 mod LinkLemmas
+pub mod Theorems

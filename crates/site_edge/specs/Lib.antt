@@ -1,4 +1,5 @@
 pub mod Links
+pub mod Saying
 pub mod Clocks
 pub mod Sinks
 pub mod Files

@@ -242,7 +242,7 @@ mod tests {
 
     #[test]
     fn a_file_keeps_what_was_written(rt: HostRuntime) -> Result<(), Fail> {
-        let path = Text::from_bytes(rt.alloc(), b"store")?;
+        let path = Text::from_bytes(rt.alloc(), b"kept")?;
         assert!(rt; open(&rt, &path).is_err(), "no file is there yet");
 
         let mut made = make(&rt, &path, 4096)?;
@@ -261,6 +261,7 @@ mod tests {
         assert_eq!(rt; opened.len(), 8192);
         opened.read_at(4088, &mut bytes)?;
         assert_eq!(rt; bytes.as_slice(), b"\0\0flow\0\0".as_slice());
+        fs::remove_file(&rt, "kept")?;
         Ok(())
     }
 

@@ -1,6 +1,5 @@
-use Rattle.std.proofs.Common.{take, drop, length, ap₂, ◌++◌, ◌∙◌, List, ℕ, arith}
+use Rattle.std.proofs.Common.{◌∙◌, arith}
 use Rattle.std.proofs.lemmas.List.{take-append-drop}
-use Rattle.disk_trait.specs.Numbers.{u128_bytes}
 use Rattle.disk_trait.proofs.NumberLemmas.{u128_of_halves}
 use Rattle.disk_trait.proofs.numbers.read_u128.Goals as goal
 
