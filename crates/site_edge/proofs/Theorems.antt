@@ -1,12 +1,12 @@
 -- Laws of said bytes and disk calls in a row, over any site.
 use Rattle.std.proofs.Common.{◌≡◌, ◌≤◌, ◌++◌, ◌∷◌, [], ◌∙◌, ℕ, Bool, true, false, List, length, inl, inr, refl, sym, ap, arith}
 use Rattle.std.proofs.lemmas.List.{append_assoc, append-nil}
-use Rattle.disk_trait.specs.Device.{Device, Left}
+use Rattle.disk_trait.specs.Device.{Device, IsDevice, Left, told_by}
 use Rattle.disk_trait.specs.Calls.{DiskCall, Elapses, TornWrite, Unchanged}
 use Rattle.disk_trait.specs.Moments.{Then, WithinTwo}
 use Rattle.disk_trait.proofs.Theorems.{elapses_twice}
-use Rattle.site_edge.specs.Links.{LinkCall, Sends, Tells, change_last}
-use Rattle.site_edge.specs.Saying.{ArePrefixes, IsPrefix, IsToldToLast, KeepsTold, SaidSince, said_also}
+use Rattle.site_edge.specs.Links.{AddsConnection, LinkCall, Sends, Tells, change_last}
+use Rattle.site_edge.specs.Saying.{ArePrefixes, IsPrefix, IsToldToLast, KeepsTold, SaidAtMost, SaidSince, said_also}
 
 -- How pairs grow by a disk call and a `say` behind it: the disk call changes images, the `say` adds each
 -- prefix of its bytes to what was told.
@@ -114,3 +114,93 @@ prefixes_over_says step done ok first second t said old told written new keeps l
     let le_told : t ≤ told.moment = omega (arith, le, one.time.later) in
     let after_call = said_over_disk_call step done t (said_also first said) told written keeps le_told call after_one in
     prefixes_over_say ok second t (said_also first said) written new (omega (arith, le_told, call.time.later)) two after_call
+
+-- one more connection on both sides
+push_length : (told said : List (List ℕ)) (t s : List ℕ) → length told ≡ length said → length (told ++ t ∷ []) ≡ length (said ++ s ∷ [])
+push_length [] [] t s same = refl
+push_length [] (r ∷ said) t s same = absurd (omega (arith, same))
+push_length (u ∷ told) [] t s same = absurd (omega (arith, same))
+push_length (u ∷ told) (r ∷ said) t s same =
+    let longer = push_length told said t s (omega (arith, same)) in
+    cc
+
+-- prefixes of what was said stay such where one more connection may have begun
+prefixes_more : (told said : List (List ℕ)) (s : List ℕ) → ArePrefixes told said → ArePrefixes told (said ++ s ∷ [])
+prefixes_more [] said s are = tt
+prefixes_more (t ∷ told) [] s are = absurd are
+prefixes_more (t ∷ told) (r ∷ said) s are = (are.0, prefixes_more told said s are.1)
+
+-- as many connections were told as there was something said on
+told_length : (told said : List (List ℕ)) → IsToldToLast told said → length told ≡ length said
+told_length told said is = rw (is.told_is, is.said_is) (push_length is.told_before is.said_before is.last is.last is.same_length)
+
+-- and so where the last one was told only a part
+part_length : (told said : List (List ℕ)) (bytes sent : List ℕ) → IsToldToLast told said → length (change_last (λ t. t ++ sent) told) ≡ length (said_also bytes said)
+part_length told said bytes sent is =
+    let told_now = ap (change_last (λ t. t ++ sent)) is.told_is ∙ change_last_push (λ t. t ++ sent) is.told_before is.last in
+    let said_now = ap (said_also bytes) is.said_is ∙ change_last_push (λ s. s ++ bytes) is.said_before is.last in
+    rw (told_now, said_now) (push_length is.told_before is.said_before (is.last ++ sent) (is.last ++ bytes) is.same_length)
+
+-- all that was said may be a part
+pub said_at_most : (t : ℕ) (said : List (List ℕ)) (d : Device) → SaidSince t said d → SaidAtMost t said d
+said_at_most t said d is = record {
+  since = is.since;
+  now = λ p left. (prefixes_of_whole p.told said (is.now p left), told_length p.told said (is.now p left));
+}
+
+-- a `say` that fails may have told a part of its bytes
+pub said_over_failed_say : (bytes : List ℕ) (t : ℕ) (said : List (List ℕ)) (old new : Device) → t ≤ old.moment → LinkCall (Tells false bytes) (Tells false bytes) false old new → SaidSince t said old → SaidAtMost t (said_also bytes said) new
+said_over_failed_say bytes t said old new le call is = record {
+  since = prefixes_over_say false bytes t said old new le call is;
+  now = λ p left.
+      let before = call.time.now p left in
+      let tells = before.2 in
+      let whole = is.now before.0 before.1 in
+      (rw tells.told.2 (prefixes_told before.0.told said bytes tells.told.0 tells.told.1 whole), rw tells.told.2 (part_length before.0.told said bytes tells.told.0 whole));
+}
+
+-- a peer that comes was told nothing yet, whatever became of the connection before it
+pub said_over_next_peer : (t : ℕ) (said : List (List ℕ)) (old new : Device) → t ≤ old.moment → LinkCall AddsConnection AddsConnection true old new → SaidAtMost t said old → SaidSince t (said ++ [] ∷ []) new
+said_over_next_peer t said old new le call is = record {
+  since = λ p left. elim (call.time.since t p le left) [
+    | inl was ↦ prefixes_more p.told said [] (is.since p was)
+    | inr so_far ↦
+        let before = is.now so_far.0 so_far.1 in
+        rw so_far.2.told (prefixes_push so_far.0.told said [] [] before.1 before.0 ([], refl))
+  ];
+  now = λ p left.
+      let so_far = call.time.now p left in
+      let before = is.now so_far.0 so_far.1 in
+      record {
+        told_before = so_far.0.told;
+        said_before = said;
+        last = [];
+        told_is = so_far.2.told;
+        said_is = refl;
+        same_length = before.1;
+        prefixes = before.0;
+      };
+}
+
+prefixes_itself : (texts : List (List ℕ)) → ArePrefixes texts texts
+prefixes_itself [] = tt
+prefixes_itself (t ∷ texts) = (([], sym (append-nil t)), prefixes_itself texts)
+
+-- from now on, what an honest device was told counts as said
+pub said_from_now : (d : Device) → IsDevice d → d.honest ≡ true → d.tells ≡ true → SaidAtMost d.moment (told_by d) d
+said_from_now d law honest tells = record {
+  since = λ p left. rw (law.told honest tells p left) (prefixes_itself (told_by d));
+  now = λ p left. (rw (law.told honest tells p left) (prefixes_itself (told_by d)), ap length (law.told honest tells p left));
+}
+
+-- a call that tells nothing, as a disk call, a `hear` or the end of a connection, leaves it so
+pub said_over_quiet_call : (within ended : Left → Left → Type 0) (t : ℕ) (said : List (List ℕ)) (old new : Device) → KeepsTold within → KeepsTold ended → t ≤ old.moment → Elapses within ended old new → SaidAtMost t said old → SaidAtMost t said new
+said_over_quiet_call within ended t said old new so_far_keeps keeps le time is = record {
+  since = λ p left. elim (time.since t p le left) [
+    | inl was ↦ is.since p was
+    | inr so_far ↦ rw (so_far_keeps so_far.0 p so_far.2) ((is.now so_far.0 so_far.1).0)
+  ];
+  now = λ p left.
+      let before = time.now p left in
+      rw (keeps before.0 p before.2) (is.now before.0 before.1);
+}

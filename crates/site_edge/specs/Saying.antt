@@ -34,6 +34,11 @@ pub record SaidSince (t : ℕ) (said : List (List ℕ)) (d : Device) : Type 0 wh
   pub since : (p : Left) → d.left_since t p → ArePrefixes p.told said
   pub now : (p : Left) → may_leave d p → IsToldToLast p.told said
 
+-- The same of a last connection that may have been told only a part of what was said on it.
+pub record SaidAtMost (t : ℕ) (said : List (List ℕ)) (d : Device) : Type 0 where
+  pub since : (p : Left) → d.left_since t p → ArePrefixes p.told said
+  pub now : (p : Left) → may_leave d p → ArePrefixes p.told said × (length p.told ≡ length said)
+
 -- a step that tells nothing
 abbrev pub KeepsTold : (Left → Left → Type 0) → Type 0
 KeepsTold step = (old new : Left) → step old new → new.told ≡ old.told
