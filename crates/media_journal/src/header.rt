@@ -9,6 +9,12 @@ use disk_trait::{Disk, Failed, same_bytes};
 /// The bytes of a block.
 pub const BLOCK: u64 = 4096;
 
+/// The most blocks of a file.
+pub const MOST_BLOCKS: u64 = 1_073_741_824;
+
+/// The most blocks of a half.
+pub const MOST_HALF: u64 = 65_536;
+
 /// What a header says: the blocks of the file, the blocks of a half, and the store's id.
 #[derive(Clone, Copy, Debug, PartialEq, Eq)]
 pub struct Header {
@@ -23,8 +29,8 @@ impl Header {
         ensures { IsTrue result ↔ AreSizes self.now size }
     {
         1 <= self.half
-            && self.half <= 65536
-            && self.blocks <= 1073741824
+            && self.half <= MOST_HALF
+            && self.blocks <= MOST_BLOCKS
             && 2 * self.half + 3 <= self.blocks
             && BLOCK * self.blocks <= size
     }

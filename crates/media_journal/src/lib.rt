@@ -17,7 +17,7 @@ mod tests;
 pub use crate::fault::{AppendFault, FormatFault, JournalFault};
 pub use crate::format::format_device;
 pub use crate::frame::Frame;
-pub use crate::header::Header;
+pub use crate::header::{BLOCK, Header, MOST_BLOCKS, MOST_HALF};
 pub use crate::journal::Journal;
 pub use crate::open::{Opened, open_journal};
 pub use crate::record::{Record, RecordList};

@@ -2,6 +2,9 @@
 ghost use Rattle.std.specs.Prelude.{◌≡◌, ◌∷◌, ◌++◌, [], ℕ, List, Bool, true};
 ghost use Rattle.site_edge.specs.Clocks.{IsMoment};
 
+/// The last moment: 9999-12-31T23:59:59Z.
+pub const LAST_MOMENT: u64 = 253_402_300_799;
+
 /// A clock answers moments: whole seconds since 1970-01-01T00:00:00Z, up to the year 9999.
 pub trait Clock {
     /// Whether it tells the moments that it gave.

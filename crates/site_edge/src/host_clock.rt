@@ -3,14 +3,11 @@ ghost use Rattle.std.specs.Prelude.{◌≡◌, ◌/◌, [], false, min, IfOk, On
 ghost use Rattle.std.specs.Duration.{as_nanos};
 ghost use Rattle.site_edge.specs.Clocks.{IsMoment};
 
-use crate::Clock;
+use crate::{Clock, LAST_MOMENT};
 use std::io;
 use std::marker::Model;
 use std::rt::Clock as MachineClock;
 use std::time::Duration;
-
-/// The last second of the year 9999.
-const LAST_MOMENT: u64 = 253_402_300_799;
 
 const NANOS_PER_SECOND: u64 = 1_000_000_000;
 

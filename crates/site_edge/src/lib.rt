@@ -20,7 +20,7 @@ mod tally;
 #[cfg(test)]
 mod tests;
 
-pub use crate::clock::Clock;
+pub use crate::clock::{Clock, LAST_MOMENT};
 pub use crate::fault::{FileFailed, LinkFailed, SinkFailed};
 pub use crate::file_site::FileSite;
 pub use crate::host_clock::HostClock;

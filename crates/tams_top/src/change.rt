@@ -5,6 +5,7 @@ ghost use Rattle.tams_top.specs.declared.change.Change.{Change};
 
 use disk_trait::numbers::{read_u64, read_u128, u64_bytes, u128_bytes};
 use disk_trait::same_bytes;
+use site_edge::LAST_MOMENT;
 
 /// The PUT of a video flow at a moment.
 #[derive(Clone, Copy, Debug, PartialEq, Eq)]
@@ -14,9 +15,6 @@ pub struct Change {
     pub flow: u128,
     pub source: u128,
 }
-
-/// 9999-12-31T23:59:59Z.
-const LAST_MOMENT: u64 = 253_402_300_799;
 
 impl Change {
     /// The change in bytes.

@@ -143,7 +143,6 @@ fn store_of(alloc: Global, opened: Opened) -> Result<Store, StoreFault>
 }
 
 /// The rows of the empty library.
-#[tactic(auto, unfolding(crate::specs::Store::empty_rows))]
 pub(crate) fn empty_rows() -> [u8; 13]
     ensures { result ≡ empty_rows }
 {

@@ -4,18 +4,10 @@ ghost use Rattle.tams_top.specs.Words.{IsPlain, IsNumber, id_of, IsBaseByte, Has
 ghost use Rattle.tams_top.specs.declared.words.Command.{Command};
 
 use disk_trait::{Memory, Text, TextList, same_bytes};
+use media_journal::{BLOCK, MOST_BLOCKS, MOST_HALF};
 use std::alloc::Global;
 use std::str;
 use uuid::Uuid;
-
-/// Bytes of a block.
-const BLOCK: u64 = 4096;
-
-/// The most blocks that a store may have.
-const MOST_BLOCKS: u64 = 1_073_741_824;
-
-/// The most blocks that a half may have.
-const MOST_HALF: u64 = 65_536;
 
 /// Bytes of the shortest address, and of the longest.
 const LEAST_BASE: usize = 8;

@@ -1,0 +1,9 @@
+use Rattle.std.proofs.Common.{refl}
+use Rattle.disk_trait.specs.Numbers.{u32_bytes, u64_bytes}
+use Rattle.tams_top.specs.Store.{empty_rows}
+use Rattle.tams_top.proofs.store.empty_rows.Goals as goal
+
+-- The fields' bytes are those of the numbers.
+pub returns : goal.returns
+unfolding empty_rows u32_bytes u64_bytes
+returns c = refl
