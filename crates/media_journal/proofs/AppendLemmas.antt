@@ -28,7 +28,7 @@ unfolding frame_text
 gate-frame_text payload = let four = length-u32_bytes (length payload) in grind (arith, places)
 
 -- each half begins behind the first two blocks
-active_start-least : (image : List ℕ) (half : ℕ) → 8192 ≤ active_start image half
+pub active_start-least : (image : List ℕ) (half : ℕ) → 8192 ≤ active_start image half
 active_start-least image half =
     elim (slice_index image 4096 % 2 == 0) as (λ b. 8192 ≤ (if b then 8192 else 8192 + 4096 * half)) [ true ↦ omega arith | false ↦ omega arith ]
 

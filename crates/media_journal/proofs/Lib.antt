@@ -1,8 +1,10 @@
 mod AppendLemmas
 mod ChainLemmas
+mod CrashLemmas
 mod FormattingLemmas
 mod FrameLemmas
 mod HeaderLemmas
+mod MomentLemmas
 pub mod OpeningLemmas
 pub mod ReadingLemmas
 mod ScanLemmas

@@ -3,6 +3,7 @@ pub mod Journal
 pub mod Scan
 pub mod Answers
 pub mod Formatting
+pub mod Moments
 pub mod Opening
 pub use Rattle.disk_trait.specs.Device
 pub use Rattle.disk_trait.specs.Calls

@@ -1,10 +1,12 @@
 //! The journal behind the rows of the active half, to which records are added.
 ghost use Rattle.std.specs.Prelude.{◌≡◌, ◌≤◌, ◌<◌, ◌+◌, ◌*◌, ◌∷◌, ◌++◌, ◌↔◌, ◌^◌, [], ℕ, List, true, false, length, is_ok, OnOk, OnErr, IsErrOf};
-ghost use Rattle.disk_trait.specs.Calls.{DiskCalls, overwritten};
+ghost use Rattle.disk_trait.specs.Calls.{DiskCalls, Elapses, LeavesOnly, overwritten};
 ghost use Rattle.media_journal.specs.Journal.{Gives, after_append};
+ghost use Rattle.media_journal.specs.Moments.{AppendEnds, EachGives, GivesOneOf, KeepsOrAdds, RecordEnds, WithinRecord, with_payload};
 ghost use Rattle.media_journal.specs.declared.header.Header.{Header};
 ghost use Rattle.media_journal.specs.declared.record.Record.{Record};
 
+use crate::write::write_synced;
 use crate::{AppendFault, Frame};
 use disk_trait::{Disk, Failed};
 use std::marker::Model;
@@ -57,6 +59,30 @@ impl Journal {
         ensures handed { (D.device disk.old).tells ≡ true → OnOk result
             ((D.device disk.new).handed ≡ (D.device disk.old).handed + (length frame.now + 6)) }
 
+        // At each moment of the call a crash leaves an image that gives the records as they were, or
+        // with the payload; after Ok nothing is pending, and each image has it. Other bytes may be
+        // pending at the start.
+        ensures moments { (D.device disk.old).honest ≡ true → (D.device disk.old).shows ≡ true
+            → (h : Header) (rows : List ℕ) (records : List Record)
+            → EachGives (D.device disk.old) self.old h rows records
+            → Elapses (KeepsOrAdds self.old frame.now h rows records)
+            (AppendEnds (is_ok result) self.old frame.now h rows records)
+            (D.device disk.old) (D.device disk.new) }
+        ensures acknowledged { (D.device disk.old).honest ≡ true → (D.device disk.old).shows ≡ true
+            → OnOk result ((h : Header) (rows : List ℕ) (records : List Record)
+            → EachGives (D.device disk.old) self.old h rows records
+            → EachGives (D.device disk.new) self.new h rows
+            (with_payload self.old frame.now records)) }
+        ensures durable { (D.device disk.old).honest ≡ true
+            → OnOk result (LeavesOnly (D.device disk.new).seen (D.device disk.new)) }
+
+        // After `Disk` a read gives the records as they were, or with the payload.
+        ensures left { (D.device disk.old).honest ≡ true → (D.device disk.old).shows ≡ true
+            → (D.device disk.old).tells ≡ true → IsErrOf result AppendFault.Disk
+            → (h : Header) (rows : List ℕ) (records : List Record)
+            → EachGives (D.device disk.old) self.old h rows records
+            → GivesOneOf (D.device disk.new).seen self.old frame.now h rows records }
+
         ensures calls { OnOk result (DiskCalls true (D.device disk.old) (D.device disk.new)) }
 
         // It doesn't give up by itself: the count of faults rose.
@@ -84,10 +110,14 @@ fn write_record<D: Disk>(disk: &mut D, gate: u64, frame: &[u8]) -> Result<(), Fa
         ≡ overwritten gate (1 ∷ []) (overwritten (gate + 1) frame.now (D.device disk.old).seen)) }
     ensures handed { (D.device disk.old).tells ≡ true → OnOk result
         ((D.device disk.new).handed ≡ (D.device disk.old).handed + (length frame.now + 1)) }
+    ensures durable { (D.device disk.old).honest ≡ true
+        → OnOk result (LeavesOnly (D.device disk.new).seen (D.device disk.new)) }
+    ensures moments { (D.device disk.old).honest ≡ true → (D.device disk.old).shows ≡ true
+        → Elapses (WithinRecord gate frame.now (D.device disk.old).seen)
+        (RecordEnds (is_ok result) gate frame.now (D.device disk.old).seen)
+        (D.device disk.old) (D.device disk.new) }
 {
-    disk.write_at(gate + 1, frame)?;
     // The frame has to be on the disk first: behind a gate that is open, what was there would count.
-    disk.sync()?;
-    disk.write_at(gate, &[1])?;
-    disk.sync()
+    write_synced(disk, gate + 1, frame)?;
+    write_synced(disk, gate, &[1])
 }

@@ -13,6 +13,7 @@ mod record;
 mod scan;
 #[cfg(test)]
 mod tests;
+mod write;
 
 pub use crate::fault::{AppendFault, FormatFault, JournalFault};
 pub use crate::format::format_device;
