@@ -1,3 +1,4 @@
+mod AnswerLemmas
 mod AppendLemmas
 mod ChainLemmas
 mod CrashLemmas

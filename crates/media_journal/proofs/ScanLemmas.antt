@@ -5,8 +5,7 @@ use Rattle.disk_trait.specs.Calls.{bytes_at}
 use Rattle.disk_trait.specs.Numbers.{u32_bytes}
 use Rattle.disk_trait.proofs.NumberLemmas.{length-u32_bytes, same_u32}
 use Rattle.disk_trait.proofs.OverwriteLemmas.{bytes_at-add, bytes_at-bytes_at}
-use Rattle.media_journal.specs.File.{IsOpenGate, IsRecordAt, record_text}
-use Rattle.media_journal.specs.Scan.{IsTornAt}
+use Rattle.media_journal.specs.File.{IsOpenGate, IsRecordAt, IsTornAt, record_text}
 
 -- one byte
 bytes_at-one : (image : List ℕ) (at : ℕ) → at < length image → bytes_at image at 1 ≡ get_or image at 0 ∷ []
@@ -39,5 +38,5 @@ record_length image at payload h =
 pub is_torn : (image : List ℕ) (at end n : ℕ) → n < 2 ^ 32 → IsOpenGate image at → u32_bytes n ≡ bytes_at image (at + 1) 4 → end < at + (6 + n) → IsTornAt image at end
 is_torn image at end n short gate prefix passes = record {
   gate = gate;
-  passes = λ payload h. let same : n ≡ length payload = same_u32 n (length payload) short h.short (prefix ∙ record_length image at payload h) in omega arith;
+  passes = λ m small text. let same : n ≡ m = same_u32 n m short small (prefix ∙ text) in omega arith;
 }

@@ -88,3 +88,33 @@ pub record Reads (image : List ℕ) (h : Header) (gate : ℕ) (rows : List ℕ) 
 -- the image doesn't read as a store
 abbrev pub IsUnreadable : List ℕ → Type 0
 IsUnreadable image = (h : Header) (gate : ℕ) (rows : List ℕ) (records : List Record) → Reads image h gate rows records → ⊥
+
+-- An open record stands at this place, and its end passes the half's end: no gate fits behind a payload
+-- of the length that it says.
+pub record IsTornAt (image : List ℕ) (at end : ℕ) : Type 0 where
+  pub gate : IsOpenGate image at
+  pub passes : (n : ℕ) → n < 2 ^ 32 → bytes_at image (at + 1) 4 ≡ u32_bytes n → end < at + (6 + n)
+
+-- A half that begins at one place and ends before another: its rows, its records, and the place of the
+-- torn record behind them.
+pub record HasTornHalf (image : List ℕ) (start end at : ℕ) (rows : List ℕ) (records : List Record) : Type 0 where
+  pub text : bytes_at image start (8 + length rows) ≡ rows_text rows
+  pub few : length rows < 2 ^ 64
+  pub chain : AreRecords image (start + (8 + length rows)) records at
+  pub torn : IsTornAt image at end
+  pub within : at < end
+
+-- A half that begins at one place and ends before another: it says a length of its rows with which no
+-- gate fits behind them.
+pub record HasLongRows (image : List ℕ) (start end : ℕ) : Type 0 where
+  pub size : ℕ
+  pub short : size < 2 ^ 64
+  pub text : bytes_at image start 8 ≡ u64_bytes size
+  pub passes : end < start + (9 + size)
+
+-- the image reads as a store up to a torn record: its header, and the rows and records of its active half
+-- before that place
+pub record ReadsTorn (image : List ℕ) (h : Header) (at : ℕ) (rows : List ℕ) (records : List Record) : Type 0 where
+  pub header : IsHeader image h
+  pub sizes : AreSizes h (length image)
+  pub half : HasTornHalf image (active_start image h.half) (active_start image h.half + 4096 * h.half) at rows records

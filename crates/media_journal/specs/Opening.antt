@@ -1,11 +1,10 @@
 -- What opening a journal answers.
-use Rattle.std.specs.Prelude.{◌≡◌, ◌≤◌, ◌+◌, ◌-◌, ◌*◌, if◌then◌else◌, ℕ, List, length, Option, Some, None, Result, Ok, Err}
+use Rattle.std.specs.Prelude.{◌≡◌, ◌≤◌, ◌+◌, ◌*◌, ◌⊎◌, ℕ, List, length, Option, Some, None, Result, Ok, Err}
 use Rattle.media_journal.specs.declared.header.Header.{Header}
 use Rattle.media_journal.specs.declared.open.Opened.{Opened}
-use Rattle.media_journal.specs.declared.scan.Half.{Half}
 use Rattle.media_journal.specs.declared.fault.JournalFault.{JournalFault}
 use Rattle.media_journal.specs.declared.fault.JournalFault.TheVariants.{NotStore, Damaged, Disk, Memory}
-use Rattle.media_journal.specs.File.{HasOpenHeader, IsHeader, AreSizes, active_start, IsUnreadable}
+use Rattle.media_journal.specs.File.{HasOpenHeader, IsHeader, AreSizes, HasLongRows, ReadsTorn, active_start}
 use Rattle.media_journal.specs.Journal.{Gives}
 
 -- a file of at least five blocks whose header is an open one
@@ -13,32 +12,41 @@ pub record IsStore (image : List ℕ) : Type 0 where
   pub size : 20480 ≤ length image
   pub header : HasOpenHeader image
 
+-- the header's numbers are none that the file may have
+pub record HasWrongSizes (image : List ℕ) : Type 0 where
+  pub header : Header
+  pub is : IsHeader image header
+  pub wrong : ¬ (AreSizes header (length image))
+
+-- the numbers are right, and the active half, which begins here, says a length of its rows that it hasn't
+-- room for
+pub record HasWrongRows (image : List ℕ) (start : ℕ) : Type 0 where
+  pub header : Header
+  pub is : IsHeader image header
+  pub sizes : AreSizes header (length image)
+  pub active : start ≡ active_start image header.half
+  pub long : HasLongRows image start (start + 4096 * header.half)
+
+-- The offset at which the image of a store is damaged, as far as its records' payloads and its rows aren't
+-- looked into: that of the header's numbers, or that of the active half.
+abbrev pub DamagedAt : List ℕ → ℕ → Type 0
+DamagedAt image at = ((at ≡ 8) × HasWrongSizes image) ⊎ HasWrongRows image at
+
 -- the numbers of the header that was read
 abbrev pub header_of : Opened → Header
 header_of o = record { blocks = o.blocks; half = o.half; id = o.id }
 
--- what is opened of a header and its half
-abbrev pub opened_of : Header → ℕ → Half → Opened
-opened_of h start half = record {
-  journal = record {
-    blocks = h.blocks;
-    start = start;
-    gate = half.chain.gate;
-    room = if half.chain.torn then 0 else (start + 4096 * h.half) - half.chain.gate;
-  };
-  rows = half.rows;
-  found = half.chain.records;
-  torn = if half.chain.torn then Some half.chain.gate else None;
-  blocks = h.blocks;
-  half = h.half;
-  id = h.id;
-  rows_at = start + 8;
-}
+-- The image reads up to a torn record, and has the rows and records that were opened before it. The
+-- journal ends there and has no room.
+pub record OpensTorn (image : List ℕ) (o : Opened) (at : ℕ) : Type 0 where
+  pub reads : ReadsTorn image (header_of o) at o.rows o.found
+  pub gate : o.journal.gate ≡ at
+  pub room : o.journal.room ≡ 0
 
--- the image reads as what was opened, or an open record of it is torn and it doesn't read at all
+-- what the image reads as: all that was opened, or what was opened before a torn record
 abbrev pub OpenedHalf : List ℕ → Opened → Option ℕ → Type 0
 OpenedHalf image o None = Gives image o.journal (header_of o) o.rows o.found
-OpenedHalf image o (Some at) = (at ≡ o.journal.gate) × (o.journal.room ≡ 0) × IsUnreadable image
+OpenedHalf image o (Some at) = OpensTorn image o at
 
 -- what was opened of the image of a store
 pub record IsOpened (image : List ℕ) (o : Opened) : Type 0 where
@@ -50,11 +58,11 @@ pub record IsOpened (image : List ℕ) (o : Opened) : Type 0 where
   pub rows_at : o.rows_at ≡ active_start image o.half + 8
   pub half : OpenedHalf image o o.torn
 
--- what opening answers over an image: `NotStore` where it is no store, and `Damaged` only where it
--- doesn't read
+-- What opening answers over an image: `NotStore` where it is no store, `Damaged` with the offset at which
+-- it is damaged, and otherwise what was opened.
 abbrev pub OpenAnswer : List ℕ → Result Opened JournalFault → Type 0
 OpenAnswer image (Ok o) = IsOpened image o
 OpenAnswer image (Err NotStore) = ¬ (IsStore image)
-OpenAnswer image (Err (Damaged at)) = IsStore image × IsUnreadable image
+OpenAnswer image (Err (Damaged at)) = IsStore image × DamagedAt image at
 OpenAnswer image (Err Disk) = Unit {0}
 OpenAnswer image (Err Memory) = Unit {0}

@@ -1,17 +1,14 @@
 -- What a scan of a half finds, from one place on.
-use Rattle.std.specs.Prelude.{◌<◌, ◌≤◌, ◌+◌, ℕ, Bool, true, false, List, length, Result, Ok, Err}
+use Rattle.std.specs.Prelude.{◌≡◌, ◌<◌, ◌≤◌, ◌+◌, ◌*◌, ℕ, Bool, true, false, List, length, Result, Ok, Err}
+use Rattle.media_journal.specs.declared.header.Header.{Header}
 use Rattle.media_journal.specs.declared.record.Record.{Record}
 use Rattle.media_journal.specs.declared.scan.Found.{Found}
 use Rattle.media_journal.specs.declared.scan.Found.TheVariants.{Closed, Torn, Whole}
 use Rattle.media_journal.specs.declared.fault.JournalFault.{JournalFault}
 use Rattle.media_journal.specs.declared.fault.JournalFault.TheVariants.{NotStore, Damaged, Disk, Memory}
 use Rattle.media_journal.specs.declared.scan.Half.{Half}
-use Rattle.media_journal.specs.File.{IsOpenGate, IsClosedGate, IsRecordAt, AreRecords, HasHalf}
-
--- an open record stands at this place, and its end passes the half's end
-pub record IsTornAt (image : List ℕ) (at end : ℕ) : Type 0 where
-  pub gate : IsOpenGate image at
-  pub passes : (payload : List ℕ) → IsRecordAt image at payload → end ≤ at + (5 + length payload)
+use Rattle.media_journal.specs.File.{IsClosedGate, IsTornAt, IsRecordAt, AreRecords, HasHalf, HasTornHalf, HasLongRows, IsHeader, AreSizes, active_start}
+use Rattle.media_journal.specs.Opening.{IsStore}
 
 -- what stands at this place of a half
 abbrev pub FoundAt : List ℕ → ℕ → ℕ → Found → Type 0
@@ -36,19 +33,23 @@ pub record IsChain (image : List ℕ) (from end gate : ℕ) (torn : Bool) (recor
   pub within : gate < end
   pub ends : EndsAt image gate end torn
 
--- no rows and records stand between these places
-abbrev pub HasNoHalf : List ℕ → ℕ → ℕ → Type 0
-HasNoHalf image start end = (gate : ℕ) (rows : List ℕ) (records : List Record) → HasHalf image start end gate rows records → ⊥
-
--- what was found between these places, where the records ended at a closed gate or at a torn record
+-- what was found between these places, where the records ended at a torn record or at a closed gate
 abbrev pub HalfFound : List ℕ → ℕ → ℕ → ℕ → List ℕ → List Record → Bool → Type 0
-HalfFound image start end gate rows records true = HasNoHalf image start end
+HalfFound image start end gate rows records true = HasTornHalf image start end gate rows records
 HalfFound image start end gate rows records false = HasHalf image start end gate rows records
 
 -- what is read of a half
 abbrev pub HalfAnswer : List ℕ → ℕ → ℕ → Result Half JournalFault → Type 0
 HalfAnswer image start end (Ok half) = HalfFound image start end half.chain.gate half.rows half.chain.records half.chain.torn
 HalfAnswer image start end (Err NotStore) = ⊥
-HalfAnswer image start end (Err (Damaged at)) = HasNoHalf image start end
+HalfAnswer image start end (Err (Damaged at)) = (at ≡ start) × HasLongRows image start end
 HalfAnswer image start end (Err Disk) = Unit {0}
 HalfAnswer image start end (Err Memory) = Unit {0}
+
+-- what was read of an image: the header of a store, and its active half
+pub record HasParts (image : List ℕ) (h : Header) (start : ℕ) (half : Half) : Type 0 where
+  pub store : IsStore image
+  pub header : IsHeader image h
+  pub sizes : AreSizes h (length image)
+  pub start_is : start ≡ active_start image h.half
+  pub found : HalfFound image start (start + 4096 * h.half) half.chain.gate half.rows half.chain.records half.chain.torn

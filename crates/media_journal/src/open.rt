@@ -1,9 +1,11 @@
 //! Opening the journal of a store.
-ghost use Rattle.std.specs.Prelude.{◌≡◌, ◌≤◌, ◌<◌, ◌+◌, ◌*◌, true, length, is_ok, IfOk};
+ghost use Rattle.std.specs.Prelude.{◌≡◌, ◌≤◌, ◌<◌, ◌+◌, ◌*◌, ℕ, List, true, length, is_ok, IfOk};
 ghost use Rattle.disk_trait.specs.Calls.{DiskReads};
 ghost use Rattle.media_journal.specs.Answers.{not_disk};
 ghost use Rattle.media_journal.specs.File.{active_start};
-ghost use Rattle.media_journal.specs.Opening.{OpenAnswer, opened_of};
+ghost use Rattle.media_journal.specs.Opening.{IsOpened, OpenAnswer, header_of};
+ghost use Rattle.media_journal.specs.Readings.{HasOneReading, HasOneTornReading, HasOneAnswer, TornIsUnreadable, DamagedIsUnreadable};
+ghost use Rattle.media_journal.specs.Scan.{HasParts};
 
 use crate::header::{BLOCK, read_header};
 use crate::scan::{Half, read_half};
@@ -83,7 +85,9 @@ fn assembled(header: Header, start: u64, half: Half) -> Opened
     requires blocks { header.blocks ≤ 1073741824 }
     requires fits { 2 * header.half + 3 ≤ header.blocks }
     requires within { half.chain.gate < start + 4096 * header.half }
-    ensures { result ≡ opened_of header start half }
+    ensures header { header_of result ≡ header }
+    ensures blocks { result.journal.blocks ≡ header.blocks }
+    ensures opened { (image : List ℕ) → HasParts image header start half → IsOpened image result }
 {
     let Half { rows, chain } = half;
     let end = start + BLOCK * header.half;
@@ -103,3 +107,13 @@ fn assembled(header: Header, start: u64, half: Half) -> Opened
         rows_at: start + 8,
     }
 }
+
+/// That an image reads in at most one way, and that opening has at most one answer to it but a fault of
+/// the device and want of memory. It does nothing: its clauses are the law.
+pub fn one_reading()
+    ensures whole { (image : List ℕ) → HasOneReading image }
+    ensures torn { (image : List ℕ) → HasOneTornReading image }
+    ensures torn_or_whole { (image : List ℕ) → TornIsUnreadable image }
+    ensures damaged { (image : List ℕ) → DamagedIsUnreadable image }
+    ensures answer { (image : List ℕ) → HasOneAnswer image }
+{}

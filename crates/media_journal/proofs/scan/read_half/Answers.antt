@@ -1,11 +1,11 @@
-use Rattle.std.proofs.Common.{◌≡◌, ◌+◌, ◌∙◌, arith}
-use Rattle.media_journal.proofs.ReadingLemmas.{half_found, no_half-long}
+use Rattle.std.proofs.Common.{◌≡◌, ◌+◌, ◌∙◌, refl, sym, arith}
+use Rattle.media_journal.proofs.ReadingLemmas.{half_found}
 use Rattle.media_journal.proofs.scan.read_half.Goals as goal
 
 -- No rows of such a length fit the half.
 pub returns-then-length-end-clause-half : goal.returns-then-length-end-clause-half
 returns-then-length-end-clause-half g c = λ shows.
-    no_half-long _ _ _ c.in_ok-length.length c.in_ok-length.ensures.short (c.in_ok-length.ensures.length shows) (omega arith)
+    (refl, record { size = c.in_ok-length.length; short = c.in_ok-length.ensures.short; text = sym (c.in_ok-length.ensures.length shows); passes = omega arith })
 
 -- The length, the rows and the records were read from the image.
 pub returns-clause-half : goal.returns-clause-half

@@ -1,0 +1,41 @@
+-- That an image reads in one way, and is answered in one way.
+use Rattle.std.specs.Prelude.{◌≡◌, ℕ, List, Result, Ok, Err}
+use Rattle.media_journal.specs.declared.header.Header.{Header}
+use Rattle.media_journal.specs.declared.record.Record.{Record}
+use Rattle.media_journal.specs.declared.open.Opened.{Opened}
+use Rattle.media_journal.specs.declared.fault.JournalFault.{JournalFault}
+use Rattle.media_journal.specs.declared.fault.JournalFault.TheVariants.{NotStore, Damaged, Disk, Memory}
+use Rattle.media_journal.specs.File.{Reads, ReadsTorn, IsUnreadable}
+use Rattle.media_journal.specs.Opening.{DamagedAt, OpenAnswer}
+
+-- two readings of an image are one: their headers, the places of their closed gates, their rows and their
+-- records
+abbrev pub HasOneReading : List ℕ → Type 0
+HasOneReading image =
+    (h j : Header) (gate at : ℕ) (rows other : List ℕ) (records found : List Record) → Reads image h gate rows records → Reads image j at other found → (j ≡ h) × (at ≡ gate) × (other ≡ rows) × (found ≡ records)
+
+-- the same of two that end at a torn record
+abbrev pub HasOneTornReading : List ℕ → Type 0
+HasOneTornReading image =
+    (h j : Header) (torn at : ℕ) (rows other : List ℕ) (records found : List Record) → ReadsTorn image h torn rows records → ReadsTorn image j at other found → (j ≡ h) × (at ≡ torn) × (other ≡ rows) × (found ≡ records)
+
+-- an image that reads up to a torn record doesn't read
+abbrev pub TornIsUnreadable : List ℕ → Type 0
+TornIsUnreadable image = (h : Header) (at : ℕ) (rows : List ℕ) (records : List Record) → ReadsTorn image h at rows records → IsUnreadable image
+
+-- nor does one that is damaged
+abbrev pub DamagedIsUnreadable : List ℕ → Type 0
+DamagedIsUnreadable image = (at : ℕ) → DamagedAt image at → IsUnreadable image
+
+-- the image decides the answer: no call of the device failed, and there was memory
+abbrev pub IsDecided : Result Opened JournalFault → Type 0
+IsDecided (Ok o) = Unit {0}
+IsDecided (Err NotStore) = Unit {0}
+IsDecided (Err (Damaged at)) = Unit {0}
+IsDecided (Err Disk) = ⊥
+IsDecided (Err Memory) = ⊥
+
+-- two answers that the image decides are one
+abbrev pub HasOneAnswer : List ℕ → Type 0
+HasOneAnswer image =
+    (answer other : Result Opened JournalFault) → IsDecided answer → IsDecided other → OpenAnswer image answer → OpenAnswer image other → other ≡ answer
