@@ -1,36 +1,52 @@
 -- What was opened of an image decides for which state it stands.
-use Rattle.std.proofs.Common.{◌≡◌, ◌≢◌, ℕ, List, None, Err, sym, subst}
+use Rattle.std.proofs.Common.{◌≡◌, ◌≢◌, ℕ, List, Some, None, Err, sym, subst}
 use Rattle.media_journal.specs.declared.header.Header.{Header}
 use Rattle.media_journal.specs.declared.record.Record.{Record}
 use Rattle.media_journal.specs.declared.open.Opened.{Opened}
+use Rattle.media_journal.specs.declared.fault.JournalFault.{JournalFault}
+use Rattle.media_journal.specs.declared.fault.JournalFault.TheVariants as journal
 use Rattle.media_journal.specs.Journal.{Gives}
-use Rattle.media_journal.specs.Opening.{IsOpened, OpenedHalf, header_of}
-use Rattle.media_journal.proofs.ReadingLemmas.{one_reading}
+use Rattle.media_journal.specs.Opening.{IsOpened, OpenedHalf, OpenAnswer, header_of}
+use Rattle.media_journal.proofs.OpeningLemmas.{damaged_unreadable}
+use Rattle.media_journal.proofs.ReadingLemmas.{one_reading, torn_or_whole}
 use Rattle.tams_top.specs.declared.library.Library.{Library}
 use Rattle.tams_top.specs.declared.store.StoreFault.{StoreFault}
 use Rattle.tams_top.specs.declared.store.StoreFault.TheVariants.{Damaged, Memory}
 use Rattle.tams_top.specs.Library.{empty_library}
 use Rattle.tams_top.specs.Store.{Folds, empty_rows}
-use Rattle.tams_top.specs.Opening.{StandsForNone}
+use Rattle.tams_top.specs.Opening.{StandsForNone, StoreAnswer}
 use Rattle.tams_top.specs.Folding.{IsFoldRefused, PartAnswer}
 
 -- what the image gives where no record is torn
 gives_of : (image : List ℕ) (o : Opened) → o.torn ≡ None → IsOpened image o → Gives image o.journal (header_of o) o.rows o.found
 gives_of image o whole is = subst (OpenedHalf image o) whole is.half
 
+-- a fault in opening the journal
+pub store_fault : (image : List ℕ) (fault : JournalFault) → OpenAnswer image (Err fault) → StoreAnswer image (Err fault)
+store_fault image journal.NotStore none = none
+store_fault image (journal.Damaged at) damage = (damage.0, λ s stands. damaged_unreadable image at damage.1 _ _ _ _ stands.reads)
+store_fault image journal.Disk fault = tt
+store_fault image journal.Memory fault = tt
+
+-- a half whose records are torn
+pub no_state-torn : (image : List ℕ) (o : Opened) (at : ℕ) → o.torn ≡ Some at → IsOpened image o → StandsForNone image
+no_state-torn image o at torn is s stands =
+    let half = subst (OpenedHalf image o) torn is.half in
+    torn_or_whole image _ _ _ _ _ _ _ _ half.reads stands.reads
+
 -- other rows than those of the empty library
 pub no_state-rows : (image : List ℕ) (o : Opened) → o.torn ≡ None → IsOpened image o → o.rows ≢ empty_rows → StandsForNone image
 no_state-rows image o whole is other s stands =
     let gives = gives_of image o whole is in
     let same = one_reading image _ _ _ _ _ _ _ _ gives.reads stands.reads in
-    other (sym same.1)
+    other (sym same.2)
 
 -- records that fold to no library
 pub no_state-fold : (image : List ℕ) (o : Opened) → o.torn ≡ None → IsOpened image o → ((to : Library) → Folds o.found (empty_library (header_of o)) to → ⊥) → StandsForNone image
 no_state-fold image o whole is refused s stands =
     let gives = gives_of image o whole is in
     let same = one_reading image _ _ _ _ _ _ _ _ gives.reads stands.reads in
-    let found = subst (λ (rs : List Record). Folds rs (empty_library stands.header) s.library) same.2 stands.folds in
+    let found = subst (λ (rs : List Record). Folds rs (empty_library stands.header) s.library) same.3 stands.folds in
     refused s.library (subst (λ (h : Header). Folds o.found (empty_library h) s.library) same.0 found)
 
 pub part_fault : (image : List ℕ) (o : Opened) (fault : StoreFault) → o.torn ≡ None → IsOpened image o → IsFoldRefused o.found (empty_library (header_of o)) fault → PartAnswer image (Err fault)

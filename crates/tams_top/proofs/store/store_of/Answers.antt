@@ -2,8 +2,12 @@ use Rattle.std.proofs.Common.{◌≢◌, sym, ◌∙◌}
 use Rattle.std.proofs.lemmas.Bool.{false≢true}
 use Rattle.std.proofs.lemmas.Result.{err_from_is_err_and}
 use Rattle.tams_top.specs.Store.{empty_rows}
-use Rattle.tams_top.proofs.OpenLemmas.{no_state-rows, part_fault}
+use Rattle.tams_top.proofs.OpenLemmas.{no_state-torn, no_state-rows, part_fault}
 use Rattle.tams_top.proofs.store.store_of.Goals as goal
+
+-- A record of the half is torn.
+pub returns-in-Some-clause-answer : goal.returns-in-Some-clause-answer
+returns-in-Some-clause-answer c = λ image is. no_state-torn image c.args.opened c.in-Some.at c.in-Some.is is
 
 -- The rows are other ones.
 pub returns-then-not-same_bytes-clause-answer : goal.returns-then-not-same_bytes-clause-answer
