@@ -1,5 +1,6 @@
 //! The bytes of a record's one write.
-ghost use Rattle.std.specs.Prelude.{◌≡◌, ◌<◌, ◌+◌, ◌^◌, IfOk, length};
+ghost use Rattle.std.specs.Prelude.{◌≡◌, ◌<◌, ◌≤◌, ◌+◌, ◌^◌, IfOk, length, vec_len};
+ghost use Rattle.disk_trait.specs.Calls.{overwritten};
 ghost use Rattle.media_journal.specs.Journal.{frame_text};
 
 use disk_trait::Memory;
@@ -36,6 +37,14 @@ impl Frame {
         Ok(Frame { bytes })
     }
 
+    /// Puts these bytes over those of the payload from this place on. It takes no memory.
+    pub fn fill(&mut self, at: usize, bytes: &[u8])
+        requires { at + length bytes.now ≤ length self.old }
+        ensures { self.new ≡ overwritten at bytes.now self.old }
+    {
+        put_over(&mut self.bytes, 4 + at, bytes);
+    }
+
     /// The bytes of the one write.
     pub(crate) fn bytes(&self) -> &[u8]
         ensures text { result.now ≡ frame_text self.now }
@@ -44,6 +53,15 @@ impl Frame {
     {
         &self.bytes
     }
+}
+
+/// Puts these bytes over others from this place on.
+fn put_over(frame: &mut Vec<u8>, at: usize, bytes: &[u8])
+    requires { at + length bytes.now ≤ vec_len frame.old }
+    ensures { frame.new.items ≡ overwritten at bytes.now frame.old.items }
+{
+    let _size = frame.len();
+    frame[at..at + bytes.len()].copy_from_slice(bytes);
 }
 
 #[tactic(auto, unfolding(crate::specs::Journal::frame_text))]
