@@ -7,3 +7,4 @@ mod HeaderLemmas
 pub mod OpeningLemmas
 pub mod ReadingLemmas
 mod ScanLemmas
+mod WindowLemmas

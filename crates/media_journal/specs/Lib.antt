@@ -5,6 +5,7 @@ pub mod Answers
 pub mod Formatting
 pub mod Opening
 pub mod Readings
+pub mod Window
 pub use Rattle.disk_trait.specs.Device
 pub use Rattle.disk_trait.specs.Calls
 pub use Rattle.disk_trait.specs.Numbers
