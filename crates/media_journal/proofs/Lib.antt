@@ -9,3 +9,4 @@ mod MomentLemmas
 pub mod OpeningLemmas
 pub mod ReadingLemmas
 mod ScanLemmas
+mod WindowLemmas

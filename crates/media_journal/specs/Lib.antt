@@ -6,6 +6,7 @@ pub mod Formatting
 pub mod Moments
 pub mod Opening
 pub mod Readings
+pub mod Window
 pub use Rattle.disk_trait.specs.Device
 pub use Rattle.disk_trait.specs.Calls
 pub use Rattle.disk_trait.specs.Numbers

@@ -9,10 +9,13 @@ mod frame;
 mod header;
 mod journal;
 mod open;
+#[cfg(test)]
+mod opening_tests;
 mod record;
 mod scan;
 #[cfg(test)]
 mod tests;
+mod window;
 mod write;
 
 pub use crate::fault::{AppendFault, FormatFault, JournalFault};

@@ -1,12 +1,14 @@
 //! The records of a half, read one after another up to the closed gate.
-ghost use Rattle.std.specs.Prelude.{◌≡◌, ◌<◌, ◌≤◌, ◌+◌, ◌^◌, ◌↔◌, true, is_ok, length, IfOk, IsTrue};
+ghost use Rattle.std.specs.Prelude.{◌≡◌, ◌<◌, ◌≤◌, ◌+◌, ◌^◌, ◌↔◌, true, is_ok, length, IfOk, IsTrue, OnOk};
 ghost use Rattle.disk_trait.specs.Calls.{DiskReads, bytes_at};
 ghost use Rattle.disk_trait.specs.Numbers.{u32_bytes, u64_bytes};
 ghost use Rattle.media_journal.specs.Answers.{not_disk, read_ok};
 ghost use Rattle.media_journal.specs.File.{IsOpenGate};
 ghost use Rattle.media_journal.specs.Scan.{FoundAt, EndsBefore, HalfAnswer, IsChain};
+ghost use Rattle.media_journal.specs.Window.{IsPieceOn};
 
 use crate::fault::ReadFault;
+use crate::window::Window;
 use crate::{JournalFault, Record, RecordList};
 use disk_trait::numbers::{read_u32, read_u64};
 use disk_trait::{Disk, Failed, Text};
@@ -38,7 +40,8 @@ pub(crate) struct Half {
     pub(crate) chain: Chain,
 }
 
-/// Reads the half between these places: `Damaged` at its start where the rows don't fit it.
+/// Reads the half between these places: `Damaged` at its start where the rows don't fit it. It is read in
+/// pieces of 64 KiB, up to the one in which the records end.
 pub(crate) fn read_half<D: Disk>(
     alloc: Global,
     disk: &mut D,
@@ -52,46 +55,50 @@ pub(crate) fn read_half<D: Disk>(
     ensures half { (D.device disk.old).shows ≡ true
         → HalfAnswer (D.device disk.old).seen start end result }
 {
-    let length = read_rows_length(disk, start)?;
+    let mut window = Window::new(alloc, end)?;
+    let length = read_rows_length(disk, &mut window, start)?;
     if length > end - start - 9 {
         return Err(JournalFault::Damaged(start));
     }
-    let rows = read_text(alloc, disk, start + 8, length)?;
-    let chain = read_chain(alloc, disk, start + 8 + length, end)?;
+    let rows = read_text(alloc, disk, &mut window, start + 8, length)?;
+    let chain = read_chain(alloc, disk, &mut window, start + 8 + length)?;
     Ok(Half { rows, chain })
 }
 
 /// The length of a half's rows, from the eight bytes at its start.
-fn read_rows_length<D: Disk>(disk: &mut D, start: u64) -> Result<u64, Failed>
-    requires { start + 8 ≤ (D.device disk.old).size }
+fn read_rows_length<D: Disk>(disk: &mut D, window: &mut Window, start: u64) -> Result<u64, Failed>
+    requires within { start + 8 ≤ window.old.end }
+    requires piece { IsPieceOn (D.device disk.old) window.old }
     ensures reads { DiskReads (is_ok result) (D.device disk.old) (D.device disk.new) }
+    ensures end { window.new.end ≡ window.old.end }
+    ensures piece { OnOk result (IsPieceOn (D.device disk.new) window.new) }
     ensures short { IfOk result (λ length. length < 2 ^ 64) }
     ensures length { (D.device disk.old).shows ≡ true
         → IfOk result (λ length. u64_bytes length ≡ bytes_at (D.device disk.old).seen start 8) }
 {
     let mut length = [0u8; 8];
-    disk.read_at(start, &mut length)?;
+    window.read_at(disk, start, &mut length)?;
     Ok(read_u64(&length))
 }
 
-/// Reads the records from one place of a half on, which ends before another.
+/// Reads the records from one place of a half on.
 pub(crate) fn read_chain<D: Disk>(
     alloc: Global,
     disk: &mut D,
+    window: &mut Window,
     from: u64,
-    end: u64,
 ) -> Result<Chain, ReadFault>
-    requires within { from < end }
-    requires device { end ≤ (D.device disk.old).size }
+    requires within { from < window.old.end }
+    requires piece { IsPieceOn (D.device disk.old) window.old }
     ensures reads { DiskReads (read_ok result) (D.device disk.old) (D.device disk.new) }
-    ensures within { IfOk result (λ c. c.gate < end) }
+    ensures within { IfOk result (λ c. c.gate < window.old.end) }
     ensures chain { (D.device disk.old).shows ≡ true → IfOk result
-        (λ c. IsChain (D.device disk.old).seen from end c.gate c.torn c.records) }
+        (λ c. IsChain (D.device disk.old).seen from window.old.end c.gate c.torn c.records) }
 {
     let mut records = RecordList::new(alloc);
     let mut at = from;
     'records: loop {
-        match read_record(alloc, disk, at, end)? {
+        match read_record(alloc, disk, window, at)? {
             Found::Closed => {
                 return Ok(Chain {
                     records,
@@ -119,67 +126,84 @@ pub(crate) fn read_chain<D: Disk>(
 }
 
 /// Reads what stands at this place.
-fn read_record<D: Disk>(alloc: Global, disk: &mut D, at: u64, end: u64) -> Result<Found, ReadFault>
-    requires within { at < end }
-    requires device { end ≤ (D.device disk.old).size }
+fn read_record<D: Disk>(
+    alloc: Global,
+    disk: &mut D,
+    window: &mut Window,
+    at: u64,
+) -> Result<Found, ReadFault>
+    requires within { at < window.old.end }
+    requires piece { IsPieceOn (D.device disk.old) window.old }
     ensures reads { DiskReads (read_ok result) (D.device disk.old) (D.device disk.new) }
-    ensures within { IfOk result (EndsBefore at end) }
+    ensures end { window.new.end ≡ window.old.end }
+    ensures piece { OnOk result (IsPieceOn (D.device disk.new) window.new) }
+    ensures within { IfOk result (EndsBefore at window.old.end) }
     ensures found { (D.device disk.old).shows ≡ true
-        → IfOk result (FoundAt (D.device disk.old).seen at end) }
+        → IfOk result (FoundAt (D.device disk.old).seen at window.old.end) }
 {
-    if !read_gate(disk, at)? {
+    if !read_gate(disk, window, at)? {
         return Ok(Found::Closed);
     }
-    let left = end - at;
+    let left = window.end() - at;
     if left < 6 {
         return Ok(Found::Torn);
     }
-    let length = read_length(disk, at + 1)?;
+    let length = read_length(disk, window, at + 1)?;
     if left - 6 < length {
         return Ok(Found::Torn);
     }
-    Ok(Found::Whole(read_text(alloc, disk, at + 5, length)?))
+    Ok(Found::Whole(read_text(alloc, disk, window, at + 5, length)?))
 }
 
 /// Reads so many bytes at this place into a text of their own.
-pub(crate) fn read_text<D: Disk>(
+fn read_text<D: Disk>(
     alloc: Global,
     disk: &mut D,
+    window: &mut Window,
     at: u64,
     count: u64,
 ) -> Result<Text, ReadFault>
-    requires { at + count ≤ (D.device disk.old).size }
+    requires within { at + count ≤ window.old.end }
+    requires piece { IsPieceOn (D.device disk.old) window.old }
     ensures reads { DiskReads (read_ok result) (D.device disk.old) (D.device disk.new) }
+    ensures end { window.new.end ≡ window.old.end }
+    ensures piece { OnOk result (IsPieceOn (D.device disk.new) window.new) }
     ensures count { IfOk result (λ text. length text ≡ count) }
     ensures text { (D.device disk.old).shows ≡ true
         → IfOk result (λ text. text ≡ bytes_at (D.device disk.old).seen at count) }
 {
     let mut bytes = vec![in alloc; 0u8; count as usize]?;
-    disk.read_at(at, bytes.as_mut_slice())?;
+    window.read_at(disk, at, bytes.as_mut_slice())?;
     Ok(Text::from_vec(bytes))
 }
 
 /// Whether the gate at this place is open.
-fn read_gate<D: Disk>(disk: &mut D, at: u64) -> Result<bool, Failed>
-    requires { at < (D.device disk.old).size }
+fn read_gate<D: Disk>(disk: &mut D, window: &mut Window, at: u64) -> Result<bool, Failed>
+    requires within { at < window.old.end }
+    requires piece { IsPieceOn (D.device disk.old) window.old }
     ensures reads { DiskReads (is_ok result) (D.device disk.old) (D.device disk.new) }
+    ensures end { window.new.end ≡ window.old.end }
+    ensures piece { OnOk result (IsPieceOn (D.device disk.new) window.new) }
     ensures gate { (D.device disk.old).shows ≡ true
         → IfOk result (λ is_open. IsTrue is_open ↔ IsOpenGate (D.device disk.old).seen at) }
 {
     let mut gate = [0u8];
-    disk.read_at(at, &mut gate)?;
+    window.read_at(disk, at, &mut gate)?;
     Ok(gate[0] == 1)
 }
 
 /// The length of a payload, from the four bytes at this place.
-fn read_length<D: Disk>(disk: &mut D, at: u64) -> Result<u64, Failed>
-    requires { at + 4 ≤ (D.device disk.old).size }
+fn read_length<D: Disk>(disk: &mut D, window: &mut Window, at: u64) -> Result<u64, Failed>
+    requires within { at + 4 ≤ window.old.end }
+    requires piece { IsPieceOn (D.device disk.old) window.old }
     ensures reads { DiskReads (is_ok result) (D.device disk.old) (D.device disk.new) }
+    ensures end { window.new.end ≡ window.old.end }
+    ensures piece { OnOk result (IsPieceOn (D.device disk.new) window.new) }
     ensures short { IfOk result (λ length. length < 2 ^ 32) }
     ensures length { (D.device disk.old).shows ≡ true
         → IfOk result (λ length. u32_bytes length ≡ bytes_at (D.device disk.old).seen at 4) }
 {
     let mut length = [0u8; 4];
-    disk.read_at(at, &mut length)?;
+    window.read_at(disk, at, &mut length)?;
     Ok(u64::from(read_u32(&length)))
 }

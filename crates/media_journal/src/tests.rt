@@ -5,7 +5,7 @@ use std::alloc::Global;
 use std::process::Abort;
 use std::test::Fail;
 
-const ID: u128 = 0x00000000_0000_4000_8000_000000000001;
+pub(crate) const ID: u128 = 0x00000000_0000_4000_8000_000000000001;
 
 /// The header of a store of 64 blocks with 8 of them a half, and its open gate.
 const HEADER: [u8; 41] = [
@@ -14,7 +14,7 @@ const HEADER: [u8; 41] = [
 ];
 
 /// The rows of the empty library.
-const ROWS: [u8; 13] = [8, 0, 0, 0, 8, 0, 0, 0, 0, 0, 0, 0, 1];
+pub(crate) const ROWS: [u8; 13] = [8, 0, 0, 0, 8, 0, 0, 0, 0, 0, 0, 0, 1];
 
 /// Half A with these rows and no record, up to its closed gate.
 const HALF: [u8; 22] = [
@@ -22,13 +22,13 @@ const HALF: [u8; 22] = [
 ];
 
 /// The first record of a library: one flow with nothing but its source and its format.
-const PAYLOAD: [u8; 58] = [
+pub(crate) const PAYLOAD: [u8; 58] = [
     1, 0, 0, 0, 0, 0, 0, 0, 0, 0, 0, 0, 0, 0, 0, 0x40, 0, 0x80, 0, 0, 0, 0, 0, 0, 0xf1, 0, 0, 0, 0,
     0, 0, 0x40, 0, 0x80, 0, 0, 0, 0, 0, 0, 0xa1, 1, 0, 0, 0, 0, 0, 0, 0, 0, 0, 0, 0, 0, 0, 0, 0, 0,
 ];
 
 /// A device of so many bytes, none of them 0 or 1.
-fn device(alloc: Global, length: usize) -> Result<MemoryDisk, Memory> {
+pub(crate) fn device(alloc: Global, length: usize) -> Result<MemoryDisk, Memory> {
     let bytes = Text::from_vec(vec![in alloc; 255u8; length]?);
     Ok(MemoryDisk::from_bytes(alloc, bytes, NumberList::new(alloc)))
 }
@@ -57,13 +57,8 @@ fn stands(disk: &MemoryDisk, at: usize, bytes: &[u8]) -> bool {
     }
 }
 
-/// What opening answers in the place of a journal.
-fn open_fault(alloc: Global, disk: &mut MemoryDisk) -> Option<JournalFault> {
-    open_journal(alloc, disk).err()
-}
-
 /// Opens a journal and appends a payload of 1 to 65,535 bytes.
-fn append_once(
+pub(crate) fn append_once(
     alloc: Global,
     disk: &mut MemoryDisk,
     payload: &[u8],
@@ -101,57 +96,6 @@ fn a_fresh_store_has_these_bytes(rt: HostRuntime) -> Result<(), Fail> {
     Ok(())
 }
 
-/// One row of a table of damage to a fresh store: the place, its new byte, and what opening answers.
-struct Damage {
-    at: usize,
-    byte: u8,
-    answer: Option<JournalFault>,
-}
-
-const DAMAGES: [Damage; 6] = [
-    Damage {
-        at: 7,
-        byte: 0x32,
-        answer: Some(JournalFault::NotStore),
-    },
-    Damage {
-        at: 40,
-        byte: 2,
-        answer: Some(JournalFault::NotStore),
-    },
-    Damage {
-        at: 23,
-        byte: 0,
-        answer: Some(JournalFault::Damaged(8)),
-    },
-    Damage {
-        at: 4096,
-        byte: 254,
-        answer: None,
-    },
-    Damage {
-        at: 4096,
-        byte: 255,
-        answer: Some(JournalFault::Damaged(40960)),
-    },
-    Damage {
-        at: 8192,
-        byte: 1,
-        answer: Some(JournalFault::Damaged(8192)),
-    },
-];
-
-#[test]
-fn damage_is_named(rt: HostRuntime) -> Result<(), Fail> {
-    let alloc = rt.alloc();
-    let disk = fresh_store(alloc)?;
-    for damage in &DAMAGES {
-        let mut damaged = changed(alloc, &disk, damage.at, damage.byte, 0)?;
-        assert_eq!(rt; open_fault(alloc, &mut damaged), damage.answer);
-    }
-    Ok(())
-}
-
 /// Whether a journal has this payload at this offset as its one record.
 fn holds(
     alloc: Global,
@@ -180,7 +124,7 @@ fn a_record_is_found_again(rt: HostRuntime) -> Result<(), Fail> {
 }
 
 /// One row of a table of appends to a half of one block with a room of 4,075 bytes: the length of the
-/// payload, the call that fails, the answer, and the room that is found afterwards. Opening makes five
+/// payload, the call that fails, the answer, and the room that is found afterwards. Opening makes three
 /// reads, and appending two writes with a sync behind each.
 struct Append {
     length: usize,
@@ -210,6 +154,18 @@ const APPENDS: [Append; 7] = [
     },
     Append {
         length: 1,
+        fail: 4,
+        answer: Some(AppendFault::Disk),
+        room: 4075,
+    },
+    Append {
+        length: 1,
+        fail: 5,
+        answer: Some(AppendFault::Disk),
+        room: 4075,
+    },
+    Append {
+        length: 1,
         fail: 6,
         answer: Some(AppendFault::Disk),
         room: 4075,
@@ -217,18 +173,6 @@ const APPENDS: [Append; 7] = [
     Append {
         length: 1,
         fail: 7,
-        answer: Some(AppendFault::Disk),
-        room: 4075,
-    },
-    Append {
-        length: 1,
-        fail: 8,
-        answer: Some(AppendFault::Disk),
-        room: 4075,
-    },
-    Append {
-        length: 1,
-        fail: 9,
         answer: Some(AppendFault::Disk),
         room: 4069,
     },
