@@ -8,3 +8,4 @@ mod MomentLemmas
 pub mod OpeningLemmas
 pub mod ReadingLemmas
 mod ScanLemmas
+mod StoreLemmas

@@ -12,6 +12,8 @@ mod open;
 mod record;
 mod scan;
 #[cfg(test)]
+mod stop_tests;
+#[cfg(test)]
 mod tests;
 mod write;
 
