@@ -235,15 +235,23 @@ const CLOSING: [Stop; 2] = [
     },
 ];
 
+/// The number of the first wrong row where a device is formatted each byte of which is this one.
+fn first_wrong_format(
+    alloc: Global,
+    byte: u8,
+    first: u64,
+    stops: &[Stop],
+) -> Result<Option<usize>, Fail> {
+    let mut disk = device(alloc, byte)?;
+    format_device(alloc, &mut disk, 5, 1, ID, &ROWS)?;
+    first_wrong(alloc, &disk, first, stops)
+}
+
 #[test]
 fn stopped_formatting_leaves_no_store_or_the_new_one(rt: HostRuntime) -> Result<(), Fail> {
     let alloc = rt.alloc();
-    let mut fresh = device(alloc, 255)?;
-    format_device(alloc, &mut fresh, 5, 1, ID, &ROWS)?;
-    assert_eq!(rt; first_wrong(alloc, &fresh, 2, &FORMAT)?, None);
-    let mut stray = device(alloc, 1)?;
-    format_device(alloc, &mut stray, 5, 1, ID, &ROWS)?;
-    assert_eq!(rt; first_wrong(alloc, &stray, 2, &CLOSING)?, None);
-    assert_eq!(rt; first_wrong(alloc, &stray, 4, &FORMAT)?, None);
+    assert_eq!(rt; first_wrong_format(alloc, 255, 2, &FORMAT)?, None);
+    assert_eq!(rt; first_wrong_format(alloc, 1, 2, &CLOSING)?, None);
+    assert_eq!(rt; first_wrong_format(alloc, 1, 4, &FORMAT)?, None);
     Ok(())
 }
