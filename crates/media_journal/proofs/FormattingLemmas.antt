@@ -5,19 +5,22 @@ use Rattle.std.proofs.Math.Seq.{take-append_seam, take-length}
 use Rattle.disk_trait.specs.Calls.{bytes_at, overwritten}
 use Rattle.disk_trait.specs.Numbers.{u64_bytes, u128_bytes}
 use Rattle.disk_trait.proofs.NumberLemmas.{length-u64_bytes, length-u128_bytes}
-use Rattle.disk_trait.proofs.OverwriteLemmas.{length-overwritten, get_or-before, get_or-behind, get_or-written, bytes_at-before, bytes_at-behind, bytes_at-written}
+use Rattle.disk_trait.proofs.OverwriteLemmas.{length-overwritten, get_or-before, get_or-behind, get_or-written, bytes_at-before, bytes_at-behind, bytes_at-written, get_or-bytes_at}
 use Rattle.media_journal.specs.declared.header.Header.{Header}
 use Rattle.media_journal.specs.declared.format.Gate.{Gate}
 use Rattle.media_journal.specs.declared.format.Gate.TheVariants.{Store, Stray, Closed}
 use Rattle.media_journal.specs.File.{magic, header_text, rows_text, active_start, Reads, HasOpenHeader}
-use Rattle.media_journal.specs.Formatting.{FitsStore, GateIs, IsFormatted, half_text, with_store}
+use Rattle.media_journal.specs.Formatting.{FitsStore, GateIs, IsFormatted, IsNewStore, half_text, with_store}
 use Rattle.media_journal.proofs.HeaderLemmas.{length-magic, has_front, front_has}
 
 -- what stands at the gate of the first 41 bytes, stands at the image's
 pub GateIs-front : (image : List ℕ) (gate : Gate) → GateIs (bytes_at image 0 41) gate → GateIs image gate
 GateIs-front image Store h = front_has image h
-GateIs-front image Stray h = λ has. h (has_front image has)
-GateIs-front image Closed h = λ has. h (has_front image has)
+GateIs-front image Stray h = record {
+  gate = sym (get_or-bytes_at image 0 41 40 0 (omega arith)) ∙ h.gate;
+  bare = λ has. h.bare (has_front image has);
+}
+GateIs-front image Closed h = λ one. h (get_or-bytes_at image 0 41 40 0 (omega arith) ∙ one)
 
 pub length-header_text : (h : Header) → length (header_text h) ≡ 40
 unfolding header_text
@@ -117,6 +120,9 @@ module _ (image : List ℕ) (h : Header) (rows : List ℕ) (fits : FitsStore h (
       ∙ get_or-written 8192 (half_text rows) with_selector half_fits (8 + length rows) 0 (omega (arith, length-half_text rows))
       ∙ gate-half_text rows
 
+  pub selector_formatted : get_or (with_store (header_text h) (half_text rows) image) 4096 0 ≡ 0
+  selector_formatted = selector_is
+
   -- it reads as the store that was asked for
   pub formatted : h.id < 2 ^ 128 → Reads (with_store (header_text h) (half_text rows) image) h (8192 + (8 + length rows)) rows []
   formatted id =
@@ -144,8 +150,14 @@ pub reads_formatted : (old new : List ℕ) (h : Header) (rows : List ℕ) → Fi
 reads_formatted old new h rows fits id is =
     rw is.store (formatted is.closed h rows (subst (λ (n : ℕ). FitsStore h n rows) (sym is.same_length) fits) id)
 
+pub is_new_store : (old new : List ℕ) (h : Header) (rows : List ℕ) → FitsStore h (length old) rows → h.id < 2 ^ 128 → IsFormatted (header_text h) (half_text rows) old new → IsNewStore new h rows
+is_new_store old new h rows fits id is = record {
+  reads = reads_formatted old new h rows fits id is;
+  selector = rw is.store (selector_formatted is.closed h rows (subst (λ (n : ℕ). FitsStore h n rows) (sym is.same_length) fits));
+}
+
 -- where the gate isn't that of a store, the header isn't an open one
 pub not_store : (image : List ℕ) (gate : Gate) → (gate ≡ Store → ⊥) → GateIs image gate → ¬ (HasOpenHeader image)
 not_store image Store other h = absurd (other refl)
-not_store image Stray other h = h
-not_store image Closed other h = h
+not_store image Stray other h = h.bare
+not_store image Closed other h = λ has. h has.gate

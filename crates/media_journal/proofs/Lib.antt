@@ -5,8 +5,9 @@ mod CrashLemmas
 mod FormattingLemmas
 mod FrameLemmas
 mod HeaderLemmas
-mod MomentLemmas
+pub mod MomentLemmas
 pub mod OpeningLemmas
 pub mod ReadingLemmas
 mod ScanLemmas
+mod StoreLemmas
 mod WindowLemmas

@@ -1,4 +1,4 @@
--- What a crash may leave over the writes of a record.
+-- What a crash may leave over calls of a device in a row.
 use Rattle.std.proofs.Common.{◌≡◌, ◌+◌, ℕ, Bool, true, false, List, [], ◌∷◌, length, Result, Ok, Err, is_ok, OnOk, inl, inr, subst, sym, ◌∙◌}
 use Rattle.disk_trait.specs.Device.{Device, Left, may_leave}
 use Rattle.disk_trait.specs.Calls.{Elapses, LeavesOnly, TornWrite, Unchanged, overwritten}
@@ -14,6 +14,14 @@ elapses_weaker within ended other last old new time so_far end = record {
   since = λ t p le left. elim (time.since t p le left) [ inl was ↦ inl was | inr from ↦ inr (from.0, from.1, so_far from.0 p from.1 from.2) ];
   keeps = time.keeps;
 }
+
+-- time over two calls in a row that make the same step, which may be made twice
+pub elapses_along : (R : Left → Left → Type 0) (old mid new : Device) → ((q m p : Left) → R q m → R m p → R q p) → Elapses R R old mid → Elapses R R mid new → Elapses R R old new
+elapses_along R old mid new twice first second =
+    let both = elapses_twice R R R R old mid new first second in
+    elapses_weaker (WithinTwo R R R) (Then R R) R R old new both
+    (λ q p could steps. elim steps [ inl so_far ↦ so_far | inr then ↦ twice q then.0 p then.1 then.2 ])
+    (λ q p could left then. twice q then.0 p then.1 then.2)
 
 -- a write and a step that changes nothing are that write
 write_then_unchanged : (at n : ℕ) (q p : Left) → Then (TornWrite at n) Unchanged q p → TornWrite at n q p
@@ -32,6 +40,11 @@ synced_write r at bytes old mid new write sync only seen written =
     ends : {T E : Type 0} (r : Result T E) → OnOk r (LeavesOnly new.seen new) → OnOk r (new.seen ≡ mid.seen) → (q p : Left) → may_leave new p → TornWrite at (length bytes) q p → SyncedWriteEnds (is_ok r) at bytes old.seen q p
     ends (Ok x) only seen q p left torn = record { torn = torn; whole = only p left ∙ seen ∙ written }
     ends (Err e) only seen q p left torn = torn
+
+-- whether its sync has succeeded or not, a write may have been cut short
+pub synced_is_torn : (ok : Bool) (at : ℕ) (bytes seen : List ℕ) (q p : Left) → SyncedWriteEnds ok at bytes seen q p → TornWrite at (length bytes) q p
+synced_is_torn true at bytes seen q p write = write.torn
+synced_is_torn false at bytes seen q p write = write
 
 -- the frame's write and then the gate's
 pub record_written : (ok : Bool) (gate : ℕ) (frame : List ℕ) (old mid new : Device) → mid.seen ≡ overwritten (gate + 1) frame old.seen → Elapses (TornWrite (gate + 1) (length frame)) (SyncedWrite (gate + 1) frame old.seen) old mid → Elapses (TornWrite gate 1) (SyncedWriteEnds ok gate (1 ∷ []) mid.seen) mid new → Elapses (WithinRecord gate frame old.seen) (RecordEnds ok gate frame old.seen) old new

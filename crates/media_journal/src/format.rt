@@ -1,11 +1,12 @@
 //! Formatting a device: a header, a selector and half A with its rows. At each moment the file is no
 //! store, or the new one.
-ghost use Rattle.std.specs.Prelude.{◌≡◌, ◌≤◌, ◌<◌, ◌+◌, ◌*◌, ◌∷◌, [], true, length, is_ok, IfOk, OnOk};
-ghost use Rattle.disk_trait.specs.Calls.{DiskCalls, DiskReads, overwritten};
-ghost use Rattle.media_journal.specs.File.{header_text};
-ghost use Rattle.media_journal.specs.Formatting.{FormatAnswer, GateIs, IsFormatted, OnRefusal, format_ok, half_text};
+ghost use Rattle.std.specs.Prelude.{◌≡◌, ◌≤◌, ◌<◌, ◌+◌, ◌*◌, ◌∷◌, [], true, ◌↔◌, length, is_ok, IfOk, IsTrue, OnOk};
+ghost use Rattle.disk_trait.specs.Calls.{DiskCalls, DiskReads, Elapses, LeavesOnly, Unchanged, overwritten};
+ghost use Rattle.media_journal.specs.File.{HasOpenHeader, IsClosedGate, header_text};
+ghost use Rattle.media_journal.specs.Formatting.{FitsStore, FormatAnswer, FormatEnds, Formats, GateIs, IsAtRest, IsFormatted, KeepsGate, LeavesNone, NoneOrFormatted, NoneOrNew, OnRefusal, StoreEnds, format_ok, half_text};
 
 use crate::header::{BLOCK, is_open, magic};
+use crate::write::write_synced;
 use crate::{FormatFault, Header};
 use disk_trait::numbers::{u64_bytes, u128_bytes};
 use disk_trait::{Disk, Failed, Memory};
@@ -42,19 +43,39 @@ pub fn format_device<D: Disk>(
     ensures answer { (D.device disk.old).shows ≡ true
         → FormatAnswer (D.device disk.old).seen (D.device disk.new).seen
         record { blocks = blocks; half = half; id = id } rows.now result }
+
+    // What is refused is left as it was, and so is a device for which there is no memory.
     ensures refused { OnRefusal result (DiskReads true (D.device disk.old) (D.device disk.new)) }
+    ensures untouched { OnRefusal result
+        (Elapses Unchanged Unchanged (D.device disk.old) (D.device disk.new)) }
+
+    // At each moment of the call a crash leaves no store, or the new one; after Ok it leaves just what
+    // is read.
+    ensures moments { IsAtRest (D.device disk.old) → ¬ (HasOpenHeader (D.device disk.old).seen)
+        → Elapses (NoneOrNew record { blocks = blocks; half = half; id = id } rows.now)
+        (FormatEnds result record { blocks = blocks; half = half; id = id } rows.now)
+        (D.device disk.old) (D.device disk.new) }
+    ensures durable { (D.device disk.old).honest ≡ true
+        → OnOk result (LeavesOnly (D.device disk.new).seen (D.device disk.new)) }
 {
     let header = Header { blocks, half, id };
     let gate = read_gate(disk)?;
     if let Gate::Store = gate {
         return Err(FormatFault::AlreadyStore);
     }
-    if !header.fits(disk.len()) || rows.len() as u64 + 9 > BLOCK * half {
+    if !fits_store(&header, disk.len(), rows) {
         return Err(FormatFault::TooSmall);
     }
     let half = half_bytes(alloc, rows)?;
     make_store(disk, gate, &header_bytes(&header), &half)?;
     Ok(())
+}
+
+/// Whether a device of so many bytes may have these numbers, and a half these rows.
+fn fits_store(header: &Header, size: u64, rows: &[u8]) -> bool
+    ensures { IsTrue result ↔ FitsStore header.now size rows.now }
+{
+    header.fits(size) && rows.len() as u64 + 9 <= BLOCK * header.half
 }
 
 /// Writes the store of a device whose gate is this: it is closed first, and opened once all else is
@@ -65,16 +86,25 @@ fn make_store<D: Disk>(disk: &mut D, gate: Gate, header: &[u8], half: &[u8]) -> 
     ensures calls { DiskCalls (is_ok result) (D.device disk.old) (D.device disk.new) }
     ensures written { (D.device disk.old).shows ≡ true → OnOk result
         (IsFormatted header.now half.now (D.device disk.old).seen (D.device disk.new).seen) }
+    ensures durable { (D.device disk.old).honest ≡ true
+        → OnOk result (LeavesOnly (D.device disk.new).seen (D.device disk.new)) }
+    ensures moments { IsAtRest (D.device disk.old) → GateIs (D.device disk.old).seen gate
+        → ¬ (HasOpenHeader (D.device disk.old).seen)
+        → Elapses (NoneOrFormatted header.now half.now (D.device disk.old).seen)
+        (StoreEnds (is_ok result) header.now half.now (D.device disk.old).seen)
+        (D.device disk.old) (D.device disk.new) }
 {
+    // A torn write of the header's text could make a store of what stands before an open gate.
     close_stray(disk, gate)?;
     write_store(disk, header, half)?;
-    open_gate(disk)?;
-    Ok(())
+    // All else has to be on the disk first: what an open gate stands behind is a store.
+    write_synced(disk, GATE, &[1])
 }
 
 /// What stands at the header's gate.
 fn read_gate<D: Disk>(disk: &mut D) -> Result<Gate, Failed>
     ensures reads { DiskReads (is_ok result) (D.device disk.old) (D.device disk.new) }
+    ensures moments { Elapses Unchanged Unchanged (D.device disk.old) (D.device disk.new) }
     ensures gate { (D.device disk.old).shows ≡ true → IfOk result (GateIs (D.device disk.old).seen) }
 {
     if disk.len() <= GATE {
@@ -105,22 +135,18 @@ fn close_stray<D: Disk>(disk: &mut D, gate: Gate) -> Result<(), Failed>
     ensures calls { DiskCalls (is_ok result) (D.device disk.old) (D.device disk.new) }
     ensures length { (D.device disk.old).shows ≡ true → OnOk result
         (length (D.device disk.new).seen ≡ length (D.device disk.old).seen) }
+    ensures closed { (D.device disk.old).shows ≡ true → GateIs (D.device disk.old).seen gate
+        → ¬ (HasOpenHeader (D.device disk.old).seen)
+        → OnOk result (IsClosedGate (D.device disk.new).seen 40) }
+    ensures settled { IsAtRest (D.device disk.old) → OnOk result (IsAtRest (D.device disk.new)) }
+    ensures moments { IsAtRest (D.device disk.old) → GateIs (D.device disk.old).seen gate
+        → ¬ (HasOpenHeader (D.device disk.old).seen)
+        → Elapses LeavesNone LeavesNone (D.device disk.old) (D.device disk.new) }
 {
     match gate {
-        Gate::Stray => close_gate(disk),
+        Gate::Stray => write_synced(disk, GATE, &[0]),
         Gate::Store | Gate::Closed => Ok(()),
     }
-}
-
-/// Closes the header's gate.
-fn close_gate<D: Disk>(disk: &mut D) -> Result<(), Failed>
-    requires { 41 ≤ (D.device disk.old).size }
-    ensures calls { DiskCalls (is_ok result) (D.device disk.old) (D.device disk.new) }
-    ensures written { (D.device disk.old).shows ≡ true → OnOk result
-        ((D.device disk.new).seen ≡ overwritten 40 (0 ∷ []) (D.device disk.old).seen) }
-{
-    disk.write_at(GATE, &[0])?;
-    disk.sync()
 }
 
 /// Writes all of a store but its open gate, and syncs it.
@@ -131,21 +157,13 @@ fn write_store<D: Disk>(disk: &mut D, header: &[u8], half: &[u8]) -> Result<(), 
     ensures written { (D.device disk.old).shows ≡ true → OnOk result ((D.device disk.new).seen
         ≡ overwritten 8192 half.now (overwritten 4096 (0 ∷ [])
         (overwritten 0 header.now (D.device disk.old).seen))) }
+    ensures durable { (D.device disk.old).honest ≡ true
+        → OnOk result (LeavesOnly (D.device disk.new).seen (D.device disk.new)) }
+    ensures moments { Elapses KeepsGate KeepsGate (D.device disk.old) (D.device disk.new) }
 {
     disk.write_at(0, header)?;
     disk.write_at(BLOCK, &[0])?;
     disk.write_at(2 * BLOCK, half)?;
-    disk.sync()
-}
-
-/// Opens the header's gate.
-fn open_gate<D: Disk>(disk: &mut D) -> Result<(), Failed>
-    requires { 41 ≤ (D.device disk.old).size }
-    ensures calls { DiskCalls (is_ok result) (D.device disk.old) (D.device disk.new) }
-    ensures written { (D.device disk.old).shows ≡ true → OnOk result
-        ((D.device disk.new).seen ≡ overwritten 40 (1 ∷ []) (D.device disk.old).seen) }
-{
-    disk.write_at(GATE, &[1])?;
     disk.sync()
 }
 

@@ -14,6 +14,8 @@ mod opening_tests;
 mod record;
 mod scan;
 #[cfg(test)]
+mod stop_tests;
+#[cfg(test)]
 mod tests;
 mod window;
 mod write;

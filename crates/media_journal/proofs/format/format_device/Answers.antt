@@ -1,26 +1,52 @@
-use Rattle.std.proofs.Common.{◌∙◌, length, sym, arith, rules}
+use Rattle.std.proofs.Common.{◌∙◌, true, false, length, refl, sym, rules}
+use Rattle.std.proofs.lemmas.Result.{err_from_is_err_and}
 use Rattle.media_journal.specs.declared.header.Header.{Header}
-use Rattle.media_journal.specs.File.{AreSizes}
 use Rattle.media_journal.specs.Formatting.{FitsStore}
 use Rattle.media_journal.proofs.FormattingLemmas.{not_store, reads_formatted}
+use Rattle.media_journal.proofs.StoreLemmas.{formats, reads_failed}
 use Rattle.media_journal.proofs.format.format_device.Goals as goal
+
+pub returns-in_err-gate-clause-moments : goal.returns-in_err-gate-clause-moments
+returns-in_err-gate-clause-moments g c = λ rest none.
+    let failed = err_from_is_err_and c.from_residual.result c.from_residual.ensures.1 in
+    rw (failed.1, failed.2) (reads_failed _ rest none _ _ _ c.in_err-gate.ensures.moments)
+
+pub returns-in_err-make_store : goal.returns-in_err-make_store
+returns-in_err-make_store g c =
+    let failed = err_from_is_err_and c.from_residual-in_err-make_store.result c.from_residual-in_err-make_store.ensures.1 in
+    let first = c.in_ok-gate.ensures in
+    rw (failed.1, failed.2) record {
+      calls = search rules;
+      answer = λ shows. tt;
+      refused = tt;
+      untouched = tt;
+      moments = λ rest none.
+          let size = (g.met.D.Disk.sound c.args.disk.now).length rest.shows ∙ sym (c.len.ensures ∙ first.reads.calls.same.size) in
+          let fits = rw (← size) at (c.if-not-fits_store.ensures.0 refl) in
+          formats _ rest none _ _ fits c.ranges.id.fits false c.in_ok-gate.gate _ _ _ _ c.header_bytes.ensures (c.deref.ensures.value ∙ c.in_ok-half.ensures.text) first.reads first.moments (first.gate rest.shows) c.in_err-make_store.ensures.moments;
+      durable = λ honest. tt;
+    }
 
 -- The numbers fit, and the three groups of writes leave the store.
 pub returns : goal.returns
-returns g c = record {
-  calls = search rules;
-  refused = tt;
-  answer = λ shows.
-      let first = c.in_ok-gate.ensures.reads in
-      let whole = (g.met.D.Disk.sound c.args.disk.now).length shows in
-      let size = whole ∙ sym (c.len.ensures ∙ first.calls.same.size) in
-      let header : Header = record { blocks = c.args.blocks; half = c.args.half; id = c.args.id } in
-      let sizes : AreSizes header c.len.result = search rules in
-      let fits : FitsStore header (length (g.D.Disk.device c.args.disk.now).seen) c.args.rows.now =
-      record { sizes = rw size sizes; room = omega arith } in
-      let made = c.in_ok-make_store.ensures.written (first.calls.same.shows ∙ shows) in (
-        not_store _ c.in_ok-gate.gate c.in_default.not-Store (c.in_ok-gate.ensures.gate shows),
-        fits,
-        reads_formatted _ _ header c.args.rows.now fits c.ranges.id.fits (rw (c.header_bytes.ensures, c.deref.ensures.value, c.in_ok-half.ensures.text, first.seen) at made),
-      );
-}
+returns g c =
+    let first = c.in_ok-gate.ensures in
+    let header : Header = record { blocks = c.args.blocks; half = c.args.half; id = c.args.id } in
+    record {
+      calls = search rules;
+      refused = tt;
+      untouched = tt;
+      answer = λ shows.
+          let size = (g.met.D.Disk.sound c.args.disk.now).length shows ∙ sym (c.len.ensures ∙ first.reads.calls.same.size) in
+          let fits : FitsStore header (length (g.D.Disk.device c.args.disk.now).seen) c.args.rows.now = rw size (c.if-not-fits_store.ensures.0 refl) in
+          let made = c.in_ok-make_store.ensures.written (first.reads.calls.same.shows ∙ shows) in (
+            not_store _ c.in_ok-gate.gate c.in_default.not-Store (first.gate shows),
+            fits,
+            reads_formatted _ _ header c.args.rows.now fits c.ranges.id.fits (rw (c.header_bytes.ensures, c.deref.ensures.value, c.in_ok-half.ensures.text, first.reads.seen) at made),
+          );
+      moments = λ rest none.
+          let size = (g.met.D.Disk.sound c.args.disk.now).length rest.shows ∙ sym (c.len.ensures ∙ first.reads.calls.same.size) in
+          let fits : FitsStore header (length (g.D.Disk.device c.args.disk.now).seen) c.args.rows.now = rw size (c.if-not-fits_store.ensures.0 refl) in
+          formats _ rest none header c.args.rows.now fits c.ranges.id.fits true c.in_ok-gate.gate _ _ _ _ c.header_bytes.ensures (c.deref.ensures.value ∙ c.in_ok-half.ensures.text) first.reads first.moments (first.gate rest.shows) c.in_ok-make_store.ensures.moments;
+      durable = λ honest. c.in_ok-make_store.ensures.durable (first.reads.calls.same.honest ∙ honest);
+    }
