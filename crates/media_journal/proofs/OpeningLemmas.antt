@@ -1,14 +1,12 @@
 -- What was read of an image decides what opening answers.
-use Rattle.std.proofs.Common.{◌≡◌, ◌<◌, ◌≤◌, ◌+◌, ◌-◌, ◌*◌, ℕ, Bool, true, false, List, length, take, Option, Some, None, Result, Ok, Err, inl, inr, refl, sym, ap, ap₂, ◌∙◌, subst, arith}
+use Rattle.std.proofs.Common.{◌≡◌, ◌≤◌, ◌+◌, ◌*◌, ℕ, List, length, take, Err, inl, inr, refl, sym, ap, ◌∙◌, subst, arith}
 use Rattle.std.proofs.Math.Seq.{take-append_seam}
 use Rattle.disk_trait.specs.Calls.{bytes_at}
 use Rattle.disk_trait.proofs.OverwriteLemmas.{bytes_at-bytes_at}
 use Rattle.media_journal.specs.declared.header.Header.{Header}
-use Rattle.media_journal.specs.declared.record.Record.{Record}
-use Rattle.media_journal.specs.declared.open.Opened.{Opened}
 use Rattle.media_journal.specs.declared.fault.JournalFault.{JournalFault}
 use Rattle.media_journal.specs.declared.fault.JournalFault.TheVariants.{NotStore, Damaged, Disk, Memory}
-use Rattle.media_journal.specs.File.{magic, header_text, IsHeader, AreSizes, HasLongRows, Reads, IsUnreadable, active_start}
+use Rattle.media_journal.specs.File.{magic, header_text, IsHeader, AreSizes, HasLongRows, IsUnreadable, active_start}
 use Rattle.media_journal.specs.Scan.{HalfAnswer}
 use Rattle.media_journal.specs.Opening.{IsStore, HasWrongSizes, HasWrongRows, DamagedAt, OpenAnswer}
 use Rattle.media_journal.proofs.HeaderLemmas.{one_header, length-magic}

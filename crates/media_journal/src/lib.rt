@@ -22,5 +22,5 @@ pub use crate::format::format_device;
 pub use crate::frame::Frame;
 pub use crate::header::Header;
 pub use crate::journal::Journal;
-pub use crate::open::{Opened, open_journal};
+pub use crate::open::{Opened, one_reading, open_journal};
 pub use crate::record::{Record, RecordList};

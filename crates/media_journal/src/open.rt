@@ -37,8 +37,14 @@ pub struct Opened {
     pub rows_at: u64,
 }
 
-/// Opens the journal of a device. `NotStore` comes where the device has fewer than 20,480 bytes or no
-/// open header, and `Damaged` with the offset of what can't be read.
+/// Opens the journal of a device. `NotStore` comes exactly where the device has fewer than 20,480 bytes
+/// or no open header. `Damaged` comes with 8 exactly where the header's numbers are none that the file may
+/// have, and with the offset of the active half exactly where that half has no room for its rows and a
+/// gate. An open record whose end passes the half is no fault here: `Opened` says where it stands. What
+/// rows and payloads mean isn't looked at.
+///
+/// The half is read in pieces of 64 KiB up to the one in which its records end. It takes the memory of
+/// one such piece, and of the rows and payloads that it answers.
 pub fn open_journal<D: Disk>(alloc: Global, disk: &mut D) -> Result<Opened, JournalFault>
     ensures reads { DiskReads (not_disk result) (D.device disk.old) (D.device disk.new) }
     ensures within { IfOk result (λ o. 4096 * o.journal.blocks ≤ (D.device disk.new).size) }
@@ -108,8 +114,8 @@ fn assembled(header: Header, start: u64, half: Half) -> Opened
     }
 }
 
-/// That an image reads in at most one way, and that opening has at most one answer to it but a fault of
-/// the device and want of memory. It does nothing: its clauses are the law.
+/// The law that an image reads in at most one way, and that it has at most one answer of `open_journal`
+/// but `Disk` and `Memory`. The function does nothing.
 pub fn one_reading()
     ensures whole { (image : List ℕ) → HasOneReading image }
     ensures torn { (image : List ℕ) → HasOneTornReading image }
