@@ -4,7 +4,7 @@ ghost use Rattle.disk_trait.specs.Calls.{DiskReads};
 ghost use Rattle.media_journal.specs.Answers.{not_disk};
 ghost use Rattle.media_journal.specs.File.{active_start};
 ghost use Rattle.media_journal.specs.Opening.{IsOpened, OpenAnswer, header_of};
-ghost use Rattle.media_journal.specs.Readings.{HasOneReading, HasOneTornReading, HasOneAnswer, TornIsUnreadable, DamagedIsUnreadable};
+ghost use Rattle.media_journal.specs.Readings.{HasOneReading, HasOneTornReading, HasOneAnswer, ReadsAsStore, TornIsUnreadable, DamagedIsUnreadable};
 ghost use Rattle.media_journal.specs.Scan.{HasParts};
 
 use crate::header::{BLOCK, read_header};
@@ -119,6 +119,7 @@ fn assembled(header: Header, start: u64, half: Half) -> Opened
 pub fn one_reading()
     ensures whole { (image : List ℕ) → HasOneReading image }
     ensures torn { (image : List ℕ) → HasOneTornReading image }
+    ensures store { (image : List ℕ) → ReadsAsStore image }
     ensures torn_or_whole { (image : List ℕ) → TornIsUnreadable image }
     ensures damaged { (image : List ℕ) → DamagedIsUnreadable image }
     ensures answer { (image : List ℕ) → HasOneAnswer image }
