@@ -43,8 +43,8 @@ pub struct Opened {
 /// gate. An open record whose end passes the half is no fault here: `Opened` says where it stands. What
 /// rows and payloads mean isn't looked at.
 ///
-/// The half is read in pieces of 64 KiB up to the one in which its records end. It takes the memory of
-/// one such piece, and of the rows and payloads that it answers.
+/// The half is read in pieces of 64 KiB up to the one in which its records end, and beside such a piece
+/// only the rows and payloads that are answered are kept. Both are the code's, and no clause says them.
 pub fn open_journal<D: Disk>(alloc: Global, disk: &mut D) -> Result<Opened, JournalFault>
     ensures reads { DiskReads (not_disk result) (D.device disk.old) (D.device disk.new) }
     ensures within { IfOk result (λ o. 4096 * o.journal.blocks ≤ (D.device disk.new).size) }
