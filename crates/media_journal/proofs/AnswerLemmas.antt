@@ -1,5 +1,5 @@
 -- An image has one answer.
-use Rattle.std.proofs.Common.{◌≡◌, ◌≤◌, ◌+◌, ◌*◌, ℕ, List, length, Option, Some, None, Result, Ok, Err, inl, inr, refl, sym, ap, ap₂, ◌∙◌, subst, arith}
+use Rattle.std.proofs.Common.{◌≡◌, ◌+◌, ◌*◌, ℕ, List, length, Option, Some, None, Result, Ok, Err, inl, inr, refl, sym, ap, ap₂, ◌∙◌, subst, arith}
 use Rattle.media_journal.specs.declared.header.Header.{Header}
 use Rattle.media_journal.specs.declared.record.Record.{Record}
 use Rattle.media_journal.specs.declared.open.Opened.{Opened}
@@ -7,7 +7,7 @@ use Rattle.media_journal.specs.declared.fault.JournalFault.{JournalFault}
 use Rattle.media_journal.specs.declared.fault.JournalFault.TheVariants.{NotStore, Damaged, Disk, Memory}
 use Rattle.media_journal.specs.Journal.{Position}
 use Rattle.media_journal.specs.File.{IsHeader, AreSizes, HasLongRows, active_start}
-use Rattle.media_journal.specs.Opening.{IsOpened, OpenedHalf, OpenAnswer, HasWrongSizes, HasWrongRows, DamagedAt, header_of}
+use Rattle.media_journal.specs.Opening.{IsOpened, OpenedHalf, OpenAnswer, DamagedAt, header_of}
 use Rattle.media_journal.specs.Readings.{IsDecided}
 use Rattle.media_journal.proofs.HeaderLemmas.{one_header}
 use Rattle.media_journal.proofs.ReadingLemmas.{HasReading, whole_reading, torn_reading, one_reading, one_torn_reading, torn_or_whole, no_reading-long}

@@ -1,11 +1,10 @@
 -- What was read of an image decides what opening answers.
-use Rattle.std.proofs.Common.{◌≡◌, ◌<◌, ◌≤◌, ◌+◌, ◌-◌, ◌*◌, ℕ, Bool, true, false, List, length, take, Option, Some, None, Result, Ok, Err, inl, inr, refl, sym, ap, ap₂, ◌∙◌, subst, arith}
+use Rattle.std.proofs.Common.{◌≡◌, ◌≤◌, ◌+◌, ◌*◌, ℕ, List, length, take, Err, inl, inr, refl, sym, ap, ◌∙◌, subst, arith}
 use Rattle.std.proofs.Math.Seq.{take-append_seam}
 use Rattle.disk_trait.specs.Calls.{bytes_at}
 use Rattle.disk_trait.proofs.OverwriteLemmas.{bytes_at-bytes_at}
 use Rattle.media_journal.specs.declared.header.Header.{Header}
 use Rattle.media_journal.specs.declared.record.Record.{Record}
-use Rattle.media_journal.specs.declared.open.Opened.{Opened}
 use Rattle.media_journal.specs.declared.fault.JournalFault.{JournalFault}
 use Rattle.media_journal.specs.declared.fault.JournalFault.TheVariants.{NotStore, Damaged, Disk, Memory}
 use Rattle.media_journal.specs.File.{magic, header_text, IsHeader, AreSizes, HasLongRows, Reads, IsUnreadable, active_start}
@@ -28,6 +27,10 @@ is_store image h header size = record {
     gate = header.gate;
   };
 }
+
+pub reads_as_store : (image : List ℕ) (h : Header) (gate : ℕ) (rows : List ℕ) (records : List Record) → Reads image h gate rows records → IsStore image
+reads_as_store image h gate rows records reads =
+    is_store image h reads.header (omega (arith, reads.sizes.some_half, reads.sizes.fits, reads.sizes.within))
 
 -- numbers that the file can't have
 pub damaged-sizes : (image : List ℕ) (h : Header) → IsHeader image h → ¬ (AreSizes h (length image)) → DamagedAt image 8

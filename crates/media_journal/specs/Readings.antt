@@ -6,7 +6,7 @@ use Rattle.media_journal.specs.declared.open.Opened.{Opened}
 use Rattle.media_journal.specs.declared.fault.JournalFault.{JournalFault}
 use Rattle.media_journal.specs.declared.fault.JournalFault.TheVariants.{NotStore, Damaged, Disk, Memory}
 use Rattle.media_journal.specs.File.{Reads, ReadsTorn, IsUnreadable}
-use Rattle.media_journal.specs.Opening.{DamagedAt, OpenAnswer}
+use Rattle.media_journal.specs.Opening.{IsStore, DamagedAt, OpenAnswer}
 
 -- two readings of an image are one: their headers, the places of their closed gates, their rows and their
 -- records
@@ -18,6 +18,10 @@ HasOneReading image =
 abbrev pub HasOneTornReading : List ℕ → Type 0
 HasOneTornReading image =
     (h j : Header) (torn at : ℕ) (rows other : List ℕ) (records found : List Record) → ReadsTorn image h torn rows records → ReadsTorn image j at other found → (j ≡ h) × (at ≡ torn) × (other ≡ rows) × (found ≡ records)
+
+-- an image that reads is that of a store
+abbrev pub ReadsAsStore : List ℕ → Type 0
+ReadsAsStore image = (h : Header) (gate : ℕ) (rows : List ℕ) (records : List Record) → Reads image h gate rows records → IsStore image
 
 -- an image that reads up to a torn record doesn't read
 abbrev pub TornIsUnreadable : List ℕ → Type 0

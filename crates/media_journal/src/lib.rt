@@ -25,5 +25,5 @@ pub use crate::format::format_device;
 pub use crate::frame::Frame;
 pub use crate::header::{BLOCK, Header, MOST_BLOCKS, MOST_HALF};
 pub use crate::journal::Journal;
-pub use crate::open::{Opened, open_journal};
+pub use crate::open::{Opened, one_reading, open_journal};
 pub use crate::record::{Record, RecordList};

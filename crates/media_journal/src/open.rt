@@ -4,7 +4,7 @@ ghost use Rattle.disk_trait.specs.Calls.{DiskReads};
 ghost use Rattle.media_journal.specs.Answers.{not_disk};
 ghost use Rattle.media_journal.specs.File.{active_start};
 ghost use Rattle.media_journal.specs.Opening.{IsOpened, OpenAnswer, header_of};
-ghost use Rattle.media_journal.specs.Readings.{HasOneReading, HasOneTornReading, HasOneAnswer, TornIsUnreadable, DamagedIsUnreadable};
+ghost use Rattle.media_journal.specs.Readings.{HasOneReading, HasOneTornReading, HasOneAnswer, ReadsAsStore, TornIsUnreadable, DamagedIsUnreadable};
 ghost use Rattle.media_journal.specs.Scan.{HasParts};
 
 use crate::header::{BLOCK, read_header};
@@ -37,8 +37,14 @@ pub struct Opened {
     pub rows_at: u64,
 }
 
-/// Opens the journal of a device. `NotStore` comes where the device has fewer than 20,480 bytes or no
-/// open header, and `Damaged` with the offset of what can't be read.
+/// Opens the journal of a device. `NotStore` comes exactly where the device has fewer than 20,480 bytes
+/// or no open header. `Damaged` comes with 8 exactly where the header's numbers are none that the file may
+/// have, and with the offset of the active half exactly where that half has no room for its rows and a
+/// gate. An open record whose end passes the half is no fault here: `Opened` says where it stands. What
+/// rows and payloads mean isn't looked at.
+///
+/// The half is read in pieces of 64 KiB up to the one in which its records end, and beside such a piece
+/// only the rows and payloads that are answered are kept. Both are the code's, and no clause says them.
 pub fn open_journal<D: Disk>(alloc: Global, disk: &mut D) -> Result<Opened, JournalFault>
     ensures reads { DiskReads (not_disk result) (D.device disk.old) (D.device disk.new) }
     ensures within { IfOk result (λ o. 4096 * o.journal.blocks ≤ (D.device disk.new).size) }
@@ -108,11 +114,12 @@ fn assembled(header: Header, start: u64, half: Half) -> Opened
     }
 }
 
-/// That an image reads in at most one way, and that opening has at most one answer to it but a fault of
-/// the device and want of memory. It does nothing: its clauses are the law.
+/// The law that an image reads in at most one way, and that it has at most one answer of `open_journal`
+/// but `Disk` and `Memory`. The function does nothing.
 pub fn one_reading()
     ensures whole { (image : List ℕ) → HasOneReading image }
     ensures torn { (image : List ℕ) → HasOneTornReading image }
+    ensures store { (image : List ℕ) → ReadsAsStore image }
     ensures torn_or_whole { (image : List ℕ) → TornIsUnreadable image }
     ensures damaged { (image : List ℕ) → DamagedIsUnreadable image }
     ensures answer { (image : List ℕ) → HasOneAnswer image }
