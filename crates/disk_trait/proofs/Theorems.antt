@@ -1,7 +1,8 @@
 -- Laws of calls in a row, over any device.
-use Rattle.std.proofs.Common.{◌≡◌, ◌∙◌, ℕ, Bool, true, List, inl, inr, refl, arith}
+use Rattle.std.proofs.Common.{◌≡◌, ◌∙◌, ℕ, Bool, true, List, inl, inr, refl, sym, arith}
+use Rattle.std.proofs.lemmas.Bool.{false≢true}
 use Rattle.disk_trait.specs.Device.{Device, Left, may_leave}
-use Rattle.disk_trait.specs.Calls.{SameDevice, Torn, Follows, Elapses, IsCounted}
+use Rattle.disk_trait.specs.Calls.{SameDevice, Torn, Follows, Elapses, IsCounted, DiskCall, DiskReads, Unchanged}
 use Rattle.disk_trait.specs.Moments.{Then, Throughout, WithinTwo}
 
 -- time over two calls in a row
@@ -72,4 +73,54 @@ torn_twice at n old mid new first second = record {
   before = second.before ∙ first.before;
   after = second.after ∙ first.after;
   same_length = second.same_length ∙ first.same_length;
+}
+
+-- time by weaker steps, from what could be left before
+pub elapses_weaker : (within ended other last : Left → Left → Type 0) (old new : Device) → Elapses within ended old new → ((q p : Left) → may_leave old q → within q p → other q p) → ((q p : Left) → may_leave old q → may_leave new p → ended q p → last q p) → Elapses other last old new
+elapses_weaker within ended other last old new time so_far end = record {
+  later = time.later;
+  now = λ p left. let from = time.now p left in (from.0, from.1, end from.0 p from.1 left from.2);
+  since = λ t p le left. elim (time.since t p le left) [ inl was ↦ inl was | inr from ↦ inr (from.0, from.1, so_far from.0 p from.1 from.2) ];
+  keeps = time.keeps;
+}
+
+-- time over two calls in a row that make the same step, which may be made twice
+pub elapses_along : (R : Left → Left → Type 0) (old mid new : Device) → ((q m p : Left) → R q m → R m p → R q p) → Elapses R R old mid → Elapses R R mid new → Elapses R R old new
+elapses_along R old mid new twice first second =
+    let both = elapses_twice R R R R old mid new first second in
+    elapses_weaker (WithinTwo R R R) (Then R R) R R old new both
+    (λ q p could steps. elim steps [ inl so_far ↦ so_far | inr then ↦ twice q then.0 p then.1 then.2 ])
+    (λ q p could left then. twice q then.0 p then.1 then.2)
+
+-- Reads in a row: none, one call, and some before others.
+pub no_reads : (d : Device) → DiskReads true d d
+no_reads d = record {
+  calls = record {
+    same = record { size = refl; honest = refl; shows = refl; tells = refl };
+    link = refl;
+    counted = record { never_falls = omega arith; stays = λ _. refl; rises = λ no. absurd (false≢true (sym no)) };
+  };
+  seen = refl;
+  handed = refl;
+  time = record { later = omega arith; now = λ p left. (p, left, refl); since = λ t p le left. inl left; keeps = λ t p le left. left };
+}
+
+pub one_read : (ok : Bool) (old new : Device) → DiskCall Unchanged ok old new → new.seen ≡ old.seen → new.handed ≡ old.handed → DiskReads ok old new
+one_read ok old new call seen handed = record {
+  calls = record { same = call.same; link = call.link; counted = call.counted };
+  seen = seen;
+  handed = handed;
+  time = call.time;
+}
+
+pub reads_twice : (ok : Bool) (old mid new : Device) → DiskReads true old mid → DiskReads ok mid new → DiskReads ok old new
+reads_twice ok old mid new first second = record {
+  calls = record {
+    same = same_device_twice old mid new first.calls.same second.calls.same;
+    link = second.calls.link ∙ first.calls.link;
+    counted = counted_twice ok old.faults mid.faults new.faults first.calls.counted second.calls.counted;
+  };
+  seen = second.seen ∙ first.seen;
+  handed = second.handed ∙ first.handed;
+  time = elapses_along Unchanged old mid new (λ q m p one two. two ∙ one) first.time second.time;
 }

@@ -76,8 +76,10 @@ pub record DiskCalls (ok : Bool) (old new : Device) : Type 0 where
   pub link : new.link ≡ old.link
   pub counted : IsCounted ok old.faults new.faults
 
--- What any number of reads leave, of which all succeeded or the last one failed.
+-- What any number of reads leave, of which all succeeded or the last one failed: nothing changes of what a
+-- crash may leave.
 pub record DiskReads (ok : Bool) (old new : Device) : Type 0 where
   pub calls : DiskCalls ok old new
   pub seen : new.seen ≡ old.seen
   pub handed : new.handed ≡ old.handed
+  pub time : Elapses Unchanged Unchanged old new

@@ -14,7 +14,7 @@ use Rattle.media_journal.specs.Moments.{EachGives, GivesOneOf, KeepsOrAdds, Adds
 use Rattle.media_journal.proofs.FrameLemmas.{length-frame_text}
 use Rattle.media_journal.proofs.ChainLemmas.{chain_bounds, chain_kept}
 use Rattle.media_journal.proofs.AppendLemmas.{active_start-least, gives_more, recorded}
-use Rattle.media_journal.proofs.MomentLemmas.{elapses_weaker}
+use Rattle.disk_trait.proofs.Theorems.{elapses_weaker}
 
 -- images that are the same up to one place
 module _ (image other : List ℕ) (to : ℕ) (same : take to other ≡ take to image) where

@@ -5,7 +5,7 @@ mod CrashLemmas
 mod FormattingLemmas
 mod FrameLemmas
 mod HeaderLemmas
-pub mod MomentLemmas
+mod MomentLemmas
 pub mod OpeningLemmas
 pub mod ReadingLemmas
 mod ScanLemmas

@@ -3,25 +3,8 @@ use Rattle.std.proofs.Common.{◌≡◌, ◌+◌, ℕ, Bool, true, false, List, 
 use Rattle.disk_trait.specs.Device.{Device, Left, may_leave}
 use Rattle.disk_trait.specs.Calls.{Elapses, LeavesOnly, TornWrite, Unchanged, overwritten}
 use Rattle.disk_trait.specs.Moments.{Then, WithinTwo}
-use Rattle.disk_trait.proofs.Theorems.{elapses_twice}
+use Rattle.disk_trait.proofs.Theorems.{elapses_along, elapses_twice, elapses_weaker}
 use Rattle.media_journal.specs.Moments.{SyncedWrite, SyncedWriteEnds, WithinRecord, RecordEnds}
-
--- time by weaker steps, from what could be left before
-pub elapses_weaker : (within ended other last : Left → Left → Type 0) (old new : Device) → Elapses within ended old new → ((q p : Left) → may_leave old q → within q p → other q p) → ((q p : Left) → may_leave old q → may_leave new p → ended q p → last q p) → Elapses other last old new
-elapses_weaker within ended other last old new time so_far end = record {
-  later = time.later;
-  now = λ p left. let from = time.now p left in (from.0, from.1, end from.0 p from.1 left from.2);
-  since = λ t p le left. elim (time.since t p le left) [ inl was ↦ inl was | inr from ↦ inr (from.0, from.1, so_far from.0 p from.1 from.2) ];
-  keeps = time.keeps;
-}
-
--- time over two calls in a row that make the same step, which may be made twice
-pub elapses_along : (R : Left → Left → Type 0) (old mid new : Device) → ((q m p : Left) → R q m → R m p → R q p) → Elapses R R old mid → Elapses R R mid new → Elapses R R old new
-elapses_along R old mid new twice first second =
-    let both = elapses_twice R R R R old mid new first second in
-    elapses_weaker (WithinTwo R R R) (Then R R) R R old new both
-    (λ q p could steps. elim steps [ inl so_far ↦ so_far | inr then ↦ twice q then.0 p then.1 then.2 ])
-    (λ q p could left then. twice q then.0 p then.1 then.2)
 
 -- a write and a step that changes nothing are that write
 write_then_unchanged : (at n : ℕ) (q p : Left) → Then (TornWrite at n) Unchanged q p → TornWrite at n q p

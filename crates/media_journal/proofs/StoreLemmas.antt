@@ -13,7 +13,8 @@ use Rattle.media_journal.specs.File.{HasOpenHeader, IsClosedGate, header_text}
 use Rattle.media_journal.specs.Formatting.{FitsStore, GateIs, IsAtRest, IsFormatted, IsStray, KeepsGate, LeavesNone, MakesStore, NoneOrFormatted, NoneOrNew, StoreEnds, half_text}
 use Rattle.media_journal.specs.Moments.{SyncedWriteEnds}
 use Rattle.media_journal.proofs.CrashLemmas.{bytes_kept, byte_kept, torn_byte}
-use Rattle.media_journal.proofs.MomentLemmas.{elapses_along, elapses_weaker, synced_is_torn}
+use Rattle.disk_trait.proofs.Theorems.{elapses_along, elapses_weaker}
+use Rattle.media_journal.proofs.MomentLemmas.{synced_is_torn}
 use Rattle.media_journal.proofs.FormattingLemmas.{is_new_store}
 
 -- no store behind a closed gate

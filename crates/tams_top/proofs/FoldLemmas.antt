@@ -63,3 +63,10 @@ fold_refused rs i r empty from Memory within is on refused = tt
 pub fold_push : (rs : List Record) (r : Record) (from mid next : Library) → Folds rs from mid → StepOf r mid next → Folds (rs ++ r ∷ []) from next
 fold_push [] r from mid next e s = subst (λ (x : Library). StepOf r x next → Folds (r ∷ []) from next) (sym e) (λ t. (t.0, t.1, t.2, (next, t.3, refl))) s
 fold_push (q ∷ qs) r from mid next h s = (h.0, h.1, h.2, (h.3.0, h.3.1, fold_push qs r h.3.0 mid next h.3.2 s))
+
+-- records fold to one library
+pub one_fold : (rs : List Record) (from a b : Library) → Folds rs from a → Folds rs from b → b ≡ a
+one_fold [] from a b first second = second ∙ sym first
+one_fold (r ∷ rs) from a b first second =
+    let step : StepOf r from first.3.0 = (first.0, first.1, first.2, first.3.1) in
+    one_fold rs first.3.0 a b first.3.2 (step_fold r rs from first.3.0 b step second)

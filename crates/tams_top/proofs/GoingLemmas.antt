@@ -1,62 +1,72 @@
 -- A connection that is being served: its beginning, a turn, and its end.
-use Rattle.std.proofs.Common.{◌≡◌, ℕ, Bool, true, List, [], refl, sym, ◌∙◌, arith}
+use Rattle.std.proofs.Common.{◌≡◌, ◌≤◌, ◌<◌, ◌+◌, ◌*◌, ℕ, Bool, true, List, [], length, Option, Some, None, refl, sym, ◌∙◌, arith}
 use Rattle.std.proofs.lemmas.Bool.{false≢true}
-use Rattle.disk_trait.specs.Device.{Device, Connection}
-use Rattle.disk_trait.specs.Calls.{SameDevice, IsCounted}
+use Rattle.disk_trait.specs.Device.{Device}
+use Rattle.disk_trait.specs.Calls.{IsCounted, Rose, SameDevice}
+use Rattle.disk_trait.proofs.Theorems.{counted_twice, same_device_twice}
+use Rattle.tams_top.specs.declared.connection.Ending.{Ending}
+use Rattle.tams_top.specs.declared.connection.Ending.TheVariants.{Complete, Cut, Closed, Starved, Stopped, Unlinked}
 use Rattle.tams_top.specs.declared.store.Store.{Store}
-use Rattle.tams_top.specs.Store.{State}
-use Rattle.tams_top.specs.Opening.{Keeps, state_of}
-use Rattle.tams_top.specs.Serving.{Going, Reached, SiteCalls}
-use Rattle.tams_top.proofs.ServingLemmas.{reached_first}
+use Rattle.tams_top.specs.Moments.{Beginning, TellsAll}
+use Rattle.tams_top.specs.Serving.{Counts, GoesOn, LinkCount, Reached, SiteCalls, disk_held}
 
 -- nothing was called
-same_device : (d : Device) → SameDevice d d
-same_device d = record { size = refl; honest = refl; shows = refl; tells = refl }
-
-counted_none : (n : ℕ) → IsCounted true n n
-counted_none n = record { never_falls = omega arith; stays = λ _. refl; rises = λ no. absurd (false≢true (sym no)) }
-
-no_calls : (d : Device) → SiteCalls true true d d
-no_calls d = record { same = same_device d; faults = counted_none d.faults; link_faults = counted_none d.link.faults }
-
--- one call after others
-counted_more : (ok : Bool) (a b c : ℕ) → IsCounted true a b → IsCounted ok b c → IsCounted ok a c
-counted_more ok a b c first second = record {
-  never_falls = omega (arith, first.never_falls, second.never_falls);
-  stays = λ yes. second.stays yes ∙ first.stays refl;
-  rises = λ no. λ small. let same = first.stays refl in let rose = second.rises no in omega (arith, same, rose);
+pub no_calls : (d : Device) → SiteCalls None d d
+no_calls d = record {
+  same = record { size = refl; honest = refl; shows = refl; tells = refl };
+  faults = record { never_falls = omega arith; stays = λ _. refl; rises = λ no. absurd (false≢true (sym no)) };
+  link_faults = refl;
+  under_way = refl;
 }
 
-pub calls_more : (disk link : Bool) (a b c : Device) → SiteCalls true true a b → SiteCalls disk link b c → SiteCalls disk link a c
-calls_more disk link a b c first second = record {
-  same = record {
-    size = second.same.size ∙ first.same.size;
-    honest = second.same.honest ∙ first.same.honest;
-    shows = second.same.shows ∙ first.same.shows;
-    tells = second.same.tells ∙ first.same.tells;
-  };
-  faults = counted_more disk a.faults b.faults c.faults first.faults second.faults;
-  link_faults = counted_more link a.link.faults b.link.faults c.link.faults first.link_faults second.link_faults;
+-- calls that go on and others behind them
+link_more : (ending : Option Ending) (a b c : ℕ) → b ≡ a → LinkCount ending b c → LinkCount ending a c
+link_more None a b c same count = count ∙ same
+link_more (Some Complete) a b c same count = count ∙ same
+link_more (Some Cut) a b c same count = count ∙ same
+link_more (Some Closed) a b c same count = count ∙ same
+link_more (Some Starved) a b c same count = omega (arith, same, count)
+link_more (Some Stopped) a b c same count = omega (arith, same, count)
+link_more (Some Unlinked) a b c same count = (omega (arith, same, count.0), λ small. let rose = count.1 in omega (arith, same, rose))
+
+pub calls_more : (ending : Option Ending) (a b c : Device) → SiteCalls None a b → SiteCalls ending b c → SiteCalls ending a c
+calls_more ending a b c first second = record {
+  same = same_device_twice a b c first.same second.same;
+  faults = counted_twice (disk_held ending) a.faults b.faults c.faults first.faults second.faults;
+  link_faults = link_more ending a.link.faults b.link.faults c.link.faults first.link_faults second.link_faults;
+  under_way = second.under_way ∙ first.under_way;
 }
 
--- the connection begins
-pub going_first : (d : Device) (s : Store) (tells : Bool) (given : List ℕ) → d.link.under_way ≡ true → Going d d s s tells tells given given []
-going_first d s tells given under_way = record {
+-- what is told stays so
+pub tells_later : (a b : Device) (clock : Bool) → SameDevice a b → TellsAll a clock → TellsAll b clock
+tells_later a b clock same all = record {
+  honest = same.honest ∙ all.honest;
+  shows = same.shows ∙ all.shows;
+  tells = same.tells ∙ all.tells;
+  clock_tells = all.clock_tells;
+}
+
+pub goes_first : (d : Device) (tells : Bool) (given : List ℕ) (s : Store) → GoesOn d d tells tells given given s s [] (record { requests = 0; changes = 0 }) 0
+goes_first d tells given s = record {
   calls = no_calls d;
   blocks = refl;
-  under_way = under_way;
   clock = λ t. t;
-  keeps = λ _ k. k;
-  reached = λ _ _ before connections. reached_first (state_of s) d before given under_way connections;
+  few = omega arith;
+  moved = omega arith;
+  most = omega arith;
+  reached = λ _ b r. r;
 }
 
 -- a turn that goes on
-pub going_more : (first now next : Device) (opened s t : Store) (telling tells later : Bool) (begun given more unread left : List ℕ) → Going first now opened s telling tells begun given unread → SiteCalls true true now next → t.journal.blocks ≡ s.journal.blocks → next.link.under_way ≡ true → (later ≡ true → tells ≡ true) → (now.shows ≡ true → Keeps now.seen s → Keeps next.seen t) → (now.tells ≡ true → later ≡ true → (from : State) (before : List Connection) (start : List ℕ) → Reached from before start now given unread (state_of s) → Reached from before start next more left (state_of t)) → Going first next opened t telling later begun more left
-going_more first now next opened s t telling tells later begun given more unread left g calls blocks under_way clock keeps goes = record {
-  calls = calls_more true true first now next g.calls calls;
+pub goes_more : (first now next : Device) (tells_first tells_now tells_next : Bool) (given_first given more : List ℕ) (store_first store later : Store) (unread left : List ℕ) (n m : Counts) (turns : ℕ) → GoesOn first now tells_first tells_now given_first given store_first store unread n turns → SiteCalls None now next → later.journal.blocks ≡ store.journal.blocks → (tells_next ≡ true → tells_now ≡ true) → m.requests < 1000000 → length unread ≤ 1130496 → 168 * n.requests + length unread < 168 * m.requests + length left → (TellsAll now tells_next → (b : Beginning) → Reached b now given unread store n → Reached b next more left later m) → GoesOn first next tells_first tells_next given_first more store_first later left m (turns + 1)
+goes_more first now next tells_first tells_now tells_next given_first given more store_first store later unread left n m turns g calls blocks clock few within moves goes = record {
+  calls = calls_more None first now next g.calls calls;
   blocks = blocks ∙ g.blocks;
-  under_way = under_way;
-  clock = λ yes. g.clock (clock yes);
-  keeps = λ shows kept. keeps (g.calls.same.shows ∙ shows) (g.keeps shows kept);
-  reached = λ tell yes before connections. goes (g.calls.same.tells ∙ tell) yes (state_of opened) before begun (g.reached tell (clock yes) before connections);
+  clock = λ yes_next. g.clock (clock yes_next);
+  few = few;
+  moved = omega (arith, g.moved, moves);
+  most = omega (arith, g.moved, g.few, within);
+  reached = λ all b r.
+      goes (tells_later first now tells_next g.calls.same all) b
+      (g.reached (record { honest = all.honest; shows = all.shows; tells = all.tells; clock_tells = clock all.clock_tells }) b r);
 }

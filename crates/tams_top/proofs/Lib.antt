@@ -1,9 +1,17 @@
+mod AnsweringLemmas
 pub mod ChangeLemmas
+mod EndingLemmas
 mod FoldLemmas
 mod GoingLemmas
+mod GoodLemmas
+mod HearingLemmas
+mod HistoryLemmas
+mod NoteLemmas
 mod OpenLemmas
 pub mod RequestLemmas
+mod RightLemmas
 mod RunningLemmas
 mod ServingLemmas
+mod StoreLemmas
 mod WordLemmas
 pub mod WordTheorems

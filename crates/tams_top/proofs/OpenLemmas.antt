@@ -1,5 +1,5 @@
 -- What was opened of an image decides for which state it stands.
-use Rattle.std.proofs.Common.{◌≡◌, ◌≢◌, ℕ, List, Some, None, Err, sym, subst}
+use Rattle.std.proofs.Common.{◌≡◌, ◌≢◌, ◌+◌, ◌*◌, ◌-◌, ◌∙◌, ℕ, List, Some, None, Err, sym, subst, ap₂}
 use Rattle.media_journal.specs.declared.header.Header.{Header}
 use Rattle.media_journal.specs.declared.record.Record.{Record}
 use Rattle.media_journal.specs.declared.open.Opened.{Opened}
@@ -13,9 +13,11 @@ use Rattle.tams_top.specs.declared.library.Library.{Library}
 use Rattle.tams_top.specs.declared.store.StoreFault.{StoreFault}
 use Rattle.tams_top.specs.declared.store.StoreFault.TheVariants.{Damaged, Memory}
 use Rattle.tams_top.specs.Library.{empty_library}
-use Rattle.tams_top.specs.Store.{Folds, empty_rows}
+use Rattle.media_journal.specs.File.{active_start}
+use Rattle.tams_top.specs.Store.{Folds, State, StandsFor, empty_rows}
 use Rattle.tams_top.specs.Opening.{StandsForNone, StoreAnswer}
 use Rattle.tams_top.specs.Folding.{IsFoldRefused, PartAnswer}
+use Rattle.tams_top.proofs.FoldLemmas.{one_fold}
 
 -- what the image gives where no record is torn
 gives_of : (image : List ℕ) (o : Opened) → o.torn ≡ None → IsOpened image o → Gives image o.journal (header_of o) o.rows o.found
@@ -52,3 +54,15 @@ no_state-fold image o whole is refused s stands =
 pub part_fault : (image : List ℕ) (o : Opened) (fault : StoreFault) → o.torn ≡ None → IsOpened image o → IsFoldRefused o.found (empty_library (header_of o)) fault → PartAnswer image (Err fault)
 part_fault image o (Damaged at) whole is refused = no_state-fold image o whole is refused
 part_fault image o Memory whole is refused = tt
+
+abbrev state : Library → ℕ → State
+state library room = record { library = library; room = room }
+
+-- an image stands for at most one state
+pub one_state : (image : List ℕ) (s t : State) → StandsFor image s → StandsFor image t → t ≡ s
+one_state image s t first second =
+    let same = one_reading image _ _ _ _ _ _ _ _ first.reads second.reads in
+    let folds = subst (λ (h : Header). Folds first.records (empty_library h) t.library) same.0 (subst (λ (rs : List Record). Folds rs (empty_library second.header) t.library) same.3 second.folds) in
+    let library : t.library ≡ s.library = one_fold first.records (empty_library first.header) s.library t.library first.folds folds in
+    let room : t.room ≡ s.room = second.room ∙ ap₂ (λ (h : Header) (gate : ℕ). (active_start image h.half + 4096 * h.half) - gate) same.0 same.1 ∙ sym first.room in
+    ap₂ state library room

@@ -1,238 +1,171 @@
 -- The ends of a run.
-use Rattle.std.proofs.Common.{◌≡◌, ◌≢◌, ◌≤◌, ◌||◌, ◌⊎◌, ℕ, Bool, true, false, List, [], ◌∷◌, ◌++◌, length, refl, ap, ◌∙◌, subst, inl, inr, arith}
-use Rattle.disk_trait.specs.Device.{Device, Link}
-use Rattle.disk_trait.specs.Calls.{Rose}
-use Rattle.media_journal.specs.declared.header.Header.{Header}
-use Rattle.media_journal.specs.File.{HasOpenHeader}
-use Rattle.media_journal.specs.Formatting.{FitsStore}
+use Rattle.std.proofs.Common.{◌≡◌, ◌≤◌, ◌<◌, ◌+◌, ◌||◌, ◌⊎◌, ℕ, Bool, true, false, not, List, [], ◌∷◌, ◌++◌, length, map, Result, Ok, Err, refl, ap, ◌∙◌, subst, sym, inl, inr, arith, append-nil}
+use Rattle.std.proofs.lemmas.Bool.{false≢true}
+use Rattle.disk_trait.specs.Device.{Device, IsDevice, Left, Connection, Link, as_read, may_leave, told_by}
 use Rattle.media_journal.specs.Opening.{IsStore}
 use Rattle.media_journal.proofs.OpeningLemmas.{is_store}
+use Rattle.disk_trait.specs.Calls.{DiskReads, Elapses, IsCounted, Rose, Unchanged}
+use Rattle.site_edge.specs.Links.{AddsConnection, Begins, LinkCall, NextPeer, fresh}
 use Rattle.tams_top.specs.declared.outcome.Outcome.{Outcome}
 use Rattle.tams_top.specs.declared.outcome.Outcome.TheVariants.{Formatted, Served, Cut, BadWords, NotStore, AlreadyStore, TooSmall, Damaged, DiskFault, NoMemory, LinkFault}
-use Rattle.tams_top.specs.declared.replay.Ending.{Ending}
-use Rattle.tams_top.specs.declared.replay.Ending.TheVariants as endings
+use Rattle.tams_top.specs.declared.connection.Ending.{Ending}
+use Rattle.tams_top.specs.declared.connection.Ending.TheVariants as endings
 use Rattle.tams_top.specs.declared.store.Store.{Store}
 use Rattle.tams_top.specs.Store.{State, StandsFor, empty_rows}
 use Rattle.tams_top.specs.Opening.{Keeps, StandsForNone, state_of}
-use Rattle.tams_top.specs.Serving.{IsServed, connection_of, was_heard_out}
-use Rattle.tams_top.specs.Running.{CommandEnds, Connected, FormatEnds, IsOutcome, RefusedFor, Replayed, ReplayEnds, RunEnds, Tells, Untouched, formatted_state, status_of}
-use Rattle.tams_top.specs.Words.{IsCommand}
-use Rattle.tams_top.specs.declared.words.Command.{Command}
-use Rattle.tams_top.specs.declared.words.Command.TheVariants.{Format, Replay}
-use Rattle.tams_top.proofs.WordTheorems.{one_command}
+use Rattle.tams_top.specs.History.{Session, Taken, session_of}
+use Rattle.tams_top.specs.Moments.{AllRight, Beginning, EachKeeps, IsRight, IsSettled, TellsAll, told_before}
+use Rattle.tams_top.specs.Serving.{AreCounts, Counts, CountsAt, Ended, Reached, StandsAt}
+use Rattle.tams_top.specs.Running.{ConnectEnds, EndsWithoutPeer, IsOfOpened, NoPeer, OnePeer, OutcomeBy, OutcomeIs, Replayed, ReplayCause, StandsForOne, beginning}
+use Rattle.tams_top.specs.Library.{IsGood}
+use Rattle.tams_top.proofs.GoingLemmas.{tells_later}
+use Rattle.tams_top.proofs.GoodLemmas.{all_good}
+use Rattle.tams_top.proofs.OpenLemmas.{one_state}
+use Rattle.tams_top.proofs.RightLemmas.{all_over, all_quiet, keeps_quiet, stands_at, told_now}
+use Rattle.tams_top.proofs.ServingLemmas.{reached_first, stands_read}
 
 -- the image of a store stands for the store's state
 pub stands_of : (image : List ℕ) (s : Store) → Keeps image s → StandsFor image (state_of s)
-stands_of image s k = record {
-  header = k.header;
-  gate = s.journal.gate;
-  records = k.records;
-  reads = k.gives.reads;
-  folds = k.folds;
-  room = omega (arith, k.gives.room);
-}
+stands_of image s k = stands_at image s.journal k.header k.records s.library k.gives k.folds
 
 -- it was said that no more will come
 pub or_true : (b : Bool) → b || true ≡ true
 or_true true = refl
 or_true false = refl
 
--- no peer came
-pub connected_none : (old new : Device) (begun : List ℕ) (s : Store) → new.seen ≡ old.seen → new.link.connections ≡ old.link.connections → new.link.closed ≡ true → Keeps old.seen s → Connected old new begun begun (state_of s) endings.Complete
-connected_none old new begun s seen connections closed keeps = record {
-  to = state_of s;
-  stands = rw seen (stands_of old.seen s keeps);
-  history = inr record { state = refl; ending_is = refl; given_is = refl; connections = connections; closed = closed };
-}
-
--- one peer came and was served
-pub connected_one : (old served new : Device) (begun given : List ℕ) (s t : Store) (ending : Ending) → new.seen ≡ served.seen → new.link.connections ≡ served.link.connections → Keeps served.seen t → IsServed (state_of s) old.link.connections begun served given ending (state_of t) → Connected old new begun given (state_of s) ending
-connected_one old served new begun given s t ending seen connections keeps is = record {
-  to = state_of t;
-  stands = rw seen (stands_of served.seen t keeps);
-  history = inl record {
-    heard = is.heard;
-    moments = is.moments;
-    told = is.told;
-    serves = is.serves;
-    given_is = is.given_is;
-    connections = connections ∙ is.connections;
+-- where nothing was pending, each image of what was opened keeps what was read
+pub opened_keeps : (old opened : Device) (s : Store) → IsSettled old → Keeps old.seen s → Elapses Unchanged Unchanged old opened → EachKeeps opened s
+opened_keeps old opened s settled keeps time = record {
+  header = keeps.header;
+  records = keeps.records;
+  gives = record {
+    gives = λ p could.
+        let from = time.now p could in
+        let image : p.image ≡ old.seen = ap (λ (l : Left). l.image) from.2 ∙ settled from.0 from.1 in
+        rw image keeps.gives;
   };
+  folds = keeps.folds;
 }
 
--- opening left the device as it was
-connected_from : (old opened new : Device) (begun given : List ℕ) (from : State) (ending : Ending) → opened.link ≡ old.link → Connected opened new begun given from ending → Connected old new begun given from ending
-connected_from old opened new begun given from ending link c = record {
-  to = c.to;
-  stands = c.stands;
-  history = elim c.history [
-    | inl one ↦ inl record {
-      heard = one.heard;
-      moments = one.moments;
-      told = one.told;
-      serves = one.serves;
-      given_is = one.given_is;
-      connections = one.connections ∙ ap (λ (l : Link). l.connections ++ connection_of one.heard one.told (was_heard_out ending) ∷ []) link;
-    }
-    | inr none ↦ inr record {
-      state = none.state;
-      ending_is = none.ending_is;
-      given_is = none.given_is;
-      connections = none.connections ∙ ap (λ (l : Link). l.connections) link;
-      closed = none.closed;
-    }
+-- and nothing has been done by then
+pub opened_right : (old opened : Device) (from : State) (begun : List ℕ) → IsDevice old → old.honest ≡ true → old.tells ≡ true → IsSettled old → StandsFor old.seen from → Elapses Unchanged Unchanged old opened → AllRight (beginning from old begun) (session_of []) opened
+opened_right old opened from begun sound honest tells settled stands time = record {
+  begun = omega (arith, time.later);
+  since = λ p left. elim (time.since old.moment p (omega arith) left) [
+    | inl was ↦ first p was
+    | inr so_far ↦ subst (λ (q : Left). IsRight (beginning from old begun) (session_of []) q) (sym so_far.2) (first so_far.0 so_far.1)
   ];
 }
+  where
+    first : (p : Left) → may_leave old p → IsRight (beginning from old begun) (session_of []) p
+    first p could = inl (sound.told honest tells p could, rw (settled p could) stands)
 
-pub replayed : (old opened new : Device) (begun given : List ℕ) (s : Store) (ending : Ending) → opened.seen ≡ old.seen → opened.link ≡ old.link → Keeps old.seen s → Connected opened new begun given (state_of s) ending → Replayed old new begun given ending
-replayed old opened new begun given s ending seen link keeps c = record {
-  from = state_of s;
-  stood = stands_of old.seen s keeps;
-  connected = connected_from old opened new begun given (state_of s) ending link c;
+-- a peer came: the connection has been told nothing
+pub peer_right : (b : Beginning) (old new : Device) (s : Store) → IsDevice old → old.honest ≡ true → old.tells ≡ true → b.state ≡ state_of s → b.before ≡ old.link.connections → EachKeeps old s → AllRight b (session_of []) old → Elapses AddsConnection AddsConnection old new → AllRight b (session_of []) new
+peer_right b old new s sound honest tells state before keeps right time =
+    all_over b (session_of []) AddsConnection AddsConnection old new right time (λ q p could adds.
+    inr (
+      [],
+      adds.told ∙ ap (λ (told : List (List ℕ)). told ++ [] ∷ []) (sound.told honest tells q could ∙ ap (map (λ (c : Connection). c.told)) (sym before)),
+      record {
+        earlier = session_of [];
+        is_earlier = inl refl;
+        stands = rw (adds.image, state) (stands_at q.image s.journal keeps.header keeps.records s.library (keeps.gives.gives q could) keeps.folds);
+        acknowledged = omega arith;
+        prefix = ([], refl);
+      },
+    ))
+
+pub peer_keeps : (old new : Device) (s : Store) → EachKeeps old s → Elapses AddsConnection AddsConnection old new → EachKeeps new s
+peer_keeps old new s keeps time = record {
+  header = keeps.header;
+  records = keeps.records;
+  gives = record { gives = λ p could. let from = time.now p could in rw from.2.image (keeps.gives.gives from.0 from.1) };
+  folds = keeps.folds;
 }
 
--- the outcome of a connection that was served to its end
-pub replay_ends : (old new : Device) (clock : Bool) (begun given : List ℕ) (ending : Ending) (o : Outcome) → IsOutcome ending o → (Tells old clock → Replayed old new begun given ending) → ReplayEnds old new clock begun given o
-replay_ends old new clock begun given ending (Served requests changes) is run = λ tells. (ending, is, run tells)
-replay_ends old new clock begun given ending Cut is run = λ tells. subst (λ (e : Ending). Replayed old new begun given e) is (run tells)
-replay_ends old new clock begun given ending (Formatted blocks half media) is run = absurd is
-replay_ends old new clock begun given ending BadWords is run = absurd is
-replay_ends old new clock begun given ending NotStore is run = absurd is
-replay_ends old new clock begun given ending AlreadyStore is run = absurd is
-replay_ends old new clock begun given ending TooSmall is run = absurd is
-replay_ends old new clock begun given ending (Damaged at) is run = absurd is
-replay_ends old new clock begun given ending DiskFault is run = absurd is
-replay_ends old new clock begun given ending NoMemory is run = absurd is
-replay_ends old new clock begun given ending LinkFault is run = absurd is
+-- the outcome by an ending's counts is that of its history
+outcome_is : (from : State) (h : Session) (n : Counts) (ending : Ending) (o : Outcome) → CountsAt from h n ending → OutcomeBy ending n o → OutcomeIs from h ending o
+outcome_is from h n endings.Complete o counts by = rw (← counts.requests, ← counts.changes) by
+outcome_is from h n endings.Closed o counts by = rw (← counts.requests, ← counts.changes) by
+outcome_is from h n endings.Cut o counts by = by
+outcome_is from h n endings.Starved o counts by = by
+outcome_is from h n endings.Stopped o counts by = by
+outcome_is from h n endings.Unlinked o counts by = by
+
+-- the connection was served to its end, and closed
+pub one_peer : (b : Beginning) (served new : Device) (given : List ℕ) (n : Counts) (ending : Ending) (o : Outcome) → IsGood b.state.library → IsDevice served → Ended b served given n ending → OutcomeBy ending n o → new.seen ≡ served.seen → new.link.connections ≡ served.link.connections → Elapses Unchanged Unchanged served new → OnePeer b new given o
+one_peer b served new given n ending o good sound e by seen connections time = record {
+  session = e.session;
+  connection = e.connection;
+  ending = ending;
+  connections = connections ∙ e.connections;
+  given_is = e.given_is;
+  served = e.served;
+  stands = rw seen e.stands;
+  outcome = outcome_is b.state e.session n ending o e.counts by;
+  right = all_quiet b e.session served new sound e.right time;
+  good = all_good b.state e.session good e.served.valid;
+}
+
+-- no connection began
+pub no_peer : (b : Beginning) (old new : Device) (s : Store) (given : List ℕ) (o : Outcome) → IsDevice old → IsDevice new → new.honest ≡ true → new.shows ≡ true → new.tells ≡ true → b.state ≡ state_of s → EachKeeps old s → AllRight b (session_of []) old → Elapses Unchanged Unchanged old new → new.link.connections ≡ b.before → given ≡ b.given → EndsWithoutPeer new o → NoPeer b new given o
+no_peer b old new s given o sound new_sound honest shows tells state keeps right time connections given_is ends = record {
+  connections = connections;
+  given_is = given_is;
+  stands = rw state (stands_read new s new_sound honest shows tells (keeps_quiet old new s keeps time));
+  ends = ends;
+  right = all_quiet b (session_of []) old new sound right time;
+}
+
+-- the outcome of a connection is one of a store that was opened
+pub of_opened : (n : Counts) (ending : Ending) (o : Outcome) → OutcomeBy ending n o → IsOfOpened o
+of_opened n endings.Complete o by = rw by tt
+of_opened n endings.Closed o by = rw by tt
+of_opened n endings.Cut o by = rw by tt
+of_opened n endings.Starved o by = rw by tt
+of_opened n endings.Stopped o by = rw by tt
+of_opened n endings.Unlinked o by = rw by tt
+
+-- opening failed, for a fault of the disk or want of memory
+pub unopened : (old new : Device) (clock : Bool) (begun : List ℕ) (o : Outcome) → IsDevice old → new.seen ≡ old.seen → new.link ≡ old.link → Elapses Unchanged Unchanged old new → EndsWithoutPeer new o → TellsAll old clock → IsSettled old → (from : State) → StandsFor old.seen from → Replayed (beginning from old begun) new begun o
+unopened old new clock begun o sound seen link time ends all settled from stands =
+    inr record {
+      connections = ap (λ (l : Link). l.connections) link;
+      given_is = refl;
+      stands = rw seen stands;
+      ends = ends;
+      right = opened_right old new from begun sound all.honest all.tells settled stands time;
+    }
 
 -- an image that is no store stands for no state
-no_store : (image : List ℕ) → ¬ (IsStore image) → StandsForNone image
+pub no_store : (image : List ℕ) → ¬ (IsStore image) → StandsForNone image
 no_store image none s stands =
     let sizes = stands.reads.sizes in
     none (is_store image stands.header stands.reads.header (omega (arith, sizes.some_half, sizes.fits, sizes.within)))
 
--- What each status says of the end of a command. A status of another end is another number.
-module _ (old new : Device) (h : Header) where
-  format_most : (o : Outcome) → FormatEnds old new h o → status_of o ≤ 6
-  format_most (Served requests changes) ends = absurd ends
-  format_most _ ends = omega arith
+-- a file that is refused stands for none, so that no history begins there
+pub refused_none : (old new : Device) (clock : Bool) (begun : List ℕ) (o : Outcome) → (old.shows ≡ true → StandsForNone old.seen) → TellsAll old clock → IsSettled old → (from : State) → StandsFor old.seen from → Replayed (beginning from old begun) new begun o
+refused_none old new clock begun o none all settled from stands = absurd (none all.shows from stands)
 
-  format_words : (o : Outcome) → FormatEnds old new h o → status_of o ≡ 1 → ⊥
-  format_words BadWords ends s = ends
-  format_words _ ends s = absurd (omega arith)
+-- the store was opened, and served a connection or none
+pub replayed : (old opened new : Device) (clock : Bool) (begun given : List ℕ) (s : Store) (o : Outcome) → IsDevice old → DiskReads true old opened → Keeps old.seen s → ConnectEnds s opened new clock begun given o → TellsAll old clock → IsSettled old → (from : State) → StandsFor old.seen from → Replayed (beginning from old begun) new given o
+replayed old opened new clock begun given s o sound reads keeps connect all settled from stands =
+    connect.history (tells_later old opened clock reads.calls.same all) (opened_keeps old opened s settled keeps reads.time) (beginning from old begun)
+    (one_state old.seen (state_of s) from (stands_of old.seen s keeps) stands)
+    (ap (λ (l : Link). l.connections) (sym reads.calls.link)) refl
+    (opened_right old opened from begun sound all.honest all.tells settled stands reads.time)
 
-  format_refused : (o : Outcome) → FormatEnds old new h o → status_of o ≡ 2 → Untouched old new × (old.shows ≡ true → HasOpenHeader old.seen ⊎ ¬ (FitsStore h (length old.seen) empty_rows))
-  format_refused AlreadyStore ends s = (ends.1, λ shows. inl (ends.0 shows))
-  format_refused TooSmall ends s = (ends.1, λ shows. inr (ends.0 shows))
-  format_refused NotStore ends s = absurd ends
-  format_refused (Damaged at) ends s = absurd ends
-  format_refused _ ends s = absurd (omega arith)
-
-  format_disk : (o : Outcome) → FormatEnds old new h o → status_of o ≡ 3 → Rose old.faults new.faults
-  format_disk DiskFault ends s = ends
-  format_disk _ ends s = absurd (omega arith)
-
-  format_link : (o : Outcome) → FormatEnds old new h o → status_of o ≡ 5 → Rose old.link.faults new.link.faults
-  format_link LinkFault ends s = absurd ends
-  format_link _ ends s = absurd (omega arith)
-
-  format_uncut : (o : Outcome) → FormatEnds old new h o → status_of o ≡ 6 → ⊥
-  format_uncut Cut ends s = ends
-  format_uncut _ ends s = absurd (omega arith)
-
-  format_done : (o : Outcome) → FormatEnds old new h o → status_of o ≡ 0 → old.shows ≡ true → StandsFor new.seen (formatted_state h)
-  format_done (Formatted blocks half media) ends s = ends
-  format_done (Served requests changes) ends s = absurd ends
-  format_done _ ends s = absurd (omega arith)
-
-module _ (old new : Device) (clock : Bool) (begun given : List ℕ) where
-  replay_most : (o : Outcome) → ReplayEnds old new clock begun given o → status_of o ≤ 6
-  replay_most (Formatted blocks half media) ends = absurd ends
-  replay_most _ ends = omega arith
-
-  replay_words : (o : Outcome) → ReplayEnds old new clock begun given o → status_of o ≡ 1 → ⊥
-  replay_words BadWords ends s = ends
-  replay_words _ ends s = absurd (omega arith)
-
-  replay_refused : (o : Outcome) → ReplayEnds old new clock begun given o → status_of o ≡ 2 → Untouched old new × (old.shows ≡ true → StandsForNone old.seen)
-  replay_refused NotStore ends s = (ends.1, λ shows. no_store old.seen (ends.0 shows))
-  replay_refused (Damaged at) ends s = (ends.1, ends.0)
-  replay_refused AlreadyStore ends s = absurd ends
-  replay_refused TooSmall ends s = absurd ends
-  replay_refused _ ends s = absurd (omega arith)
-
-  replay_disk : (o : Outcome) → ReplayEnds old new clock begun given o → status_of o ≡ 3 → Rose old.faults new.faults
-  replay_disk DiskFault ends s = ends
-  replay_disk _ ends s = absurd (omega arith)
-
-  replay_link : (o : Outcome) → ReplayEnds old new clock begun given o → status_of o ≡ 5 → Rose old.link.faults new.link.faults
-  replay_link LinkFault ends s = ends
-  replay_link _ ends s = absurd (omega arith)
-
-  replay_served : (o : Outcome) → ReplayEnds old new clock begun given o → status_of o ≡ 0 → Tells old clock → (ending : Ending) × (ending ≢ endings.Cut) × Replayed old new begun given ending
-  replay_served (Served requests changes) ends s = ends
-  replay_served (Formatted blocks half media) ends s = absurd ends
-  replay_served _ ends s = absurd (omega arith)
-
-  replay_cut : (o : Outcome) → ReplayEnds old new clock begun given o → status_of o ≡ 6 → Tells old clock → Replayed old new begun given endings.Cut
-  replay_cut Cut ends s = ends
-  replay_cut _ ends s = absurd (omega arith)
-
--- What each status says of the end of a run.
-module _ (words : List (List ℕ)) (old new : Device) (clock : Bool) (begun given : List ℕ) (o : Outcome) where
-  by_end : (P : Type 0) → (status_of o ≡ 4 → P) → (status_of o ≡ 1 → ((command : Command) → IsCommand words command → ⊥) → Untouched old new → P) → ((command : Command) → IsCommand words command → CommandEnds old new clock begun given o command → P) → RunEnds words old new clock begun given o → P
-  by_end P memory bad ends run = elim run [ inl is ↦ memory (ap status_of is) | inr rest ↦ elim rest [ inl none ↦ bad (ap status_of none.0) none.1 none.2 | inr c ↦ ends c.0 c.1 c.2 ] ]
-
-  command_most : (command : Command) → CommandEnds old new clock begun given o command → status_of o ≤ 6
-  command_most (Format path blocks half id) ends = format_most old new _ o ends
-  command_most (Replay path base) ends = replay_most old new clock begun given o ends
-
-  command_words : (command : Command) → CommandEnds old new clock begun given o command → status_of o ≡ 1 → ⊥
-  command_words (Format path blocks half id) ends s = format_words old new _ o ends s
-  command_words (Replay path base) ends s = replay_words old new clock begun given o ends s
-
-  command_refused : (command : Command) → CommandEnds old new clock begun given o command → status_of o ≡ 2 → Untouched old new × (old.shows ≡ true → RefusedFor old.seen command)
-  command_refused (Format path blocks half id) ends s = format_refused old new _ o ends s
-  command_refused (Replay path base) ends s = replay_refused old new clock begun given o ends s
-
-  command_disk : (command : Command) → CommandEnds old new clock begun given o command → status_of o ≡ 3 → Rose old.faults new.faults
-  command_disk (Format path blocks half id) ends s = format_disk old new _ o ends s
-  command_disk (Replay path base) ends s = replay_disk old new clock begun given o ends s
-
-  command_link : (command : Command) → CommandEnds old new clock begun given o command → status_of o ≡ 5 → Rose old.link.faults new.link.faults
-  command_link (Format path blocks half id) ends s = format_link old new _ o ends s
-  command_link (Replay path base) ends s = replay_link old new clock begun given o ends s
-
-  command_cut : (command : Command) → CommandEnds old new clock begun given o command → status_of o ≡ 6 → Tells old clock → Replayed old new begun given endings.Cut
-  command_cut (Format path blocks half id) ends s tells = absurd (format_uncut old new _ o ends s)
-  command_cut (Replay path base) ends s tells = replay_cut old new clock begun given o ends s tells
-
-  pub run_most : RunEnds words old new clock begun given o → status_of o ≤ 6
-  run_most run = by_end (status_of o ≤ 6) (λ s. omega (arith, s)) (λ s none same. omega (arith, s)) (λ c is ends. command_most c ends) run
-
-  pub run_words : RunEnds words old new clock begun given o → status_of o ≡ 1 → ((command : Command) → IsCommand words command → ⊥) × Untouched old new
-  run_words run s = by_end (((command : Command) → IsCommand words command → ⊥) × Untouched old new) (λ f. absurd (omega (arith, s, f))) (λ f none same. (none, same)) (λ c is ends. absurd (command_words c ends s)) run
-
-  pub run_refused : RunEnds words old new clock begun given o → status_of o ≡ 2 → Untouched old new × ((command : Command) × IsCommand words command × (old.shows ≡ true → RefusedFor old.seen command))
-  run_refused run s = by_end (Untouched old new × ((command : Command) × IsCommand words command × (old.shows ≡ true → RefusedFor old.seen command))) (λ f. absurd (omega (arith, s, f))) (λ f none same. absurd (omega (arith, s, f))) (λ c is ends.
-      let refused = command_refused c ends s in
-      (refused.0, (c, is, refused.1))) run
-
-  pub run_disk : RunEnds words old new clock begun given o → status_of o ≡ 3 → Rose old.faults new.faults
-  run_disk run s = by_end (Rose old.faults new.faults) (λ f. absurd (omega (arith, s, f))) (λ f none same. absurd (omega (arith, s, f))) (λ c is ends. command_disk c ends s) run
-
-  pub run_link : RunEnds words old new clock begun given o → status_of o ≡ 5 → Rose old.link.faults new.link.faults
-  run_link run s = by_end (Rose old.link.faults new.link.faults) (λ f. absurd (omega (arith, s, f))) (λ f none same. absurd (omega (arith, s, f))) (λ c is ends. command_link c ends s) run
-
-  pub run_cut : RunEnds words old new clock begun given o → status_of o ≡ 6 → Tells old clock → Replayed old new begun given endings.Cut
-  run_cut run s tells = by_end (Replayed old new begun given endings.Cut) (λ f. absurd (omega (arith, s, f))) (λ f none same. absurd (omega (arith, s, f))) (λ c is ends. command_cut c ends s tells) run
-
-  pub run_formatted : RunEnds words old new clock begun given o → status_of o ≡ 0 → old.shows ≡ true → (path : List ℕ) (blocks half id : ℕ) → IsCommand words (Format path blocks half id) → StandsFor new.seen (formatted_state record { blocks = blocks; half = half; id = id })
-  run_formatted run s shows path blocks half id wanted =
-      by_end (StandsFor new.seen (formatted_state record { blocks = blocks; half = half; id = id })) (λ f. absurd (omega (arith, s, f))) (λ f none same. absurd (omega (arith, s, f))) (λ c is ends.
-      format_done old new record { blocks = blocks; half = half; id = id } o (subst (λ (x : Command). CommandEnds old new clock begun given o x) (one_command words c (Format path blocks half id) is wanted) ends) s shows) run
-
-  pub run_served : RunEnds words old new clock begun given o → status_of o ≡ 0 → Tells old clock → (path base : List ℕ) → IsCommand words (Replay path base) → (ending : Ending) × (ending ≢ endings.Cut) × Replayed old new begun given ending
-  run_served run s tells path base wanted =
-      by_end ((ending : Ending) × (ending ≢ endings.Cut) × Replayed old new begun given ending) (λ f. absurd (omega (arith, s, f))) (λ f none same. absurd (omega (arith, s, f))) (λ c is ends.
-      replay_served old new clock begun given o (subst (λ (x : Command). CommandEnds old new clock begun given o x) (one_command words c (Replay path base) is wanted) ends) s tells) run
+-- the cause of each end in the file: it stood for a state
+pub cause_opened : (old new : Device) (o : Outcome) → IsOfOpened o → (old.shows ≡ true → StandsForOne old.seen) → ReplayCause old new o
+cause_opened old new (Served requests changes) is stood = stood
+cause_opened old new Cut is stood = stood
+cause_opened old new LinkFault is stood = stood
+cause_opened old new DiskFault is stood = tt
+cause_opened old new NoMemory is stood = tt
+cause_opened old new (Formatted blocks half media) is stood = absurd is
+cause_opened old new BadWords is stood = absurd is
+cause_opened old new NotStore is stood = absurd is
+cause_opened old new AlreadyStore is stood = absurd is
+cause_opened old new TooSmall is stood = absurd is
+cause_opened old new (Damaged at) is stood = absurd is

@@ -1,151 +1,172 @@
--- How the run of a connection goes on, and how it ends.
-use Rattle.std.proofs.Common.{◌≡◌, ℕ, Err, Bool, true, false, List, [], ◌∷◌, ◌++◌, drop, map, refl, sym, ap, ap₂, ◌∙◌, subst, append_assoc, append-nil, arith}
+-- How the run of a connection begins, goes on by hearing, and ends.
+use Rattle.std.proofs.Common.{◌≡◌, ◌≢◌, ◌≤◌, ◌<◌, ◌+◌, ◌⊎◌, ℕ, zero, suc, Bool, true, false, not, List, [], ◌∷◌, ◌++◌, length, Option, Some, None, Result, Ok, Err, refl, sym, ap, ap₂, ◌∙◌, subst, inl, inr, arith, append_assoc, append-nil, drop}
+use Rattle.std.specs.Prelude.{All}
 use Rattle.std.proofs.Math.Seq.{drop-append_seam}
-use Rattle.std.proofs.lemmas.List.{flat_map_more}
-use Rattle.std.specs.List.{flat_map}
-use Rattle.disk_trait.specs.Device.{Device, Connection, Link}
-use Rattle.disk_trait.specs.Calls.{DiskCalls, IsCounted}
-use Rattle.site_edge.specs.Links.{Said, change_last, after_say, fresh}
-use Rattle.tams_top.specs.declared.request.FlowPut.{FlowPut}
-use Rattle.tams_top.specs.declared.replay.Ending.{Ending}
-use Rattle.tams_top.specs.declared.replay.Ending.TheVariants.{Unbuilt}
-use Rattle.tams_top.specs.Request.{BeginsWith, request_text}
-use Rattle.tams_top.specs.Store.{State}
-use Rattle.tams_top.specs.History.{Taken, Follows, Leads, EndsWith, created_text, unbuilt_text, last_answer}
-use Rattle.tams_top.specs.declared.fault.MakeFault.{MakeFault}
-use Rattle.tams_top.specs.declared.fault.MakeFault.TheVariants as making
-use Rattle.tams_top.specs.Serving.{Reached, IsServed, SiteCalls, connection_of, was_heard_out, disk_held, link_held, make_held, as_run_fault}
 use Rattle.std.proofs.lemmas.Bool.{false≢true}
+use Rattle.disk_trait.specs.Device.{Device, IsDevice, Left, Connection, as_read, may_leave}
+use Rattle.disk_trait.specs.Calls.{Elapses, Unchanged}
+use Rattle.site_edge.specs.Links.{LinkCall, Said, Sends, Tells, after_say, change_last, fresh}
+use Rattle.site_edge.specs.Saying.{IsPrefix}
+use Rattle.tams_top.specs.declared.connection.Ending.{Ending}
+use Rattle.tams_top.specs.declared.connection.Ending.TheVariants.{Complete, Cut, Closed, Starved, Stopped, Unlinked}
+use Rattle.tams_top.specs.declared.store.Store.{Store}
+use Rattle.tams_top.specs.declared.request.Front.TheVariants.{More}
+use Rattle.tams_top.specs.Change.{IsChange}
+use Rattle.tams_top.specs.Request.{BeginsWith, IsFront, request_text}
+use Rattle.tams_top.specs.Store.{State, StandsFor}
+use Rattle.tams_top.specs.Opening.{state_of}
+use Rattle.tams_top.specs.History.{Session, Taken, after, answers_in, answers_of, changes_in, changes_of, change_of, end_of, most_requests, moments_of, requests_of, script_of, session_of, texts_of}
+use Rattle.tams_top.specs.Moments.{AllRight, Beginning, EachKeeps, IsEarlier, IsRight, TellsAll, begun_in, told_before}
+use Rattle.tams_top.specs.Serving.{AreCounts, Counts, CountsAt, Ended, EndsAs, HeardMore, IsServed, Reached, StandsAt, TurnAnswer, connection_of}
+use Rattle.tams_top.proofs.HistoryLemmas.{begun_bound, prefix_itself, script-session}
 use Rattle.tams_top.proofs.RequestLemmas.{length-request_text}
+use Rattle.tams_top.proofs.RightLemmas.{all_over, all_quiet, change_last-push, keeps_quiet, stands_now}
 
--- the last connection is the one that changes
-change_last-push : {A : Type 0} (f : A → A) (xs : List A) (x : A) → change_last f (xs ++ x ∷ []) ≡ xs ++ f x ∷ []
-change_last-push f [] x = refl
-change_last-push f (y ∷ []) x = refl
-change_last-push f (y ∷ z ∷ xs) x = ap (λ ys. y ∷ ys) (change_last-push f (z ∷ xs) x)
-
--- one more at the end of what is joined or mapped
-flat_map-push : {A : Type 0} (f : A → List ℕ) (xs : List A) (x : A) → flat_map f (xs ++ x ∷ []) ≡ flat_map f xs ++ f x
-flat_map-push f xs x = sym (flat_map_more f [] xs x)
-
-map-push : {A : Type 0} (f : A → ℕ) (xs : List A) (x : A) → map f (xs ++ x ∷ []) ≡ map f xs ++ f x ∷ []
-map-push f [] x = refl
-map-push f (y ∷ xs) x = ap (λ ys. f y ∷ ys) (map-push f xs x)
-
-leads_push : (from : State) (ts : List Taken) (mid : State) (t : Taken) (next : State) → Leads from ts mid → Follows mid t next → Leads from (ts ++ t ∷ []) next
-leads_push from [] mid t next e f = (next, subst (λ (s : State). Follows s t next) e f, refl)
-leads_push from (q ∷ qs) mid t next h f = (h.0, h.1, leads_push h.0 qs mid t next h.2 f)
-
--- a connection at its beginning
-pub reached_first : (from : State) (d : Device) (before : List Connection) (begun : List ℕ) → d.link.under_way ≡ true → d.link.connections ≡ before ++ fresh ∷ [] → Reached from before begun d begun [] from
-reached_first from d before begun under_way connections = record {
+-- a connection before its first request
+pub reached_first : (b : Beginning) (d : Device) (s : Store) → state_of s ≡ b.state → EachKeeps d s → AllRight b (session_of []) d → d.link.connections ≡ b.before ++ fresh ∷ [] → Reached b d b.given [] s (record { requests = 0; changes = 0 })
+reached_first b d s state keeps right connections = record {
   taken = [];
-  leads = refl;
-  given_is = sym (append-nil begun);
-  under_way = under_way;
+  state = state;
+  keeps = keeps;
+  right = right;
+  given_is = sym (append-nil b.given);
+  valid = λ k t le. absurd (omega (arith, le));
+  requests = refl;
+  changes = refl;
   connections = connections;
 }
 
--- a request was taken, made and answered
-pub reached_put : (from : State) (before : List Connection) (begun : List ℕ) (old new : Device) (given unread : List ℕ) (moment : ℕ) (put : FlowPut) (to next : State) → Reached from before begun old given unread to → BeginsWith unread put → Follows to record { put = put; moment = moment } next → new.link.under_way ≡ true → new.link.connections ≡ change_last (after_say true created_text) old.link.connections → Reached from before begun new (given ++ moment ∷ []) (drop 167 unread) next
-reached_put from before begun old new given unread moment put to next r begins follows under_way said =
-    let t : Taken = record { put = put; moment = moment } in
-    let rest : drop 167 unread ≡ begins.rest =
-    ap (drop 167) begins.is ∙ ap (λ n. drop n (request_text put ++ begins.rest)) (sym (length-request_text put)) ∙ drop-append_seam (request_text put) begins.rest in
-    let heard : flat_map (λ (x : Taken). request_text x.put) r.taken ++ unread ≡ flat_map (λ (x : Taken). request_text x.put) (r.taken ++ t ∷ []) ++ drop 167 unread =
-    ap (λ u. flat_map (λ (x : Taken). request_text x.put) r.taken ++ u) begins.is
-    ∙ sym (append_assoc (flat_map (λ (x : Taken). request_text x.put) r.taken) (request_text put) begins.rest)
-    ∙ ap₂ ◌++◌ (sym (flat_map-push (λ (x : Taken). request_text x.put) r.taken t)) (sym rest) in
+-- an honest device as it reads stands for the store's state
+pub stands_read : (d : Device) (s : Store) → IsDevice d → d.honest ≡ true → d.shows ≡ true → d.tells ≡ true → EachKeeps d s → StandsFor d.seen (state_of s)
+stands_read d s sound honest shows tells keeps = stands_now d s (as_read d) keeps (sound.itself honest shows tells)
+
+-- The connection was told the script, or a prefix of it where its last part wasn't said whole.
+pub record Told (b : Beginning) (d : Device) (heard script : List ℕ) (said : Bool) : Type 0 where
+  pub told : List ℕ
+  pub connections : d.link.connections ≡ b.before ++ connection_of heard told false (not said) ∷ []
+  pub prefix : IsPrefix told script
+  pub whole : said ≡ true → told ≡ script
+
+-- one answer more was said
+pub told_more : (ok : Bool) (bytes : List ℕ) (b : Beginning) (mid new : Device) (heard answers : List ℕ) → mid.link.connections ≡ b.before ++ connection_of heard answers false false ∷ [] → mid.tells ≡ true → Said ok bytes mid new → Told b new heard (answers ++ bytes) ok
+told_more ok bytes b mid new heard answers connections tells said =
+    let s = said.connections tells in
     record {
-      taken = r.taken ++ t ∷ [];
-      leads = leads_push from r.taken to t next r.leads follows;
-      given_is =
-          ap (λ xs. xs ++ moment ∷ []) r.given_is
-          ∙ append_assoc begun (map (λ (x : Taken). x.moment) r.taken) (moment ∷ [])
-          ∙ ap (λ xs. begun ++ xs) (sym (map-push (λ (x : Taken). x.moment) r.taken t));
-      under_way = under_way;
-      connections =
-          said ∙ ap (change_last (after_say true created_text)) r.connections
-          ∙ change_last-push (after_say true created_text) before _
-          ∙ ap₂ (λ (h s : List ℕ). before ++ connection_of h s false ∷ []) heard (sym (flat_map-push (λ (x : Taken). created_text) r.taken t));
+      told = answers ++ s.0;
+      connections = s.2 ∙ ap (change_last (after_say ok s.0)) connections ∙ change_last-push (after_say ok s.0) b.before _;
+      prefix = (s.1.prefix.0, ap (λ xs. answers ++ xs) s.1.prefix.1 ∙ sym (append_assoc answers s.0 s.1.prefix.0));
+      whole = λ yes. ap (λ xs. answers ++ xs) (s.1.whole yes);
     }
 
--- more bytes were heard
-pub reached_more : (from : State) (before : List Connection) (begun : List ℕ) (old new : Device) (given unread bytes : List ℕ) (to : State) → Reached from before begun old given unread to → new.link.under_way ≡ true → new.link.connections ≡ change_last (λ c. record c { heard = c.heard ++ bytes }) old.link.connections → Reached from before begun new given (unread ++ bytes) to
-reached_more from before begun old new given unread bytes to r under_way heard = record {
-  taken = r.taken;
-  leads = r.leads;
-  given_is = r.given_is;
-  under_way = under_way;
-  connections =
-      heard ∙ ap (change_last (λ (c : Connection). record c { heard = c.heard ++ bytes })) r.connections
-      ∙ change_last-push (λ (c : Connection). record c { heard = c.heard ++ bytes }) before _
-      ∙ ap (λ (h : List ℕ). before ++ connection_of h (flat_map (λ (x : Taken). created_text) r.taken) false ∷ []) (append_assoc (flat_map (λ (x : Taken). request_text x.put) r.taken) unread bytes);
+-- what an image stands for that a crash left once all changes of a history's requests were made
+pub record StandsLast (from : State) (h : Session) (image : List ℕ) : Type 0 where
+  pub earlier : Session
+  pub is_earlier : IsEarlier earlier h
+  pub stands : StandsFor image (end_of from earlier)
+  pub all_made : changes_of from h.taken ≤ changes_in from earlier
+
+-- so it stays right while an answer is being said
+says_right : (b : Beginning) (h : Session) (answers bytes : List ℕ) (q p : Left) → q.told ≡ told_before b ++ answers ∷ [] → StandsLast b.state h q.image → script_of b.state h ≡ answers ++ bytes → Tells false bytes q p → IsRight b h p
+says_right b h answers bytes q p told stands script says =
+    let sent = says.told.0 in
+    let prefix = says.told.1.prefix in
+    inr (
+      answers ++ sent,
+      says.told.2 ∙ ap (change_last (λ (t : List ℕ). t ++ sent)) told ∙ change_last-push (λ (t : List ℕ). t ++ sent) (told_before b) answers,
+      record {
+        earlier = stands.earlier;
+        is_earlier = stands.is_earlier;
+        stands = rw says.image stands.stands;
+        acknowledged = omega (arith, stands.all_made, begun_bound 0 b.state h.taken (answers ++ sent));
+        prefix = (prefix.0, script ∙ ap (λ xs. answers ++ xs) prefix.1 ∙ sym (append_assoc answers sent prefix.0));
+      },
+    )
+
+pub all_said : (ok : Bool) (b : Beginning) (h : Session) (answers bytes : List ℕ) (mid new : Device) → AllRight b h mid → ((q : Left) → may_leave mid q → q.told ≡ told_before b ++ answers ∷ []) → ((q : Left) → may_leave mid q → StandsLast b.state h q.image) → script_of b.state h ≡ answers ++ bytes → LinkCall (Tells false bytes) (Tells ok bytes) ok mid new → AllRight b h new
+all_said ok b h answers bytes mid new right told stands script call =
+    all_over b h (Tells false bytes) (Tells ok bytes) mid new right call.time (λ q p could says. says_right b h answers bytes q p (told q could) (stands q could) script says)
+
+pub keeps_said : (ok : Bool) (bytes : List ℕ) (mid new : Device) (s : Store) → EachKeeps mid s → LinkCall (Tells false bytes) (Tells ok bytes) ok mid new → EachKeeps new s
+keeps_said ok bytes mid new s keeps call = record {
+  header = keeps.header;
+  records = keeps.records;
+  gives = record { gives = λ p could. let from = call.time.now p could in rw from.2.image (keeps.gives.gives from.0 from.1) };
+  folds = keeps.folds;
 }
 
--- the peer's bytes ended
-pub served_out : (from : State) (before : List Connection) (begun : List ℕ) (old new : Device) (given unread : List ℕ) (ending : Ending) (to : State) → Reached from before begun old given unread to → new.link.under_way ≡ true → new.link.connections ≡ change_last (λ c. record c { ended = true }) old.link.connections → was_heard_out ending ≡ true → last_answer ending ≡ [] → EndsWith to unread ending → IsServed from before begun new given ending to
-served_out from before begun old new given unread ending to r under_way heard out silent ends = record {
-  heard = flat_map (λ t. request_text t.put) r.taken ++ unread;
-  moments = map (λ t. t.moment) r.taken;
-  told = flat_map (λ t. created_text) r.taken;
-  serves = record {
+-- a connection that was served by a history and has ended
+pub ended_with : (b : Beginning) (d : Device) (given rest : List ℕ) (n : Counts) (ending : Ending) (h : Session) (c : Connection) → d.link.connections ≡ b.before ++ c ∷ [] → given ≡ b.given ++ moments_of (requests_of h) → c.heard ≡ texts_of (requests_of h) ++ rest → IsPrefix c.told (script_of b.state h) → (c.failed ≡ false → c.told ≡ script_of b.state h) → All (λ t. IsChange (change_of t)) (requests_of h) → length h.taken ≤ most_requests → EndsAs b.state c h rest ending → CountsAt b.state h n ending → StandsAt d.seen b.state h ending → AllRight b h d → Ended b d given n ending
+ended_with b d given rest n ending h c connections given_is heard told whole valid few ends counts stands right = record {
+  session = h;
+  connection = c;
+  connections = connections;
+  given_is = given_is;
+  served = record { rest = rest; heard = heard; told = told; whole = whole; valid = valid; few = few; ends = ends };
+  counts = counts;
+  stands = stands;
+  right = right;
+}
+
+-- the end of the peer's bytes
+pub heard_end : (old new : Device) (before left : List ℕ) (count : ℕ) → count ≡ 0 → HeardMore old new before left count → (left ≡ before) × (new.link.connections ≡ change_last (λ c. record c { ended = true }) old.link.connections)
+heard_end old new before left count none heard = subst (HeardMore old new before left) none heard
+
+-- What hearing leaves of a connection that has come so far.
+module _ (b : Beginning) (old new : Device) (given unread : List ℕ) (store : Store) (n : Counts) (r : Reached b old given unread store n) (few : n.requests ≤ most_requests) (sound : IsDevice old) (after_sound : IsDevice new) (honest : new.honest ≡ true) (shows : new.shows ≡ true) (tells : new.tells ≡ true) (time : Elapses Unchanged Unchanged old new) where
+  -- more bytes
+  pub reached_more : (bytes left : List ℕ) → left ≡ unread ++ bytes → new.link.connections ≡ change_last (λ c. record c { heard = c.heard ++ bytes }) old.link.connections → Reached b new given left store n
+  reached_more bytes left is connections = record {
     taken = r.taken;
-    rest = unread;
-    spells = refl;
-    leads = r.leads;
-    at = refl;
-    script = sym (append-nil (flat_map (λ (t : Taken). created_text) r.taken)) ∙ ap (λ xs. flat_map (λ (t : Taken). created_text) r.taken ++ xs) (sym silent);
-    ends = ends;
-  };
-  given_is = r.given_is;
-  under_way = under_way;
-  connections =
-      heard ∙ ap (change_last (λ (c : Connection). record c { ended = true })) r.connections
-      ∙ change_last-push (λ (c : Connection). record c { ended = true }) before _
-      ∙ ap (λ (b : Bool). before ++ connection_of (flat_map (λ (x : Taken). request_text x.put) r.taken ++ unread) (flat_map (λ (x : Taken). created_text) r.taken) b ∷ []) (sym out);
-}
+    state = r.state;
+    keeps = keeps_quiet old new store r.keeps time;
+    right = all_quiet b (session_of r.taken) old new sound r.right time;
+    given_is = r.given_is;
+    valid = r.valid;
+    requests = r.requests;
+    changes = r.changes;
+    connections =
+        connections ∙ ap (change_last (λ (c : Connection). record c { heard = c.heard ++ bytes })) r.connections
+        ∙ change_last-push (λ (c : Connection). record c { heard = c.heard ++ bytes }) b.before _
+        ∙ ap (λ (heard : List ℕ). b.before ++ connection_of heard (answers_of 0 b.state r.taken) false false ∷ []) (append_assoc (texts_of r.taken) unread bytes ∙ ap (λ xs. texts_of r.taken ++ xs) (sym is));
+  }
 
--- what isn't built was answered
-pub served_unbuilt : (from : State) (before : List Connection) (begun : List ℕ) (old new : Device) (given unread : List ℕ) (to : State) → Reached from before begun old given unread to → new.link.under_way ≡ true → new.link.connections ≡ change_last (after_say true unbuilt_text) old.link.connections → EndsWith to unread Unbuilt → IsServed from before begun new given Unbuilt to
-served_unbuilt from before begun old new given unread to r under_way said ends = record {
-  heard = flat_map (λ t. request_text t.put) r.taken ++ unread;
-  moments = map (λ t. t.moment) r.taken;
-  told = flat_map (λ t. created_text) r.taken ++ unbuilt_text;
-  serves = record {
-    taken = r.taken;
-    rest = unread;
-    spells = refl;
-    leads = r.leads;
-    at = refl;
-    script = refl;
-    ends = ends;
-  };
-  given_is = r.given_is;
-  under_way = under_way;
-  connections =
-      said ∙ ap (change_last (after_say true unbuilt_text)) r.connections ∙ change_last-push (after_say true unbuilt_text) before _;
-}
+  pub reached_heard : (count : ℕ) (left : List ℕ) → 0 < count → HeardMore old new unread left count → Reached b new given left store n
+  reached_heard zero left some heard = absurd (omega (arith, some))
+  reached_heard (suc k) left some heard = reached_more heard.0 left heard.2 heard.3
 
--- all of the bytes were said
-pub said_whole : (bytes : List ℕ) (old new : Device) → Said true bytes old new → old.tells ≡ true → new.link.connections ≡ change_last (after_say true bytes) old.link.connections
-said_whole bytes old new said tells =
-    let s = said.connections tells in
-    s.2 ∙ ap (λ (x : List ℕ). change_last (after_say true x) old.link.connections) (s.1.whole refl)
+  -- the end of the connection without another answer
+  ended_unanswered : (ending : Ending) (ended failed : Bool) → (AreCounts b.state (session_of r.taken) n → CountsAt b.state (session_of r.taken) n ending) → new.link.connections ≡ b.before ++ connection_of (texts_of r.taken ++ unread) (answers_of 0 b.state r.taken) ended failed ∷ [] → EndsAs b.state (connection_of (texts_of r.taken ++ unread) (answers_of 0 b.state r.taken) ended failed) (session_of r.taken) unread ending → (StandsFor new.seen (end_of b.state (session_of r.taken)) → StandsAt new.seen b.state (session_of r.taken) ending) → Ended b new given n ending
+  ended_unanswered ending ended failed count connections ends at =
+      let whole = sym (script-session b.state r.taken) in
+      let all : requests_of (session_of r.taken) ≡ r.taken = append-nil r.taken in
+      let stands : StandsFor new.seen (end_of b.state (session_of r.taken)) = subst (StandsFor new.seen) r.state (stands_read new store after_sound honest shows tells (keeps_quiet old new store r.keeps time)) in
+      ended_with b new given unread n ending (session_of r.taken) (connection_of (texts_of r.taken ++ unread) (answers_of 0 b.state r.taken) ended failed) connections
+      (r.given_is ∙ ap (λ (ts : List Taken). b.given ++ moments_of ts) (sym all))
+      (ap (λ (ts : List Taken). texts_of ts ++ unread) (sym all))
+      (subst (IsPrefix (answers_of 0 b.state r.taken)) whole (prefix_itself (answers_of 0 b.state r.taken)))
+      (λ _. whole)
+      (rw all r.valid)
+      (omega (arith, few, r.requests))
+      ends
+      (count (record { requests = omega (arith, r.requests); changes = omega (arith, r.changes) }))
+      (at stands)
+      (all_quiet b (session_of r.taken) old new sound r.right time)
 
--- a count that stays
-counted_same : (before now : ℕ) → now ≡ before → IsCounted true before now
-counted_same before now e = record { never_falls = omega (arith, e); stays = λ _. e; rises = λ no. absurd (false≢true (sym no)) }
+  ended_heard : new.link.connections ≡ change_last (λ c. record c { ended = true }) old.link.connections → new.link.connections ≡ b.before ++ connection_of (texts_of r.taken ++ unread) (answers_of 0 b.state r.taken) true false ∷ []
+  ended_heard connections =
+      connections ∙ ap (change_last (λ (c : Connection). record c { ended = true })) r.connections
+      ∙ change_last-push (λ (c : Connection). record c { ended = true }) b.before _
 
--- calls of the disk alone leave the links
-pub site_calls-disk : (ok : Bool) (old new : Device) → DiskCalls ok old new → SiteCalls ok true old new
-site_calls-disk ok old new calls = record {
-  same = calls.same;
-  faults = calls.counted;
-  link_faults = counted_same _ _ (ap (λ (l : Link). l.faults) calls.link);
-}
+  pub ended_complete : unread ≡ [] → new.link.connections ≡ change_last (λ c. record c { ended = true }) old.link.connections → Ended b new given n Complete
+  ended_complete none connections =
+      ended_unanswered Complete true false (λ n. n) (ended_heard connections) (refl, refl, refl, none) (λ stands. stands)
 
--- what a change that wasn't made leaves
-pub site_calls-make : (fault : MakeFault) (old new : Device) → DiskCalls (make_held {T = Unit {0}} (Err fault)) old new → SiteCalls (disk_held {T = Unit {0}} (Err (as_run_fault fault))) (link_held {T = Unit {0}} (Err (as_run_fault fault))) old new
-site_calls-make making.Disk old new calls = site_calls-disk false old new calls
-site_calls-make making.Memory old new calls = site_calls-disk true old new calls
+  pub ended_cut : unread ≢ [] → IsFront unread More → new.link.connections ≡ change_last (λ c. record c { ended = true }) old.link.connections → Ended b new given n Cut
+  ended_cut some front connections =
+      ended_unanswered Cut true false (λ _. tt) (ended_heard connections) (refl, refl, refl, some, front) (λ stands. stands)
+
+  pub ended_unheard : new.link.connections ≡ change_last (λ c. record c { failed = true }) old.link.connections → Ended b new given n Unlinked
+  ended_unheard connections =
+      ended_unanswered Unlinked false true (λ _. tt)
+      (connections ∙ ap (change_last (λ (c : Connection). record c { failed = true })) r.connections ∙ change_last-push (λ (c : Connection). record c { failed = true }) b.before _)
+      (refl, inl refl) (λ stands. stands)

@@ -4,8 +4,11 @@ pub mod Request
 pub mod Change
 pub mod Library
 pub mod Store
+pub mod Answer
 pub mod History
 pub mod Opening
 pub mod Folding
+pub mod Unread
+pub mod Moments
 pub mod Serving
 pub mod Running

@@ -1,7 +1,8 @@
 -- The library: what the store keeps, and what a change makes of it. A source is there while a flow names
 -- it, and has no member of its own yet.
-use Rattle.std.specs.Prelude.{◌-◌, ◌+◌, ◌*◌, ◌==◌, ℕ, List, [], ◌∷◌, ◌++◌, Option, Some, None, find, filter, nat_lt, if◌then◌else◌}
+use Rattle.std.specs.Prelude.{◌<◌, ◌≤◌, ◌^◌, ◌-◌, ◌+◌, ◌*◌, ◌==◌, ℕ, List, [], ◌∷◌, ◌++◌, Option, Some, None, find, filter, nat_lt, if◌then◌else◌}
 use Rattle.media_journal.specs.declared.header.Header.{Header}
+use Rattle.site_edge.specs.Clocks.{IsMoment}
 use Rattle.tams_top.specs.declared.change.Change.{Change}
 use Rattle.tams_top.specs.declared.library.Flow.{Flow}
 use Rattle.tams_top.specs.declared.library.Library.{Library}
@@ -32,3 +33,19 @@ applied c library = with_flow library (put_flow c (flow_of c.flow library.flows)
 -- the empty library of a header: its media blocks are those behind the two halves
 abbrev pub empty_library : Header → Library
 empty_library h = record { id = h.id; blocks = h.blocks - (2 * h.half + 2); flows = [] }
+
+-- a flow's ids have 128 bits, and its moments lie up to the year 9999
+pub record IsGoodFlow (f : Flow) : Type 0 where
+  pub id : f.id < 2 ^ 128
+  pub source : f.source < 2 ^ 128
+  pub created : IsMoment f.created
+  pub updated : IsMoment f.updated
+
+-- flows by rising id, each once and none below this id
+abbrev pub AreFlowsFrom : ℕ → List Flow → Type 0
+AreFlowsFrom least [] = Unit {0}
+AreFlowsFrom least (f ∷ fs) = (least ≤ f.id) × IsGoodFlow f × AreFlowsFrom (f.id + 1) fs
+
+-- The library is good: its flows stand by rising id, each once, and each is a good one.
+abbrev pub IsGood : Library → Type 0
+IsGood library = AreFlowsFrom 0 library.flows

@@ -1,23 +1,27 @@
 -- What a run of the top call ends with, and the cause of each end.
-use Rattle.std.specs.Prelude.{◌≡◌, ◌≢◌, ◌-◌, ◌*◌, ◌⊎◌, ℕ, Bool, true, List, [], ◌∷◌, ◌++◌, length}
-use Rattle.disk_trait.specs.Device.{Device}
-use Rattle.disk_trait.specs.Calls.{Rose}
+use Rattle.std.specs.Prelude.{◌≡◌, ◌-◌, ◌+◌, ◌*◌, ◌≤◌, ◌⊎◌, ℕ, Bool, true, false, List, [], ◌∷◌, ◌++◌, length, codes}
+use Rattle.std.specs.Fmt.{decimal}
+use Rattle.disk_trait.specs.Device.{Device, Connection}
+use Rattle.disk_trait.specs.Calls.{Elapses, IsCounted, Rose, Unchanged}
+use Rattle.site_edge.specs.Sinks.{Puts}
 use Rattle.media_journal.specs.declared.header.Header.{Header}
 use Rattle.media_journal.specs.File.{HasOpenHeader}
 use Rattle.media_journal.specs.Formatting.{FitsStore}
 use Rattle.media_journal.specs.Opening.{IsStore}
 use Rattle.tams_top.specs.declared.outcome.Outcome.{Outcome}
 use Rattle.tams_top.specs.declared.outcome.Outcome.TheVariants.{Formatted, Served, Cut, BadWords, NotStore, AlreadyStore, TooSmall, Damaged, DiskFault, NoMemory, LinkFault}
-use Rattle.tams_top.specs.declared.replay.Ending.{Ending}
-use Rattle.tams_top.specs.declared.replay.Ending.TheVariants as endings
+use Rattle.tams_top.specs.declared.connection.Ending.{Ending}
+use Rattle.tams_top.specs.declared.connection.Ending.TheVariants as endings
 use Rattle.tams_top.specs.declared.words.Command.{Command}
 use Rattle.tams_top.specs.declared.words.Command.TheVariants.{Format, Replay}
 use Rattle.tams_top.specs.Words.{IsCommand}
-use Rattle.tams_top.specs.Library.{empty_library}
+use Rattle.tams_top.specs.Library.{IsGood, empty_library}
 use Rattle.tams_top.specs.Store.{State, StandsFor, empty_rows}
-use Rattle.tams_top.specs.Opening.{StandsForNone}
-use Rattle.tams_top.specs.History.{Serves}
-use Rattle.tams_top.specs.Serving.{connection_of, was_heard_out}
+use Rattle.tams_top.specs.declared.store.Store.{Store}
+use Rattle.tams_top.specs.Moments.{AllRight, Beginning, EachKeeps, IsEarlier, IsSettled, TellsAll}
+use Rattle.tams_top.specs.Opening.{StandsForNone, state_of}
+use Rattle.tams_top.specs.History.{Session, moments_of, requests_of, answers_in, changes_in, end_of, session_of}
+use Rattle.tams_top.specs.Serving.{Counts, IsServed, StandsAt}
 
 -- the status of each end
 abbrev pub status_of : Outcome → ℕ
@@ -33,72 +37,166 @@ status_of NoMemory = 4
 status_of LinkFault = 5
 status_of Cut = 6
 
--- one connection was heard and served to its end
-pub record OnePeer (old new : Device) (begun given : List ℕ) (from : State) (ending : Ending) (to : State) : Type 0 where
-  pub heard : List ℕ
-  pub moments : List ℕ
-  pub told : List ℕ
-  pub serves : Serves from heard moments told ending to
-  pub given_is : given ≡ begun ++ moments
-  pub connections : new.link.connections ≡ old.link.connections ++ connection_of heard told (was_heard_out ending) ∷ []
+-- a number within a line
+abbrev pub numbered : List ℕ → ℕ → List ℕ → List ℕ
+numbered front n rest = (front ++ decimal n) ++ rest
 
--- no peer came, and none will: nothing was heard, and the state stays
-pub record NoPeer (old new : Device) (begun given : List ℕ) (from : State) (ending : Ending) (to : State) : Type 0 where
-  pub state : to ≡ from
-  pub ending_is : ending ≡ endings.Complete
-  pub given_is : given ≡ begun
-  pub connections : new.link.connections ≡ old.link.connections
-  pub closed : new.link.closed ≡ true
+-- the line of each end in the notes
+abbrev pub line_of : Outcome → List ℕ
+line_of (Formatted blocks half media) =
+    numbered (codes "formatted ") blocks (numbered (codes " blocks, ") half (numbered (codes " per half, ") media (codes " for media\n")))
+line_of (Served requests changes) =
+    numbered (codes "ok: ") requests (numbered (codes " requests, ") changes (codes " changes\n"))
+line_of BadWords = codes "bad words\n"
+line_of NotStore = codes "not a store\n"
+line_of AlreadyStore = codes "already a store\n"
+line_of TooSmall = codes "too small\n"
+line_of (Damaged at) = numbered (codes "damaged at ") at (codes "\n")
+line_of DiskFault = codes "disk fault\n"
+line_of NoMemory = codes "no memory\n"
+line_of LinkFault = codes "link fault\n"
+line_of Cut = codes "input ended within a request\n"
 
--- A connection was served to its end, or no peer came: one history leads from a state to the one for
--- which the file stands now, and gives what the connection was told.
-pub record Connected (old new : Device) (begun given : List ℕ) (from : State) (ending : Ending) : Type 0 where
-  pub to : State
-  pub stands : StandsFor new.seen to
-  pub history : OnePeer old new begun given from ending to ⊎ NoPeer old new begun given from ending to
+-- A sink took these bytes, or a prefix of them where its count of faults rose.
+pub record TakesPart (ok tells : Bool) (bytes : List ℕ) (faults faults_after : ℕ) (taken taken_after : List ℕ) : Type 0 where
+  pub counted : IsCounted ok faults faults_after
+  pub puts : tells ≡ true → Puts ok bytes taken taken_after
 
--- A run of `replay` that ended with its connection, from the state for which the file stood at the start.
-pub record Replayed (old new : Device) (begun given : List ℕ) (ending : Ending) : Type 0 where
-  pub from : State
-  pub stood : StandsFor old.seen from
-  pub connected : Connected old new begun given from ending
+-- nothing was written, heard or said, and a crash leaves what it could leave before
+pub record Untouched (old new : Device) : Type 0 where
+  pub seen : new.seen ≡ old.seen
+  pub handed : new.handed ≡ old.handed
+  pub link : new.link ≡ old.link
+  pub time : Elapses Unchanged Unchanged old new
 
--- the outcome of a connection by its ending
-abbrev pub IsOutcome : Ending → Outcome → Type 0
-IsOutcome ending (Served requests changes) = ending ≢ endings.Cut
-IsOutcome ending Cut = ending ≡ endings.Cut
-IsOutcome ending (Formatted blocks half media) = ⊥
-IsOutcome ending BadWords = ⊥
-IsOutcome ending NotStore = ⊥
-IsOutcome ending AlreadyStore = ⊥
-IsOutcome ending TooSmall = ⊥
-IsOutcome ending (Damaged at) = ⊥
-IsOutcome ending DiskFault = ⊥
-IsOutcome ending NoMemory = ⊥
-IsOutcome ending LinkFault = ⊥
+-- the outcome of a connection, by its history and how it ended
+abbrev pub OutcomeIs : State → Session → Ending → Outcome → Type 0
+OutcomeIs from h endings.Complete o = o ≡ Served (answers_in h) (changes_in from h)
+OutcomeIs from h endings.Closed o = o ≡ Served (answers_in h) (changes_in from h)
+OutcomeIs from h endings.Cut o = o ≡ Cut
+OutcomeIs from h endings.Starved o = o ≡ NoMemory
+OutcomeIs from h endings.Stopped o = o ≡ DiskFault
+OutcomeIs from h endings.Unlinked o = o ≡ LinkFault
 
--- the site shows its bytes and tells its links, and the clock tells its moments
-pub record Tells (d : Device) (clock : Bool) : Type 0 where
-  pub shows : d.shows ≡ true
-  pub tells : d.tells ≡ true
-  pub clock_tells : clock ≡ true
+-- the same by counts
+abbrev pub OutcomeBy : Ending → Counts → Outcome → Type 0
+OutcomeBy endings.Complete n o = o ≡ Served n.requests n.changes
+OutcomeBy endings.Closed n o = o ≡ Served n.requests n.changes
+OutcomeBy endings.Cut n o = o ≡ Cut
+OutcomeBy endings.Starved n o = o ≡ NoMemory
+OutcomeBy endings.Stopped n o = o ≡ DiskFault
+OutcomeBy endings.Unlinked n o = o ≡ LinkFault
+
+-- the beginning of a run over a file that stands for a state
+abbrev pub beginning : State → Device → List ℕ → Beginning
+beginning from old begun = record { state = from; before = old.link.connections; given = begun; moment = old.moment }
+
+-- the library is good after each part of a history
+abbrev pub AllGood : State → Session → Type 0
+AllGood from h = (g : Session) → IsEarlier g h → IsGood (end_of from g).library
+
+-- One connection was served to its end, by one history.
+pub record OnePeer (b : Beginning) (new : Device) (given : List ℕ) (o : Outcome) : Type 0 where
+  pub session : Session
+  pub connection : Connection
+  pub ending : Ending
+  pub connections : new.link.connections ≡ b.before ++ connection ∷ []
+  pub given_is : given ≡ b.given ++ moments_of (requests_of session)
+  pub served : IsServed b.state connection session ending
+  pub stands : StandsAt new.seen b.state session ending
+  pub outcome : OutcomeIs b.state session ending o
+  pub right : AllRight b session new
+  pub good : AllGood b.state session
+
+-- the ends of a run in which no connection began: no peer will come, waiting for one failed, or opening
+-- the store did
+abbrev pub EndsWithoutPeer : Device → Outcome → Type 0
+EndsWithoutPeer new (Served requests changes) = (requests ≡ 0) × (changes ≡ 0) × (new.link.closed ≡ true)
+EndsWithoutPeer new LinkFault = Unit {0}
+EndsWithoutPeer new DiskFault = Unit {0}
+EndsWithoutPeer new NoMemory = Unit {0}
+EndsWithoutPeer new Cut = ⊥
+EndsWithoutPeer new (Formatted blocks half media) = ⊥
+EndsWithoutPeer new BadWords = ⊥
+EndsWithoutPeer new NotStore = ⊥
+EndsWithoutPeer new AlreadyStore = ⊥
+EndsWithoutPeer new TooSmall = ⊥
+EndsWithoutPeer new (Damaged at) = ⊥
+
+-- No connection began, and the state stays.
+pub record NoPeer (b : Beginning) (new : Device) (given : List ℕ) (o : Outcome) : Type 0 where
+  pub connections : new.link.connections ≡ b.before
+  pub given_is : given ≡ b.given
+  pub stands : StandsFor new.seen b.state
+  pub ends : EndsWithoutPeer new o
+  pub right : AllRight b (session_of []) new
+
+-- A run of `replay` from its beginning.
+abbrev pub Replayed : Beginning → Device → List ℕ → Outcome → Type 0
+Replayed b new given o = OnePeer b new given o ⊎ NoPeer b new given o
+
+-- the image stands for some state
+abbrev pub StandsForOne : List ℕ → Type 0
+StandsForOne image = (s : State) × StandsFor image s
+
+-- the cause of each end of `replay` in the file
+abbrev pub ReplayCause : Device → Device → Outcome → Type 0
+ReplayCause old new (Served requests changes) = old.shows ≡ true → StandsForOne old.seen
+ReplayCause old new Cut = old.shows ≡ true → StandsForOne old.seen
+ReplayCause old new LinkFault = old.shows ≡ true → StandsForOne old.seen
+ReplayCause old new NotStore = (old.shows ≡ true → ¬ (IsStore old.seen)) × Untouched old new
+ReplayCause old new (Damaged at) = (old.shows ≡ true → IsStore old.seen × StandsForNone old.seen) × Untouched old new
+ReplayCause old new DiskFault = Unit {0}
+ReplayCause old new NoMemory = Unit {0}
+ReplayCause old new (Formatted blocks half media) = ⊥
+ReplayCause old new BadWords = ⊥
+ReplayCause old new AlreadyStore = ⊥
+ReplayCause old new TooSmall = ⊥
+
+-- the ends of `replay`, each with its cause, and the one history of all that was heard, told and left
+pub record ReplayEnds (old new : Device) (clock : Bool) (begun given : List ℕ) (o : Outcome) : Type 0 where
+  pub cause : ReplayCause old new o
+  pub history : TellsAll old clock → IsSettled old → (from : State) → StandsFor old.seen from → Replayed (beginning from old begun) new given o
+
+-- the outcomes of a store that was opened
+abbrev pub IsOfOpened : Outcome → Type 0
+IsOfOpened (Served requests changes) = Unit {0}
+IsOfOpened Cut = Unit {0}
+IsOfOpened DiskFault = Unit {0}
+IsOfOpened NoMemory = Unit {0}
+IsOfOpened LinkFault = Unit {0}
+IsOfOpened (Formatted blocks half media) = ⊥
+IsOfOpened BadWords = ⊥
+IsOfOpened NotStore = ⊥
+IsOfOpened AlreadyStore = ⊥
+IsOfOpened TooSmall = ⊥
+IsOfOpened (Damaged at) = ⊥
+
+-- the ends of serving a store that was opened, wherever the run began
+pub record ConnectEnds (store : Store) (old new : Device) (clock : Bool) (begun given : List ℕ) (o : Outcome) : Type 0 where
+  pub outcome : IsOfOpened o
+  pub history : TellsAll old clock → EachKeeps old store → (b : Beginning) → b.state ≡ state_of store → b.before ≡ old.link.connections → b.given ≡ begun → AllRight b (session_of []) old → Replayed b new given o
 
 -- the state of a store that was formatted with these numbers
 abbrev pub formatted_state : Header → State
 formatted_state h = record { library = empty_library h; room = 4096 * h.half - 21 }
 
--- nothing was written, heard or said
-pub record Untouched (old new : Device) : Type 0 where
-  pub seen : new.seen ≡ old.seen
-  pub handed : new.handed ≡ old.handed
-  pub link : new.link ≡ old.link
+-- A store was made of a device that had none, and the outcome has its numbers.
+pub record IsMade (old new : Device) (h : Header) (blocks half media : ℕ) : Type 0 where
+  pub blocks_is : blocks ≡ h.blocks
+  pub half_is : half ≡ h.half
+  pub media_is : media ≡ h.blocks - (2 * h.half + 2)
+  pub none : old.shows ≡ true → ¬ (HasOpenHeader old.seen)
+  pub fits : old.shows ≡ true → FitsStore h (length old.seen) empty_rows
+  pub stands : old.shows ≡ true → StandsFor new.seen (formatted_state h)
 
 -- the ends of `format`, each with its cause
 abbrev pub FormatEnds : Device → Device → Header → Outcome → Type 0
-FormatEnds old new h (Formatted blocks half media) = old.shows ≡ true → StandsFor new.seen (formatted_state h)
+FormatEnds old new h (Formatted blocks half media) = IsMade old new h blocks half media
 FormatEnds old new h AlreadyStore = (old.shows ≡ true → HasOpenHeader old.seen) × Untouched old new
-FormatEnds old new h TooSmall = (old.shows ≡ true → ¬ (FitsStore h (length old.seen) empty_rows)) × Untouched old new
-FormatEnds old new h DiskFault = Rose old.faults new.faults
+FormatEnds old new h TooSmall =
+    (old.shows ≡ true → (¬ (HasOpenHeader old.seen)) × (¬ (FitsStore h (length old.seen) empty_rows))) × Untouched old new
+FormatEnds old new h DiskFault = Unit {0}
 FormatEnds old new h NoMemory = Unit {0}
 FormatEnds old new h (Served requests changes) = ⊥
 FormatEnds old new h Cut = ⊥
@@ -107,32 +205,60 @@ FormatEnds old new h NotStore = ⊥
 FormatEnds old new h (Damaged at) = ⊥
 FormatEnds old new h LinkFault = ⊥
 
--- the ends of `replay`, each with its cause
-abbrev pub ReplayEnds : Device → Device → Bool → List ℕ → List ℕ → Outcome → Type 0
-ReplayEnds old new clock begun given (Served requests changes) = Tells old clock → (ending : Ending) × (ending ≢ endings.Cut) × Replayed old new begun given ending
-ReplayEnds old new clock begun given Cut = Tells old clock → Replayed old new begun given endings.Cut
-ReplayEnds old new clock begun given NotStore = (old.shows ≡ true → ¬ (IsStore old.seen)) × Untouched old new
-ReplayEnds old new clock begun given (Damaged at) = (old.shows ≡ true → StandsForNone old.seen) × Untouched old new
-ReplayEnds old new clock begun given DiskFault = Rose old.faults new.faults
-ReplayEnds old new clock begun given LinkFault = Rose old.link.faults new.link.faults
-ReplayEnds old new clock begun given NoMemory = Unit {0}
-ReplayEnds old new clock begun given (Formatted blocks half media) = ⊥
-ReplayEnds old new clock begun given BadWords = ⊥
-ReplayEnds old new clock begun given AlreadyStore = ⊥
-ReplayEnds old new clock begun given TooSmall = ⊥
-
 -- the ends of a command
 abbrev pub CommandEnds : Device → Device → Bool → List ℕ → List ℕ → Outcome → Command → Type 0
 CommandEnds old new clock begun given o (Format path blocks half id) = FormatEnds old new record { blocks = blocks; half = half; id = id } o
 CommandEnds old new clock begun given o (Replay path base) = ReplayEnds old new clock begun given o
 
--- the ends of a run: no memory to read the words, words that are no command, which leave the site as it
--- was, or the end of their command
-abbrev pub RunEnds : List (List ℕ) → Device → Device → Bool → List ℕ → List ℕ → Outcome → Type 0
-RunEnds words old new clock begun given o =
-    (o ≡ NoMemory)
-    ⊎ (((o ≡ BadWords) × ((command : Command) → IsCommand words command → ⊥) × Untouched old new)
+-- no call of the disk failed
+abbrev pub no_disk_fault : Outcome → Bool
+no_disk_fault DiskFault = false
+no_disk_fault (Formatted blocks half media) = true
+no_disk_fault (Served requests changes) = true
+no_disk_fault Cut = true
+no_disk_fault BadWords = true
+no_disk_fault NotStore = true
+no_disk_fault AlreadyStore = true
+no_disk_fault TooSmall = true
+no_disk_fault (Damaged at) = true
+no_disk_fault NoMemory = true
+no_disk_fault LinkFault = true
+
+-- The count of link faults over a run by its end. Want of memory and a disk fault come before it: behind
+-- them the link may have failed too.
+abbrev pub LinkFaults : Outcome → ℕ → ℕ → Type 0
+LinkFaults LinkFault before now = (before ≤ now) × Rose before now
+LinkFaults DiskFault before now = before ≤ now
+LinkFaults NoMemory before now = before ≤ now
+LinkFaults (Formatted blocks half media) before now = now ≡ before
+LinkFaults (Served requests changes) before now = now ≡ before
+LinkFaults Cut before now = now ≡ before
+LinkFaults BadWords before now = now ≡ before
+LinkFaults NotStore before now = now ≡ before
+LinkFaults AlreadyStore before now = now ≡ before
+LinkFaults TooSmall before now = now ≡ before
+LinkFaults (Damaged at) before now = now ≡ before
+
+-- the counts of faults over a run by its end
+pub record FaultCounts (old new : Device) (o : Outcome) : Type 0 where
+  pub disk : IsCounted (no_disk_fault o) old.faults new.faults
+  pub link : LinkFaults o old.link.faults new.link.faults
+
+-- words that are no command
+abbrev pub IsNoCommand : List (List ℕ) → Type 0
+IsNoCommand words = (command : Command) → IsCommand words command → ⊥
+
+-- The ends of a run: no memory to read the words, or words that are no command, which leave the site and
+-- the clock as they were; or the end of their command.
+abbrev pub EndCause : List (List ℕ) → Device → Device → Bool → List ℕ → List ℕ → Outcome → Type 0
+EndCause words old new clock begun given o =
+    ((o ≡ NoMemory) × (given ≡ begun) × Untouched old new)
+    ⊎ (((o ≡ BadWords) × IsNoCommand words × Untouched old new)
     ⊎ ((command : Command) × IsCommand words command × CommandEnds old new clock begun given o command))
+
+pub record RunEnds (words : List (List ℕ)) (old new : Device) (clock : Bool) (begun given : List ℕ) (o : Outcome) : Type 0 where
+  pub counts : FaultCounts old new o
+  pub cause : EndCause words old new clock begun given o
 
 -- why a command is refused: there is a store already, or the numbers make none of the file's length; and
 -- the file stands for no state

@@ -1,111 +1,217 @@
--- Where the run of one connection has come, and how it ends.
-use Rattle.std.specs.Prelude.{◌≡◌, ◌≤◌, ℕ, Bool, true, false, List, [], ◌∷◌, ◌++◌, length, map, Result, Ok, Err}
-use Rattle.std.specs.List.{flat_map}
+-- How a connection is served: what it heard and was told by its history, from its beginning to its end.
+use Rattle.std.specs.Prelude.{◌≡◌, ◌≢◌, ◌≤◌, ◌<◌, ◌+◌, ◌*◌, ◌⊎◌, ℕ, zero, suc, Bool, true, false, List, [], ◌∷◌, ◌++◌, length, All, Option, Some, None, Result, Ok, Err, if◌then◌else◌}
 use Rattle.disk_trait.specs.Device.{Device, Connection}
-use Rattle.disk_trait.specs.Calls.{SameDevice, IsCounted}
-use Rattle.site_edge.specs.Links.{change_last, fresh}
-use Rattle.tams_top.specs.declared.replay.Ending.{Ending}
-use Rattle.tams_top.specs.declared.replay.Ending.TheVariants.{Complete, Cut}
-use Rattle.tams_top.specs.declared.replay.Ending.TheVariants as endings
-use Rattle.tams_top.specs.declared.fault.RunFault.{RunFault}
-use Rattle.tams_top.specs.declared.fault.RunFault.TheVariants.{Disk, Link, Memory}
+use Rattle.disk_trait.specs.Calls.{SameDevice, IsCounted, Rose, Elapses, Unchanged}
+use Rattle.site_edge.specs.Links.{change_last}
+use Rattle.site_edge.specs.Saying.{IsPrefix}
+use Rattle.tams_top.specs.declared.answer.Answer.{Answer}
+use Rattle.tams_top.specs.declared.answer.Answer.TheVariants as answers
+use Rattle.tams_top.specs.declared.change.Change.{Change}
+use Rattle.tams_top.specs.declared.connection.Ending.{Ending}
+use Rattle.tams_top.specs.declared.connection.Ending.TheVariants.{Complete, Cut, Closed, Starved, Stopped, Unlinked}
 use Rattle.tams_top.specs.declared.fault.MakeFault.{MakeFault}
 use Rattle.tams_top.specs.declared.fault.MakeFault.TheVariants as making
-use Rattle.tams_top.specs.declared.replay.Next.{Next}
-use Rattle.tams_top.specs.declared.replay.Next.TheVariants.{Make, Refuse, Hear}
-use Rattle.tams_top.specs.declared.replay.Turn.{Turn}
-use Rattle.tams_top.specs.declared.replay.Turn.TheVariants.{Goes, Ended}
 use Rattle.tams_top.specs.declared.store.Store.{Store}
-use Rattle.tams_top.specs.declared.request.Front.TheVariants.{More, Whole}
-use Rattle.tams_top.specs.Request.{IsFront, request_text}
-use Rattle.tams_top.specs.Store.{State}
-use Rattle.tams_top.specs.Opening.{state_of, Keeps}
-use Rattle.tams_top.specs.History.{EndsWith, Taken, Leads, Serves, created_text, is_accepted}
+use Rattle.tams_top.specs.declared.request.Front.TheVariants.{More, Unbuilt}
+use Rattle.tams_top.specs.Change.{IsChange}
+use Rattle.tams_top.specs.Request.{IsFront}
+use Rattle.tams_top.specs.Store.{State, StandsFor}
+use Rattle.tams_top.specs.Opening.{state_of}
+use Rattle.tams_top.specs.Moments.{Beginning, AllRight, EachKeeps, Handles, TellsAll}
+use Rattle.tams_top.specs.History.{Taken, Session, answer_to, is_changing, changed, state_after, change_of, texts_of, moments_of, after, changes_of, most_requests, answers_of, requests_of, script_of, session_of, end_of, answers_in, changes_in}
+use Rattle.tams_top.specs.History as history
 
--- no call of the disk failed, and no call of a link
-abbrev pub disk_held : {T : Type 0} → Result T RunFault → Bool
-disk_held (Ok x) = true
-disk_held (Err Disk) = false
-disk_held (Err Link) = true
-disk_held (Err Memory) = true
+-- a connection that heard and was told these bytes, its marks, and no other
+abbrev pub connection_of : List ℕ → List ℕ → Bool → Bool → Connection
+connection_of heard told ended failed = record { heard = heard; ended = ended; failed = failed; told = told }
 
-abbrev pub link_held : {T : Type 0} → Result T RunFault → Bool
-link_held (Ok x) = true
-link_held (Err Disk) = true
-link_held (Err Link) = false
-link_held (Err Memory) = true
+-- How many requests were answered, and how many of the answers came with a change.
+pub record Counts : Type 0 where
+  pub requests : ℕ
+  pub changes : ℕ
 
--- the same of making a change
+-- An answer closed the connection: to what is no request that is built, or to its last request.
+abbrev pub IsClosed : Session → List ℕ → Type 0
+IsClosed h rest =
+    ((h.last ≡ Some history.Refused) × IsFront rest Unbuilt)
+    ⊎ ((h.last ≡ None) × (length h.taken ≡ most_requests))
+
+-- What stands behind the requests of a connection, its marks, and its last answer, by how it ended. It
+-- ended behind a whole request; within one; with an answer; for want of memory; with a disk fault while
+-- a record was written; or with a link fault.
+abbrev pub EndsAs : State → Connection → Session → List ℕ → Ending → Type 0
+EndsAs from c h rest Complete = (c.ended ≡ true) × (c.failed ≡ false) × (h.last ≡ None) × (rest ≡ [])
+EndsAs from c h rest Cut = (c.ended ≡ true) × (c.failed ≡ false) × (h.last ≡ None) × (rest ≢ []) × IsFront rest More
+EndsAs from c h rest Closed = (c.failed ≡ false) × IsClosed h rest
+EndsAs from c h rest Starved = (t : Taken) × (h.last ≡ Some (history.Starved t))
+EndsAs from c h rest Stopped =
+    (t : Taken) × (h.last ≡ Some (history.Stopped t true)) × (is_changing (answer_to (after from h.taken) (change_of t)) ≡ true)
+EndsAs from c h rest Unlinked = (c.failed ≡ true) × ((h.last ≡ None) ⊎ ((h.last ≡ Some history.Refused) × IsFront rest Unbuilt))
+
+-- A connection was served, from a state, by this history: it heard the texts of its requests and a rest,
+-- and was told the script of their answers, or a prefix of it where a call of its link failed.
+pub record IsServed (from : State) (c : Connection) (h : Session) (ending : Ending) : Type 0 where
+  pub rest : List ℕ
+  pub heard : c.heard ≡ texts_of (requests_of h) ++ rest
+  pub told : IsPrefix c.told (script_of from h)
+  pub whole : c.failed ≡ false → c.told ≡ script_of from h
+  pub valid : All (λ t. IsChange (change_of t)) (requests_of h)
+  pub few : length h.taken ≤ most_requests
+  pub ends : EndsAs from c h rest ending
+
+-- The state for which the file stands when a connection has ended: the last one of its history. Where
+-- the disk failed while a record was written, it may be the one before.
+abbrev pub StandsAt : List ℕ → State → Session → Ending → Type 0
+StandsAt image from h Stopped = StandsFor image (end_of from h) ⊎ StandsFor image (after from h.taken)
+StandsAt image from h Complete = StandsFor image (end_of from h)
+StandsAt image from h Cut = StandsFor image (end_of from h)
+StandsAt image from h Closed = StandsFor image (end_of from h)
+StandsAt image from h Starved = StandsFor image (end_of from h)
+StandsAt image from h Unlinked = StandsFor image (end_of from h)
+
+-- the counts are those of a history
+pub record AreCounts (from : State) (h : Session) (n : Counts) : Type 0 where
+  pub requests : n.requests ≡ answers_in h
+  pub changes : n.changes ≡ changes_in from h
+
+-- A connection has come so far since the run began: it heard the texts of the requests that were answered
+-- and the unread bytes, each request took one moment, and it was told their answers; each image that a
+-- crash now may leave gives the store's journal what the store keeps, and each crash since was right.
+pub record Reached (b : Beginning) (d : Device) (given unread : List ℕ) (store : Store) (n : Counts) : Type 0 where
+  pub taken : List Taken
+  pub state : state_of store ≡ after b.state taken
+  pub keeps : EachKeeps d store
+  pub right : AllRight b (session_of taken) d
+  pub given_is : given ≡ b.given ++ moments_of taken
+  pub valid : All (λ t. IsChange (change_of t)) taken
+  pub requests : n.requests ≡ length taken
+  pub changes : n.changes ≡ changes_of b.state taken
+  pub connections : d.link.connections ≡ b.before ++ connection_of (texts_of taken ++ unread) (answers_of 0 b.state taken) false false ∷ []
+
+-- the same of an end whose outcome has numbers
+abbrev pub CountsAt : State → Session → Counts → Ending → Type 0
+CountsAt from h n Complete = AreCounts from h n
+CountsAt from h n Closed = AreCounts from h n
+CountsAt from h n Cut = Unit {0}
+CountsAt from h n Starved = Unit {0}
+CountsAt from h n Stopped = Unit {0}
+CountsAt from h n Unlinked = Unit {0}
+
+-- The connection has ended, by one history.
+pub record Ended (b : Beginning) (d : Device) (given : List ℕ) (n : Counts) (ending : Ending) : Type 0 where
+  pub session : Session
+  pub connection : Connection
+  pub connections : d.link.connections ≡ b.before ++ connection ∷ []
+  pub given_is : given ≡ b.given ++ moments_of (requests_of session)
+  pub served : IsServed b.state connection session ending
+  pub counts : CountsAt b.state session n ending
+  pub stands : StandsAt d.seen b.state session ending
+  pub right : AllRight b session d
+
+-- what one turn of serving a connection leads to: it goes on, or it has ended
+abbrev pub TurnAnswer : Beginning → Device → List ℕ → List ℕ → Store → Counts → Option Ending → Type 0
+TurnAnswer b d given unread store n None = Reached b d given unread store n
+TurnAnswer b d given unread store n (Some ending) = Ended b d given n ending
+
+-- What a connection that goes on or ended in some way leaves of the count of link faults. Where it ended
+-- for want of memory or with a disk fault, its last answer may have failed to be said.
+abbrev pub LinkCount : Option Ending → ℕ → ℕ → Type 0
+LinkCount None before now = now ≡ before
+LinkCount (Some Complete) before now = now ≡ before
+LinkCount (Some Cut) before now = now ≡ before
+LinkCount (Some Closed) before now = now ≡ before
+LinkCount (Some Starved) before now = before ≤ now
+LinkCount (Some Stopped) before now = before ≤ now
+LinkCount (Some Unlinked) before now = (before ≤ now) × Rose before now
+
+-- no call of the disk failed
+abbrev pub disk_held : Option Ending → Bool
+disk_held None = true
+disk_held (Some Complete) = true
+disk_held (Some Cut) = true
+disk_held (Some Closed) = true
+disk_held (Some Starved) = true
+disk_held (Some Stopped) = false
+disk_held (Some Unlinked) = true
+
+-- what the calls of a connection leave of a site by how it ended
+pub record SiteCalls (ending : Option Ending) (old new : Device) : Type 0 where
+  pub same : SameDevice old new
+  pub faults : IsCounted (disk_held ending) old.faults new.faults
+  pub link_faults : LinkCount ending old.link.faults new.link.faults
+  pub under_way : new.link.under_way ≡ old.link.under_way
+
+-- no call of the disk failed in making a change
 abbrev pub make_held : {T : Type 0} → Result T MakeFault → Bool
 make_held (Ok x) = true
 make_held (Err making.Disk) = false
 make_held (Err making.Memory) = true
 
--- a fault of making a change as one of the run
-abbrev pub as_run_fault : MakeFault → RunFault
-as_run_fault making.Disk = Disk
-as_run_fault making.Memory = Memory
+-- the same of answering one
+abbrev pub handle_held : Answer → Bool
+handle_held answers.Created = true
+handle_held answers.Replaced = true
+handle_held answers.FlowChanged = true
+handle_held answers.JournalFull = true
+handle_held answers.NotBuilt = true
+handle_held answers.NoMemory = true
+handle_held answers.DiskFault = false
 
--- what calls of a site leave, of which the last one may have failed
-pub record SiteCalls (disk link : Bool) (old new : Device) : Type 0 where
-  pub same : SameDevice old new
-  pub faults : IsCounted disk old.faults new.faults
-  pub link_faults : IsCounted link old.link.faults new.link.faults
+-- the answer to a change was made: it is the machine's, and the store has the state after it
+pub record IsHandled (d : Device) (old new : Store) (c : Change) (a : Answer) : Type 0 where
+  pub answer : a ≡ answer_to (state_of old) c
+  pub state : state_of new ≡ state_after (state_of old) c
+  pub keeps : EachKeeps d new
 
--- a connection that heard these bytes and was told those
-abbrev pub connection_of : List ℕ → List ℕ → Bool → Connection
-connection_of heard told ended = record { heard = heard; ended = ended; failed = false; told = told }
+-- What a store has made of a change, by its answer. Want of memory comes before any call of the disk, and
+-- leaves the state. A disk fault comes only where the record of a change was being written.
+abbrev pub HandledAs : Device → Device → Store → Store → Change → Answer → Type 0
+HandledAs before now old new c answers.Created = IsHandled now old new c answers.Created
+HandledAs before now old new c answers.Replaced = IsHandled now old new c answers.Replaced
+HandledAs before now old new c answers.FlowChanged = IsHandled now old new c answers.FlowChanged
+HandledAs before now old new c answers.JournalFull = IsHandled now old new c answers.JournalFull
+HandledAs before now old new c answers.NotBuilt = ⊥
+HandledAs before now old new c answers.NoMemory =
+    (state_of new ≡ state_of old) × EachKeeps now new × Elapses Unchanged Unchanged before now
+HandledAs before now old new c answers.DiskFault = is_changing (answer_to (state_of old) c) ≡ true
 
--- The last connection has come so far: requests were taken one after another from a state to this one,
--- their texts and the unread bytes were heard, each took a moment of the clock, and their answers were
--- told.
-pub record Reached (from : State) (before : List Connection) (begun : List ℕ) (d : Device) (given unread : List ℕ) (to : State) : Type 0 where
-  pub taken : List Taken
-  pub leads : Leads from taken to
-  pub given_is : given ≡ begun ++ map (λ t. t.moment) taken
-  pub under_way : d.link.under_way ≡ true
-  pub connections : d.link.connections ≡ before ++ connection_of (flat_map (λ t. request_text t.put) taken ++ unread) (flat_map (λ t. created_text) taken) false ∷ []
+-- the same, and what a crash within it may leave
+pub record Handled (before now : Device) (old new : Store) (c : Change) (a : Answer) : Type 0 where
+  pub time : Elapses (Handles (state_of old) c) (Handles (state_of old) c) before now
+  pub done : HandledAs before now old new c a
 
--- whether the peer's end was heard
-abbrev pub was_heard_out : Ending → Bool
-was_heard_out Complete = true
-was_heard_out Cut = true
-was_heard_out endings.Unbuilt = false
+-- how an answer of the machine does
+abbrev pub machine_ending : Bool → Bool → Option Ending
+machine_ending false last = Some Unlinked
+machine_ending true true = Some Closed
+machine_ending true false = None
 
--- the last connection was served to its end
-pub record IsServed (from : State) (before : List Connection) (begun : List ℕ) (d : Device) (given : List ℕ) (ending : Ending) (to : State) : Type 0 where
-  pub heard : List ℕ
-  pub moments : List ℕ
-  pub told : List ℕ
-  pub serves : Serves from heard moments told ending to
-  pub given_is : given ≡ begun ++ moments
-  pub under_way : d.link.under_way ≡ true
-  pub connections : d.link.connections ≡ before ++ connection_of heard told (was_heard_out ending) ∷ []
+-- how an answer ends its connection, if it does, by whether it was said whole and is the last one that
+-- the connection may have
+abbrev pub ending_after : Answer → Bool → Bool → Option Ending
+ending_after answers.NoMemory said last = Some Starved
+ending_after answers.DiskFault said last = Some Stopped
+ending_after answers.NotBuilt said last = Some (if said then Closed else Unlinked)
+ending_after answers.Created said last = machine_ending said last
+ending_after answers.Replaced said last = machine_ending said last
+ending_after answers.FlowChanged said last = machine_ending said last
+ending_after answers.JournalFull said last = machine_ending said last
 
--- what one turn of serving a connection leads to
-abbrev pub TurnAnswer : State → List Connection → List ℕ → Device → List ℕ → List ℕ → State → Turn → Type 0
-TurnAnswer from before begun d given unread to (Goes made) = Reached from before begun d given unread to
-TurnAnswer from before begun d given unread to (Ended ending) = IsServed from before begun d given ending to
-
--- More bytes of the last connection were heard into the unread ones, or its end was.
-abbrev pub HeardMore : Device → Device → List ℕ → List ℕ → Bool → Type 0
-HeardMore old new before after true =
-    (bytes : List ℕ) × (after ≡ before ++ bytes) × (new.link.connections ≡ change_last (λ c. record c { heard = c.heard ++ bytes }) old.link.connections)
-HeardMore old new before after false =
+-- More bytes of the last connection were heard behind the unread ones, or its end was.
+abbrev pub HeardMore : Device → Device → List ℕ → List ℕ → ℕ → Type 0
+HeardMore old new before after zero =
     (after ≡ before) × (new.link.connections ≡ change_last (λ c. record c { ended = true }) old.link.connections)
+HeardMore old new before after (suc n) =
+    (bytes : List ℕ) × (length bytes ≡ suc n) × (after ≡ before ++ bytes)
+    × (new.link.connections ≡ change_last (λ c. record c { heard = c.heard ++ bytes }) old.link.connections)
 
--- what comes next, by the front of the unread bytes
-abbrev pub NextIs : State → List ℕ → Next → Type 0
-NextIs s unread (Make put) = IsFront unread (Whole put) × (167 ≤ length unread) × (is_accepted s put ≡ true)
-NextIs s unread Refuse = EndsWith s unread endings.Unbuilt
-NextIs s unread Hear = IsFront unread More
-
--- A connection that is being served, from a device, a store and a clock to others: no call failed, the
--- store keeps what it kept, and the connection has come so far.
-pub record Going (first now : Device) (opened store : Store) (telling tells : Bool) (begun given unread : List ℕ) : Type 0 where
-  pub calls : SiteCalls true true first now
-  pub blocks : store.journal.blocks ≡ opened.journal.blocks
-  pub under_way : now.link.under_way ≡ true
-  pub clock : tells ≡ true → telling ≡ true
-  pub keeps : first.shows ≡ true → Keeps first.seen opened → Keeps now.seen store
-  pub reached : first.tells ≡ true → tells ≡ true → (before : List Connection) → first.link.connections ≡ before ++ fresh ∷ [] → Reached (state_of opened) before begun now given unread (state_of store)
+-- A connection that is being served goes on, after so many turns: no call failed, each turn took a request
+-- or heard a byte, and the connection has come so far from wherever it had come at first.
+pub record GoesOn (first now : Device) (tells_first tells_now : Bool) (given_first given : List ℕ) (store_first store : Store) (unread : List ℕ) (n : Counts) (turns : ℕ) : Type 0 where
+  pub calls : SiteCalls None first now
+  pub blocks : store.journal.blocks ≡ store_first.journal.blocks
+  pub clock : tells_now ≡ true → tells_first ≡ true
+  pub few : n.requests < 1000000
+  pub moved : turns ≤ 168 * n.requests + length unread
+  pub most : turns ≤ 169130496
+  pub reached : TellsAll first tells_now → (b : Beginning) → Reached b first given_first [] store_first (record { requests = 0; changes = 0 }) → Reached b now given unread store n

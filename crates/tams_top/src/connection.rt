@@ -112,6 +112,7 @@ fn refuse<X: Site>(site: &mut X, tally: &mut Tally) -> Ending
 /// Hears more of the peer's bytes behind the unread ones.
 fn hear_more<X: Site>(site: &mut X, unread: &mut Unread, tally: &Tally) -> Option<Ending>
     requires more { IsFront unread.old More }
+    requires few { tally.now.requests < 1000000 }
     requires under_way { (X.device site.old).link.under_way ≡ true }
     ensures calls { SiteCalls result (X.device site.old) (X.device site.new) }
     ensures grows { IsNone result → length unread.old < length unread.new }
@@ -120,11 +121,15 @@ fn hear_more<X: Site>(site: &mut X, unread: &mut Unread, tally: &Tally) -> Optio
         → Reached b (X.device site.old) given unread.old store tally.now
         → TurnAnswer b (X.device site.new) given unread.new store tally.now result }
 {
-    match unread.hear(site) {
-        Err(LinkFailed) => Some(Ending::Unlinked),
-        Ok(0) if unread.is_empty() => Some(Ending::Complete),
-        Ok(0) => Some(Ending::Cut),
-        Ok(_) => None,
+    let Ok(count) = unread.hear(site) else {
+        return Some(Ending::Unlinked);
+    };
+    if count > 0 {
+        None
+    } else if unread.is_empty() {
+        Some(Ending::Complete)
+    } else {
+        Some(Ending::Cut)
     }
 }
 
@@ -144,6 +149,7 @@ fn take_turn<X: Site, C: Clock>(
     ensures blocks { store.new.journal.blocks ≡ store.old.journal.blocks }
     ensures clock { C.tells clock.new ≡ true → C.tells clock.old ≡ true }
     ensures few { IsNone result → tally.new.requests < 1000000 }
+    ensures within { length unread.old ≤ 1130496 }
     ensures moves { IsNone result → 168 * tally.old.requests + length unread.old
         < 168 * tally.new.requests + length unread.new }
     ensures goes { TellsAll (X.device site.old) (C.tells clock.new) → (b : Beginning)

@@ -2,13 +2,15 @@
 //! and serves requests until the peer's bytes end.
 #![tactic(auto)]
 
+mod answer;
 mod change;
+mod connection;
 mod fault;
 mod library;
 mod outcome;
-mod replay;
 mod request;
 mod store;
+mod tally;
 #[cfg(test)]
 mod tests;
 mod top;

@@ -1,5 +1,7 @@
 //! What a run ends with: its status, and its line in the notes.
-ghost use Rattle.std.specs.Prelude.{◌≡◌};
+ghost use Rattle.std.specs.Prelude.{◌≡◌, ◌++◌, is_ok};
+ghost use Rattle.std.specs.Fmt.{decimal};
+ghost use Rattle.tams_top.specs.Running.{TakesPart, line_of};
 
 use itoa::Buffer;
 use site_edge::{Sink, SinkFailed};
@@ -43,7 +45,10 @@ impl Outcome {
     }
 
     /// Puts the outcome's line into the notes. It takes no memory.
-    pub(crate) fn put_line<N: Sink>(self, notes: &mut N) -> Result<(), SinkFailed> {
+    pub(crate) fn put_line<N: Sink>(self, notes: &mut N) -> Result<(), SinkFailed>
+        ensures { TakesPart (is_ok result) (N.tells notes.old) (line_of self) (N.faults notes.old)
+            (N.faults notes.new) (N.taken notes.old) (N.taken notes.new) }
+    {
         match self {
             Outcome::Formatted {
                 blocks,
@@ -77,7 +82,11 @@ impl Outcome {
 }
 
 /// Puts a text and a number behind it.
-fn put_number<N: Sink>(notes: &mut N, text: &[u8], number: u64) -> Result<(), SinkFailed> {
+fn put_number<N: Sink>(notes: &mut N, text: &[u8], number: u64) -> Result<(), SinkFailed>
+    ensures tells { N.tells notes.new ≡ N.tells notes.old }
+    ensures takes { TakesPart (is_ok result) (N.tells notes.old) (text.now ++ decimal number)
+        (N.faults notes.old) (N.faults notes.new) (N.taken notes.old) (N.taken notes.new) }
+{
     let mut buffer = Buffer::new();
     notes.put(text)?;
     notes.put(buffer.format(number).as_bytes())

@@ -1,24 +1,23 @@
 //! The store: a journal, and the library that its records make.
-ghost use Rattle.std.specs.Prelude.{◌≡◌, ◌≤◌, ◌+◌, ◌*◌, ℕ, List, true, IfOk, IfErr, OnErr, OnOk, Some};
-ghost use Rattle.disk_trait.specs.Calls.{DiskCalls, DiskReads};
+ghost use Rattle.std.specs.Prelude.{◌≡◌, ◌≤◌, ◌+◌, ◌*◌, ℕ, List, true, IfOk, IfErr, IsErrOf, OnErr, OnOk};
+ghost use Rattle.disk_trait.specs.Calls.{DiskCalls, DiskReads, Elapses};
 ghost use Rattle.media_journal.specs.Answers.{not_disk};
 ghost use Rattle.media_journal.specs.Opening.{IsOpened};
 ghost use Rattle.tams_top.specs.Store.{Folds, StepOf, empty_rows};
 ghost use Rattle.tams_top.specs.Folding.{IsFoldRefused, IsStepRefused, PartAnswer};
+ghost use Rattle.tams_top.specs.History.{answer_by};
 ghost use Rattle.tams_top.specs.Opening.{StoreAnswer};
 
+use crate::Change;
+use crate::answer::Answer;
 use crate::change::read_change;
 use crate::fault::MakeFault;
-use crate::library::Library;
-use crate::{Change, FlowPut};
+use crate::library::{Flow, Library};
 use disk_trait::{Disk, Memory, same_bytes};
 use media_journal::{
     AppendFault, Frame, Header, Journal, JournalFault, Opened, Record, open_journal,
 };
 use std::alloc::Global;
-
-/// The bytes that a change's record takes from the journal's room, which needs one more.
-const RECORD: u64 = 63;
 
 /// A journal with the library that its records fold to.
 #[derive(Drop)]
@@ -29,38 +28,74 @@ pub(crate) struct Store {
 
 impl Store {
     ghost use Rattle.tams_top.specs.Change.{IsChange};
-    ghost use Rattle.tams_top.specs.History.{is_accepted};
-    ghost use Rattle.tams_top.specs.Library.{applied};
-    ghost use Rattle.tams_top.specs.Opening.{Keeps, state_of};
-    ghost use Rattle.tams_top.specs.Serving.{make_held};
+    ghost use Rattle.tams_top.specs.History.{answer_to, changed, fits, is_changing};
+    ghost use Rattle.tams_top.specs.Moments.{EachKeeps, Handles};
+    ghost use Rattle.tams_top.specs.Opening.{state_of};
+    ghost use Rattle.tams_top.specs.Serving.{Handled, handle_held, make_held};
 
-    /// Whether a put is accepted: its flow isn't kept, and its record fits the room.
-    pub(crate) fn accepts(&self, put: &FlowPut) -> bool
-        ensures { result ≡ is_accepted (state_of self.now) put.now }
+    /// What the library machine answers to a change.
+    pub(crate) fn answer_to(&self, change: &Change) -> Answer
+        ensures { result ≡ answer_to (state_of self.now) change.now }
     {
-        self.library.flow(put.flow).is_none() && RECORD < self.journal.room()
+        answer_by(
+            self.library.flow(change.flow),
+            change.source,
+            self.fits(change),
+        )
     }
 
-    /// Makes a change of a flow that isn't kept: its record is on the disk before the library has it.
-    /// All memory is taken before the first write. After `Disk` the store must be opened again.
+    /// Whether the record of a change fits the room.
+    fn fits(&self, change: &Change) -> bool
+        ensures { result ≡ fits (state_of self.now) change.now }
+    {
+        change.bytes().len() as u64 + 6 <= self.journal.room()
+    }
+
+    /// Answers a change, which is made where the machine accepts it. After `DiskFault` the store must be
+    /// opened again.
+    pub(crate) fn handle<D: Disk>(&mut self, alloc: Global, disk: &mut D, change: &Change) -> Answer
+        requires valid { IsChange change.now }
+        requires device { 4096 * self.old.journal.blocks ≤ (D.device disk.old).size }
+        ensures calls { DiskCalls (handle_held result) (D.device disk.old) (D.device disk.new) }
+        ensures blocks { self.new.journal.blocks ≡ self.old.journal.blocks }
+        ensures handled { (D.device disk.old).honest ≡ true → (D.device disk.old).shows ≡ true
+            → EachKeeps (D.device disk.old) self.old
+            → Handled (D.device disk.old) (D.device disk.new) self.old self.new change.now result }
+    {
+        let answer = self.answer_to(change);
+        if !answer.is_changing() {
+            return answer;
+        }
+        match self.make(alloc, disk, change) {
+            Ok(()) => answer,
+            Err(MakeFault::Memory) => Answer::NoMemory,
+            Err(MakeFault::Disk) => Answer::DiskFault,
+        }
+    }
+
+    /// Makes a change that the machine accepts: its record is on the disk before the library has it. All
+    /// memory is taken before the first write.
     #[tactic(auto, unfolding(crate::specs::Library::applied))]
-    pub(crate) fn make<D: Disk>(
+    fn make<D: Disk>(
         &mut self,
         alloc: Global,
         disk: &mut D,
         change: &Change,
     ) -> Result<(), MakeFault>
-        requires accepted { is_accepted (state_of self.old)
-            record { flow = change.now.flow; source = change.now.source } ≡ true }
+        requires accepted { is_changing (answer_to (state_of self.old) change.now) ≡ true }
         requires valid { IsChange change.now }
         requires device { 4096 * self.old.journal.blocks ≤ (D.device disk.old).size }
         ensures calls { DiskCalls (make_held result) (D.device disk.old) (D.device disk.new) }
+        ensures starved { IsErrOf result MakeFault.Memory → disk.new ≡ disk.old }
         ensures err { OnErr result (self.new ≡ self.old) }
         ensures blocks { self.new.journal.blocks ≡ self.old.journal.blocks }
-        ensures library { OnOk result (applied change.now self.old.library ≡ Some self.new.library) }
-        ensures room { OnOk result (self.new.journal.room + 63 ≡ self.old.journal.room) }
-        ensures keeps { (D.device disk.old).shows ≡ true → OnOk result
-            (Keeps (D.device disk.old).seen self.old → Keeps (D.device disk.new).seen self.new) }
+        ensures state { OnOk result (state_of self.new ≡ changed (state_of self.old) change.now) }
+        ensures keeps { (D.device disk.old).honest ≡ true → (D.device disk.old).shows ≡ true
+            → EachKeeps (D.device disk.old) self.old → OnOk result (EachKeeps (D.device disk.new) self.new) }
+        ensures time { (D.device disk.old).honest ≡ true → (D.device disk.old).shows ≡ true
+            → EachKeeps (D.device disk.old) self.old
+            → Elapses (Handles (state_of self.old) change.now) (Handles (state_of self.old) change.now)
+            (D.device disk.old) (D.device disk.new) }
     {
         let Some(library) = self.library.after(alloc, change)? else {
             unreachable!();
@@ -74,6 +109,19 @@ impl Store {
             Err(AppendFault::Disk) => Err(MakeFault::Disk),
             Err(AppendFault::Full) => unreachable!(),
         }
+    }
+}
+
+/// What the machine answers to a put, by the flow that is kept under its id, the source that it names and
+/// whether its record fits.
+fn answer_by(kept: Option<Flow>, source: u128, fits: bool) -> Answer
+    ensures { result ≡ answer_by kept source fits }
+{
+    match kept {
+        Some(flow) if flow.source != source => Answer::FlowChanged,
+        _ if !fits => Answer::JournalFull,
+        Some(_) => Answer::Replaced,
+        None => Answer::Created,
     }
 }
 

@@ -1,24 +1,23 @@
 //! The top call.
-ghost use Rattle.std.specs.Prelude.{◌≡◌, ◌≢◌, ◌≤◌, ◌*◌, ℕ, List, true, IfOk};
+ghost use Rattle.std.specs.Prelude.{◌≡◌, ◌≤◌, ◌<◌, ◌*◌, ◌⊎◌, [], ℕ, List, Bool, true};
 ghost use Rattle.disk_trait.specs.Calls.{Rose};
-ghost use Rattle.tams_top.specs.Opening.{Keeps, state_of};
-ghost use Rattle.tams_top.specs.Running.{Connected, FormatEnds, IsOutcome, RefusedFor, ReplayEnds, Replayed, RunEnds, Tells, Untouched, formatted_state};
-ghost use Rattle.tams_top.specs.Serving.{SiteCalls, disk_held, link_held};
-ghost use Rattle.tams_top.specs.Store.{StandsFor};
+ghost use Rattle.tams_top.specs.Moments.{IsSettled, TellsAll};
+ghost use Rattle.tams_top.specs.Running.{ConnectEnds, FaultCounts, FormatEnds, IsNoCommand, OutcomeBy, beginning, RefusedFor, ReplayEnds, Replayed, RunEnds, TakesPart, Untouched, formatted_state, line_of, status_of};
+ghost use Rattle.tams_top.specs.Store.{State, StandsFor};
 ghost use Rattle.tams_top.specs.Words.{IsCommand};
-ghost use Rattle.tams_top.specs.declared.replay.Ending.{Ending};
-ghost use Rattle.tams_top.specs.declared.replay.Ending.TheVariants.{Cut};
+ghost use Rattle.tams_top.specs.declared.outcome.Outcome.{Outcome};
 ghost use Rattle.tams_top.specs.declared.words.Command.{Command};
 ghost use Rattle.tams_top.specs.declared.words.Command.TheVariants.{Format, Replay};
 
-use crate::fault::RunFault;
+use crate::connection::{Ending, serve};
 use crate::outcome::Outcome;
-use crate::replay::{Ending, Served, serve};
 use crate::store::{Store, empty_rows, open_store};
+use crate::tally::Tally;
+use crate::unread::Unread;
 use crate::words::{Command, read_words};
 use disk_trait::{Memory, TextList};
 use media_journal::{FormatFault, JournalFault, format_device};
-use site_edge::{Clock, Sink, Site};
+use site_edge::{Clock, LinkFailed, Sink, Site};
 use std::alloc::Global;
 
 /// Does what the words ask for on this site, puts a line about it into the notes, and answers the status.
@@ -30,26 +29,52 @@ pub fn run<X: Site, C: Clock, N: Sink>(
     notes: &mut N,
 ) -> u8
     ensures status { result ≤ 6 }
-    ensures words { result ≡ 1 → ((command : Command) → IsCommand words.now command → ⊥)
-        × Untouched (X.device site.old) (X.device site.new) }
+
+    // The status of words that are no command, both ways. Want of memory alone may come before it.
+    ensures words { result ≡ 1
+        → IsNoCommand words.now × Untouched (X.device site.old) (X.device site.new) }
+    ensures words_only { IsNoCommand words.now → (result ≡ 1) ⊎ (result ≡ 4) }
+
+    // The status of a command that the file refuses, both ways. A disk fault or want of memory may come
+    // before it.
     ensures refused { result ≡ 2 → Untouched (X.device site.old) (X.device site.new)
         × ((command : Command) × IsCommand words.now command
         × ((X.device site.old).shows ≡ true → RefusedFor (X.device site.old).seen command)) }
+    ensures refused_only { (command : Command) → IsCommand words.now command
+        → (X.device site.old).shows ≡ true → RefusedFor (X.device site.old).seen command
+        → (result ≡ 2) ⊎ ((result ≡ 3) ⊎ (result ≡ 4)) }
+
+    // The statuses of faults: wherever a count rose, and only where it rose or stands at its last value.
     ensures disk { result ≡ 3 → Rose (X.device site.old).faults (X.device site.new).faults }
+    ensures disk_only { (X.device site.old).faults < (X.device site.new).faults → result ≡ 3 }
     ensures link { result ≡ 5 → Rose (X.device site.old).link.faults (X.device site.new).link.faults }
+    ensures link_only { (X.device site.old).link.faults < (X.device site.new).link.faults
+        → (result ≡ 3) ⊎ ((result ≡ 4) ⊎ (result ≡ 5)) }
+
     ensures formatted { result ≡ 0 → (X.device site.old).shows ≡ true
         → (path : List ℕ) (blocks half id : ℕ) → IsCommand words.now (Format path blocks half id)
         → StandsFor (X.device site.new).seen
         (formatted_state record { blocks = blocks; half = half; id = id }) }
-    ensures served { result ≡ 0 → Tells (X.device site.old) (C.tells clock.new)
+
+    // Over a file that stands for a state, one history from it gives all that a run of `replay` heard,
+    // told and left, whatever failed; the outcome by it has the status, and its line is put.
+    ensures replayed { TellsAll (X.device site.old) (C.tells clock.new) → IsSettled (X.device site.old)
         → (path base : List ℕ) → IsCommand words.now (Replay path base)
-        → (ending : Ending) × (ending ≢ Cut)
-        × Replayed (X.device site.old) (X.device site.new) (C.given clock.old) (C.given clock.new) ending }
-    ensures cut { result ≡ 6 → Tells (X.device site.old) (C.tells clock.new)
-        → Replayed (X.device site.old) (X.device site.new) (C.given clock.old) (C.given clock.new) Cut }
+        → (from : State) → StandsFor (X.device site.old).seen from → (outcome : Outcome)
+        × (result ≡ status_of outcome)
+        × Replayed (beginning from (X.device site.old) (C.given clock.old)) (X.device site.new)
+        (C.given clock.new) outcome }
+
+    // Each run has an outcome with its cause, which gives the status and the line of the notes. A fault
+    // of the notes changes no status.
+    ensures ended { (outcome : Outcome) × (line_put : Bool)
+        × (result ≡ status_of outcome)
+        × RunEnds words.now (X.device site.old) (X.device site.new) (C.tells clock.new)
+        (C.given clock.old) (C.given clock.new) outcome
+        × TakesPart line_put (N.tells notes.old) (line_of outcome) (N.faults notes.old)
+        (N.faults notes.new) (N.taken notes.old) (N.taken notes.new) }
 {
     let outcome = outcome_of(alloc, words, site, clock);
-    // A fault of the notes changes no status.
     let _ = outcome.put_line(notes);
     outcome.status()
 }
@@ -86,7 +111,8 @@ fn format<X: Site>(alloc: Global, site: &mut X, blocks: u64, half: u64, id: u128
     requires some_half { 1 ≤ half }
     requires half { half ≤ 65536 }
     requires blocks { blocks ≤ 1073741824 }
-    ensures { FormatEnds (X.device site.old) (X.device site.new)
+    ensures counts { FaultCounts (X.device site.old) (X.device site.new) result }
+    ensures ends { FormatEnds (X.device site.old) (X.device site.new)
         record { blocks = blocks; half = half; id = id } result }
 {
     match format_device(alloc, site, blocks, half, id, &empty_rows()) {
@@ -104,7 +130,8 @@ fn format<X: Site>(alloc: Global, site: &mut X, blocks: u64, half: u64, id: u128
 
 /// Opens the store of the site's device, and serves one connection.
 fn replay<X: Site, C: Clock>(alloc: Global, site: &mut X, clock: &mut C) -> Outcome
-    ensures { ReplayEnds (X.device site.old) (X.device site.new) (C.tells clock.new)
+    ensures counts { FaultCounts (X.device site.old) (X.device site.new) result }
+    ensures ends { ReplayEnds (X.device site.old) (X.device site.new) (C.tells clock.new)
         (C.given clock.old) (C.given clock.new) result }
 {
     let mut store = match open_store(alloc, site) {
@@ -114,28 +141,9 @@ fn replay<X: Site, C: Clock>(alloc: Global, site: &mut X, clock: &mut C) -> Outc
         Err(JournalFault::Disk) => return Outcome::DiskFault,
         Err(JournalFault::Memory) => return Outcome::NoMemory,
     };
-    match connect(alloc, &mut store, site, clock) {
-        Ok(served) => outcome_of_served(served),
-        Err(RunFault::Disk) => Outcome::DiskFault,
-        Err(RunFault::Link) => Outcome::LinkFault,
-        Err(RunFault::Memory) => Outcome::NoMemory,
-    }
-}
-
-/// The outcome of a connection that was served to its end. An answer that ends it counts as a request.
-fn outcome_of_served(served: Served) -> Outcome
-    ensures { IsOutcome served.ending result }
-{
-    match served.ending {
-        Ending::Complete => Outcome::Served {
-            requests: served.made,
-            changes: served.made,
-        },
-        Ending::Unbuilt => Outcome::Served {
-            requests: served.made.saturating_add(1),
-            changes: served.made,
-        },
-        Ending::Cut => Outcome::Cut,
+    match Unread::new(alloc) {
+        Ok(mut unread) => connect(alloc, &mut store, site, clock, &mut unread),
+        Err(Memory) => Outcome::NoMemory,
     }
 }
 
@@ -145,21 +153,41 @@ fn connect<X: Site, C: Clock>(
     store: &mut Store,
     site: &mut X,
     clock: &mut C,
-) -> Result<Served, RunFault>
-    requires { 4096 * store.old.journal.blocks ≤ (X.device site.old).size }
-    ensures calls { SiteCalls (disk_held result) (link_held result) (X.device site.old) (X.device site.new) }
-    ensures connected { Tells (X.device site.old) (C.tells clock.new)
-        → Keeps (X.device site.old).seen store.old → IfOk result (λ s.
-        Connected (X.device site.old) (X.device site.new) (C.given clock.old) (C.given clock.new)
-        (state_of store.old) s.ending) }
+    unread: &mut Unread,
+) -> Outcome
+    requires empty { unread.old ≡ [] }
+    requires device { 4096 * store.old.journal.blocks ≤ (X.device site.old).size }
+    ensures counts { FaultCounts (X.device site.old) (X.device site.new) result }
+    ensures ends { ConnectEnds store.old (X.device site.old) (X.device site.new) (C.tells clock.new)
+        (C.given clock.old) (C.given clock.new) result }
 {
-    if !site.next_peer()? {
-        return Ok(Served {
-            made: 0,
-            ending: Ending::Complete,
-        });
+    match site.next_peer() {
+        Ok(true) => {
+            let mut tally = Tally::new();
+            let ending = serve(alloc, store, site, clock, unread, &mut tally);
+            site.close_peer();
+            outcome_by(ending, &tally)
+        }
+        Ok(false) => Outcome::Served {
+            requests: 0,
+            changes: 0,
+        },
+        Err(LinkFailed) => Outcome::LinkFault,
     }
-    let served = serve(alloc, store, site, clock)?;
-    site.close_peer();
-    Ok(served)
+}
+
+/// The outcome of a connection by how it ended, and by the numbers of its answers and changes.
+fn outcome_by(ending: Ending, tally: &Tally) -> Outcome
+    ensures { OutcomeBy ending tally.now result }
+{
+    match ending {
+        Ending::Complete | Ending::Closed => Outcome::Served {
+            requests: tally.requests(),
+            changes: tally.changes(),
+        },
+        Ending::Cut => Outcome::Cut,
+        Ending::Starved => Outcome::NoMemory,
+        Ending::Stopped => Outcome::DiskFault,
+        Ending::Unlinked => Outcome::LinkFault,
+    }
 }

@@ -1,0 +1,122 @@
+-- What the status of a run says of its end. A status of another end is another number.
+use Rattle.std.proofs.Common.{◌≡◌, ◌≤◌, ◌*◌, ◌⊎◌, ℕ, Bool, true, false, List, length, refl, sym, ap, ◌∙◌, subst, inl, inr, arith}
+use Rattle.disk_trait.specs.Device.{Device, IsDevice}
+use Rattle.media_journal.specs.declared.header.Header.{Header}
+use Rattle.media_journal.specs.File.{HasOpenHeader}
+use Rattle.media_journal.specs.Formatting.{FitsStore}
+use Rattle.tams_top.specs.declared.outcome.Outcome.{Outcome}
+use Rattle.tams_top.specs.declared.outcome.Outcome.TheVariants.{Formatted, Served, Cut, BadWords, NotStore, AlreadyStore, TooSmall, Damaged, DiskFault, NoMemory, LinkFault}
+use Rattle.tams_top.specs.declared.words.Command.{Command}
+use Rattle.tams_top.specs.declared.words.Command.TheVariants.{Format, Replay}
+use Rattle.tams_top.specs.Words.{IsCommand}
+use Rattle.tams_top.specs.Store.{State, StandsFor, empty_rows}
+use Rattle.tams_top.specs.Opening.{StandsForNone}
+use Rattle.tams_top.specs.Moments.{IsSettled, TellsAll}
+use Rattle.tams_top.specs.Running.{CommandEnds, FormatEnds, RefusedFor, ReplayCause, Replayed, ReplayEnds, RunEnds, Untouched, beginning, formatted_state, status_of}
+use Rattle.tams_top.proofs.RunningLemmas.{no_store, unopened}
+use Rattle.tams_top.proofs.WordTheorems.{one_command}
+
+module _ (old new : Device) (h : Header) where
+  format_refused : (o : Outcome) → FormatEnds old new h o → status_of o ≡ 2 → Untouched old new × (old.shows ≡ true → HasOpenHeader old.seen ⊎ ¬ (FitsStore h (length old.seen) empty_rows))
+  format_refused AlreadyStore ends s = (ends.1, λ shows. inl (ends.0 shows))
+  format_refused TooSmall ends s = (ends.1, λ shows. inr ((ends.0 shows).1))
+  format_refused NotStore ends s = absurd ends
+  format_refused (Damaged at) ends s = absurd ends
+  format_refused _ ends s = absurd (omega (arith, s))
+
+  format_done : (o : Outcome) → FormatEnds old new h o → status_of o ≡ 0 → old.shows ≡ true → StandsFor new.seen (formatted_state h)
+  format_done (Formatted blocks half media) ends s = ends.stands
+  format_done (Served requests changes) ends s = absurd ends
+  format_done _ ends s = absurd (omega (arith, s))
+
+  format_only : (o : Outcome) → FormatEnds old new h o → old.shows ≡ true → HasOpenHeader old.seen ⊎ ¬ (FitsStore h (length old.seen) empty_rows) → (status_of o ≡ 2) ⊎ ((status_of o ≡ 3) ⊎ (status_of o ≡ 4))
+  format_only (Formatted blocks half media) ends shows cause =
+      absurd (elim cause [ inl header ↦ ends.none shows header | inr misfit ↦ misfit (ends.fits shows) ])
+  format_only AlreadyStore ends shows cause = inl refl
+  format_only TooSmall ends shows cause = inl refl
+  format_only DiskFault ends shows cause = inr (inl refl)
+  format_only NoMemory ends shows cause = inr (inr refl)
+  format_only (Served requests changes) ends shows cause = absurd ends
+  format_only Cut ends shows cause = absurd ends
+  format_only BadWords ends shows cause = absurd ends
+  format_only NotStore ends shows cause = absurd ends
+  format_only (Damaged at) ends shows cause = absurd ends
+  format_only LinkFault ends shows cause = absurd ends
+
+module _ (old new : Device) where
+  replay_refused : (o : Outcome) → ReplayCause old new o → status_of o ≡ 2 → Untouched old new × (old.shows ≡ true → StandsForNone old.seen)
+  replay_refused NotStore cause s = (cause.1, λ shows. no_store old.seen (cause.0 shows))
+  replay_refused (Damaged at) cause s = (cause.1, λ shows. (cause.0 shows).1)
+  replay_refused AlreadyStore cause s = absurd cause
+  replay_refused TooSmall cause s = absurd cause
+  replay_refused _ cause s = absurd (omega (arith, s))
+
+  replay_only : (o : Outcome) → ReplayCause old new o → old.shows ≡ true → StandsForNone old.seen → (status_of o ≡ 2) ⊎ ((status_of o ≡ 3) ⊎ (status_of o ≡ 4))
+  replay_only (Served requests changes) cause shows none = let stood = cause shows in absurd (none stood.0 stood.1)
+  replay_only Cut cause shows none = let stood = cause shows in absurd (none stood.0 stood.1)
+  replay_only LinkFault cause shows none = let stood = cause shows in absurd (none stood.0 stood.1)
+  replay_only NotStore cause shows none = inl refl
+  replay_only (Damaged at) cause shows none = inl refl
+  replay_only DiskFault cause shows none = inr (inl refl)
+  replay_only NoMemory cause shows none = inr (inr refl)
+  replay_only (Formatted blocks half media) cause shows none = absurd cause
+  replay_only BadWords cause shows none = absurd cause
+  replay_only AlreadyStore cause shows none = absurd cause
+  replay_only TooSmall cause shows none = absurd cause
+
+-- no status is that of two ends
+other_status : (o p : Outcome) → o ≡ p → (n : ℕ) → status_of p ≡ n → status_of o ≡ n
+other_status o p same n is = ap status_of same ∙ is
+
+module _ (words : List (List ℕ)) (old new : Device) (clock : Bool) (begun given : List ℕ) (o : Outcome) (run : RunEnds words old new clock begun given o) where
+  -- a command that was refused
+  command_refused : (command : Command) → CommandEnds old new clock begun given o command → status_of o ≡ 2 → Untouched old new × (old.shows ≡ true → RefusedFor old.seen command)
+  command_refused (Format path blocks half id) ends s = format_refused old new _ o ends s
+  command_refused (Replay path base) ends s = replay_refused old new o ends.cause s
+
+  pub run_refused : status_of o ≡ 2 → Untouched old new × ((command : Command) × IsCommand words command × (old.shows ≡ true → RefusedFor old.seen command))
+  run_refused s = elim run.cause [
+    | inl starved ↦ absurd (omega (arith, s, ap status_of starved.0))
+    | inr other ↦ elim other [
+      | inl bad ↦ absurd (omega (arith, s, ap status_of bad.0))
+      | inr did ↦ let refused = command_refused did.0 did.2 s in (refused.0, (did.0, did.1, refused.1))
+    ]
+  ]
+
+  -- a command that the file refuses
+  command_only : (command : Command) → CommandEnds old new clock begun given o command → old.shows ≡ true → RefusedFor old.seen command → (status_of o ≡ 2) ⊎ ((status_of o ≡ 3) ⊎ (status_of o ≡ 4))
+  command_only (Format path blocks half id) ends shows cause = format_only old new _ o ends shows cause
+  command_only (Replay path base) ends shows cause = replay_only old new o ends.cause shows cause
+
+  pub run_only : (command : Command) → IsCommand words command → old.shows ≡ true → RefusedFor old.seen command → (status_of o ≡ 2) ⊎ ((status_of o ≡ 3) ⊎ (status_of o ≡ 4))
+  run_only command is shows cause = elim run.cause [
+    | inl starved ↦ inr (inr (ap status_of starved.0))
+    | inr other ↦ elim other [
+      | inl bad ↦ absurd (bad.1 command is)
+      | inr did ↦ command_only command (subst (CommandEnds old new clock begun given o) (one_command words did.0 command did.1 is) did.2) shows cause
+    ]
+  ]
+
+  -- a store that was made
+  pub run_formatted : status_of o ≡ 0 → old.shows ≡ true → (path : List ℕ) (blocks half id : ℕ) → IsCommand words (Format path blocks half id) → StandsFor new.seen (formatted_state (record { blocks = blocks; half = half; id = id }))
+  run_formatted s shows path blocks half id is = elim run.cause [
+    | inl starved ↦ absurd (omega (arith, s, ap status_of starved.0))
+    | inr other ↦ elim other [
+      | inl bad ↦ absurd (omega (arith, s, ap status_of bad.0))
+      | inr did ↦ format_done old new (record { blocks = blocks; half = half; id = id }) o (subst (CommandEnds old new clock begun given o) (one_command words did.0 (Format path blocks half id) did.1 is) did.2) s shows
+    ]
+  ]
+
+  -- the history of a run of `replay`
+  pub run_replayed : IsDevice old → TellsAll old clock → IsSettled old → (path base : List ℕ) → IsCommand words (Replay path base) → (from : State) → StandsFor old.seen from → Replayed (beginning from old begun) new given o
+  run_replayed sound all settled path base is from stands = elim run.cause [
+    | inl starved ↦
+        let none = unopened old new clock begun NoMemory sound starved.2.seen starved.2.link starved.2.time tt all settled from stands in
+        rw (starved.1, starved.0) none
+    | inr other ↦ elim other [
+      | inl bad ↦ absurd (bad.1 (Replay path base) is)
+      | inr did ↦
+          let ends : ReplayEnds old new clock begun given o = subst (CommandEnds old new clock begun given o) (one_command words did.0 (Replay path base) did.1 is) did.2 in
+          ends.history all settled from stands
+    ]
+  ]

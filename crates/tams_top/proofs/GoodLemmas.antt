@@ -1,0 +1,159 @@
+-- Each library of a history is good.
+use Rattle.std.proofs.Common.{◌≡◌, ◌≤◌, ◌<◌, ◌+◌, ◌==◌, ◌^◌, ℕ, suc, Bool, true, false, List, [], ◌∷◌, ◌++◌, length, filter, find, Option, Some, None, refl, sym, ap, ◌∙◌, subst, inl, inr, arith, nat_lt, cond}
+use Rattle.std.specs.Prelude.{All, if◌then◌else◌, unwrap_or}
+use Rattle.std.proofs.lemmas.Bool.{cases_lt, eqb-true, false≢true, le-ltb, lt-ltb}
+use Rattle.std.proofs.lemmas.List.Elements.{All-cons, All-tail}
+use Rattle.disk_trait.specs.Device.{Device, IsDevice, as_read}
+use Rattle.media_journal.specs.declared.record.Record.{Record}
+use Rattle.media_journal.specs.declared.header.Header.{Header}
+use Rattle.tams_top.specs.declared.change.Change.{Change}
+use Rattle.tams_top.specs.declared.library.Flow.{Flow}
+use Rattle.tams_top.specs.declared.library.Library.{Library}
+use Rattle.tams_top.specs.declared.store.Store.{Store}
+use Rattle.tams_top.specs.Change.{IsChange}
+use Rattle.tams_top.specs.Library.{AreFlowsFrom, IsGood, IsGoodFlow, applied, empty_library, flow_of, placed, put_flow, with_flow}
+use Rattle.tams_top.specs.Store.{Folds, State}
+use Rattle.tams_top.specs.Opening.{state_of}
+use Rattle.tams_top.specs.History.{Last, Session, Taken, after, after_last, answer_to, change_of, changed, end_of, is_changing, requests_of, session_of, state_after, taken_last}
+use Rattle.tams_top.specs.History as history
+use Rattle.tams_top.specs.Moments.{EachKeeps, IsEarlier}
+use Rattle.tams_top.specs.Running.{AllGood}
+
+-- a flow below another, and one that isn't
+is_below : (a b : ℕ) → a < b → nat_lt a b ≡ true
+is_below a b below = lt-ltb a b below
+
+is_above : (a b : ℕ) → b ≤ a → nat_lt a b ≡ false
+is_above a b above = le-ltb a b above
+
+-- flows of higher ids
+none_below : (m : ℕ) (x : Flow) (fs : List Flow) → AreFlowsFrom m fs → x.id < m → filter (λ f. nat_lt f.id x.id) fs ≡ []
+none_below m x [] are above = refl
+none_below m x (f ∷ fs) are above =
+    let shut : nat_lt f.id x.id ≡ false = is_above f.id x.id (omega (arith, are.0, above)) in
+    rw shut (none_below (f.id + 1) x fs are.2 (omega (arith, are.0, above)))
+
+all_above : (m : ℕ) (x : Flow) (fs : List Flow) → AreFlowsFrom m fs → x.id < m → filter (λ f. nat_lt x.id f.id) fs ≡ fs
+all_above m x [] are above = refl
+all_above m x (f ∷ fs) are above =
+    let passes : nat_lt x.id f.id ≡ true = is_below x.id f.id (omega (arith, are.0, above)) in
+    rw passes (ap (λ gs. f ∷ gs) (all_above (f.id + 1) x fs are.2 (omega (arith, are.0, above))))
+
+-- a flow at its place
+placed_good : (m : ℕ) (x : Flow) (fs : List Flow) → AreFlowsFrom m fs → m ≤ x.id → IsGoodFlow x → AreFlowsFrom m (placed x fs)
+placed_good m x [] are least good = (least, good, tt)
+placed_good m x (f ∷ fs) are least good = elim (cases_lt f.id x.id) [
+  | inl below ↦
+      let passes : nat_lt f.id x.id ≡ true = is_below f.id x.id below in
+      let shut : nat_lt x.id f.id ≡ false = is_above x.id f.id (omega (arith, below)) in
+      rw (passes, shut) (are.0, are.1, placed_good (f.id + 1) x fs are.2 (omega (arith, below)) good)
+  | inr reaches ↦
+      let shut : nat_lt f.id x.id ≡ false = is_above f.id x.id reaches in
+      let none = none_below (f.id + 1) x fs are.2 (omega (arith, reaches)) in
+      let whole = all_above (f.id + 1) x fs are.2 (omega (arith, reaches)) in
+      elim (cases_lt x.id f.id) [
+        | inl above ↦
+            let passes : nat_lt x.id f.id ≡ true = is_below x.id f.id above in
+            rw (shut, passes, none, whole) (least, good, (omega (arith, above), are.1, are.2))
+        | inr same ↦
+            let also : nat_lt x.id f.id ≡ false = is_above x.id f.id same in
+            let e : f.id ≡ x.id = omega (arith, reaches, same) in
+            rw (shut, also, none, whole) (least, good, subst (λ (id : ℕ). AreFlowsFrom (id + 1) fs) e are.2)
+      ]
+]
+
+-- the flow of an id is one of the flows
+found_good : (m id : ℕ) (fs : List Flow) (f : Flow) → AreFlowsFrom m fs → flow_of id fs ≡ Some f → IsGoodFlow f × (f.id ≡ id)
+found_good m id [] f are e = absurd (let none : None ≡ Some f = e in cc)
+found_good m id (g ∷ fs) f are e = found (g.id == id) refl e (found_good (g.id + 1) id fs f are.2)
+  where
+    found : (b : Bool) → b ≡ (g.id == id) → cond b (Some g) (flow_of id fs) ≡ Some f → (flow_of id fs ≡ Some f → IsGoodFlow f × (f.id ≡ id)) → IsGoodFlow f × (f.id ≡ id)
+    found true is some later =
+        let same : g ≡ f = let e : Some g ≡ Some f = some in cc in
+        (subst IsGoodFlow same are.1, subst (λ (x : Flow). x.id ≡ id) same (eqb-true g.id id (sym is)))
+    found false is some later = later some
+
+-- the flow that a put leaves
+put_good : (c : Change) (kept : Option Flow) (x : Flow) → IsChange c → ((f : Flow) → kept ≡ Some f → IsGoodFlow f) → put_flow c kept ≡ Some x → IsGoodFlow x
+put_good c None x is kept e =
+    let same : record { id = c.flow; source = c.source; created = c.moment; updated = c.moment } ≡ x = let some : Some record { id = c.flow; source = c.source; created = c.moment; updated = c.moment } ≡ Some x = e in cc in
+    subst IsGoodFlow same (record { id = is.flow; source = is.source; created = is.moment; updated = is.moment })
+put_good c (Some old) x is kept e = made (old.source == c.source) e
+  where
+    made : (b : Bool) → (if b then Some record old { updated = c.moment } else None) ≡ Some x → IsGoodFlow x
+    made true some =
+        let good = kept old refl in
+        let same : record old { updated = c.moment } ≡ x = let e : Some record old { updated = c.moment } ≡ Some x = some in cc in
+        subst IsGoodFlow same (record { id = good.id; source = good.source; created = good.created; updated = is.moment })
+    made false none = absurd (let e : None ≡ Some x = none in cc)
+
+with_good : (library next : Library) (flow : Option Flow) → IsGood library → ((x : Flow) → flow ≡ Some x → IsGoodFlow x) → with_flow library flow ≡ Some next → IsGood next
+with_good library next None good flow e = absurd (let none : None ≡ Some next = e in cc)
+with_good library next (Some x) good flow e =
+    let same : record library { flows = placed x library.flows } ≡ next = let some : Some record library { flows = placed x library.flows } ≡ Some next = e in cc in
+    subst IsGood same (placed_good 0 x library.flows good (omega arith) (flow x refl))
+
+-- a change that applies keeps a library good
+pub applied_good : (c : Change) (library next : Library) → IsChange c → IsGood library → applied c library ≡ Some next → IsGood next
+unfolding applied
+applied_good c library next is good e =
+    with_good library next (put_flow c (flow_of c.flow library.flows)) good
+    (λ x some. put_good c (flow_of c.flow library.flows) x is (λ f found. (found_good 0 c.flow library.flows f good found).0) some) e
+
+-- so a library is good to which records fold
+folds_good : (rs : List Record) (from to : Library) → IsGood from → Folds rs from to → IsGood to
+folds_good [] from to good e = subst IsGood (sym e) good
+folds_good (r ∷ rs) from to good all =
+    folds_good rs all.3.0 to (applied_good all.0 from all.3.0 all.1 good all.3.1) all.3.2
+
+pub keeps_good : (d : Device) (s : Store) → IsDevice d → d.honest ≡ true → d.shows ≡ true → d.tells ≡ true → EachKeeps d s → IsGood s.library
+keeps_good d s sound honest shows tells keeps = folds_good keeps.records (empty_library keeps.header) s.library tt keeps.folds
+
+changed_good : (s : State) (c : Change) → IsChange c → IsGood s.library → IsGood (changed s c).library
+changed_good s c is good = made (applied c s.library) (λ next some. applied_good c s.library next is good some)
+  where
+    made : (o : Option Library) → ((next : Library) → o ≡ Some next → IsGood next) → IsGood (unwrap_or o s.library)
+    made None next = good
+    made (Some l) next = next l refl
+
+after_good : (s : State) (c : Change) → IsChange c → IsGood s.library → IsGood (state_after s c).library
+after_good s c is good = answered (is_changing (answer_to s c))
+  where
+    answered : (b : Bool) → IsGood (if b then changed s c else s).library
+    answered true = changed_good s c is good
+    answered false = good
+
+-- requests of which each is a good one
+abbrev AreValid : List Taken → Type 0
+AreValid ts = All (λ t. IsChange (change_of t)) ts
+
+first_valid : (t : Taken) (ts : List Taken) → AreValid (t ∷ ts) → IsChange (change_of t)
+first_valid t ts all = all 0 t (omega arith)
+
+valid_front : (ts more : List Taken) → AreValid (ts ++ more) → AreValid ts
+valid_front [] more all = λ k t le. absurd (omega (arith, le))
+valid_front (t ∷ ts) more all =
+    All-cons (λ x. IsChange (change_of x)) t ts (first_valid t (ts ++ more) all) (valid_front ts more (All-tail (λ x. IsChange (change_of x)) t (ts ++ more) all))
+
+valid_behind : (ts more : List Taken) → AreValid (ts ++ more) → AreValid more
+valid_behind [] more all = all
+valid_behind (t ∷ ts) more all = valid_behind ts more (All-tail (λ x. IsChange (change_of x)) t (ts ++ more) all)
+
+requests_good : (s : State) (ts : List Taken) → AreValid ts → IsGood s.library → IsGood (after s ts).library
+requests_good s [] all good = good
+requests_good s (t ∷ ts) all good =
+    requests_good (state_after s (change_of t)) ts (All-tail (λ x. IsChange (change_of x)) t ts all) (after_good s (change_of t) (first_valid t ts all) good)
+
+last_good : (s : State) (last : Option Last) → AreValid (taken_last last) → IsGood s.library → IsGood (after_last s last).library
+last_good s None all good = good
+last_good s (Some history.Refused) all good = good
+last_good s (Some (history.Starved t)) all good = good
+last_good s (Some (history.Stopped t true)) all good = changed_good s (change_of t) (first_valid t [] all) good
+last_good s (Some (history.Stopped t false)) all good = good
+
+pub all_good : (from : State) (h : Session) → IsGood from.library → AreValid (requests_of h) → AllGood from h
+all_good from h good valid g (inl same) =
+    rw same (last_good (after from h.taken) h.last (valid_behind h.taken (taken_last h.last) valid) (requests_good from h.taken (valid_front h.taken (taken_last h.last) valid) good))
+all_good from h good valid g (inr part) =
+    let front : AreValid g.taken = valid_front g.taken part.1.0 (subst AreValid part.1.1 (valid_front h.taken (taken_last h.last) valid)) in
+    rw part.0 (requests_good from g.taken front good)
