@@ -9,3 +9,4 @@ pub mod OpeningLemmas
 pub mod ReadingLemmas
 mod ScanLemmas
 mod StoreLemmas
+pub mod Theorems

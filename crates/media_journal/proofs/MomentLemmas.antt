@@ -4,7 +4,7 @@ use Rattle.disk_trait.specs.Device.{Device, Left, may_leave}
 use Rattle.disk_trait.specs.Calls.{Elapses, LeavesOnly, TornWrite, Unchanged, overwritten}
 use Rattle.disk_trait.specs.Moments.{Then, WithinTwo}
 use Rattle.disk_trait.proofs.Theorems.{elapses_twice}
-use Rattle.media_journal.specs.Moments.{SyncedWrite, SyncedWriteEnds, WithinRecord, RecordEnds}
+use Rattle.media_journal.specs.Steps.{SyncedWrite, SyncedWriteEnds, WithinRecord, RecordEnds}
 
 -- time by weaker steps, from what could be left before
 pub elapses_weaker : (within ended other last : Left → Left → Type 0) (old new : Device) → Elapses within ended old new → ((q p : Left) → may_leave old q → within q p → other q p) → ((q p : Left) → may_leave old q → may_leave new p → ended q p → last q p) → Elapses other last old new

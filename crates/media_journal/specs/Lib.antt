@@ -4,6 +4,7 @@ pub mod Scan
 pub mod Answers
 pub mod Formatting
 pub mod Moments
+pub mod Steps
 pub mod Opening
 pub use Rattle.disk_trait.specs.Device
 pub use Rattle.disk_trait.specs.Calls
