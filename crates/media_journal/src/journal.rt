@@ -57,8 +57,9 @@ impl Journal {
             → Gives (D.device disk.old).seen self.old h rows records
             → Gives (D.device disk.new).seen self.new h rows
             (records ++ record { offset = self.old.gate; payload = frame.now } ∷ [])) }
-        ensures elsewhere { (D.device disk.old).shows ≡ true → OnOk result
-            (Torn self.old.gate (length frame.now + 6) (D.device disk.old).seen (D.device disk.new).seen) }
+        ensures elsewhere { (D.device disk.old).shows ≡ true
+            → OnOk result (Torn self.old.gate (length frame.now + 6)
+            (D.device disk.old).seen (D.device disk.new).seen) }
         ensures handed { (D.device disk.old).tells ≡ true → OnOk result
             ((D.device disk.new).handed ≡ (D.device disk.old).handed + (length frame.now + 6)) }
         ensures handed_at_most { (D.device disk.old).tells ≡ true
@@ -81,7 +82,8 @@ impl Journal {
         ensures durable { (D.device disk.old).honest ≡ true
             → OnOk result (LeavesOnly (D.device disk.new).seen (D.device disk.new)) }
 
-        // After `Disk` a read gives the records as they were, or with the payload.
+        // After `Disk` a read gives the records as they were, or with the payload. Where the device isn't
+        // honest nothing is said: there a sync that fails leaves open what is read.
         ensures left { (D.device disk.old).honest ≡ true → (D.device disk.old).shows ≡ true
             → (D.device disk.old).tells ≡ true → IsErrOf result AppendFault.Disk
             → (h : Header) (rows : List ℕ) (records : List Record)
