@@ -107,7 +107,8 @@ fn make_store<D: Disk>(disk: &mut D, gate: Gate, header: &[u8], half: &[u8]) -> 
 fn read_gate<D: Disk>(disk: &mut D) -> Result<Gate, Failed>
     ensures reads { DiskReads (is_ok result) (D.device disk.old) (D.device disk.new) }
     ensures moments { Elapses Unchanged Unchanged (D.device disk.old) (D.device disk.new) }
-    ensures gate { (D.device disk.old).shows ≡ true → IfOk result (GateIs (D.device disk.old).seen) }
+    ensures gate { (D.device disk.old).shows ≡ true
+        → IfOk result (GateIs (D.device disk.old).seen) }
 {
     if disk.len() <= GATE {
         return Ok(Gate::Closed);
