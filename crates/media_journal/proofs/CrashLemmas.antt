@@ -1,16 +1,18 @@
 -- What the images give that a crash may leave within an append.
-use Rattle.std.proofs.Common.{◌≡◌, ◌<◌, ◌≤◌, ◌+◌, ◌*◌, ◌%◌, ◌==◌, ◌^◌, ℕ, Bool, true, false, List, [], ◌∷◌, ◌++◌, length, take, drop, get_or, inl, inr, subst, sym, ap, ap₂, ◌∙◌, arith, take-append-drop, zero-add, append_assoc}
-use Rattle.std.proofs.lemmas.List.{drop_more}
+use Rattle.std.proofs.Common.{◌≡◌, ◌<◌, ◌≤◌, ◌+◌, ◌-◌, ◌*◌, ◌%◌, ◌==◌, ◌^◌, ℕ, Bool, true, false, List, [], ◌∷◌, ◌++◌, length, take, drop, get_or, inl, inr, subst, sym, ap, ap₂, ◌∙◌, arith, take-append-drop, zero-add, append_assoc}
+use Rattle.std.proofs.lemmas.List.{drop_more, drop-drop}
 use Rattle.std.proofs.lemmas.Bool.{cases_eq}
 use Rattle.std.specs.Prelude.{if◌then◌else◌}
 use Rattle.disk_trait.specs.Device.{Device, Left, IsDevice, may_leave, as_read}
 use Rattle.disk_trait.specs.Calls.{bytes_at, overwritten, Torn, TornWrite, Elapses}
+use Rattle.disk_trait.proofs.Theorems.{torn_twice}
 use Rattle.disk_trait.proofs.OverwriteLemmas.{length-overwritten, bytes_at-before, bytes_at-bytes_at, get_or-bytes_at}
 use Rattle.media_journal.specs.declared.record.Record.{Record}
 use Rattle.media_journal.specs.declared.header.Header.{Header}
 use Rattle.media_journal.specs.File.{IsClosedGate, active_start}
 use Rattle.media_journal.specs.Journal.{Position, Gives, after_append, frame_text}
-use Rattle.media_journal.specs.Moments.{EachGives, GivesOneOf, KeepsOrAdds, AddsRecord, AppendEnds, SyncedWrite, WithinRecord, RecordEnds, with_payload}
+use Rattle.media_journal.specs.Moments.{EachGives, GivesOneOf, KeepsOrAdds, AddsRecord, AppendEnds, with_payload}
+use Rattle.media_journal.specs.Steps.{SyncedWrite, WithinRecord, RecordEnds}
 use Rattle.media_journal.proofs.FrameLemmas.{length-frame_text}
 use Rattle.media_journal.proofs.ChainLemmas.{chain_bounds, chain_kept}
 use Rattle.media_journal.proofs.AppendLemmas.{active_start-least, gives_more, recorded}
@@ -56,6 +58,17 @@ gives_kept image other p h rows records size same closed g =
       blocks = g.blocks;
     }
 
+-- what a write may have changed lies in any wider range
+pub torn_wider : (at n from k : ℕ) (old new : List ℕ) → from ≤ at → at + n ≤ from + k → Torn at n old new → Torn from k old new
+torn_wider at n from k old new below above torn =
+    let more = from + k - (at + n) in
+    let past : from + k ≡ at + n + more = omega arith in
+    record {
+      before = bytes_kept old new at torn.before 0 from (omega arith);
+      after = rw past (sym (drop-drop more (at + n) new) ∙ ap (drop more) torn.after ∙ drop-drop more (at + n) old);
+      same_length = torn.same_length;
+    }
+
 -- where the write of a byte was cut short, some byte was written
 pub torn_byte : (at b : ℕ) (old new : List ℕ) → at < length old → Torn at 1 old new → get_or new at 0 ≡ b → new ≡ overwritten at (b ∷ []) old
 torn_byte at b old new within torn is =
@@ -93,16 +106,29 @@ module _ (old new : Device) (p : Position) (payload : List ℕ) (h : Header) (ro
   framed : (q m : Left) → may_leave old q → TornWrite (p.gate + 1) (length (frame_text payload)) q m → Gives m.image p h rows records
   framed q m could torn = gives_before q.image m.image p h rows records torn.image.same_length torn.image.before (each.gives q could)
 
+  -- both writes lie within the record and the gate behind it
+  frame_within : (q m : Left) → TornWrite (p.gate + 1) (length (frame_text payload)) q m → Torn p.gate (length payload + 6) q.image m.image
+  frame_within q m torn = torn_wider _ _ _ _ q.image m.image (omega arith) (omega (arith, length-frame_text payload)) torn.image
+
+  gate_within : (q m l : Left) → TornWrite (p.gate + 1) (length (frame_text payload)) q m → TornWrite p.gate 1 m l → Torn p.gate (length payload + 6) q.image l.image
+  gate_within q m l frame gate =
+      torn_twice _ _ q.image m.image l.image (frame_within q m frame) (torn_wider _ _ _ _ m.image l.image (omega arith) (omega arith) gate.image)
+
   staged : (q m : Left) → may_leave old q → SyncedWrite (p.gate + 1) (frame_text payload) old.seen q m → Gives (overwritten (p.gate + 1) (frame_text payload) old.seen) p h rows records
   staged q m could write = subst (λ (image : List ℕ). Gives image p h rows records) write.whole (framed q m could write.torn)
 
   so_far : (q l : Left) → may_leave old q → WithinRecord p.gate (frame_text payload) old.seen q l → KeepsOrAdds p payload h rows records q l
-  so_far q l could (inl torn) = record { told = torn.told; image = inl (framed q l could torn) }
+  so_far q l could (inl torn) = record {
+    told = torn.told;
+    elsewhere = frame_within q l torn;
+    image = inl (framed q l could torn);
+  }
   so_far q l could (inr steps) =
       let write = steps.1 in
       let gate = subst (λ (image : List ℕ). Torn p.gate 1 image l.image) write.whole steps.2.image in
       record {
         told = steps.2.told ∙ write.torn.told;
+        elsewhere = gate_within q steps.0 l write.torn steps.2;
         image = gives_torn_gate old.seen l.image p payload h rows records within room short (staged q steps.0 could write) gate;
       }
 
@@ -113,6 +139,7 @@ module _ (old new : Device) (p : Position) (payload : List ℕ) (h : Header) (ro
       let before = gives_without_frame old.seen p h rows records (frame_text payload) fits (staged q steps.0 could write) in
       record {
         told = steps.2.torn.told ∙ write.torn.told;
+        elsewhere = gate_within q steps.0 l write.torn steps.2.torn;
         image = rw steps.2.whole (gives_more old.seen p h rows records payload within room short before);
       }
   at_end false q l could steps = so_far q l could steps

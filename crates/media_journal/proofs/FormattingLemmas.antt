@@ -10,7 +10,8 @@ use Rattle.media_journal.specs.declared.header.Header.{Header}
 use Rattle.media_journal.specs.declared.format.Gate.{Gate}
 use Rattle.media_journal.specs.declared.format.Gate.TheVariants.{Store, Stray, Closed}
 use Rattle.media_journal.specs.File.{magic, header_text, rows_text, active_start, Reads, HasOpenHeader}
-use Rattle.media_journal.specs.Formatting.{FitsStore, GateIs, IsFormatted, IsNewStore, half_text, with_store}
+use Rattle.media_journal.specs.Formatting.{FitsStore, GateIs, IsFormatted, half_text, with_store}
+use Rattle.media_journal.specs.Moments.{IsNewStore}
 use Rattle.media_journal.proofs.HeaderLemmas.{length-magic, has_front, front_has}
 
 -- what stands at the gate of the first 41 bytes, stands at the image's

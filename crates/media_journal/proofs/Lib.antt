@@ -10,4 +10,5 @@ pub mod OpeningLemmas
 pub mod ReadingLemmas
 mod ScanLemmas
 mod StoreLemmas
+pub mod Theorems
 mod WindowLemmas

@@ -3,8 +3,8 @@ use Rattle.std.proofs.Common.{◌≡◌, ◌+◌, ℕ, Bool, true, false, List, 
 use Rattle.disk_trait.specs.Device.{Device, Left, may_leave}
 use Rattle.disk_trait.specs.Calls.{Elapses, LeavesOnly, TornWrite, Unchanged, overwritten}
 use Rattle.disk_trait.specs.Moments.{Then, WithinTwo}
-use Rattle.disk_trait.proofs.Theorems.{elapses_along, elapses_twice, elapses_weaker}
-use Rattle.media_journal.specs.Moments.{SyncedWrite, SyncedWriteEnds, WithinRecord, RecordEnds}
+use Rattle.disk_trait.proofs.Theorems.{elapses_twice, elapses_weaker}
+use Rattle.media_journal.specs.Steps.{SyncedWrite, SyncedWriteEnds, WithinRecord, RecordEnds}
 
 -- a write and a step that changes nothing are that write
 write_then_unchanged : (at n : ℕ) (q p : Left) → Then (TornWrite at n) Unchanged q p → TornWrite at n q p

@@ -10,8 +10,9 @@ use Rattle.disk_trait.proofs.OverwriteLemmas.{get_or-written}
 use Rattle.media_journal.specs.declared.header.Header.{Header}
 use Rattle.media_journal.specs.declared.format.Gate.{Gate}
 use Rattle.media_journal.specs.File.{HasOpenHeader, IsClosedGate, header_text}
-use Rattle.media_journal.specs.Formatting.{FitsStore, GateIs, IsAtRest, IsFormatted, IsStray, KeepsGate, LeavesNone, MakesStore, NoneOrFormatted, NoneOrNew, StoreEnds, half_text}
-use Rattle.media_journal.specs.Moments.{SyncedWriteEnds}
+use Rattle.media_journal.specs.Formatting.{FitsStore, GateIs, IsFormatted, IsStray, half_text}
+use Rattle.media_journal.specs.Moments.{IsAtRest, MakesStore, NoneOrNew}
+use Rattle.media_journal.specs.Steps.{KeepsGate, LeavesNone, NoneOrFormatted, StoreEnds, SyncedWriteEnds}
 use Rattle.media_journal.proofs.CrashLemmas.{bytes_kept, byte_kept, torn_byte}
 use Rattle.disk_trait.proofs.Theorems.{elapses_along, elapses_weaker}
 use Rattle.media_journal.proofs.MomentLemmas.{synced_is_torn}

@@ -1,7 +1,6 @@
--- What formatting a device answers and leaves, also at each of its moments.
-use Rattle.std.specs.Prelude.{◌≡◌, ◌≤◌, ◌+◌, ◌*◌, ◌⊎◌, ℕ, Bool, true, false, List, [], ◌∷◌, ◌++◌, length, slice_index, Result, Ok, Err}
-use Rattle.disk_trait.specs.Device.{Device, Left}
-use Rattle.disk_trait.specs.Calls.{LeavesOnly, Unchanged, overwritten}
+-- What formatting a device answers and leaves.
+use Rattle.std.specs.Prelude.{◌≡◌, ◌≤◌, ◌+◌, ◌*◌, ℕ, Bool, true, false, List, [], ◌∷◌, ◌++◌, length, Result, Ok, Err}
+use Rattle.disk_trait.specs.Calls.{overwritten}
 use Rattle.media_journal.specs.declared.header.Header.{Header}
 use Rattle.media_journal.specs.declared.format.Gate.{Gate}
 use Rattle.media_journal.specs.declared.format.Gate.TheVariants as gates
@@ -65,58 +64,3 @@ pub record IsFormatted (header half old new : List ℕ) : Type 0 where
   pub closed : List ℕ
   pub same_length : length closed ≡ length old
   pub store : new ≡ with_store header half closed
-
--- an honest device that shows its bytes, with nothing pending
-pub record IsAtRest (d : Device) : Type 0 where
-  pub honest : d.honest ≡ true
-  pub shows : d.shows ≡ true
-  pub settled : LeavesOnly d.seen d
-
--- the image is the store that was asked for: its header, half A active with these rows, and no record
-pub record IsNewStore (image : List ℕ) (h : Header) (rows : List ℕ) : Type 0 where
-  pub reads : Reads image h (8192 + (8 + length rows)) rows []
-  pub selector : slice_index image 4096 ≡ 0
-
--- what formatting may have done so far: nothing was told, and the image is no store or the new one
-pub record NoneOrNew (h : Header) (rows : List ℕ) (old new : Left) : Type 0 where
-  pub told : new.told ≡ old.told
-  pub image : (¬ (HasOpenHeader new.image)) ⊎ IsNewStore new.image h rows
-
--- what it has done once it has succeeded
-pub record MakesStore (h : Header) (rows : List ℕ) (old new : Left) : Type 0 where
-  pub told : new.told ≡ old.told
-  pub image : IsNewStore new.image h rows
-
--- what formatting has done at its end
-abbrev pub FormatEnds : Result (Unit {0}) FormatFault → Header → List ℕ → Left → Left → Type 0
-FormatEnds (Ok _) h rows = MakesStore h rows
-FormatEnds (Err AlreadyStore) h rows = Unchanged
-FormatEnds (Err TooSmall) h rows = Unchanged
-FormatEnds (Err Disk) h rows = NoneOrNew h rows
-FormatEnds (Err Memory) h rows = Unchanged
-
--- a step after which the image is no store, and nothing was told
-pub record LeavesNone (old new : Left) : Type 0 where
-  pub told : new.told ≡ old.told
-  pub image : ¬ (HasOpenHeader new.image)
-
--- a step that leaves the byte at the header's gate
-pub record KeepsGate (old new : Left) : Type 0 where
-  pub told : new.told ≡ old.told
-  pub gate : slice_index new.image 40 ≡ slice_index old.image 40
-
--- what the writes of a store may have done so far to an image like this, with these bytes of a header and
--- a half
-pub record NoneOrFormatted (header half seen : List ℕ) (old new : Left) : Type 0 where
-  pub told : new.told ≡ old.told
-  pub image : (¬ (HasOpenHeader new.image)) ⊎ IsFormatted header half seen new.image
-
--- what they have done once all have succeeded
-pub record Formats (header half seen : List ℕ) (old new : Left) : Type 0 where
-  pub told : new.told ≡ old.told
-  pub image : IsFormatted header half seen new.image
-
--- what they have done at their end
-abbrev pub StoreEnds : Bool → List ℕ → List ℕ → List ℕ → Left → Left → Type 0
-StoreEnds true = Formats
-StoreEnds false = NoneOrFormatted

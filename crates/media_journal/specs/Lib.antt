@@ -4,6 +4,7 @@ pub mod Scan
 pub mod Answers
 pub mod Formatting
 pub mod Moments
+pub mod Steps
 pub mod Opening
 pub mod Readings
 pub mod Window

@@ -1,10 +1,12 @@
--- What a crash at each moment of a call of the journal may leave, by what the images give.
-use Rattle.std.specs.Prelude.{◌≡◌, ◌+◌, ◌⊎◌, ℕ, Bool, true, false, List, [], ◌∷◌, ◌++◌, length}
+-- What a crash at each moment of an append or of formatting may leave, by what the images give.
+use Rattle.std.specs.Prelude.{◌≡◌, ◌+◌, ◌⊎◌, ℕ, Bool, true, false, List, [], ◌∷◌, ◌++◌, length, slice_index, Result, Ok, Err}
 use Rattle.disk_trait.specs.Device.{Device, Left, may_leave}
-use Rattle.disk_trait.specs.Calls.{TornWrite, overwritten}
-use Rattle.disk_trait.specs.Moments.{Then, WithinTwo}
+use Rattle.disk_trait.specs.Calls.{LeavesOnly, Torn, Unchanged}
 use Rattle.media_journal.specs.declared.header.Header.{Header}
 use Rattle.media_journal.specs.declared.record.Record.{Record}
+use Rattle.media_journal.specs.declared.fault.FormatFault.{FormatFault}
+use Rattle.media_journal.specs.declared.fault.FormatFault.TheVariants.{AlreadyStore, TooSmall, Disk, Memory}
+use Rattle.media_journal.specs.File.{HasOpenHeader, Reads}
 use Rattle.media_journal.specs.Journal.{Position, Gives, after_append}
 
 -- each image that a crash now may leave gives the journal these rows and records
@@ -20,15 +22,17 @@ abbrev pub GivesOneOf : List ℕ → Position → List ℕ → Header → List �
 GivesOneOf image p payload h rows records =
     Gives image p h rows records ⊎ Gives image (after_append p (length payload)) h rows (with_payload p payload records)
 
--- what an append may have done so far: nothing was told, and the image gives the records as they were, or
--- with the payload
+-- What an append may have done so far: nothing was told, only the bytes of a record at the journal's gate
+-- and of the gate behind it may differ, and the image gives the records as they were, or with the payload.
 pub record KeepsOrAdds (p : Position) (payload : List ℕ) (h : Header) (rows : List ℕ) (records : List Record) (old new : Left) : Type 0 where
   pub told : new.told ≡ old.told
+  pub elsewhere : Torn p.gate (length payload + 6) old.image new.image
   pub image : GivesOneOf new.image p payload h rows records
 
 -- what an append has done once it has succeeded
 pub record AddsRecord (p : Position) (payload : List ℕ) (h : Header) (rows : List ℕ) (records : List Record) (old new : Left) : Type 0 where
   pub told : new.told ≡ old.told
+  pub elsewhere : Torn p.gate (length payload + 6) old.image new.image
   pub image : Gives new.image (after_append p (length payload)) h rows (with_payload p payload records)
 
 -- what an append has done at its end, by whether it has succeeded
@@ -36,22 +40,31 @@ abbrev pub AppendEnds : Bool → Position → List ℕ → Header → List ℕ �
 AppendEnds true = AddsRecord
 AppendEnds false = KeepsOrAdds
 
--- a write of these bytes over what was read, and a sync: no image has a part of them
-pub record SyncedWrite (at : ℕ) (bytes seen : List ℕ) (old new : Left) : Type 0 where
-  pub torn : TornWrite at (length bytes) old new
-  pub whole : new.image ≡ overwritten at bytes seen
+-- an honest device that shows its bytes, with nothing pending
+pub record IsAtRest (d : Device) : Type 0 where
+  pub honest : d.honest ≡ true
+  pub shows : d.shows ≡ true
+  pub settled : LeavesOnly d.seen d
 
--- what such a write has done at its end, by whether it and its sync have succeeded
-abbrev pub SyncedWriteEnds : Bool → ℕ → List ℕ → List ℕ → Left → Left → Type 0
-SyncedWriteEnds true at bytes seen = SyncedWrite at bytes seen
-SyncedWriteEnds false at bytes seen = TornWrite at (length bytes)
+-- the image is the store that was asked for: its header, half A active with these rows, and no record
+pub record IsNewStore (image : List ℕ) (h : Header) (rows : List ℕ) : Type 0 where
+  pub reads : Reads image h (8192 + (8 + length rows)) rows []
+  pub selector : slice_index image 4096 ≡ 0
 
--- what the writes of a record may have done so far: its frame may be cut short behind the closed gate; or
--- it is there, and the write of the open gate may be cut short
-abbrev pub WithinRecord : ℕ → List ℕ → List ℕ → Left → Left → Type 0
-WithinRecord gate frame seen = WithinTwo (TornWrite (gate + 1) (length frame)) (SyncedWrite (gate + 1) frame seen) (TornWrite gate 1)
+-- what formatting may have done so far: nothing was told, and the image is no store or the new one
+pub record NoneOrNew (h : Header) (rows : List ℕ) (old new : Left) : Type 0 where
+  pub told : new.told ≡ old.told
+  pub image : (¬ (HasOpenHeader new.image)) ⊎ IsNewStore new.image h rows
 
--- what they have done at their end
-abbrev pub RecordEnds : Bool → ℕ → List ℕ → List ℕ → Left → Left → Type 0
-RecordEnds true gate frame seen = Then (SyncedWrite (gate + 1) frame seen) (SyncedWrite gate (1 ∷ []) (overwritten (gate + 1) frame seen))
-RecordEnds false gate frame seen = WithinRecord gate frame seen
+-- what it has done once it has succeeded
+pub record MakesStore (h : Header) (rows : List ℕ) (old new : Left) : Type 0 where
+  pub told : new.told ≡ old.told
+  pub image : IsNewStore new.image h rows
+
+-- what formatting has done at its end, by what it answers
+abbrev pub FormatEnds : Result (Unit {0}) FormatFault → Header → List ℕ → Left → Left → Type 0
+FormatEnds (Ok _) h rows = MakesStore h rows
+FormatEnds (Err AlreadyStore) h rows = Unchanged
+FormatEnds (Err TooSmall) h rows = Unchanged
+FormatEnds (Err Disk) h rows = NoneOrNew h rows
+FormatEnds (Err Memory) h rows = Unchanged

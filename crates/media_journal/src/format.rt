@@ -3,7 +3,9 @@
 ghost use Rattle.std.specs.Prelude.{◌≡◌, ◌≤◌, ◌<◌, ◌+◌, ◌*◌, ◌∷◌, [], true, ◌↔◌, length, is_ok, IfOk, IsTrue, OnOk};
 ghost use Rattle.disk_trait.specs.Calls.{DiskCalls, DiskReads, Elapses, LeavesOnly, Unchanged, overwritten};
 ghost use Rattle.media_journal.specs.File.{HasOpenHeader, IsClosedGate, header_text};
-ghost use Rattle.media_journal.specs.Formatting.{FitsStore, FormatAnswer, FormatEnds, Formats, GateIs, IsAtRest, IsFormatted, KeepsGate, LeavesNone, NoneOrFormatted, NoneOrNew, OnRefusal, StoreEnds, format_ok, half_text};
+ghost use Rattle.media_journal.specs.Formatting.{FitsStore, FormatAnswer, GateIs, IsFormatted, OnRefusal, format_ok, half_text};
+ghost use Rattle.media_journal.specs.Moments.{FormatEnds, IsAtRest, NoneOrNew};
+ghost use Rattle.media_journal.specs.Steps.{KeepsGate, LeavesNone, NoneOrFormatted, StoreEnds};
 
 use crate::header::{BLOCK, is_open, magic};
 use crate::write::write_synced;
@@ -105,7 +107,8 @@ fn make_store<D: Disk>(disk: &mut D, gate: Gate, header: &[u8], half: &[u8]) -> 
 fn read_gate<D: Disk>(disk: &mut D) -> Result<Gate, Failed>
     ensures reads { DiskReads (is_ok result) (D.device disk.old) (D.device disk.new) }
     ensures moments { Elapses Unchanged Unchanged (D.device disk.old) (D.device disk.new) }
-    ensures gate { (D.device disk.old).shows ≡ true → IfOk result (GateIs (D.device disk.old).seen) }
+    ensures gate { (D.device disk.old).shows ≡ true
+        → IfOk result (GateIs (D.device disk.old).seen) }
 {
     if disk.len() <= GATE {
         return Ok(Gate::Closed);

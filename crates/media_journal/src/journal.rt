@@ -1,8 +1,9 @@
 //! The journal behind the rows of the active half, to which records are added.
 ghost use Rattle.std.specs.Prelude.{◌≡◌, ◌≤◌, ◌<◌, ◌+◌, ◌*◌, ◌∷◌, ◌++◌, ◌↔◌, ◌^◌, [], ℕ, List, true, false, length, is_ok, OnOk, OnErr, IsErrOf};
-ghost use Rattle.disk_trait.specs.Calls.{DiskCalls, Elapses, LeavesOnly, overwritten};
+ghost use Rattle.disk_trait.specs.Calls.{DiskCalls, Elapses, LeavesOnly, Torn, overwritten};
 ghost use Rattle.media_journal.specs.Journal.{Gives, after_append};
-ghost use Rattle.media_journal.specs.Moments.{AppendEnds, EachGives, GivesOneOf, KeepsOrAdds, RecordEnds, WithinRecord, with_payload};
+ghost use Rattle.media_journal.specs.Moments.{AppendEnds, EachGives, GivesOneOf, KeepsOrAdds, with_payload};
+ghost use Rattle.media_journal.specs.Steps.{RecordEnds, WithinRecord};
 ghost use Rattle.media_journal.specs.declared.header.Header.{Header};
 ghost use Rattle.media_journal.specs.declared.record.Record.{Record};
 
@@ -56,8 +57,13 @@ impl Journal {
             → Gives (D.device disk.old).seen self.old h rows records
             → Gives (D.device disk.new).seen self.new h rows
             (records ++ record { offset = self.old.gate; payload = frame.now } ∷ [])) }
+        ensures elsewhere { (D.device disk.old).shows ≡ true
+            → OnOk result (Torn self.old.gate (length frame.now + 6)
+            (D.device disk.old).seen (D.device disk.new).seen) }
         ensures handed { (D.device disk.old).tells ≡ true → OnOk result
             ((D.device disk.new).handed ≡ (D.device disk.old).handed + (length frame.now + 6)) }
+        ensures handed_at_most { (D.device disk.old).tells ≡ true
+            → (D.device disk.new).handed ≤ (D.device disk.old).handed + (length frame.now + 6) }
 
         // At each moment of the call a crash leaves an image that gives the records as they were, or
         // with the payload; after Ok nothing is pending, and each image has it. Other bytes may be
@@ -76,7 +82,8 @@ impl Journal {
         ensures durable { (D.device disk.old).honest ≡ true
             → OnOk result (LeavesOnly (D.device disk.new).seen (D.device disk.new)) }
 
-        // After `Disk` a read gives the records as they were, or with the payload.
+        // After `Disk` a read gives the records as they were, or with the payload. Where the device isn't
+        // honest nothing is said: there a sync that fails leaves open what is read.
         ensures left { (D.device disk.old).honest ≡ true → (D.device disk.old).shows ≡ true
             → (D.device disk.old).tells ≡ true → IsErrOf result AppendFault.Disk
             → (h : Header) (rows : List ℕ) (records : List Record)
@@ -108,8 +115,12 @@ fn write_record<D: Disk>(disk: &mut D, gate: u64, frame: &[u8]) -> Result<(), Fa
     ensures calls { DiskCalls (is_ok result) (D.device disk.old) (D.device disk.new) }
     ensures written { (D.device disk.old).shows ≡ true → OnOk result ((D.device disk.new).seen
         ≡ overwritten gate (1 ∷ []) (overwritten (gate + 1) frame.now (D.device disk.old).seen)) }
+    ensures torn { (D.device disk.old).shows ≡ true → OnOk result
+        (Torn gate (length frame.now + 1) (D.device disk.old).seen (D.device disk.new).seen) }
     ensures handed { (D.device disk.old).tells ≡ true → OnOk result
         ((D.device disk.new).handed ≡ (D.device disk.old).handed + (length frame.now + 1)) }
+    ensures handed_at_most { (D.device disk.old).tells ≡ true
+        → (D.device disk.new).handed ≤ (D.device disk.old).handed + (length frame.now + 1) }
     ensures durable { (D.device disk.old).honest ≡ true
         → OnOk result (LeavesOnly (D.device disk.new).seen (D.device disk.new)) }
     ensures moments { (D.device disk.old).honest ≡ true → (D.device disk.old).shows ≡ true

@@ -1,7 +1,7 @@
 //! A write that is synced before anything else is done.
 ghost use Rattle.std.specs.Prelude.{◌≡◌, ◌≤◌, ◌+◌, true, length, is_ok, OnOk};
-ghost use Rattle.disk_trait.specs.Calls.{DiskCalls, Elapses, LeavesOnly, TornWrite, overwritten};
-ghost use Rattle.media_journal.specs.Moments.{SyncedWriteEnds};
+ghost use Rattle.disk_trait.specs.Calls.{DiskCalls, Elapses, LeavesOnly, Torn, TornWrite, overwritten};
+ghost use Rattle.media_journal.specs.Steps.{SyncedWriteEnds};
 
 use disk_trait::{Disk, Failed};
 
@@ -12,8 +12,12 @@ pub(crate) fn write_synced<D: Disk>(disk: &mut D, at: u64, bytes: &[u8]) -> Resu
     ensures calls { DiskCalls (is_ok result) (D.device disk.old) (D.device disk.new) }
     ensures written { (D.device disk.old).shows ≡ true → OnOk result
         ((D.device disk.new).seen ≡ overwritten at bytes.now (D.device disk.old).seen) }
+    ensures torn { (D.device disk.old).shows ≡ true → OnOk result
+        (Torn at (length bytes.now) (D.device disk.old).seen (D.device disk.new).seen) }
     ensures handed { (D.device disk.old).tells ≡ true → OnOk result
         ((D.device disk.new).handed ≡ (D.device disk.old).handed + length bytes.now) }
+    ensures handed_at_most { (D.device disk.old).tells ≡ true
+        → (D.device disk.new).handed ≤ (D.device disk.old).handed + length bytes.now }
     ensures durable { (D.device disk.old).honest ≡ true
         → OnOk result (LeavesOnly (D.device disk.new).seen (D.device disk.new)) }
     ensures moments { (D.device disk.old).honest ≡ true → (D.device disk.old).shows ≡ true

@@ -1,4 +1,7 @@
-use Rattle.std.proofs.Common.{◌∙◌}
+use Rattle.std.proofs.Common.{◌∙◌, arith}
+use Rattle.std.proofs.lemmas.Result.{on_ok_weaker}
+use Rattle.disk_trait.proofs.Theorems.{torn_twice}
+use Rattle.media_journal.proofs.CrashLemmas.{torn_wider}
 use Rattle.media_journal.proofs.MomentLemmas.{record_written}
 use Rattle.media_journal.proofs.journal.write_record.Goals as goal
 
@@ -9,3 +12,11 @@ returns-clause-moments g c = λ honest shows.
     let same = frame.calls.same in
     let gate = c.write_synced-2.ensures.moments (same.honest ∙ honest) (same.shows ∙ shows) in
     record_written _ c.args.gate c.args.frame.now _ _ _ (frame.written shows) (frame.moments honest shows) gate
+
+-- The two ranges lie side by side.
+pub returns-clause-torn : goal.returns-clause-torn
+returns-clause-torn g c = λ shows.
+    let frame = c.in_ok-write_synced.ensures in
+    on_ok_weaker c.write_synced-2.result
+    (λ gate. torn_twice _ _ _ _ _ (torn_wider _ _ _ _ _ _ (omega arith) (omega arith) (frame.torn shows)) (torn_wider _ _ _ _ _ _ (omega arith) (omega arith) gate))
+    (c.write_synced-2.ensures.torn (frame.calls.same.shows ∙ shows))
