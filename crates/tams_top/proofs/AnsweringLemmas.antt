@@ -1,13 +1,12 @@
 -- A request that is answered: what the connection has come to, or how it ended.
-use Rattle.std.proofs.Common.{◌≡◌, ◌≤◌, ◌<◌, ◌+◌, ◌==◌, ℕ, suc, Bool, true, false, not, List, [], ◌∷◌, ◌++◌, length, drop, Option, Some, None, refl, sym, ap, ap₂, ◌∙◌, subst, inl, inr, arith, append_assoc, append-nil, length-append}
+use Rattle.std.proofs.Common.{◌≡◌, ◌<◌, ◌+◌, ◌==◌, ℕ, suc, Bool, true, false, not, List, [], ◌∷◌, ◌++◌, length, drop, Some, refl, sym, ap, ap₂, ◌∙◌, subst, inl, inr, arith, append_assoc, append-nil, length-append}
 use Rattle.std.specs.Prelude.{All, codes, if◌then◌else◌}
 use Rattle.std.proofs.Math.Seq.{drop-append_seam}
 use Rattle.std.proofs.lemmas.Bool.{eqb-true}
 use Rattle.std.proofs.lemmas.List.Elements.{All-push}
-use Rattle.disk_trait.specs.Device.{Device, IsDevice, Left, Connection, Link, as_read, may_leave}
+use Rattle.disk_trait.specs.Device.{Device, IsDevice, Left, Link, as_read, may_leave}
 use Rattle.disk_trait.specs.Calls.{Elapses, Unchanged}
 use Rattle.site_edge.specs.Links.{LinkCall, Said, Tells}
-use Rattle.site_edge.specs.Saying.{IsPrefix}
 use Rattle.tams_top.specs.declared.answer.Answer.{Answer}
 use Rattle.tams_top.specs.declared.answer.Answer.TheVariants as answers
 use Rattle.tams_top.specs.declared.connection.Ending.{Ending}
@@ -21,8 +20,8 @@ use Rattle.tams_top.specs.Store.{State, StandsFor}
 use Rattle.tams_top.specs.Opening.{state_of}
 use Rattle.tams_top.specs.History as history
 use Rattle.tams_top.specs.History.{Last, Session, Taken, after, answer_text, answer_to, answers_of, changed, changes_in, changes_of, change_of, count_of, end_of, is_changing, most_requests, moments_of, requests_of, script_of, session_of, state_after, texts_of}
-use Rattle.tams_top.specs.Moments.{AllRight, Beginning, EachKeeps, Handles, IsEarlier, begun_in, told_before}
-use Rattle.tams_top.specs.Serving.{AreCounts, Counts, CountsAt, Ended, EndsAs, Handled, HandledAs, IsHandled, Reached, StandsAt, TurnAnswer, connection_of, ending_after, machine_ending}
+use Rattle.tams_top.specs.Moments.{AllRight, Beginning, EachKeeps, Handles, told_before}
+use Rattle.tams_top.specs.Serving.{AreCounts, Counts, CountsAt, Ended, EndsAs, HandledAs, Reached, StandsAt, TurnAnswer, connection_of, ending_after, machine_ending}
 use Rattle.tams_top.proofs.HistoryLemmas.{after-push, answers-push, begun-push, begun_bound, changes-push, earlier_itself, flat_map-push, map-push, prefix_itself, prefix_longer, script-session}
 use Rattle.tams_top.proofs.RequestLemmas.{length-request_text}
 use Rattle.tams_top.proofs.RightLemmas.{all_last, all_over, all_push_right, all_quiet, handles_right, stands_now, told_now}

@@ -1,6 +1,6 @@
 -- What the status of a run says of its end. A status of another end is another number.
-use Rattle.std.proofs.Common.{◌≡◌, ◌≤◌, ◌*◌, ◌⊎◌, ℕ, Bool, true, false, List, length, refl, sym, ap, ◌∙◌, subst, inl, inr, arith}
-use Rattle.disk_trait.specs.Device.{Device, IsDevice}
+use Rattle.std.proofs.Common.{◌≡◌, ◌⊎◌, ℕ, Bool, true, List, length, refl, ap, ◌∙◌, subst, inl, inr, arith}
+use Rattle.disk_trait.specs.Device.{Device, IsDevice, Left}
 use Rattle.media_journal.specs.declared.header.Header.{Header}
 use Rattle.media_journal.specs.File.{HasOpenHeader}
 use Rattle.media_journal.specs.Formatting.{FitsStore}
@@ -13,6 +13,7 @@ use Rattle.tams_top.specs.Store.{State, StandsFor, empty_rows}
 use Rattle.tams_top.specs.Opening.{StandsForNone}
 use Rattle.tams_top.specs.Moments.{IsSettled, TellsAll}
 use Rattle.tams_top.specs.Running.{CommandEnds, FormatEnds, RefusedFor, ReplayCause, Replayed, ReplayEnds, RunEnds, Untouched, beginning, formatted_state, status_of}
+use Rattle.tams_top.proofs.FormattingLemmas.{untouched_bare}
 use Rattle.tams_top.proofs.RunningLemmas.{no_store, unopened}
 use Rattle.tams_top.proofs.WordTheorems.{one_command}
 
@@ -71,7 +72,7 @@ other_status o p same n is = ap status_of same ∙ is
 module _ (words : List (List ℕ)) (old new : Device) (clock : Bool) (begun given : List ℕ) (o : Outcome) (run : RunEnds words old new clock begun given o) where
   -- a command that was refused
   command_refused : (command : Command) → CommandEnds old new clock begun given o command → status_of o ≡ 2 → Untouched old new × (old.shows ≡ true → RefusedFor old.seen command)
-  command_refused (Format path blocks half id) ends s = format_refused old new _ o ends s
+  command_refused (Format path blocks half id) ends s = format_refused old new _ o ends.0 s
   command_refused (Replay path base) ends s = replay_refused old new o ends.cause s
 
   pub run_refused : status_of o ≡ 2 → Untouched old new × ((command : Command) × IsCommand words command × (old.shows ≡ true → RefusedFor old.seen command))
@@ -85,7 +86,7 @@ module _ (words : List (List ℕ)) (old new : Device) (clock : Bool) (begun give
 
   -- a command that the file refuses
   command_only : (command : Command) → CommandEnds old new clock begun given o command → old.shows ≡ true → RefusedFor old.seen command → (status_of o ≡ 2) ⊎ ((status_of o ≡ 3) ⊎ (status_of o ≡ 4))
-  command_only (Format path blocks half id) ends shows cause = format_only old new _ o ends shows cause
+  command_only (Format path blocks half id) ends shows cause = format_only old new _ o ends.0 shows cause
   command_only (Replay path base) ends shows cause = replay_only old new o ends.cause shows cause
 
   pub run_only : (command : Command) → IsCommand words command → old.shows ≡ true → RefusedFor old.seen command → (status_of o ≡ 2) ⊎ ((status_of o ≡ 3) ⊎ (status_of o ≡ 4))
@@ -103,7 +104,21 @@ module _ (words : List (List ℕ)) (old new : Device) (clock : Bool) (begun give
     | inl starved ↦ absurd (omega (arith, s, ap status_of starved.0))
     | inr other ↦ elim other [
       | inl bad ↦ absurd (omega (arith, s, ap status_of bad.0))
-      | inr did ↦ format_done old new (record { blocks = blocks; half = half; id = id }) o (subst (CommandEnds old new clock begun given o) (one_command words did.0 (Format path blocks half id) did.1 is) did.2) s shows
+      | inr did ↦
+          let ends = subst (CommandEnds old new clock begun given o) (one_command words did.0 (Format path blocks half id) did.1 is) did.2 in
+          format_done old new (record { blocks = blocks; half = half; id = id }) o ends.0 s shows
+    ]
+  ]
+
+  -- what a crash leaves of a run of `format`
+  pub run_formatting : (path : List ℕ) (blocks half id : ℕ) → IsCommand words (Format path blocks half id) → old.honest ≡ true → old.shows ≡ true → IsSettled old → ¬ (HasOpenHeader old.seen) → (p : Left) → new.left_since old.moment p → (¬ (HasOpenHeader p.image)) ⊎ StandsFor p.image (formatted_state (record { blocks = blocks; half = half; id = id }))
+  run_formatting path blocks half id is honest shows settled bare p left = elim run.cause [
+    | inl starved ↦ inl (untouched_bare old new starved.2.time settled bare p left)
+    | inr other ↦ elim other [
+      | inl bad ↦ absurd (bad.1 (Format path blocks half id) is)
+      | inr did ↦
+          let ends = subst (CommandEnds old new clock begun given o) (one_command words did.0 (Format path blocks half id) did.1 is) did.2 in
+          ends.1.each honest shows settled bare p left
     ]
   ]
 

@@ -2,7 +2,7 @@
 use Rattle.std.proofs.Common.{◌≡◌, ◌≤◌, ◌<◌, ◌+◌, ◌*◌, ℕ, Bool, true, List, [], length, Option, Some, None, refl, sym, ◌∙◌, arith}
 use Rattle.std.proofs.lemmas.Bool.{false≢true}
 use Rattle.disk_trait.specs.Device.{Device}
-use Rattle.disk_trait.specs.Calls.{IsCounted, Rose, SameDevice}
+use Rattle.disk_trait.specs.Calls.{SameDevice}
 use Rattle.disk_trait.proofs.Theorems.{counted_twice, same_device_twice}
 use Rattle.tams_top.specs.declared.connection.Ending.{Ending}
 use Rattle.tams_top.specs.declared.connection.Ending.TheVariants.{Complete, Cut, Closed, Starved, Stopped, Unlinked}

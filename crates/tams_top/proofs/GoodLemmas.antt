@@ -1,11 +1,10 @@
 -- Each library of a history is good.
-use Rattle.std.proofs.Common.{◌≡◌, ◌≤◌, ◌<◌, ◌+◌, ◌==◌, ◌^◌, ℕ, suc, Bool, true, false, List, [], ◌∷◌, ◌++◌, length, filter, find, Option, Some, None, refl, sym, ap, ◌∙◌, subst, inl, inr, arith, nat_lt, cond}
+use Rattle.std.proofs.Common.{◌≡◌, ◌≤◌, ◌<◌, ◌+◌, ◌==◌, ℕ, Bool, true, false, List, [], ◌∷◌, ◌++◌, filter, Option, Some, None, refl, sym, ap, subst, inl, inr, arith, nat_lt, cond}
 use Rattle.std.specs.Prelude.{All, if◌then◌else◌, unwrap_or}
-use Rattle.std.proofs.lemmas.Bool.{cases_lt, eqb-true, false≢true, le-ltb, lt-ltb}
+use Rattle.std.proofs.lemmas.Bool.{cases_lt, eqb-true, le-ltb, lt-ltb}
 use Rattle.std.proofs.lemmas.List.Elements.{All-cons, All-tail}
-use Rattle.disk_trait.specs.Device.{Device, IsDevice, as_read}
+use Rattle.disk_trait.specs.Device.{Device, IsDevice}
 use Rattle.media_journal.specs.declared.record.Record.{Record}
-use Rattle.media_journal.specs.declared.header.Header.{Header}
 use Rattle.tams_top.specs.declared.change.Change.{Change}
 use Rattle.tams_top.specs.declared.library.Flow.{Flow}
 use Rattle.tams_top.specs.declared.library.Library.{Library}
@@ -13,10 +12,9 @@ use Rattle.tams_top.specs.declared.store.Store.{Store}
 use Rattle.tams_top.specs.Change.{IsChange}
 use Rattle.tams_top.specs.Library.{AreFlowsFrom, IsGood, IsGoodFlow, applied, empty_library, flow_of, placed, put_flow, with_flow}
 use Rattle.tams_top.specs.Store.{Folds, State}
-use Rattle.tams_top.specs.Opening.{state_of}
 use Rattle.tams_top.specs.History.{Last, Session, Taken, after, after_last, answer_to, change_of, changed, end_of, is_changing, requests_of, session_of, state_after, taken_last}
 use Rattle.tams_top.specs.History as history
-use Rattle.tams_top.specs.Moments.{EachKeeps, IsEarlier}
+use Rattle.tams_top.specs.Moments.{EachKeeps}
 use Rattle.tams_top.specs.Running.{AllGood}
 
 -- a flow below another, and one that isn't

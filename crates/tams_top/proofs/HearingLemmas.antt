@@ -1,5 +1,5 @@
 -- Bytes that are heard behind others, and how much of them may be left before more is heard.
-use Rattle.std.proofs.Common.{◌≡◌, ◌∙◌, ◌<◌, ◌≤◌, ◌+◌, ℕ, zero, suc, List, ◌++◌, length, take, drop, Result, Ok, Err, refl, sym, ap, arith, length-append, take-append-drop}
+use Rattle.std.proofs.Common.{◌≡◌, ◌∙◌, ◌<◌, ◌≤◌, ◌+◌, ℕ, zero, suc, List, ◌++◌, length, take, drop, Result, Ok, Err, sym, ap, arith, length-append, take-append-drop}
 use Rattle.std.specs.Prelude.{IfOk}
 use Rattle.std.proofs.Math.Seq.{take-append_seam, take-append-add}
 use Rattle.std.proofs.lemmas.List.{length-take-le}
@@ -8,8 +8,7 @@ use Rattle.disk_trait.specs.Device.{Device}
 use Rattle.site_edge.specs.Links.{after_hear, change_last}
 use Rattle.tams_top.specs.declared.request.HeadFront.{HeadFront}
 use Rattle.tams_top.specs.declared.request.HeadFront.TheVariants as heads
-use Rattle.tams_top.specs.declared.request.Front.{Front}
-use Rattle.tams_top.specs.declared.request.Front.TheVariants.{More, Unbuilt, Whole}
+use Rattle.tams_top.specs.declared.request.Front.TheVariants.{More, Unbuilt}
 use Rattle.tams_top.specs.Request.{BehindHead, IsFront, IsHeadFront}
 use Rattle.tams_top.specs.Serving.{HeardMore}
 use Rattle.tams_top.proofs.RequestLemmas.{length-head_text}

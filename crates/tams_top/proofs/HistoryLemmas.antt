@@ -1,17 +1,17 @@
 -- Laws of the machine and of the histories of a connection.
-use Rattle.std.proofs.Common.{◌≡◌, ◌≤◌, ◌+◌, ◌==◌, ℕ, suc, Bool, true, false, List, [], ◌∷◌, ◌++◌, length, drop, map, Option, Some, None, refl, sym, ap, ◌∙◌, subst, inl, inr, arith, append_assoc, append-nil, length-append, length-drop}
+use Rattle.std.proofs.Common.{◌≡◌, ◌≤◌, ◌+◌, ◌==◌, ℕ, suc, Bool, true, false, List, [], ◌∷◌, ◌++◌, length, drop, map, Option, Some, None, refl, sym, ap, ◌∙◌, inl, inr, arith, append_assoc, append-nil, length-append, length-drop}
 use Rattle.std.proofs.lemmas.Bool.{false≢true}
 use Rattle.std.proofs.lemmas.List.{flat_map_more}
 use Rattle.std.specs.Prelude.{if◌then◌else◌}
 use Rattle.std.specs.List.{flat_map}
 use Rattle.site_edge.specs.Saying.{IsPrefix}
-use Rattle.tams_top.specs.declared.answer.Answer.TheVariants.{Created, Replaced, FlowChanged, JournalFull}
+use Rattle.tams_top.specs.declared.answer.Answer.TheVariants.{Replaced, FlowChanged, JournalFull}
 use Rattle.tams_top.specs.declared.change.Change.{Change}
 use Rattle.tams_top.specs.declared.library.Flow.{Flow}
 use Rattle.tams_top.specs.declared.library.Library.{Library}
-use Rattle.tams_top.specs.Library.{applied, flow_of, placed, put_flow, with_flow}
+use Rattle.tams_top.specs.Library.{applied, flow_of, put_flow, with_flow}
 use Rattle.tams_top.specs.Store.{State}
-use Rattle.tams_top.specs.History.{Taken, Last, Session, after, answer_by, answer_text, answer_to, answers_of, answered_last, change_of, changes_in, changes_of, count_of, fits, is_changing, script_of, session_of, state_after}
+use Rattle.tams_top.specs.History.{Taken, Last, Session, after, answer_by, answer_text, answer_to, answers_of, change_of, changes_of, count_of, fits, is_changing, script_of, session_of, state_after}
 use Rattle.tams_top.specs.Moments.{IsEarlier, begun_in}
 
 -- an answer that comes with a change says that its record fits

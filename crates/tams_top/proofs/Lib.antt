@@ -2,6 +2,7 @@ mod AnsweringLemmas
 pub mod ChangeLemmas
 mod EndingLemmas
 mod FoldLemmas
+mod FormattingLemmas
 mod GoingLemmas
 mod GoodLemmas
 mod HearingLemmas

@@ -1,10 +1,8 @@
 -- A line that is put into the notes part by part.
-use Rattle.std.proofs.Common.{◌≡◌, ◌++◌, ◌∙◌, ℕ, Bool, true, false, List, refl, sym, ap, arith, append_assoc}
+use Rattle.std.proofs.Common.{◌≡◌, ◌++◌, ◌∙◌, ℕ, Bool, true, false, List, refl, sym, ap, append_assoc}
 use Rattle.std.proofs.lemmas.Bool.{false≢true}
-use Rattle.disk_trait.specs.Calls.{IsCounted}
 use Rattle.disk_trait.proofs.Theorems.{counted_twice}
 use Rattle.site_edge.specs.Links.{Sends}
-use Rattle.site_edge.specs.Sinks.{Puts}
 use Rattle.tams_top.specs.Running.{TakesPart}
 
 sends_more : (ok : Bool) (first second sent : List ℕ) → Sends ok second sent → Sends ok (first ++ second) (first ++ sent)

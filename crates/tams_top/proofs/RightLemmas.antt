@@ -1,8 +1,8 @@
 -- What a crash left stays right while the history grows, and each call leaves what is right.
-use Rattle.std.proofs.Common.{◌≡◌, ◌≤◌, ◌+◌, ℕ, Bool, true, false, List, [], ◌∷◌, ◌++◌, length, map, Some, None, refl, sym, ap, ◌∙◌, subst, inl, inr, arith, append_assoc}
-use Rattle.disk_trait.specs.Device.{Device, IsDevice, Left, Connection, as_read, may_leave, told_by}
+use Rattle.std.proofs.Common.{◌≡◌, ◌≤◌, ◌+◌, ℕ, true, List, [], ◌∷◌, ◌++◌, length, map, Some, refl, sym, ap, ◌∙◌, subst, inl, inr, arith}
+use Rattle.disk_trait.specs.Device.{Device, IsDevice, Left, Connection, may_leave}
 use Rattle.disk_trait.specs.Calls.{Elapses, Unchanged}
-use Rattle.site_edge.specs.Links.{Sends, Tells, change_last}
+use Rattle.site_edge.specs.Links.{change_last}
 use Rattle.site_edge.specs.Saying.{IsPrefix}
 use Rattle.media_journal.specs.Journal.{Position, Gives}
 use Rattle.media_journal.specs.declared.header.Header.{Header}
@@ -13,9 +13,9 @@ use Rattle.tams_top.specs.declared.store.Store.{Store}
 use Rattle.tams_top.specs.Library.{empty_library}
 use Rattle.tams_top.specs.Store.{Folds, State, StandsFor, empty_rows}
 use Rattle.tams_top.specs.Opening.{state_of}
-use Rattle.tams_top.specs.History.{Taken, Last, Session, after, answered_last, answer_text, answer_to, answers_of, change_of, changed, changes_in, changes_of, end_of, is_changing, script_of, session_of}
+use Rattle.tams_top.specs.History.{Taken, Last, Session, after, answered_last, answer_text, answer_to, answers_of, changed, changes_in, changes_of, end_of, is_changing, script_of, session_of}
 use Rattle.tams_top.specs.Moments.{AllRight, Beginning, EachKeeps, Handles, IsEarlier, IsLeft, IsRight, begun_in, told_before}
-use Rattle.tams_top.proofs.HistoryLemmas.{answers-push, begun-push, begun_bound, earlier_itself, earlier_last, earlier_push, map-push, prefix_itself, prefix_length, prefix_longer, script-session}
+use Rattle.tams_top.proofs.HistoryLemmas.{answers-push, begun-push, earlier_last, earlier_push, map-push, prefix_length, prefix_longer, script-session}
 
 -- the last connection is the one that changes
 pub change_last-push : {A : Type 0} (f : A → A) (xs : List A) (x : A) → change_last f (xs ++ x ∷ []) ≡ xs ++ f x ∷ []

@@ -1,28 +1,27 @@
 -- The ends of a run.
-use Rattle.std.proofs.Common.{◌≡◌, ◌≤◌, ◌<◌, ◌+◌, ◌||◌, ◌⊎◌, ℕ, Bool, true, false, not, List, [], ◌∷◌, ◌++◌, length, map, Result, Ok, Err, refl, ap, ◌∙◌, subst, sym, inl, inr, arith, append-nil}
-use Rattle.std.proofs.lemmas.Bool.{false≢true}
-use Rattle.disk_trait.specs.Device.{Device, IsDevice, Left, Connection, Link, as_read, may_leave, told_by}
+use Rattle.std.proofs.Common.{◌≡◌, ◌||◌, ℕ, Bool, true, false, List, [], ◌∷◌, ◌++◌, map, refl, ap, ◌∙◌, subst, sym, inl, inr, arith}
+use Rattle.disk_trait.specs.Device.{Device, IsDevice, Left, Connection, Link, may_leave}
 use Rattle.media_journal.specs.Opening.{IsStore}
 use Rattle.media_journal.proofs.OpeningLemmas.{is_store}
-use Rattle.disk_trait.specs.Calls.{DiskReads, Elapses, IsCounted, Rose, Unchanged}
-use Rattle.site_edge.specs.Links.{AddsConnection, Begins, LinkCall, NextPeer, fresh}
+use Rattle.disk_trait.specs.Calls.{DiskReads, Elapses, Unchanged}
+use Rattle.site_edge.specs.Links.{AddsConnection}
 use Rattle.tams_top.specs.declared.outcome.Outcome.{Outcome}
 use Rattle.tams_top.specs.declared.outcome.Outcome.TheVariants.{Formatted, Served, Cut, BadWords, NotStore, AlreadyStore, TooSmall, Damaged, DiskFault, NoMemory, LinkFault}
 use Rattle.tams_top.specs.declared.connection.Ending.{Ending}
 use Rattle.tams_top.specs.declared.connection.Ending.TheVariants as endings
 use Rattle.tams_top.specs.declared.store.Store.{Store}
-use Rattle.tams_top.specs.Store.{State, StandsFor, empty_rows}
+use Rattle.tams_top.specs.Store.{State, StandsFor}
 use Rattle.tams_top.specs.Opening.{Keeps, StandsForNone, state_of}
-use Rattle.tams_top.specs.History.{Session, Taken, session_of}
-use Rattle.tams_top.specs.Moments.{AllRight, Beginning, EachKeeps, IsRight, IsSettled, TellsAll, told_before}
-use Rattle.tams_top.specs.Serving.{AreCounts, Counts, CountsAt, Ended, Reached, StandsAt}
+use Rattle.tams_top.specs.History.{Session, session_of}
+use Rattle.tams_top.specs.Moments.{AllRight, Beginning, EachKeeps, IsRight, IsSettled, TellsAll}
+use Rattle.tams_top.specs.Serving.{Counts, CountsAt, Ended}
 use Rattle.tams_top.specs.Running.{ConnectEnds, EndsWithoutPeer, IsOfOpened, NoPeer, OnePeer, OutcomeBy, OutcomeIs, Replayed, ReplayCause, StandsForOne, beginning}
 use Rattle.tams_top.specs.Library.{IsGood}
 use Rattle.tams_top.proofs.GoingLemmas.{tells_later}
 use Rattle.tams_top.proofs.GoodLemmas.{all_good}
 use Rattle.tams_top.proofs.OpenLemmas.{one_state}
-use Rattle.tams_top.proofs.RightLemmas.{all_over, all_quiet, keeps_quiet, stands_at, told_now}
-use Rattle.tams_top.proofs.ServingLemmas.{reached_first, stands_read}
+use Rattle.tams_top.proofs.RightLemmas.{all_over, all_quiet, keeps_quiet, stands_at}
+use Rattle.tams_top.proofs.ServingLemmas.{stands_read}
 
 -- the image of a store stands for the store's state
 pub stands_of : (image : List ℕ) (s : Store) → Keeps image s → StandsFor image (state_of s)

@@ -1,25 +1,22 @@
 -- How the run of a connection begins, goes on by hearing, and ends.
-use Rattle.std.proofs.Common.{◌≡◌, ◌≢◌, ◌≤◌, ◌<◌, ◌+◌, ◌⊎◌, ℕ, zero, suc, Bool, true, false, not, List, [], ◌∷◌, ◌++◌, length, Option, Some, None, Result, Ok, Err, refl, sym, ap, ap₂, ◌∙◌, subst, inl, inr, arith, append_assoc, append-nil, drop}
+use Rattle.std.proofs.Common.{◌≡◌, ◌≢◌, ◌≤◌, ◌<◌, ℕ, zero, suc, Bool, true, false, not, List, [], ◌∷◌, ◌++◌, length, refl, sym, ap, ◌∙◌, subst, inl, inr, arith, append_assoc, append-nil}
 use Rattle.std.specs.Prelude.{All}
-use Rattle.std.proofs.Math.Seq.{drop-append_seam}
-use Rattle.std.proofs.lemmas.Bool.{false≢true}
 use Rattle.disk_trait.specs.Device.{Device, IsDevice, Left, Connection, as_read, may_leave}
 use Rattle.disk_trait.specs.Calls.{Elapses, Unchanged}
-use Rattle.site_edge.specs.Links.{LinkCall, Said, Sends, Tells, after_say, change_last, fresh}
+use Rattle.site_edge.specs.Links.{LinkCall, Said, Tells, after_say, change_last, fresh}
 use Rattle.site_edge.specs.Saying.{IsPrefix}
 use Rattle.tams_top.specs.declared.connection.Ending.{Ending}
-use Rattle.tams_top.specs.declared.connection.Ending.TheVariants.{Complete, Cut, Closed, Starved, Stopped, Unlinked}
+use Rattle.tams_top.specs.declared.connection.Ending.TheVariants.{Complete, Cut, Unlinked}
 use Rattle.tams_top.specs.declared.store.Store.{Store}
 use Rattle.tams_top.specs.declared.request.Front.TheVariants.{More}
 use Rattle.tams_top.specs.Change.{IsChange}
-use Rattle.tams_top.specs.Request.{BeginsWith, IsFront, request_text}
+use Rattle.tams_top.specs.Request.{IsFront}
 use Rattle.tams_top.specs.Store.{State, StandsFor}
 use Rattle.tams_top.specs.Opening.{state_of}
-use Rattle.tams_top.specs.History.{Session, Taken, after, answers_in, answers_of, changes_in, changes_of, change_of, end_of, most_requests, moments_of, requests_of, script_of, session_of, texts_of}
-use Rattle.tams_top.specs.Moments.{AllRight, Beginning, EachKeeps, IsEarlier, IsRight, TellsAll, begun_in, told_before}
-use Rattle.tams_top.specs.Serving.{AreCounts, Counts, CountsAt, Ended, EndsAs, HeardMore, IsServed, Reached, StandsAt, TurnAnswer, connection_of}
+use Rattle.tams_top.specs.History.{Session, Taken, answers_of, changes_in, changes_of, change_of, end_of, most_requests, moments_of, requests_of, script_of, session_of, texts_of}
+use Rattle.tams_top.specs.Moments.{AllRight, Beginning, EachKeeps, IsEarlier, IsRight, told_before}
+use Rattle.tams_top.specs.Serving.{AreCounts, Counts, CountsAt, Ended, EndsAs, HeardMore, Reached, StandsAt, connection_of}
 use Rattle.tams_top.proofs.HistoryLemmas.{begun_bound, prefix_itself, script-session}
-use Rattle.tams_top.proofs.RequestLemmas.{length-request_text}
 use Rattle.tams_top.proofs.RightLemmas.{all_over, all_quiet, change_last-push, keeps_quiet, stands_now}
 
 -- a connection before its first request

@@ -1,8 +1,7 @@
 -- What an append makes of a store, and what a crash within it may leave.
-use Rattle.std.proofs.Common.{◌≡◌, ◌∙◌, ◌<◌, ◌≤◌, ◌-◌, ◌+◌, ℕ, Bool, true, false, List, [], ◌∷◌, ◌++◌, length, Some, refl, sym, ap, subst, inl, inr, arith}
-use Rattle.std.specs.Prelude.{unwrap_or}
-use Rattle.disk_trait.specs.Device.{Device, Left, may_leave}
-use Rattle.disk_trait.specs.Calls.{Elapses, Follows}
+use Rattle.std.proofs.Common.{◌≡◌, ℕ, Bool, true, false, List, length, Some, refl, inl, inr, arith}
+use Rattle.disk_trait.specs.Device.{Device, Left}
+use Rattle.disk_trait.specs.Calls.{Elapses}
 use Rattle.media_journal.specs.declared.header.Header.{Header}
 use Rattle.media_journal.specs.declared.record.Record.{Record}
 use Rattle.media_journal.specs.Journal.{Position, Gives, after_append}
@@ -13,7 +12,7 @@ use Rattle.tams_top.specs.declared.library.Library.{Library}
 use Rattle.tams_top.specs.declared.store.Store.{Store}
 use Rattle.tams_top.specs.Change.{IsChange, change_text}
 use Rattle.tams_top.specs.Library.{applied, empty_library}
-use Rattle.tams_top.specs.Store.{Folds, State, StandsFor, empty_rows}
+use Rattle.tams_top.specs.Store.{Folds, StandsFor, empty_rows}
 use Rattle.tams_top.specs.History.{answer_to, changed, is_changing}
 use Rattle.tams_top.specs.Opening.{state_of}
 use Rattle.tams_top.specs.Moments.{EachKeeps, Handles}

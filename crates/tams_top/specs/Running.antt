@@ -1,7 +1,7 @@
 -- What a run of the top call ends with, and the cause of each end.
 use Rattle.std.specs.Prelude.{◌≡◌, ◌-◌, ◌+◌, ◌*◌, ◌≤◌, ◌⊎◌, ℕ, Bool, true, false, List, [], ◌∷◌, ◌++◌, length, codes}
 use Rattle.std.specs.Fmt.{decimal}
-use Rattle.disk_trait.specs.Device.{Device, Connection}
+use Rattle.disk_trait.specs.Device.{Device, Connection, Left}
 use Rattle.disk_trait.specs.Calls.{Elapses, IsCounted, Rose, Unchanged}
 use Rattle.site_edge.specs.Sinks.{Puts}
 use Rattle.media_journal.specs.declared.header.Header.{Header}
@@ -205,9 +205,17 @@ FormatEnds old new h NotStore = ⊥
 FormatEnds old new h (Damaged at) = ⊥
 FormatEnds old new h LinkFault = ⊥
 
+-- What a crash at each moment of a run of `format` leaves of an honest device that had no store, with
+-- nothing pending: no store, or the new one. Once it was made nothing is pending.
+pub record FormatMoments (old new : Device) (h : Header) (o : Outcome) : Type 0 where
+  pub each : old.honest ≡ true → old.shows ≡ true → IsSettled old → ¬ (HasOpenHeader old.seen) → (p : Left) → new.left_since old.moment p → (¬ (HasOpenHeader p.image)) ⊎ StandsFor p.image (formatted_state h)
+  pub settled : old.honest ≡ true → status_of o ≡ 0 → IsSettled new
+
 -- the ends of a command
 abbrev pub CommandEnds : Device → Device → Bool → List ℕ → List ℕ → Outcome → Command → Type 0
-CommandEnds old new clock begun given o (Format path blocks half id) = FormatEnds old new record { blocks = blocks; half = half; id = id } o
+CommandEnds old new clock begun given o (Format path blocks half id) =
+    FormatEnds old new record { blocks = blocks; half = half; id = id } o
+    × FormatMoments old new record { blocks = blocks; half = half; id = id } o
 CommandEnds old new clock begun given o (Replay path base) = ReplayEnds old new clock begun given o
 
 -- no call of the disk failed

@@ -1,8 +1,10 @@
 //! The top call.
 ghost use Rattle.std.specs.Prelude.{◌≡◌, ◌≤◌, ◌<◌, ◌*◌, ◌⊎◌, [], ℕ, List, Bool, true};
 ghost use Rattle.disk_trait.specs.Calls.{Rose};
+ghost use Rattle.disk_trait.specs.Device.{Left};
+ghost use Rattle.media_journal.specs.File.{HasOpenHeader};
 ghost use Rattle.tams_top.specs.Moments.{IsSettled, TellsAll};
-ghost use Rattle.tams_top.specs.Running.{ConnectEnds, FaultCounts, FormatEnds, IsNoCommand, OutcomeBy, beginning, RefusedFor, ReplayEnds, Replayed, RunEnds, TakesPart, Untouched, formatted_state, line_of, status_of};
+ghost use Rattle.tams_top.specs.Running.{ConnectEnds, FaultCounts, FormatEnds, FormatMoments, IsNoCommand, OutcomeBy, beginning, RefusedFor, ReplayEnds, Replayed, RunEnds, TakesPart, Untouched, formatted_state, line_of, status_of};
 ghost use Rattle.tams_top.specs.Store.{State, StandsFor};
 ghost use Rattle.tams_top.specs.Words.{IsCommand};
 ghost use Rattle.tams_top.specs.declared.outcome.Outcome.{Outcome};
@@ -54,6 +56,15 @@ pub fn run<X: Site, C: Clock, N: Sink>(
     ensures formatted { result ≡ 0 → (X.device site.old).shows ≡ true
         → (path : List ℕ) (blocks half id : ℕ) → IsCommand words.now (Format path blocks half id)
         → StandsFor (X.device site.new).seen
+        (formatted_state record { blocks = blocks; half = half; id = id }) }
+
+    // At each moment of `format` over a device without a store a crash leaves none, or the new one.
+    ensures formatting { (path : List ℕ) (blocks half id : ℕ)
+        → IsCommand words.now (Format path blocks half id)
+        → (X.device site.old).honest ≡ true → (X.device site.old).shows ≡ true
+        → IsSettled (X.device site.old) → ¬ (HasOpenHeader (X.device site.old).seen)
+        → (p : Left) → (X.device site.new).left_since (X.device site.old).moment p
+        → (¬ (HasOpenHeader p.image)) ⊎ StandsFor p.image
         (formatted_state record { blocks = blocks; half = half; id = id }) }
 
     // Over a file that stands for a state, one history from it gives all that a run of `replay` heard,
@@ -113,6 +124,8 @@ fn format<X: Site>(alloc: Global, site: &mut X, blocks: u64, half: u64, id: u128
     requires blocks { blocks ≤ 1073741824 }
     ensures counts { FaultCounts (X.device site.old) (X.device site.new) result }
     ensures ends { FormatEnds (X.device site.old) (X.device site.new)
+        record { blocks = blocks; half = half; id = id } result }
+    ensures moments { FormatMoments (X.device site.old) (X.device site.new)
         record { blocks = blocks; half = half; id = id } result }
 {
     match format_device(alloc, site, blocks, half, id, &empty_rows()) {

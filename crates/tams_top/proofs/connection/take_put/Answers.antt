@@ -1,5 +1,4 @@
-use Rattle.std.proofs.Common.{◌≡◌, ap, ◌∙◌, arith, is_ok, length, length-drop}
-use Rattle.disk_trait.specs.Device.{Link}
+use Rattle.std.proofs.Common.{ap, ◌∙◌, arith, is_ok, length, length-drop}
 use Rattle.tams_top.specs.History.{Taken}
 use Rattle.tams_top.proofs.AnsweringLemmas.{put_goes}
 use Rattle.tams_top.proofs.RequestLemmas.{begins_with}

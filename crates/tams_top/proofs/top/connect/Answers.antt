@@ -1,5 +1,5 @@
-use Rattle.std.proofs.Common.{◌≡◌, true, false, Ok, inl, inr, sym, refl, ap, ◌∙◌, ◌++◌, ◌∷◌, []}
-use Rattle.site_edge.specs.Links.{Begins, LinkCall, NextPeer, fresh}
+use Rattle.std.proofs.Common.{inl, inr, sym, refl, ap, ◌∙◌, ◌++◌, ◌∷◌, []}
+use Rattle.site_edge.specs.Links.{fresh}
 use Rattle.tams_top.proofs.GoingLemmas.{tells_later}
 use Rattle.tams_top.proofs.GoodLemmas.{keeps_good}
 use Rattle.tams_top.proofs.RunningLemmas.{no_peer, of_opened, one_peer, or_true, peer_keeps, peer_right}

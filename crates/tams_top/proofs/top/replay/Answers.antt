@@ -1,4 +1,4 @@
-use Rattle.std.proofs.Common.{◌≡◌, true, refl, ◌∙◌}
+use Rattle.std.proofs.Common.{◌≡◌, true}
 use Rattle.media_journal.specs.Opening.{IsStore}
 use Rattle.tams_top.specs.Opening.{StandsForNone, state_of}
 use Rattle.tams_top.proofs.RunningLemmas.{cause_opened, no_store, refused_none, replayed, stands_of, unopened}

@@ -1,5 +1,5 @@
 use Rattle.std.proofs.Common.{sym, ◌∙◌}
-use Rattle.tams_top.proofs.EndingLemmas.{run_formatted, run_only, run_refused, run_replayed}
+use Rattle.tams_top.proofs.EndingLemmas.{run_formatted, run_formatting, run_only, run_refused, run_replayed}
 use Rattle.tams_top.proofs.top.run.Goals as goal
 
 pub returns-clause-refused : goal.returns-clause-refused
@@ -11,6 +11,10 @@ returns-clause-refused_only g c = λ command is shows cause.
 
 pub returns-clause-formatted : goal.returns-clause-formatted
 returns-clause-formatted g c = λ s. run_formatted _ _ _ _ _ _ _ c.outcome_of-outcome.ensures (sym c.status.ensures ∙ s)
+
+pub returns-clause-formatting : goal.returns-clause-formatting
+returns-clause-formatting g c = λ path blocks half id is honest shows settled bare p left.
+    run_formatting _ _ _ _ _ _ _ c.outcome_of-outcome.ensures path blocks half id is honest shows settled bare p left
 
 pub returns-clause-replayed : goal.returns-clause-replayed
 returns-clause-replayed g c = λ all settled path base is from stands.

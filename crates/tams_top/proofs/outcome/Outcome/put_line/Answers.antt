@@ -1,4 +1,3 @@
-use Rattle.std.proofs.Common.{◌∙◌}
 use Rattle.std.proofs.lemmas.Result.{err_from_is_err_and}
 use Rattle.tams_top.proofs.NoteLemmas.{takes_front, takes_twice}
 use Rattle.tams_top.proofs.outcome.Outcome.put_line.Goals as goal

@@ -1,0 +1,40 @@
+-- What a crash leaves of a run of `format`.
+use Rattle.std.proofs.Common.{◌≡◌, ◌+◌, ◌⊎◌, ℕ, List, [], length, refl, sym, ap, ◌∙◌, subst, inl, inr, arith}
+use Rattle.disk_trait.specs.Device.{Device, Left}
+use Rattle.disk_trait.specs.Calls.{Elapses, Unchanged}
+use Rattle.disk_trait.specs.Numbers.{u32_bytes, u64_bytes}
+use Rattle.media_journal.specs.declared.header.Header.{Header}
+use Rattle.media_journal.specs.File.{HasOpenHeader}
+use Rattle.media_journal.specs.Moments.{IsNewStore, NoneOrNew}
+use Rattle.tams_top.specs.Store.{StandsFor, empty_rows}
+use Rattle.tams_top.specs.Moments.{IsSettled}
+use Rattle.tams_top.specs.Running.{formatted_state}
+
+length-empty_rows : length empty_rows ≡ 13
+unfolding empty_rows u32_bytes u64_bytes
+length-empty_rows = refl
+
+-- the new store stands for the empty library
+new_stands : (image : List ℕ) (h : Header) → IsNewStore image h empty_rows → StandsFor image (formatted_state h)
+new_stands image h new = record {
+  header = h;
+  gate = 8192 + (8 + length empty_rows);
+  records = [];
+  reads = new.reads;
+  folds = refl;
+  room = omega (arith, new.reads.half.chain, length-empty_rows);
+}
+
+-- what was left since the beginning where nothing was called
+pub untouched_bare : (old new : Device) → Elapses Unchanged Unchanged old new → IsSettled old → ¬ (HasOpenHeader old.seen) → (p : Left) → new.left_since old.moment p → ¬ (HasOpenHeader p.image)
+untouched_bare old new time settled bare p left = elim (time.since old.moment p (omega arith) left) [
+  | inl was ↦ subst (λ (image : List ℕ). ¬ (HasOpenHeader image)) (sym (settled p was)) bare
+  | inr from ↦ subst (λ (image : List ℕ). ¬ (HasOpenHeader image)) (sym (ap (λ (l : Left). l.image) from.2 ∙ settled from.0 from.1)) bare
+]
+
+-- no store, or the new one
+pub formatting_each : (old new : Device) (h : Header) (ended : Left → Left → Type 0) → Elapses (NoneOrNew h empty_rows) ended old new → IsSettled old → ¬ (HasOpenHeader old.seen) → (p : Left) → new.left_since old.moment p → (¬ (HasOpenHeader p.image)) ⊎ StandsFor p.image (formatted_state h)
+formatting_each old new h ended time settled bare p left = elim (time.since old.moment p (omega arith) left) [
+  | inl was ↦ inl (subst (λ (image : List ℕ). ¬ (HasOpenHeader image)) (sym (settled p was)) bare)
+  | inr from ↦ elim from.2.image [ inl none ↦ inl none | inr made ↦ inr (new_stands p.image h made) ]
+]
