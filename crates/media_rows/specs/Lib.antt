@@ -1,1 +1,4 @@
 pub mod Formats
+pub mod Ids
+pub mod Moments
+pub mod Essence

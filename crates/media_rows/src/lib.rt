@@ -5,9 +5,12 @@
 mod change;
 mod command;
 mod copies;
+mod essence;
 mod event;
 mod flow;
 mod hook;
+mod ids;
+mod moments;
 mod object;
 mod part;
 mod refusal;
@@ -22,9 +25,12 @@ pub use crate::command::{
     Command, FlowFilter, Page, SegmentFilter, SourceFilter, TagTest, TagTests, Want,
 };
 pub use crate::copies::{duplicate_ids, duplicate_option};
+pub use crate::essence::{holds_float, is_essence};
 pub use crate::event::{EventKind, EventList, EventRow, EventRowList, Happened, HappenedList};
 pub use crate::flow::{FlowBody, FlowList, FlowRow, FormatKind, Member, MemberList, Tag, TagList};
 pub use crate::hook::{Hook, HookList, HookRow};
+pub use crate::ids::{is_object_id, print_id, read_id};
+pub use crate::moments::moment_text;
 pub use crate::object::{Extent, ObjectList, ObjectRow, ObjectState};
 pub use crate::part::{Part, PartName};
 pub use crate::refusal::{ApplyFault, BookFault, Refusal};
