@@ -1,1 +1,2 @@
 mod CalendarLemmas
+pub mod RangeLemmas
