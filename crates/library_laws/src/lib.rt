@@ -1,0 +1,10 @@
+//! Laws of the library's definitions, each the contract of a function with an empty body, and what
+//! the definitions give on examples. Nothing here runs.
+#![tactic(auto)]
+
+mod worked;
+
+pub use crate::worked::{
+    collections_are_tested, deletes_in_steps, events_are_told, hooks_fail, pages_are_cut,
+    posts_are_tested, sources_go, sweeps_when_due,
+};
