@@ -2,8 +2,10 @@
 //! the definitions give on examples. Nothing here runs.
 #![tactic(auto)]
 
+mod laws;
 mod worked;
 
+pub use crate::laws::answers_are_allowed;
 pub use crate::worked::{
     collections_are_tested, deletes_in_steps, events_are_told, hooks_fail, pages_are_cut,
     posts_are_tested, sources_go, sweeps_when_due,

@@ -32,10 +32,20 @@ has_number number numbers = list_any (λ n. number == n) numbers
 abbrev pub placed : {X : Type 0} → (X → X → Bool) → X → List X → List X
 placed before x xs = filter (λ y. before y x) xs ++ x ∷ filter (λ y. before x y) xs
 
--- the items in order
+-- the items in order, where of those that tie only one stays
+abbrev pub placed_all : {X : Type 0} → (X → X → Bool) → List X → List X
+placed_all before [] = []
+placed_all before (x ∷ xs) = placed before x (placed_all before xs)
+
+-- an item put in front of the first one that doesn't stand before it
+abbrev pub inserted : {X : Type 0} → (X → X → Bool) → X → List X → List X
+inserted before x [] = x ∷ []
+inserted before x (y ∷ ys) = if before y x then y ∷ inserted before x ys else x ∷ y ∷ ys
+
+-- the items in order, each of them
 abbrev pub in_order : {X : Type 0} → (X → X → Bool) → List X → List X
 in_order before [] = []
-in_order before (x ∷ xs) = placed before x (in_order before xs)
+in_order before (x ∷ xs) = inserted before x (in_order before xs)
 
 -- each item passes the test with each later one
 abbrev pub rises : {X : Type 0} → (X → X → Bool) → List X → Bool

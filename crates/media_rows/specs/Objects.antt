@@ -6,7 +6,7 @@ use Rattle.media_rows.specs.declared.object.ObjectRow.{ObjectRow}
 use Rattle.media_rows.specs.declared.object.ObjectState.{ObjectState}
 use Rattle.media_rows.specs.declared.object.ObjectState.TheVariants.{Allocated, Stored}
 use Rattle.media_rows.specs.declared.segment.SegmentRow.{SegmentRow}
-use Rattle.media_rows.specs.Lists.{in_order, numbers_below}
+use Rattle.media_rows.specs.Lists.{in_order, placed_all, numbers_below}
 
 -- ---- look-ups
 
@@ -39,7 +39,7 @@ is_named segments object = list_any (λ row. bytes_eq row.segment.object object)
 
 -- the flows whose segments name the object, by rising id, each once
 abbrev pub flows_naming : List SegmentRow → List ℕ → List ℕ
-flows_naming segments object = in_order nat_lt (map (λ row. row.flow) (references segments object))
+flows_naming segments object = placed_all nat_lt (map (λ row. row.flow) (references segments object))
 
 -- ---- places of media blocks, each of 4,096 bytes
 
