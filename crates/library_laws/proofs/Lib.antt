@@ -1,2 +1,4 @@
 pub mod ListLemmas
 mod AnswerLemmas
+mod CircleLemmas
+mod KeptLemmas

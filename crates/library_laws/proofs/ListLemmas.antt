@@ -1,8 +1,9 @@
 -- Members of lists, and what filters, maps and orders keep of tests on members and on pairs.
-use Rattle.std.proofs.Common.{◌≡◌, ◌⊎◌, inl, inr, ℕ, zero, suc, ◌+◌, ◌≤◌, ◌<◌, Bool, true, false, not, ◌&&◌, ◌||◌, cond, List, [], ◌∷◌, ◌++◌, map, filter, length, take, refl, sym, ap, ◌∙◌, arith}
-use Rattle.std.specs.List.{list_all, list_any}
-use Rattle.std.proofs.lemmas.Bool.{and_parts, and_from, or_cases, or_left, or_right, cond_both, false≢true}
-use Rattle.media_rows.specs.Lists.{rises, in_order, inserted}
+use Rattle.std.proofs.Common.{◌≡◌, ◌⊎◌, inl, inr, ℕ, zero, suc, ◌+◌, ◌≤◌, ◌<◌, Bool, true, false, not, ◌&&◌, ◌||◌, cond, List, [], ◌∷◌, ◌++◌, map, filter, length, take, Contains, refl, sym, ap, subst, ◌∙◌, arith}
+use Rattle.std.specs.Prelude.{slice_index_or, ◌==◌}
+use Rattle.std.specs.List.{list_all, list_any, flat_map}
+use Rattle.std.proofs.lemmas.Bool.{and_parts, and_from, or_cases, or_left, or_right, cond_both, eqb-true, eq-eqb, false≢true}
+use Rattle.media_rows.specs.Lists.{rises, in_order, inserted, has_number}
 
 -- x is one of the items
 abbrev pub In : {X : Type 0} → X → List X → Type 0
@@ -102,3 +103,83 @@ length-in_order before (x ∷ xs) = length-inserted before x (in_order before xs
 pub length-filter_passing : {X : Type 0} (p : X → Bool) (xs : List X) → ((x : X) → p x ≡ true) → length (filter p xs) ≡ length xs
 length-filter_passing p [] h = refl
 length-filter_passing p (x ∷ xs) h = ap (λ b. length (cond b (x ∷ filter p xs) (filter p xs))) (h x) ∙ ap suc (length-filter_passing p xs h)
+
+-- ---- members by place
+
+at_place : {X : Type 0} (y : X) (ys : List X) (x : X) (k : ℕ) → k < length (y ∷ ys) → slice_index_or (y ∷ ys) k x ≡ x → In x (y ∷ ys)
+at_place y ys x zero less e = inl (sym e)
+at_place y [] x (suc k) less e = absurd (omega arith)
+at_place y (z ∷ zs) x (suc k) less e = inr (at_place z zs x k (omega arith) e)
+
+pub In-from_Contains : {X : Type 0} (xs : List X) (x : X) → Contains xs x → In x xs
+In-from_Contains [] x h = absurd (omega (arith, h.1))
+In-from_Contains (y ∷ ys) x h = at_place y ys x h.0 h.1 h.2
+
+pub Contains-from_In : {X : Type 0} (xs : List X) (x : X) → In x xs → Contains xs x
+Contains-from_In [] x h = absurd h
+Contains-from_In (y ∷ ys) x (inl same) = (0, omega arith, sym same)
+Contains-from_In (y ∷ ys) x (inr later) = let found = Contains-from_In ys x later in (suc found.0, omega (arith, found.1), found.2)
+
+-- ---- numbers among others
+
+pub has_number-In : (n : ℕ) (ns : List ℕ) → has_number n ns ≡ true → In n ns
+has_number-In n ns e = let found = list_any-In (λ m. n == m) ns e in subst (λ m. In m ns) (sym (eqb-true n found.0 found.2)) found.1
+
+pub In-has_number : (n : ℕ) (ns : List ℕ) → In n ns → has_number n ns ≡ true
+In-has_number n ns h = list_any-from_In (λ m. n == m) ns n h (eq-eqb n n refl)
+
+-- ---- lists in front of and behind others, and joined ones
+
+pub In-front : {X : Type 0} (xs ys : List X) (x : X) → In x xs → In x (xs ++ ys)
+In-front [] ys x h = absurd h
+In-front (y ∷ xs) ys x (inl same) = inl same
+In-front (y ∷ xs) ys x (inr later) = inr (In-front xs ys x later)
+
+pub In-back : {X : Type 0} (xs ys : List X) (x : X) → In x ys → In x (xs ++ ys)
+In-back [] ys x h = h
+In-back (y ∷ xs) ys x h = inr (In-back xs ys x h)
+
+pub In-flat_map : {X Y : Type 0} (f : X → List Y) (xs : List X) (y : Y) → In y (flat_map f xs) → (x : X) × In x xs × In y (f x)
+In-flat_map f [] y h = absurd h
+In-flat_map f (x ∷ xs) y h =
+    elim (In-append (f x) (flat_map f xs) y h) [
+      | inl front ↦ (x, inl refl, front)
+      | inr back ↦ let found = In-flat_map f xs y back in (found.0, inr found.1, found.2)
+    ]
+
+pub flat_map-In : {X Y : Type 0} (f : X → List Y) (xs : List X) (x : X) (y : Y) → In x xs → In y (f x) → In y (flat_map f xs)
+flat_map-In f [] x y h k = absurd h
+flat_map-In f (z ∷ xs) x y (inl same) k = In-front (f z) (flat_map f xs) y (subst (λ a. In y (f a)) same k)
+flat_map-In f (z ∷ xs) x y (inr later) k = In-back (f z) (flat_map f xs) y (flat_map-In f xs x y later k)
+
+-- ---- how many pass
+
+count_both : {X : Type 0} (a b : Bool) → (a ≡ true → b ≡ true) → (x : X) (ps qs : List X) → length ps ≤ length qs → length (cond a (x ∷ ps) ps) ≤ length (cond b (x ∷ qs) qs)
+count_both true true h x ps qs le = omega arith
+count_both true false h x ps qs le = absurd (false≢true (h refl))
+count_both false true h x ps qs le = omega arith
+count_both false false h x ps qs le = le
+
+-- a test that lets more through lets at least as many through
+pub count-le : {X : Type 0} (p q : X → Bool) (xs : List X) → ((x : X) → In x xs → p x ≡ true → q x ≡ true) → length (filter p xs) ≤ length (filter q xs)
+count-le p q [] h = omega arith
+count-le p q (x ∷ xs) h =
+    count_both (p x) (q x) (h x (inl refl)) x (filter p xs) (filter q xs) (count-le p q xs (λ y later. h y (inr later)))
+
+count_step : {X : Type 0} (p q : X → Bool) (y x : X) (ys : List X) → q x ≡ true → (a b : Bool) → p y ≡ a → q y ≡ b → (a ≡ true → b ≡ true) → In x (y ∷ ys) → (ps qs : List X)
+    → length (cond b (y ∷ qs) qs) ≤ length (cond a (y ∷ ps) ps) → length ps ≤ length qs → (length qs ≤ length ps → In x ys → p x ≡ true) → p x ≡ true
+count_step p q y x ys e true true pa qb h (inl same) ps qs le all later = ap p same ∙ pa
+count_step p q y x ys e true true pa qb h (inr more) ps qs le all later = later (omega arith) more
+count_step p q y x ys e true false pa qb h here ps qs le all later = absurd (false≢true (h refl))
+count_step p q y x ys e false true pa qb h here ps qs le all later = absurd (omega arith)
+count_step p q y x ys e false false pa qb h (inl same) ps qs le all later = absurd (false≢true (sym qb ∙ ap q (sym same) ∙ e))
+count_step p q y x ys e false false pa qb h (inr more) ps qs le all later = later le more
+
+-- and where it lets no more through, both let through the same
+pub count-same : {X : Type 0} (p q : X → Bool) (xs : List X) → ((x : X) → In x xs → p x ≡ true → q x ≡ true) → length (filter q xs) ≤ length (filter p xs)
+    → (x : X) → In x xs → q x ≡ true → p x ≡ true
+count-same p q [] h le x here e = absurd here
+count-same p q (y ∷ ys) h le x here e =
+    count_step p q y x ys e (p y) (q y) refl refl (h y (inl refl)) here (filter p ys) (filter q ys) le
+    (count-le p q ys (λ z later. h z (inr later)))
+    (λ less later. count-same p q ys (λ z l. h z (inr l)) less x later e)

@@ -1,12 +1,15 @@
 -- Laws over the definitions of the library.
-use Rattle.std.specs.Prelude.{◌≡◌, ◌≤◌, ◌+◌, ℕ, Bool, true, IsTrue, List, Option, Some, None, IfSome, length}
+use Rattle.std.specs.Prelude.{◌≡◌, ◌↔◌, ◌≤◌, ◌+◌, ℕ, Bool, true, IsTrue, List, Option, Some, None, IfSome, length}
 use Rattle.media_rows.specs.declared.change.Change.{Change}
 use Rattle.media_rows.specs.declared.command.Command.{Command}
 use Rattle.media_rows.specs.declared.command.Command.TheVariants as commands
+use Rattle.media_rows.specs.declared.flow.FlowRow.{FlowRow}
+use Rattle.media_rows.specs.declared.flow.Member.{Member}
 use Rattle.media_rows.specs.declared.request.DeleteRow.{DeleteRow}
 use Rattle.media_rows.specs.Answer.{answer}
 use Rattle.media_rows.specs.Apply.{is_allowed}
 use Rattle.media_rows.specs.Changes.{moment_of}
+use Rattle.media_rows.specs.Collections.{collects_itself, AnyReaches}
 use Rattle.media_rows.specs.Library.{Library}
 use Rattle.media_rows.specs.Objects.{is_free, blocks_of, swept_objects}
 use Rattle.media_rows.specs.Requests.{removed_by_step}
@@ -48,3 +51,9 @@ pub record IsAllowedAt (library : Library) (moment : ℕ) (change : Change) : Ty
 abbrev pub AnswersAreAllowed : Type 0
 AnswersAreAllowed = (library : Library) (command : Command) (moment : ℕ) → HasPlace library command
     → IfSome (answer library command moment).change (IsAllowedAt library moment)
+
+-- ---- collections
+
+-- the bounded test finds a flow that reaches itself exactly where a way through collections leads back to it
+abbrev pub CirclesAreFound : Type 0
+CirclesAreFound = (flows : List FlowRow) (id : ℕ) (members : List Member) → IsTrue (collects_itself flows id members) ↔ AnyReaches flows members id
