@@ -2,3 +2,4 @@ pub mod ListLemmas
 mod AnswerLemmas
 mod CircleLemmas
 mod KeptLemmas
+mod OutboxKept
