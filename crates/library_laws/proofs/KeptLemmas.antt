@@ -1,6 +1,7 @@
 -- What parts of lists, maps and longer lists keep of tests on members and on pairs, and of serials.
 use Rattle.std.proofs.Common.{◌≡◌, ◌⊎◌, inl, inr, ℕ, zero, suc, ◌+◌, ◌≤◌, ◌<◌, Bool, true, false, not, ◌&&◌, ◌||◌, cond, List, [], ◌∷◌, ◌++◌, map, filter, find, length, Option, Some, None, nat_lt, refl, sym, ap, ap₂, subst, ◌∙◌, append_assoc, append-nil, arith}
-use Rattle.std.specs.Prelude.{◌==◌, nat_le}
+use Rattle.std.specs.Prelude.{◌==◌, nat_le, bytes_eq}
+use Rattle.std.specs.Cmp.Lexicographic.{bytes_decides}
 use Rattle.std.specs.List.{list_all, list_any}
 use Rattle.std.proofs.lemmas.Bool.{and_parts, and_from, ltb-true, leb-true, lt-ltb, le-leb, ne_eqb, eqb-true, eq-eqb, not_from_false, not-true, eqb-false, cond_both, false≢true}
 use Rattle.media_rows.specs.Lists.{rises, are_distinct, placed}
@@ -216,3 +217,20 @@ Serials-test next serials is least most =
     (and_from (are_distinct serials) _ is.distinct (list_all-from_In (λ serial. nat_le 1 serial && nat_lt serial next) serials
     (λ s here. let w = is.within s here in and_from (nat_le 1 s) (nat_lt s next) (le-leb 1 s w.0) (lt-ltb s next w.1))))
     (le-leb 1 next least)) (le-leb next last_serial most)
+
+-- ---- rows of one key, and texts
+
+-- two rows of a list by rising keys that have one key are one row
+pub same_by_key : {X : Type 0} (key : X → ℕ) (xs : List X) → rises (λ a b. nat_lt (key a) (key b)) xs ≡ true → (a b : X) → In a xs → In b xs → key a ≡ key b → a ≡ b
+same_by_key key xs rise a b here there same =
+    elim (rises-In (λ x y. nat_lt (key x) (key y)) xs rise a b here there) [
+      | inl e ↦ e
+      | inr (inl less) ↦ let l = ltb-true (key a) (key b) less in absurd (omega arith)
+      | inr (inr less) ↦ let l = ltb-true (key b) (key a) less in absurd (omega arith)
+    ]
+
+pub same_text : (a b : List ℕ) → bytes_eq a b ≡ true → a ≡ b
+same_text a b e = (bytes_decides a b).0 e
+
+pub text_same : (a : List ℕ) → bytes_eq a a ≡ true
+text_same a = (bytes_decides a a).1 refl

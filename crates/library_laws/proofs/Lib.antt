@@ -3,3 +3,4 @@ mod AnswerLemmas
 mod CircleLemmas
 mod KeptLemmas
 mod OutboxKept
+mod ObjectsKept

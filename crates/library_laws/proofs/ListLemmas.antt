@@ -1,5 +1,5 @@
 -- Members of lists, and what filters, maps and orders keep of tests on members and on pairs.
-use Rattle.std.proofs.Common.{◌≡◌, ◌⊎◌, inl, inr, ℕ, zero, suc, ◌+◌, ◌≤◌, ◌<◌, Bool, true, false, not, ◌&&◌, ◌||◌, cond, List, [], ◌∷◌, ◌++◌, map, filter, length, take, Contains, refl, sym, ap, subst, ◌∙◌, arith}
+use Rattle.std.proofs.Common.{◌≡◌, ◌⊎◌, inl, inr, ℕ, zero, suc, ◌+◌, ◌≤◌, ◌<◌, Bool, true, false, not, ◌&&◌, ◌||◌, cond, List, [], ◌∷◌, ◌++◌, map, filter, length, take, Contains, find, Option, Some, None, option_map, refl, sym, ap, ap₂, subst, ◌∙◌, arith}
 use Rattle.std.specs.Prelude.{slice_index_or, ◌==◌}
 use Rattle.std.specs.List.{list_all, list_any, flat_map}
 use Rattle.std.proofs.lemmas.Bool.{and_parts, and_from, or_cases, or_left, or_right, cond_both, eqb-true, eq-eqb, false≢true}
@@ -183,3 +183,121 @@ count-same p q (y ∷ ys) h le x here e =
     count_step p q y x ys e (p y) (q y) refl refl (h y (inl refl)) here (filter p ys) (filter q ys) le
     (count-le p q ys (λ z later. h z (inr later)))
     (λ less later. count-same p q ys (λ z l. h z (inr l)) less x later e)
+
+-- ---- steps by cases on a test
+
+found_step : {X : Type 0} (p : X → Bool) (y : X) (ys : List X) (x : X) (b : Bool) → p y ≡ b → cond b (Some y) (find p ys) ≡ Some x
+    → (find p ys ≡ Some x → In x ys × (p x ≡ true)) → In x (y ∷ ys) × (p x ≡ true)
+found_step p y ys x true e is later = let same : y ≡ x = cc in (inl (sym same), ap p (sym same) ∙ e)
+found_step p y ys x false e is later = let rest = later is in (inr rest.0, rest.1)
+
+filter_step : {X : Type 0} (p q : X → Bool) (y : X) (ys : List X) (x : X) (a b : Bool) → p y ≡ a → q y ≡ b → cond a (Some y) (find p ys) ≡ Some x → q x ≡ true
+    → (find p ys ≡ Some x → q x ≡ true → find p (filter q ys) ≡ Some x) → find p (cond b (y ∷ filter q ys) (filter q ys)) ≡ Some x
+filter_step p q y ys x true true pa qb is k later = ap (λ c. cond c (Some y) (find p (filter q ys))) pa ∙ is
+filter_step p q y ys x true false pa qb is k later = let same : y ≡ x = cc in absurd (false≢true (sym qb ∙ ap q same ∙ k))
+filter_step p q y ys x false true pa qb is k later = ap (λ c. cond c (Some y) (find p (filter q ys))) pa ∙ later is k
+filter_step p q y ys x false false pa qb is k later = later is k
+
+map_step : {X : Type 0} (b : Bool) (f : X → X) (x : X) (o : Option X) → cond b (Some (f x)) (option_map f o) ≡ option_map f (cond b (Some x) o)
+map_step true f x o = refl
+map_step false f x o = refl
+
+some_step : {X : Type 0} (p : X → Bool) (y : X) (ys : List X) (x : X) (b : Bool) → p y ≡ b → In x (y ∷ ys) → p x ≡ true
+    → (In x ys → p x ≡ true → (z : X) × (find p ys ≡ Some z) × In z ys × (p z ≡ true)) → (z : X) × (cond b (Some y) (find p ys) ≡ Some z) × In z (y ∷ ys) × (p z ≡ true)
+some_step p y ys x true e here k later = (y, refl, inl refl, e)
+some_step p y ys x false e (inl same) k later = absurd (false≢true (sym e ∙ ap p (sym same) ∙ k))
+some_step p y ys x false e (inr more) k later = let rest = later more k in (rest.0, rest.1, inr rest.2, rest.3)
+
+inserted_step : {X : Type 0} (b : Bool) (x y : X) (ys rest : List X) (z : X) → In z (cond b (y ∷ rest) (x ∷ y ∷ ys)) → (In z rest → (z ≡ x) ⊎ In z ys) → (z ≡ x) ⊎ In z (y ∷ ys)
+inserted_step true x y ys rest z (inl same) later = inr (inl same)
+inserted_step true x y ys rest z (inr more) later = elim (later more) [ inl same ↦ inl same | inr there ↦ inr (inr there) ]
+inserted_step false x y ys rest z (inl same) later = inl same
+inserted_step false x y ys rest z (inr more) later = inr more
+
+back_step : {X : Type 0} (b : Bool) (x y : X) (ys rest : List X) (z : X) → (z ≡ x) ⊎ In z (y ∷ ys) → ((z ≡ x) ⊎ In z ys → In z rest) → In z (cond b (y ∷ rest) (x ∷ y ∷ ys))
+back_step true x y ys rest z (inl same) later = inr (later (inl same))
+back_step true x y ys rest z (inr (inl same)) later = inl same
+back_step true x y ys rest z (inr (inr more)) later = inr (later (inr more))
+back_step false x y ys rest z (inl same) later = inl same
+back_step false x y ys rest z (inr there) later = inr there
+
+In-kept : {X : Type 0} (b : Bool) (x y : X) (ys : List X) → x ≡ y → b ≡ true → In x (cond b (y ∷ ys) ys)
+In-kept true x y ys same e = inl same
+In-kept false x y ys same e = absurd (false≢true e)
+
+In-passed : {X : Type 0} (b : Bool) (x y : X) (ys : List X) → In x ys → In x (cond b (y ∷ ys) ys)
+In-passed true x y ys h = inr h
+In-passed false x y ys h = h
+
+count_filter_step : {X : Type 0} (a b : Bool) (p : X → Bool) (x : X) (qs ps : List X) → p x ≡ a → length (filter p qs) ≤ length ps
+    → length (filter p (cond b (x ∷ qs) qs)) ≤ length (cond a (x ∷ ps) ps)
+count_filter_step true true p x qs ps e le = subst (λ c. length (cond c (x ∷ filter p qs) (filter p qs)) ≤ suc (length ps)) (sym e) (omega arith)
+count_filter_step false true p x qs ps e le = subst (λ c. length (cond c (x ∷ filter p qs) (filter p qs)) ≤ length ps) (sym e) le
+count_filter_step true false p x qs ps e le = omega arith
+count_filter_step false false p x qs ps e le = le
+
+-- ---- the first that passes
+
+pub find-In : {X : Type 0} (p : X → Bool) (xs : List X) (x : X) → find p xs ≡ Some x → In x xs × (p x ≡ true)
+find-In p [] x e = absurd (cc)
+find-In p (y ∷ ys) x e = found_step p y ys x (p y) refl e (find-In p ys x)
+
+-- what passes is found in a part that it is in
+pub find-filter : {X : Type 0} (p q : X → Bool) (xs : List X) (x : X) → find p xs ≡ Some x → q x ≡ true → find p (filter q xs) ≡ Some x
+find-filter p q [] x e k = absurd (cc)
+find-filter p q (y ∷ ys) x e k = filter_step p q y ys x (p y) (q y) refl refl e k (find-filter p q ys x)
+
+-- and after a change that the test doesn't see
+pub find-map : {X : Type 0} (p : X → Bool) (f : X → X) (xs : List X) → ((x : X) → p (f x) ≡ p x) → find p (map f xs) ≡ option_map f (find p xs)
+find-map p f [] same = refl
+find-map p f (x ∷ xs) same =
+    ap₂ (λ (b : Bool) (o : Option _). cond b (Some (f x)) o) (same x) (find-map p f xs same) ∙ map_step (p x) f x (find p xs)
+
+-- where some item passes, one is found
+pub find-some : {X : Type 0} (p : X → Bool) (xs : List X) (x : X) → In x xs → p x ≡ true → (y : X) × (find p xs ≡ Some y) × In y xs × (p y ≡ true)
+find-some p [] x here e = absurd here
+find-some p (y ∷ ys) x here e = some_step p y ys x (p y) refl here e (find-some p ys x)
+
+-- ---- members of a part and of an order
+
+pub In-take : {X : Type 0} (n : ℕ) (xs : List X) (x : X) → In x (take n xs) → In x xs
+In-take zero xs x h = absurd h
+In-take (suc n) [] x h = absurd h
+In-take (suc n) (y ∷ ys) x (inl same) = inl same
+In-take (suc n) (y ∷ ys) x (inr later) = inr (In-take n ys x later)
+
+In-inserted : {X : Type 0} (before : X → X → Bool) (x : X) (ys : List X) (z : X) → In z (inserted before x ys) → (z ≡ x) ⊎ In z ys
+In-inserted before x [] z (inl same) = inl same
+In-inserted before x [] z (inr bad) = absurd bad
+In-inserted before x (y ∷ ys) z h = inserted_step (before y x) x y ys (inserted before x ys) z h (In-inserted before x ys z)
+
+pub In-in_order : {X : Type 0} (before : X → X → Bool) (xs : List X) (z : X) → In z (in_order before xs) → In z xs
+In-in_order before [] z h = absurd h
+In-in_order before (x ∷ xs) z h = elim (In-inserted before x (in_order before xs) z h) [ inl same ↦ inl same | inr later ↦ inr (In-in_order before xs z later) ]
+
+inserted-In : {X : Type 0} (before : X → X → Bool) (x : X) (ys : List X) (z : X) → (z ≡ x) ⊎ In z ys → In z (inserted before x ys)
+inserted-In before x [] z (inl same) = inl same
+inserted-In before x [] z (inr bad) = absurd bad
+inserted-In before x (y ∷ ys) z h = back_step (before y x) x y ys (inserted before x ys) z h (inserted-In before x ys z)
+
+pub in_order-In : {X : Type 0} (before : X → X → Bool) (xs : List X) (z : X) → In z xs → In z (in_order before xs)
+in_order-In before [] z h = absurd h
+in_order-In before (x ∷ xs) z (inl same) = inserted-In before x (in_order before xs) z (inl same)
+in_order-In before (x ∷ xs) z (inr later) = inserted-In before x (in_order before xs) z (inr (in_order-In before xs z later))
+
+pub filter-In : {X : Type 0} (p : X → Bool) (xs : List X) (x : X) → In x xs → p x ≡ true → In x (filter p xs)
+filter-In p [] x h e = absurd h
+filter-In p (y ∷ ys) x (inl same) e = In-kept (p y) x y (filter p ys) same (ap p (sym same) ∙ e)
+filter-In p (y ∷ ys) x (inr later) e = In-passed (p y) x y (filter p ys) (filter-In p ys x later e)
+
+-- a whole list is taken where it isn't longer
+pub take-whole : {X : Type 0} (n : ℕ) (xs : List X) → length xs ≤ n → take n xs ≡ xs
+take-whole zero [] le = refl
+take-whole zero (x ∷ xs) le = absurd (omega arith)
+take-whole (suc n) [] le = refl
+take-whole (suc n) (x ∷ xs) le = ap (λ ys. x ∷ ys) (take-whole n xs (omega arith))
+
+-- fewer pass two tests than one
+pub count-filter : {X : Type 0} (p q : X → Bool) (xs : List X) → length (filter p (filter q xs)) ≤ length (filter p xs)
+count-filter p q [] = omega arith
+count-filter p q (x ∷ xs) = count_filter_step (p x) (q x) p x (filter q xs) (filter p xs) refl (count-filter p q xs)

@@ -13,7 +13,7 @@ use Rattle.media_rows.specs.Outbox.{Outbox, Posted, waiting_for, waiting_count, 
 use Rattle.media_rows.specs.Good.{Good, rises_by, are_serials_good, are_serials_in_order, are_names_good, has_hook, is_hook_good, is_outbox_good, are_urls_distinct, are_texts_good, is_hook_text, is_event_text, is_catalog_in_order, are_object_ids_distinct, is_source_text, is_flow_text, is_object_text, is_request_text}
 use Rattle.media_rows.specs.Library.{Library, last_serial, serials_of, with_posted, with_happened}
 use Rattle.library_laws.proofs.ListLemmas.{In, In-append, In-front, In-back, In-filter, In-map, map-In, list_all-In, list_all-from_In, list_any-In, list_any-from_In, rises-In, rises-filter}
-use Rattle.library_laws.proofs.KeptLemmas.{Sub, Sub-filter, Serials, New, Serials-from, Serials-test, Serials-more, map-kept, list_all-mapped, list_all-both, rises-keys, rises-both, rises-mapped}
+use Rattle.library_laws.proofs.KeptLemmas.{same_by_key, Sub, Sub-filter, Serials, New, Serials-from, Serials-test, Serials-more, map-kept, list_all-mapped, list_all-both, rises-keys, rises-both, rises-mapped}
 
 -- ---- new events
 
@@ -56,15 +56,6 @@ events_are_for happened moment serial (row ∷ later) event (inl same) = record 
 events_are_for happened moment serial (row ∷ later) event (inr more) =
     let rest = events_are_for happened moment (serial + 1) later event more in
     record { row = rest.row; among = inr rest.among; hook = rest.hook; at = rest.at }
-
--- two hooks of one serial are one hook
-same_row : (hooks : List HookRow) → rises_by (λ row. row.serial) hooks ≡ true → (a b : HookRow) → In a hooks → In b hooks → a.serial ≡ b.serial → (a ≡ b) ⊎ ⊥
-same_row hooks rise a b here there same =
-    elim (rises-In (λ x y. nat_lt x.serial y.serial) hooks rise a b here there) [
-      | inl e ↦ inl e
-      | inr (inl less) ↦ inr (let l = ltb-true a.serial b.serial less in absurd (omega arith))
-      | inr (inr less) ↦ inr (let l = ltb-true b.serial a.serial less in absurd (omega arith))
-    ]
 
 -- ---- at most one new event for a hook
 
@@ -135,7 +126,8 @@ unmoved : (next : ℕ) (outbox : Outbox) (happened : Happened) (moment : ℕ) �
 unmoved next outbox happened moment is row here untaken =
     none_for happened moment next (filter (takes happened) outbox.hooks) row.serial (λ other among same.
     let found = In-filter (takes happened) outbox.hooks other among in
-    elim (same_row outbox.hooks is.hooks_rise other row found.0 here same) [ inl e ↦ false≢true (sym untaken ∙ ap (takes happened) (sym e) ∙ found.1) | inr bad ↦ bad ])
+    let e = same_by_key (λ r. r.serial) outbox.hooks is.hooks_rise other row found.0 here same in
+    false≢true (sym untaken ∙ ap (takes happened) (sym e) ∙ found.1))
 
 -- a failed hook takes nothing
 failed_takes_none : (happened : Happened) (row : HookRow) → row.failed ≡ true → takes happened row ≡ false
