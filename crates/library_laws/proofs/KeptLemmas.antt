@@ -7,7 +7,7 @@ use Rattle.std.proofs.lemmas.Bool.{and_parts, and_from, ltb-true, leb-true, lt-l
 use Rattle.media_rows.specs.Lists.{rises, are_distinct, placed}
 use Rattle.media_rows.specs.Good.{rises_by, are_serials_good}
 use Rattle.media_rows.specs.Library.{last_serial}
-use Rattle.library_laws.proofs.ListLemmas.{In, In-append, In-front, In-back, In-filter, In-map, list_all-In, list_all-from_In, rises-In, rises-filter}
+use Rattle.library_laws.proofs.ListLemmas.{In, In-append, In-front, In-back, In-filter, In-map, map-In, list_all-In, list_all-from_In, rises-In, rises-filter}
 
 -- ---- a list within another, in its order
 
@@ -234,3 +234,74 @@ same_text a b e = (bytes_decides a b).0 e
 
 pub text_same : (a : List ℕ) → bytes_eq a a ≡ true
 text_same a = (bytes_decides a a).1 refl
+
+-- ---- serials that follow one another
+
+-- so many numbers from one up
+abbrev pub counted : ℕ → ℕ → List ℕ
+counted from zero = []
+counted from (suc count) = from ∷ counted (from + 1) count
+
+pub counted-within : (from count s : ℕ) → In s (counted from count) → (from ≤ s) × (s < from + count)
+counted-within from zero s here = absurd here
+counted-within from (suc count) s (inl same) = (omega arith, omega arith)
+counted-within from (suc count) s (inr later) = let w = counted-within (from + 1) count s later in (omega arith, omega arith)
+
+pub counted-rise : (from count : ℕ) → rises nat_lt (counted from count) ≡ true
+counted-rise from zero = refl
+counted-rise from (suc count) =
+    and_from _ _ (list_all-from_In (nat_lt from) (counted (from + 1) count) (λ s here. let w = counted-within (from + 1) count s here in lt-ltb from s (omega arith))) (counted-rise (from + 1) count)
+
+counted-distinct : (from count : ℕ) → are_distinct (counted from count) ≡ true
+counted-distinct from zero = refl
+counted-distinct from (suc count) =
+    and_from _ _ (list_all-from_In (λ s. not (from == s)) (counted (from + 1) count) (λ s here. let w = counted-within (from + 1) count s here in unequal from s (λ e. absurd (omega arith)))) (counted-distinct (from + 1) count)
+
+pub counted-New : (from count : ℕ) → New from (from + count) (counted from count)
+counted-New from count = record { distinct = counted-distinct from count; within = counted-within from count }
+
+-- rows that rise by serial, with further ones behind them
+pub rises-counted : {X : Type 0} (key : X → ℕ) (old new : List X) (next count : ℕ) → rises (λ a b. nat_lt (key a) (key b)) old ≡ true
+    → ((x : X) → In x old → key x < next) → map key new ≡ counted next count → rises (λ a b. nat_lt (key a) (key b)) (old ++ new) ≡ true
+rises-counted key old new next count rise below e =
+    rises-both (λ a b. nat_lt (key a) (key b)) old new rise (sym (rises-keys nat_lt key new) ∙ ap (rises nat_lt) e ∙ counted-rise next count)
+    (λ a b here there. lt-ltb (key a) (key b) (let low = below a here in let high = counted-within next count (key b) (subst (In (key b)) e (map-In key new b there)) in omega arith))
+
+-- ---- serials put into one of the five lists of a library
+
+regroup : (o s r h e : List ℕ) → o ++ s ++ r ++ h ++ e ≡ o ++ (s ++ (r ++ (h ++ e)))
+regroup o s r h e = simp append_assoc
+
+regroup_objects : (o w s r h e : List ℕ) → (o ++ w) ++ s ++ r ++ h ++ e ≡ (o ++ w) ++ (s ++ (r ++ (h ++ e)))
+regroup_objects o w s r h e = simp append_assoc
+
+pub serials_objects : (next after : ℕ) (o w s r h e : List ℕ) → 1 ≤ next → next ≤ after → Serials next (o ++ s ++ r ++ h ++ e) → New next after w → Serials after ((o ++ w) ++ s ++ r ++ h ++ e)
+serials_objects next after o w s r h e least le is new =
+    subst (Serials after) (sym (regroup_objects o w s r h e)) (Serials-more next after o w (s ++ (r ++ (h ++ e))) least le (subst (Serials next) (regroup o s r h e) is) new)
+
+before_segments : (o s r h e : List ℕ) → o ++ s ++ r ++ h ++ e ≡ (o ++ s) ++ (r ++ (h ++ e))
+before_segments o s r h e = simp append_assoc
+
+regroup_segments : (o s w r h e : List ℕ) → o ++ (s ++ w) ++ r ++ h ++ e ≡ ((o ++ s) ++ w) ++ (r ++ (h ++ e))
+regroup_segments o s w r h e = simp append_assoc
+
+pub serials_segments : (next after : ℕ) (o s w r h e : List ℕ) → 1 ≤ next → next ≤ after → Serials next (o ++ s ++ r ++ h ++ e) → New next after w → Serials after (o ++ (s ++ w) ++ r ++ h ++ e)
+serials_segments next after o s w r h e least le is new =
+    subst (Serials after) (sym (regroup_segments o s w r h e)) (Serials-more next after (o ++ s) w (r ++ (h ++ e)) least le (subst (Serials next) (before_segments o s r h e) is) new)
+
+before_requests : (o s r h e : List ℕ) → o ++ s ++ r ++ h ++ e ≡ (o ++ s ++ r) ++ (h ++ e)
+before_requests o s r h e = simp append_assoc
+
+regroup_requests : (o s r w h e : List ℕ) → o ++ s ++ (r ++ w) ++ h ++ e ≡ ((o ++ s ++ r) ++ w) ++ (h ++ e)
+regroup_requests o s r w h e = simp append_assoc
+
+pub serials_requests : (next after : ℕ) (o s r w h e : List ℕ) → 1 ≤ next → next ≤ after → Serials next (o ++ s ++ r ++ h ++ e) → New next after w → Serials after (o ++ s ++ (r ++ w) ++ h ++ e)
+serials_requests next after o s r w h e least le is new =
+    subst (Serials after) (sym (regroup_requests o s r w h e)) (Serials-more next after (o ++ s ++ r) w (h ++ e) least le (subst (Serials next) (before_requests o s r h e) is) new)
+
+regroup_hooks : (o s r h w e : List ℕ) → o ++ s ++ r ++ (h ++ w) ++ e ≡ ((o ++ s ++ r ++ h) ++ w) ++ e
+regroup_hooks o s r h w e = simp append_assoc
+
+pub serials_hooks : (next after : ℕ) (o s r h w e : List ℕ) → 1 ≤ next → next ≤ after → Serials next (o ++ s ++ r ++ h ++ e) → New next after w → Serials after (o ++ s ++ r ++ (h ++ w) ++ e)
+serials_hooks next after o s r h w e least le is new =
+    subst (Serials after) (sym (regroup_hooks o s r h w e)) (Serials-more next after (o ++ s ++ r ++ h) w e least le is new)

@@ -13,31 +13,14 @@ use Rattle.media_rows.specs.Outbox.{Outbox, Posted, waiting_for, waiting_count, 
 use Rattle.media_rows.specs.Good.{Good, rises_by, are_serials_good, are_serials_in_order, are_names_good, has_hook, is_hook_good, is_outbox_good, are_urls_distinct, are_texts_good, is_hook_text, is_event_text, is_catalog_in_order, are_object_ids_distinct, is_source_text, is_flow_text, is_object_text, is_request_text}
 use Rattle.media_rows.specs.Library.{Library, last_serial, serials_of, with_posted, with_happened}
 use Rattle.library_laws.proofs.ListLemmas.{In, In-append, In-front, In-back, In-filter, In-map, map-In, list_all-In, list_all-from_In, list_any-In, list_any-from_In, rises-In, rises-filter}
-use Rattle.library_laws.proofs.KeptLemmas.{same_by_key, Sub, Sub-filter, Serials, New, Serials-from, Serials-test, Serials-more, map-kept, list_all-mapped, list_all-both, rises-keys, rises-both, rises-mapped}
+use Rattle.library_laws.proofs.KeptLemmas.{same_by_key, counted, counted-New, rises-counted, Sub, Sub-filter, Serials, New, Serials-from, Serials-test, Serials-more, map-kept, list_all-mapped, list_all-both, rises-keys, rises-both, rises-mapped}
 
 -- ---- new events
 
--- the serials of new events go from the next one up
-new_serials : (happened : Happened) (moment serial : ℕ) (hooks : List HookRow) → New serial (serial + length hooks) (map (λ row. row.serial) (events_for happened moment serial hooks))
-new_serials happened moment serial [] = record { distinct = refl; within = λ s here. absurd here }
-new_serials happened moment serial (row ∷ later) =
-    let rest = new_serials happened moment (serial + 1) later in
-    record {
-      distinct = and_from _ _ (list_all-from_In (λ s. not (serial == s)) (map (λ r. r.serial) (events_for happened moment (serial + 1) later))
-          (λ s here. let w = rest.within s here in ap not (ne_eqb serial s (λ e. absurd (omega arith))))) rest.distinct;
-      within = λ s here. elim here [
-        | inl same ↦ (omega (arith, same), omega (arith, same))
-        | inr more ↦ let w = rest.within s more in (omega arith, omega arith)
-      ];
-    }
-
--- they rise
-new_rise : (happened : Happened) (moment serial : ℕ) (hooks : List HookRow) → rises_by (λ row. row.serial) (events_for happened moment serial hooks) ≡ true
-new_rise happened moment serial [] = refl
-new_rise happened moment serial (row ∷ later) =
-    and_from _ _ (list_all-from_In (λ e. nat_lt serial e.serial) (events_for happened moment (serial + 1) later)
-    (λ e here. let w = (new_serials happened moment (serial + 1) later).within e.serial (map-In (λ r. r.serial) (events_for happened moment (serial + 1) later) e here) in lt-ltb serial e.serial (omega arith)))
-    (new_rise happened moment (serial + 1) later)
+-- the serials of new events follow one another
+serials-events_for : (happened : Happened) (moment serial : ℕ) (hooks : List HookRow) → map (λ row. row.serial) (events_for happened moment serial hooks) ≡ counted serial (length hooks)
+serials-events_for happened moment serial [] = refl
+serials-events_for happened moment serial (row ∷ later) = ap (λ l. serial ∷ l) (serials-events_for happened moment (serial + 1) later)
 
 length-events_for : (happened : Happened) (moment serial : ℕ) (hooks : List HookRow) → length (events_for happened moment serial hooks) ≡ length hooks
 length-events_for happened moment serial [] = refl
@@ -269,10 +252,10 @@ names_after happened moment library is most =
     let hooks : List HookRow = filter (takes happened) library.outbox.hooks in
     let fresh : List EventRow = events_for happened moment library.next_serial hooks in
     let all : List EventRow = library.outbox.events ++ fresh in
-    let new = new_serials happened moment library.next_serial hooks in
+    let numbers = serials-events_for happened moment library.next_serial hooks in
     let count = length-events_for happened moment library.next_serial hooks in
     let kept : map (λ (row : HookRow). row.serial) (map (marked all) library.outbox.hooks) ≡ map (λ row. row.serial) library.outbox.hooks = map-kept (λ row. row.serial) (marked all) library.outbox.hooks (λ row. refl) in
-    let grown = Serials-more library.next_serial (library.next_serial + length hooks) (serials_of library) (map (λ row. row.serial) fresh) [] is.least (omega arith) (subst (Serials library.next_serial) (sym (append-nil (serials_of library))) is.serials) new in
+    let grown = Serials-more library.next_serial (library.next_serial + length hooks) (serials_of library) (map (λ row. row.serial) fresh) [] is.least (omega arith) (subst (Serials library.next_serial) (sym (append-nil (serials_of library))) is.serials) (subst (New library.next_serial (library.next_serial + length hooks)) (sym numbers) (counted-New library.next_serial (length hooks))) in
     record {
       catalog = is.catalog;
       objects = is.objects;
@@ -281,8 +264,7 @@ names_after happened moment library is most =
       segments_rise = is.segments_rise;
       requests_rise = is.requests_rise;
       hooks_rise = rises-mapped _ _ _ (marked all) library.outbox.hooks (λ x y here there t u. t) is.hooks_rise is.hooks_rise;
-      events_rise = rises-both _ library.outbox.events fresh is.events_rise (new_rise happened moment library.next_serial hooks)
-          (λ a b here there. lt-ltb a.serial b.serial (let low = event_below library is a here in let high = new.within b.serial (map-In (λ row. row.serial) fresh b there) in omega arith));
+      events_rise = rises-counted (λ row. row.serial) library.outbox.events fresh library.next_serial (length hooks) is.events_rise (event_below library is) numbers;
       serials = subst (λ (n : ℕ). Serials (library.next_serial + n) (serials_of (after_happened happened moment library))) (sym count) (subst (Serials (library.next_serial + length hooks)) (append-nil (serials_of library ++ map (λ row. row.serial) fresh) ∙ sym (serials_after library (map (marked all) library.outbox.hooks) fresh kept)) grown);
       least = omega (arith, is.least);
       most = most;
