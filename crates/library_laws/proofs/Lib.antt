@@ -4,3 +4,4 @@ mod CircleLemmas
 mod KeptLemmas
 mod OutboxKept
 mod ObjectsKept
+mod NewObjectsKept
