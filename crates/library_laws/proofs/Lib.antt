@@ -3,6 +3,9 @@ mod AnswerLemmas
 mod CircleLemmas
 mod KeptLemmas
 mod OutboxKept
+mod RequestLemmas
 mod ObjectsKept
 mod NewObjectsKept
 mod HooksKept
+mod FlowsKept
+mod CatalogKept

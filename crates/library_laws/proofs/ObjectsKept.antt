@@ -20,6 +20,7 @@ use Rattle.media_rows.specs.Requests.{done_kept, done_count, is_unfinished}
 use Rattle.media_rows.specs.Segments.{without_segments}
 use Rattle.library_laws.proofs.ListLemmas.{In, In-filter, In-take, In-in_order, find-In, find-filter, find-map, list_all-In, list_all-from_In, list_any-In, list_any-from_In, rises-filter, list_all-filter}
 use Rattle.library_laws.proofs.KeptLemmas.{Sub, Sub-same, Sub-filter, Sub-append, rises-Sub, Serials, Serials-Sub, map-kept, list_all-mapped, rises-mapped, rises-keys, same_by_key, same_text, text_same}
+use Rattle.library_laws.proofs.RequestLemmas.{request_stays_good}
 use Rattle.library_laws.proofs.OutboxKept.{Names, Names-from, Names-test, Texts, Texts-from, Texts-test}
 
 -- ---- an object that is kept
@@ -129,21 +130,6 @@ stored_object_idled before after moment objects id =
     ap is_stored_row (find-map (λ row. bytes_eq row.id id) (idled_row before after moment) objects (λ row. ap (λ i. bytes_eq i id) (idled_id before after moment row)))
     ∙ stored_idled before after moment (object_of id objects)
 
--- fewer segments leave the requests good
-fewer_requests : (flows : List FlowRow) (segments : List SegmentRow) (p : SegmentRow → Bool) (row : DeleteRow) → is_request_good flows segments row ≡ true → is_request_good flows (filter p segments) row ≡ true
-fewer_requests flows segments p row e =
-    elim (or_cases (not (is_unfinished row)) _ e) [
-      | inl done ↦ or_left (not (is_unfinished row)) _ done
-      | inr open_one ↦
-          let parts = and_parts _ (not row.delete_flow || _) open_one in
-          or_right (not (is_unfinished row)) _ (and_from _ _ parts.0 (elim (or_cases (not row.delete_flow) _ parts.1) [
-            | inl keeps ↦ or_left (not row.delete_flow) _ keeps
-            | inr whole ↦
-                let w = and_parts _ (is_after_segments segments row) whole in
-                or_right (not row.delete_flow) _ (and_from _ _ w.0 (list_all-filter (λ s. not (s.flow == row.flow) || nat_lt s.serial row.serial) p segments w.1))
-          ]))
-    ]
-
 pub removal_keeps_good : (library : Library) (removed : List SegmentRow) (moment : ℕ) → Good library → is_moment moment ≡ true → Good (remove_segments removed moment library)
 removal_keeps_good library removed moment good at =
     let names = Names-from library good.names in
@@ -180,7 +166,7 @@ removal_keeps_good library removed moment good at =
       });
       sources = good.sources;
       collections = good.collections;
-      requests = and_from _ _ (list_all-from_In (is_request_good library.catalog.flows left) library.requests (λ row here. fewer_requests library.catalog.flows library.segments stays row (list_all-In (is_request_good library.catalog.flows library.segments) library.requests asked.0 row here))) asked.1;
+      requests = and_from _ _ (list_all-from_In (is_request_good library.catalog.flows left) library.requests (λ row here. request_stays_good library.catalog.flows library.catalog.flows library.segments left row (λ k. k) (λ k. list_all-filter (λ s. not (s.flow == row.flow) || nat_lt s.serial row.serial) stays library.segments k) (list_all-In (is_request_good library.catalog.flows library.segments) library.requests asked.0 row here))) asked.1;
       outbox = good.outbox;
       texts = Texts-test (remove_segments removed moment library) (record {
         sources = texts.sources;
