@@ -16,6 +16,8 @@ use Rattle.media_rows.specs.declared.source.SourceRow.{SourceRow}
 use Rattle.media_rows.specs.Catalog.{Catalog, source_of, flow_of, source_before, flow_before, has_flow, same_format, fits_format, fits_source, keeps_flow, collection_refusals, missing_refusal, put_refusals, put_refusal, put_row, new_source, sources_after_put, after_put, tag_before, tags_with, set_refusals, set_refusal, part_refusals, body_with, with_flow, set_row, after_set, source_with, set_source_row, with_source, after_set_source, touched, after_touch}
 use Rattle.media_rows.specs.Collections.{member_ids, is_kept, first_missing, collects_itself}
 use Rattle.media_rows.specs.Formats.{format_number}
+use Rattle.media_rows.specs.Essence.{is_essence}
+use Rattle.media_rows.specs.declared.flow.FormatKind.TheVariants.{Multi}
 use Rattle.media_rows.specs.Good.{Good, fits_kept, is_body_text, is_flow_text, is_source_text, is_tag_text, is_member_text, if_there, are_sources_good, is_collection_good}
 use Rattle.media_rows.specs.Library.{Library}
 use Rattle.media_rows.specs.Lists.{rises, placed, or_else}
@@ -115,3 +117,156 @@ fits_placed sources body moment row same rise =
     let found = find-some (λ r. r.id == body.source) all fresh among (eq-eqb body.source body.source refl) in
     let is = same_by_key (λ (r : SourceRow). r.id) all (rises-placed (λ s. s.id) fresh sources rise) found.0 fresh found.2 among (eqb-true found.0.id body.source found.3) in
     ap (λ o. fits_kept o row) (found.1 ∙ ap Some is) ∙ or_left (same_format row.body.format body.format) _ (eq-eqb (format_number row.body.format) (format_number body.format) (ap (λ (b : FlowBody). format_number b.format) same))
+
+-- the texts of a body, as facts
+record BodyTexts (body : FlowBody) : Type 0 where
+  codec : if_there is_utf8 body.codec ≡ true
+  container : if_there is_utf8 body.container ≡ true
+  label : if_there is_utf8 body.label ≡ true
+  description : if_there is_utf8 body.description ≡ true
+  tags : list_all is_tag_text body.tags ≡ true
+  members : list_all is_member_text body.members ≡ true
+  essence : if_there is_essence body.essence ≡ true
+
+BodyTexts-from : (body : FlowBody) → is_body_text body ≡ true → BodyTexts body
+BodyTexts-from body e =
+    let a = and_parts _ (if_there is_essence body.essence) e in
+    let b = and_parts _ (list_all is_member_text body.members) a.0 in
+    let c = and_parts _ (list_all is_tag_text body.tags) b.0 in
+    let d = and_parts _ (if_there is_utf8 body.description) c.0 in
+    let f = and_parts _ (if_there is_utf8 body.label) d.0 in
+    let g = and_parts (if_there is_utf8 body.codec) (if_there is_utf8 body.container) f.0 in
+    record { codec = g.0; container = g.1; label = f.1; description = d.1; tags = c.1; members = b.1; essence = a.1 }
+
+BodyTexts-test : (body : FlowBody) → BodyTexts body → is_body_text body ≡ true
+BodyTexts-test body is =
+    and_from _ _ (and_from _ _ (and_from _ _ (and_from _ _ (and_from _ _ (and_from _ _ is.codec is.container) is.label) is.description) is.tags) is.members) is.essence
+
+-- the texts and moments of a row, as facts
+record RowTexts (row : FlowRow) : Type 0 where
+  body : is_body_text row.body ≡ true
+  created : is_moment row.created ≡ true
+  updated : is_moment row.metadata_updated ≡ true
+  segments : if_there is_moment row.segments_updated ≡ true
+
+RowTexts-from : (row : FlowRow) → is_flow_text row ≡ true → RowTexts row
+RowTexts-from row e =
+    let a = and_parts _ (if_there is_moment row.segments_updated) e in
+    let b = and_parts _ (is_moment row.metadata_updated) a.0 in
+    let c = and_parts (is_body_text row.body) (is_moment row.created) b.0 in
+    record { body = c.0; created = c.1; updated = b.1; segments = a.1 }
+
+RowTexts-test : (row : FlowRow) → RowTexts row → is_flow_text row ≡ true
+RowTexts-test row is = and_from _ _ (and_from _ _ (and_from _ _ is.body is.created) is.updated) is.segments
+
+-- ---- the change of a put
+
+-- a format that is the same as another fits where that one does
+same_fits : (source : SourceRow) (row old : FlowRow) → same_format row.body.format old.body.format ≡ true → fits_kept (Some source) old ≡ true → fits_kept (Some source) row ≡ true
+same_fits source row old same e =
+    ap (λ n. (n == format_number source.format) || (n == format_number Multi)) (eqb-true (format_number row.body.format) (format_number old.body.format) same) ∙ e
+
+old_fits : (library : Library) → Good library → (old : FlowRow) → In old library.catalog.flows → fits_kept (source_of old.body.source library.catalog.sources) old ≡ true
+old_fits library good old here =
+    list_all-In (λ row. fits_kept (source_of row.body.source library.catalog.sources) row) library.catalog.flows (and_parts (list_all (λ row. fits_kept (source_of row.body.source library.catalog.sources) row) library.catalog.flows) (list_all (has_flow library.catalog.flows) library.catalog.sources) good.sources).0 old here
+
+put_catalog : Option FlowRow → Option SourceRow → FlowBody → ℕ → Catalog → Catalog
+put_catalog o s body moment catalog = record {
+  sources = sources_after_put s catalog.sources body moment;
+  flows = placed flow_before (put_row o body moment) catalog.flows;
+}
+
+put_text : (o : Option FlowRow) (body : FlowBody) (moment : ℕ) → is_moment moment ≡ true → is_body_text body ≡ true → ((old : FlowRow) → o ≡ Some old → is_flow_text old ≡ true) → is_flow_text (put_row o body moment) ≡ true
+put_text None body moment at text old = RowTexts-test (put_row None body moment) (record { body = text; created = at; updated = at; segments = refl })
+put_text (Some row) body moment at text old =
+    let t = RowTexts-from row (old row refl) in RowTexts-test (put_row (Some row) body moment) (record { body = text; created = t.created; updated = at; segments = t.segments })
+
+put_body : (o : Option FlowRow) (body : FlowBody) (moment : ℕ) → (put_row o body moment).body ≡ body
+put_body None body moment = refl
+put_body (Some old) body moment = refl
+
+-- what a put that is not refused tells
+record Put (library : Library) (body : FlowBody) (o : Option FlowRow) (s : Option SourceRow) : Type 0 where
+  flow : flow_of body.id library.catalog.flows ≡ o
+  source : source_of body.source library.catalog.sources ≡ s
+  entries_good : Entries library.catalog.flows body.id body.members
+  fits : (src : SourceRow) → s ≡ Some src → fits_format src.format body.format ≡ true
+  same_source : (r : FlowRow) → In r library.catalog.flows → r.body.id ≡ body.id → r.body.source ≡ body.source
+
+put_change : (library : Library) (body : FlowBody) (moment : ℕ) (o : Option FlowRow) (s : Option SourceRow) → Good library → is_moment moment ≡ true → is_body_text body ≡ true
+    → Put library body o s → Sources library.catalog.sources (sources_after_put s library.catalog.sources body moment) body.source
+    → fits_kept (source_of body.source (sources_after_put s library.catalog.sources body moment)) (put_row o body moment) ≡ true
+    → FlowChange library (put_catalog o s body moment library.catalog) (put_row o body moment)
+unfolding put_catalog
+put_change library body moment o s good at text put sources fits =
+    let names = Names-from library good.names in
+    let texts = Texts-from library good.texts in
+    let order = and_parts (rises source_before library.catalog.sources) (rises flow_before library.catalog.flows) names.catalog in
+    let new : FlowRow = put_row o body moment in
+    let own : new.body ≡ body = put_body o body moment in
+    record {
+      replaces = placed-Replaces library.catalog.flows new;
+      flows_rise = rises-placed (λ r. r.body.id) new library.catalog.flows order.1;
+      sources_rise = sources.rise;
+      old_sources = sources.old;
+      new_sources = λ q here. elim (sources.new q here) [ inl old ↦ inl old | inr same ↦ inr (same ∙ sym (ap (λ (b : FlowBody). b.source) own)) ];
+      fits = subst (λ (b : FlowBody). fits_kept (source_of b.source (sources_after_put s library.catalog.sources body moment)) new ≡ true) (sym own) fits;
+      same_source = λ r here e. put.same_source r here (e ∙ ap (λ (b : FlowBody). b.id) own) ∙ sym (ap (λ (b : FlowBody). b.source) own);
+      members = λ id entry. elim (put.entries_good.kept id (subst (λ (b : FlowBody). In id (member_ids b.members)) own entry)) [ inl same ↦ inl (same ∙ sym (ap (λ (b : FlowBody). b.id) own)) | inr kept ↦ inr kept ];
+      reaches = ap (λ (b : FlowBody). collects_itself library.catalog.flows b.id b.members) own ∙ put.entries_good.reaches;
+      text = put_text o body moment at text (λ old e. list_all-In is_flow_text library.catalog.flows texts.flows old (find-In (λ r. r.body.id == body.id) library.catalog.flows old (put.flow ∙ e)).0);
+      source_texts = sources.texts;
+    }
+
+-- a put that is not refused
+put_told : (library : Library) (body : FlowBody) (o : Option FlowRow) (s : Option SourceRow) → Good library → flow_of body.id library.catalog.flows ≡ o → source_of body.source library.catalog.sources ≡ s
+    → first_refusal (put_refusals o library.catalog body) ≡ None → Put library body o s
+put_told library body None s good flow source none =
+    let parts = none_first (when (not (fits_source (source_of body.source library.catalog.sources) body)) refusals.SourceFormat) (collection_refusals library.catalog.flows body.id body.members) none in
+    record {
+      flow = flow;
+      source = source;
+      entries_good = entries library.catalog.flows body.id body.members parts.1;
+      fits = λ src e. ap (λ q. fits_source q body) (sym (source ∙ e)) ∙ not-false (fits_source (source_of body.source library.catalog.sources) body) (not_when _ refusals.SourceFormat parts.0);
+      same_source = λ r here e. absurd (false≢true (sym (find-none (λ q. q.body.id == body.id) library.catalog.flows flow r here) ∙ eq-eqb r.body.id body.id e));
+    }
+put_told library body (Some old) s good flow source none =
+    let names = Names-from library good.names in
+    let order = and_parts (rises source_before library.catalog.sources) (rises flow_before library.catalog.flows) names.catalog in
+    let first = none_first (when old.body.read_only refusals.ReadOnly) (when (not (keeps_flow old.body body)) refusals.FlowChanged ∷ collection_refusals library.catalog.flows body.id body.members) none in
+    let parts = none_first (when (not (keeps_flow old.body body)) refusals.FlowChanged) (collection_refusals library.catalog.flows body.id body.members) first.1 in
+    let keeps = and_parts (body.source == old.body.source) (same_format body.format old.body.format) (not-false (keeps_flow old.body body) (not_when _ refusals.FlowChanged parts.0)) in
+    let at = find-In (λ r. r.body.id == body.id) library.catalog.flows old flow in
+    let under : old.body.source ≡ body.source = sym (eqb-true body.source old.body.source keeps.0) in
+    record {
+      flow = flow;
+      source = source;
+      entries_good = entries library.catalog.flows body.id body.members parts.1;
+      fits = λ src e. same_fits src (put_row None body 0) old keeps.1 (ap (λ q. fits_kept q old) (sym (ap (λ i. source_of i library.catalog.sources) under ∙ source ∙ e)) ∙ old_fits library good old at.0);
+      same_source = λ r here e. ap (λ (q : FlowRow). q.body.source) (same_by_key (λ q. q.body.id) library.catalog.flows order.1 r old here at.0 (e ∙ sym (eqb-true old.body.id body.id at.1))) ∙ under;
+    }
+
+put_by : (library : Library) (body : FlowBody) (moment : ℕ) (o : Option FlowRow) (s : Option SourceRow) → Good library → is_moment moment ≡ true → is_body_text body ≡ true
+    → Put library body o s → FlowChange library (put_catalog o s body moment library.catalog) (put_row o body moment)
+put_by library body moment o None good at text put =
+    let names = Names-from library good.names in
+    let texts = Texts-from library good.texts in
+    let order = and_parts (rises source_before library.catalog.sources) (rises flow_before library.catalog.flows) names.catalog in
+    put_change library body moment o None good at text put
+    (one_more_source library.catalog.sources body moment at order.0 texts.sources put.source)
+    (fits_placed library.catalog.sources body moment (put_row o body moment) (put_body o body moment) order.0)
+put_by library body moment o (Some src) good at text put =
+    let names = Names-from library good.names in
+    let texts = Texts-from library good.texts in
+    let order = and_parts (rises source_before library.catalog.sources) (rises flow_before library.catalog.flows) names.catalog in
+    put_change library body moment o (Some src) good at text put
+    (same_sources library.catalog.sources body.source order.0 texts.sources)
+    (ap (λ q. fits_kept q (put_row o body moment)) put.source ∙ ap (λ (b : FlowBody). fits_format src.format b.format) (put_body o body moment) ∙ put.fits src refl)
+
+pub put_keeps_catalog : (library : Library) (body : FlowBody) (moment : ℕ) → Good library → is_moment moment ≡ true → is_body_text body ≡ true → put_refusal library.catalog body ≡ None
+    → Good (with_catalog (after_put body moment library.catalog) library)
+unfolding put_catalog
+put_keeps_catalog library body moment good at text none =
+    flow_change_keeps_good library (after_put body moment library.catalog) (put_row (flow_of body.id library.catalog.flows) body moment)
+    (put_by library body moment (flow_of body.id library.catalog.flows) (source_of body.source library.catalog.sources) good at text
+    (put_told library body (flow_of body.id library.catalog.flows) (source_of body.source library.catalog.sources) good refl refl none)) good

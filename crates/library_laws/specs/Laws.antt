@@ -10,6 +10,11 @@ use Rattle.media_rows.specs.Answer.{answer}
 use Rattle.media_rows.specs.Apply.{is_allowed}
 use Rattle.media_rows.specs.Changes.{moment_of}
 use Rattle.media_rows.specs.Collections.{collects_itself, AnyReaches}
+use Rattle.media_rows.specs.Good.{if_there, is_tag_text, is_member_text}
+use Rattle.media_rows.specs.declared.part.Part.{Part}
+use Rattle.media_rows.specs.declared.part.Part.TheVariants as parts
+use Rattle.std.specs.List.{list_all}
+use Rattle.std.specs.Str.{is_utf8}
 use Rattle.media_rows.specs.Library.{Library}
 use Rattle.media_rows.specs.Objects.{is_free, blocks_of, swept_objects}
 use Rattle.media_rows.specs.Requests.{removed_by_step}
@@ -57,3 +62,15 @@ AnswersAreAllowed = (library : Library) (command : Command) (moment : ℕ) → H
 -- the bounded test finds a flow that reaches itself exactly where a way through collections leads back to it
 abbrev pub CirclesAreFound : Type 0
 CirclesAreFound = (flows : List FlowRow) (id : ℕ) (members : List Member) → IsTrue (collects_itself flows id members) ↔ AnyReaches flows members id
+
+-- ---- changes and good libraries
+
+-- the texts of a part are good
+abbrev pub is_part_good : Part → Bool
+is_part_good (parts.Tag name new) = if_there is_tag_text new
+is_part_good (parts.Label new) = if_there is_utf8 new
+is_part_good (parts.Description new) = if_there is_utf8 new
+is_part_good (parts.ReadOnly new) = true
+is_part_good (parts.Collection new) = list_all is_member_text new
+is_part_good (parts.MaxBitRate new) = true
+is_part_good (parts.AvgBitRate new) = true
