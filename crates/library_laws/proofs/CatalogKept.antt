@@ -57,11 +57,11 @@ there_or true b to id e k = inl (eqb-true to id e)
 there_or false b to id e k = inr k
 
 -- entries of a collection that is not refused
-record Entries (flows : List FlowRow) (id : ℕ) (members : List Member) : Type 0 where
-  kept : (to : ℕ) → In to (member_ids members) → (to ≡ id) ⊎ (is_kept flows to ≡ true)
-  reaches : collects_itself flows id members ≡ false
+pub record Entries (flows : List FlowRow) (id : ℕ) (members : List Member) : Type 0 where
+  pub kept : (to : ℕ) → In to (member_ids members) → (to ≡ id) ⊎ (is_kept flows to ≡ true)
+  pub reaches : collects_itself flows id members ≡ false
 
-entries : (flows : List FlowRow) (id : ℕ) (members : List Member) → first_refusal (collection_refusals flows id members) ≡ None → Entries flows id members
+pub entries : (flows : List FlowRow) (id : ℕ) (members : List Member) → first_refusal (collection_refusals flows id members) ≡ None → Entries flows id members
 entries flows id members e =
     let parts = none_first (missing_refusal (first_missing flows id members)) (when (collects_itself flows id members) refusals.CollectsItself ∷ []) e in
     let own = none_first (when (collects_itself flows id members) refusals.CollectsItself) [] parts.1 in
@@ -119,16 +119,16 @@ fits_placed sources body moment row same rise =
     ap (λ o. fits_kept o row) (found.1 ∙ ap Some is) ∙ or_left (same_format row.body.format body.format) _ (eq-eqb (format_number row.body.format) (format_number body.format) (ap (λ (b : FlowBody). format_number b.format) same))
 
 -- the texts of a body, as facts
-record BodyTexts (body : FlowBody) : Type 0 where
-  codec : if_there is_utf8 body.codec ≡ true
-  container : if_there is_utf8 body.container ≡ true
-  label : if_there is_utf8 body.label ≡ true
-  description : if_there is_utf8 body.description ≡ true
-  tags : list_all is_tag_text body.tags ≡ true
-  members : list_all is_member_text body.members ≡ true
-  essence : if_there is_essence body.essence ≡ true
+pub record BodyTexts (body : FlowBody) : Type 0 where
+  pub codec : if_there is_utf8 body.codec ≡ true
+  pub container : if_there is_utf8 body.container ≡ true
+  pub label : if_there is_utf8 body.label ≡ true
+  pub description : if_there is_utf8 body.description ≡ true
+  pub tags : list_all is_tag_text body.tags ≡ true
+  pub members : list_all is_member_text body.members ≡ true
+  pub essence : if_there is_essence body.essence ≡ true
 
-BodyTexts-from : (body : FlowBody) → is_body_text body ≡ true → BodyTexts body
+pub BodyTexts-from : (body : FlowBody) → is_body_text body ≡ true → BodyTexts body
 BodyTexts-from body e =
     let a = and_parts _ (if_there is_essence body.essence) e in
     let b = and_parts _ (list_all is_member_text body.members) a.0 in
@@ -138,25 +138,25 @@ BodyTexts-from body e =
     let g = and_parts (if_there is_utf8 body.codec) (if_there is_utf8 body.container) f.0 in
     record { codec = g.0; container = g.1; label = f.1; description = d.1; tags = c.1; members = b.1; essence = a.1 }
 
-BodyTexts-test : (body : FlowBody) → BodyTexts body → is_body_text body ≡ true
+pub BodyTexts-test : (body : FlowBody) → BodyTexts body → is_body_text body ≡ true
 BodyTexts-test body is =
     and_from _ _ (and_from _ _ (and_from _ _ (and_from _ _ (and_from _ _ (and_from _ _ is.codec is.container) is.label) is.description) is.tags) is.members) is.essence
 
 -- the texts and moments of a row, as facts
-record RowTexts (row : FlowRow) : Type 0 where
-  body : is_body_text row.body ≡ true
-  created : is_moment row.created ≡ true
-  updated : is_moment row.metadata_updated ≡ true
-  segments : if_there is_moment row.segments_updated ≡ true
+pub record RowTexts (row : FlowRow) : Type 0 where
+  pub body : is_body_text row.body ≡ true
+  pub created : is_moment row.created ≡ true
+  pub updated : is_moment row.metadata_updated ≡ true
+  pub segments : if_there is_moment row.segments_updated ≡ true
 
-RowTexts-from : (row : FlowRow) → is_flow_text row ≡ true → RowTexts row
+pub RowTexts-from : (row : FlowRow) → is_flow_text row ≡ true → RowTexts row
 RowTexts-from row e =
     let a = and_parts _ (if_there is_moment row.segments_updated) e in
     let b = and_parts _ (is_moment row.metadata_updated) a.0 in
     let c = and_parts (is_body_text row.body) (is_moment row.created) b.0 in
     record { body = c.0; created = c.1; updated = b.1; segments = a.1 }
 
-RowTexts-test : (row : FlowRow) → RowTexts row → is_flow_text row ≡ true
+pub RowTexts-test : (row : FlowRow) → RowTexts row → is_flow_text row ≡ true
 RowTexts-test row is = and_from _ _ (and_from _ _ (and_from _ _ is.body is.created) is.updated) is.segments
 
 -- ---- the change of a put
@@ -166,7 +166,7 @@ same_fits : (source : SourceRow) (row old : FlowRow) → same_format row.body.fo
 same_fits source row old same e =
     ap (λ n. (n == format_number source.format) || (n == format_number Multi)) (eqb-true (format_number row.body.format) (format_number old.body.format) same) ∙ e
 
-old_fits : (library : Library) → Good library → (old : FlowRow) → In old library.catalog.flows → fits_kept (source_of old.body.source library.catalog.sources) old ≡ true
+pub old_fits : (library : Library) → Good library → (old : FlowRow) → In old library.catalog.flows → fits_kept (source_of old.body.source library.catalog.sources) old ≡ true
 old_fits library good old here =
     list_all-In (λ row. fits_kept (source_of row.body.source library.catalog.sources) row) library.catalog.flows (and_parts (list_all (λ row. fits_kept (source_of row.body.source library.catalog.sources) row) library.catalog.flows) (list_all (has_flow library.catalog.flows) library.catalog.sources) good.sources).0 old here
 

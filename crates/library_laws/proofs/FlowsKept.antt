@@ -202,11 +202,10 @@ collections_stay_good library catalog new is e =
     no_circle flows catalog.flows new is.replaces none own r here ((collects_itself_is catalog.flows r.body.id r.body.members).0 bad)))))
 
 -- the library with another catalog
-pub with_catalog : Catalog → Library → Library
+abbrev pub with_catalog : Catalog → Library → Library
 with_catalog catalog library = record library { catalog = catalog }
 
 pub flow_change_keeps_good : (library : Library) (catalog : Catalog) (new : FlowRow) → FlowChange library catalog new → Good library → Good (with_catalog catalog library)
-unfolding with_catalog
 flow_change_keeps_good library catalog new is good =
     let names = Names-from library good.names in
     let texts = Texts-from library good.texts in

@@ -9,3 +9,4 @@ mod NewObjectsKept
 mod HooksKept
 mod FlowsKept
 mod CatalogKept
+mod SettingsKept
