@@ -31,7 +31,7 @@ by_refusal P (Some why) outcome h = tt
 none_is : {X : Type 0} (o : Option X) → o ≡ None → is_none o ≡ true
 none_is o e = ap is_none e
 
-neither : {X : Type 0} (a b : Option X) → or_else a b ≡ None → (a ≡ None) × (b ≡ None)
+pub neither : {X : Type 0} (a b : Option X) → or_else a b ≡ None → (a ≡ None) × (b ≡ None)
 neither None b e = (refl, e)
 neither (Some x) b e = absurd (cc)
 

@@ -234,7 +234,7 @@ flow_change_keeps_good library catalog new is good =
       sources = sources_stay_good library catalog new is good.sources;
       collections = collections_stay_good library catalog new is good.collections;
       requests = and_from _ _ (list_all-from_In (is_request_good catalog.flows library.segments) library.requests (λ row here.
-          request_stays_good library.catalog.flows catalog.flows library.segments library.segments row (kept row.flow) (λ k. k) (list_all-In (is_request_good library.catalog.flows library.segments) library.requests asked.0 row here))) asked.1;
+          request_stays_good library.catalog.flows catalog.flows library.segments library.segments row (λ u. kept row.flow) (λ u d k. k) (list_all-In (is_request_good library.catalog.flows library.segments) library.requests asked.0 row here))) asked.1;
       outbox = good.outbox;
       texts = Texts-test (with_catalog catalog library) (record {
         sources = is.source_texts;

@@ -14,7 +14,7 @@ use Rattle.media_rows.specs.Lists.{are_distinct_texts, has_number}
 use Rattle.media_rows.specs.Outbox.{Outbox, has_url, waiting_for, waiting_count, gone_serials, after_drop_hook, hook_row, most_waiting}
 use Rattle.library_laws.proofs.ListLemmas.{In, In-append, In-front, In-back, In-filter, filter-In, map-In, In-map, list_all-In, list_all-from_In, list_any-In, list_any-from_In, rises-filter, list_all-filter, In-has_number, has_number-In, count-filter}
 use Rattle.library_laws.proofs.KeptLemmas.{Sub, Sub-same, Sub-filter, Sub-append, rises-Sub, Serials, Serials-Sub, counted-New, rises-counted, serials_hooks, list_all-both, rises-both, same_text, text_same}
-use Rattle.library_laws.proofs.OutboxKept.{Names, Names-from, Names-test, Texts, Texts-from, Texts-test}
+use Rattle.library_laws.proofs.OutboxKept.{hook_below, Names, Names-from, Names-test, Texts, Texts-from, Texts-test}
 
 -- ---- a hook that goes
 
@@ -118,8 +118,7 @@ added_hook_keeps_good library row good serial fresh text apart most =
     let names = Names-from library good.names in
     let texts = Texts-from library good.texts in
     let outbox = and_parts (list_all (has_hook library.outbox.hooks) library.outbox.events) (list_all (is_hook_good library.outbox.events) library.outbox.hooks) good.outbox in
-    let below : (other : HookRow) → In other library.outbox.hooks → other.serial < library.next_serial = λ other here.
-    (names.serials.within other.serial (In-front _ (map (λ e. e.serial) library.outbox.events) other.serial (In-back _ (map (λ h. h.serial) library.outbox.hooks) other.serial (map-In (λ h. h.serial) library.outbox.hooks other here)))).1 in
+    let below = hook_below library names in
     let waiting = none_waits row.serial library.outbox.events (λ event here same.
     let hook = list_any-In (λ h. h.serial == event.hook) library.outbox.hooks (list_all-In (has_hook library.outbox.hooks) library.outbox.events outbox.0 event here) in
     let at = eqb-true hook.0.serial event.hook hook.2 in

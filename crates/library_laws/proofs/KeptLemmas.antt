@@ -305,3 +305,20 @@ regroup_hooks o s r h w e = simp append_assoc
 pub serials_hooks : (next after : ℕ) (o s r h w e : List ℕ) → 1 ≤ next → next ≤ after → Serials next (o ++ s ++ r ++ h ++ e) → New next after w → Serials after (o ++ s ++ r ++ (h ++ w) ++ e)
 serials_hooks next after o s r h w e least le is new =
     subst (Serials after) (sym (regroup_hooks o s r h w e)) (Serials-more next after (o ++ s ++ r ++ h) w e least le is new)
+
+-- ---- serials of the five lists among all
+
+pub among_objects : (o s r h e : List ℕ) (x : ℕ) → In x o → In x (o ++ s ++ r ++ h ++ e)
+among_objects o s r h e x here = In-front (o ++ s ++ r ++ h) e x (In-front (o ++ s ++ r) h x (In-front (o ++ s) r x (In-front o s x here)))
+
+pub among_segments : (o s r h e : List ℕ) (x : ℕ) → In x s → In x (o ++ s ++ r ++ h ++ e)
+among_segments o s r h e x here = In-front (o ++ s ++ r ++ h) e x (In-front (o ++ s ++ r) h x (In-front (o ++ s) r x (In-back o s x here)))
+
+pub among_requests : (o s r h e : List ℕ) (x : ℕ) → In x r → In x (o ++ s ++ r ++ h ++ e)
+among_requests o s r h e x here = In-front (o ++ s ++ r ++ h) e x (In-front (o ++ s ++ r) h x (In-back (o ++ s) r x here))
+
+pub among_hooks : (o s r h e : List ℕ) (x : ℕ) → In x h → In x (o ++ s ++ r ++ h ++ e)
+among_hooks o s r h e x here = In-front (o ++ s ++ r ++ h) e x (In-back (o ++ s ++ r) h x here)
+
+pub among_events : (o s r h e : List ℕ) (x : ℕ) → In x e → In x (o ++ s ++ r ++ h ++ e)
+among_events o s r h e x here = In-back (o ++ s ++ r ++ h) e x here

@@ -10,3 +10,4 @@ mod HooksKept
 mod FlowsKept
 mod CatalogKept
 mod SettingsKept
+mod PostsKept

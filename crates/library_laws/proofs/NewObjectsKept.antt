@@ -17,7 +17,7 @@ use Rattle.media_rows.specs.Moments.{is_moment}
 use Rattle.media_rows.specs.Objects.{object_of, is_stored, is_stored_row, is_stored_object, allocated_rows, stored_row, with_bytes, is_free, is_clear_of, are_apart, blocks_of}
 use Rattle.library_laws.proofs.ListLemmas.{In, In-append, In-front, map-In, In-map, find-In, find-some, find-map, list_all-In, list_all-from_In, list_any-from_In}
 use Rattle.library_laws.proofs.KeptLemmas.{Serials, New, counted, counted-New, rises-counted, serials_objects, map-kept, list_all-mapped, list_all-both, rises-both, rises-mapped, rises-keys, same_text, text_same}
-use Rattle.library_laws.proofs.OutboxKept.{Names, Names-from, Names-test, Texts, Texts-from, Texts-test}
+use Rattle.library_laws.proofs.OutboxKept.{object_below, Names, Names-from, Names-test, Texts, Texts-from, Texts-test}
 
 -- ---- ids of an allocation
 
@@ -111,7 +111,7 @@ allocation_keeps_good library moment ids good at forms free most =
             false≢true (sym (fresh.apart b there).0 ∙ ap is_some kept.1))));
         urls = names.urls;
         objects_rise = rises-counted (λ row. row.serial) library.objects new library.next_serial (length ids) names.objects_rise
-            (λ row here. (names.serials.within row.serial (In-front _ _ row.serial (In-front _ _ row.serial (In-front _ _ row.serial (In-front _ _ row.serial (map-In (λ r. r.serial) library.objects row here)))))).1) numbers;
+            (object_below library names) numbers;
         segments_rise = names.segments_rise;
         requests_rise = names.requests_rise;
         hooks_rise = names.hooks_rise;

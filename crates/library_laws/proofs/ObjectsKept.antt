@@ -166,7 +166,7 @@ removal_keeps_good library removed moment good at =
       });
       sources = good.sources;
       collections = good.collections;
-      requests = and_from _ _ (list_all-from_In (is_request_good library.catalog.flows left) library.requests (λ row here. request_stays_good library.catalog.flows library.catalog.flows library.segments left row (λ k. k) (λ k. list_all-filter (λ s. not (s.flow == row.flow) || nat_lt s.serial row.serial) stays library.segments k) (list_all-In (is_request_good library.catalog.flows library.segments) library.requests asked.0 row here))) asked.1;
+      requests = and_from _ _ (list_all-from_In (is_request_good library.catalog.flows left) library.requests (λ row here. request_stays_good library.catalog.flows library.catalog.flows library.segments left row (λ u k. k) (λ u d k. list_all-filter (λ s. not (s.flow == row.flow) || nat_lt s.serial row.serial) stays library.segments k) (list_all-In (is_request_good library.catalog.flows library.segments) library.requests asked.0 row here))) asked.1;
       outbox = good.outbox;
       texts = Texts-test (remove_segments removed moment library) (record {
         sources = texts.sources;

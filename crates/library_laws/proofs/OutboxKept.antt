@@ -7,13 +7,16 @@ use Rattle.std.proofs.lemmas.Bool.{and_parts, and_from, or_cases, or_left, or_ri
 use Rattle.media_rows.specs.declared.event.EventRow.{EventRow}
 use Rattle.media_rows.specs.declared.event.Happened.{Happened}
 use Rattle.media_rows.specs.declared.hook.HookRow.{HookRow}
+use Rattle.media_rows.specs.declared.object.ObjectRow.{ObjectRow}
+use Rattle.media_rows.specs.declared.request.DeleteRow.{DeleteRow}
+use Rattle.media_rows.specs.declared.segment.SegmentRow.{SegmentRow}
 use Rattle.media_rows.specs.Lists.{rises, are_distinct, are_distinct_texts}
 use Rattle.media_rows.specs.Moments.{is_moment}
 use Rattle.media_rows.specs.Outbox.{Outbox, Posted, waiting_for, waiting_count, takes, event_row, events_for, new_events, marked, with_events, after_one, after_post, most_waiting, same_event, is_of_source, admits}
 use Rattle.media_rows.specs.Good.{Good, rises_by, are_serials_good, are_serials_in_order, are_names_good, has_hook, is_hook_good, is_outbox_good, are_urls_distinct, are_texts_good, is_hook_text, is_event_text, is_catalog_in_order, are_object_ids_distinct, is_source_text, is_flow_text, is_object_text, is_request_text}
 use Rattle.media_rows.specs.Library.{Library, last_serial, serials_of, with_posted, with_happened}
 use Rattle.library_laws.proofs.ListLemmas.{In, In-append, In-front, In-back, In-filter, In-map, map-In, list_all-In, list_all-from_In, list_any-In, list_any-from_In, rises-In, rises-filter}
-use Rattle.library_laws.proofs.KeptLemmas.{same_by_key, counted, counted-New, rises-counted, Sub, Sub-filter, Serials, New, Serials-from, Serials-test, Serials-more, map-kept, list_all-mapped, list_all-both, rises-keys, rises-both, rises-mapped}
+use Rattle.library_laws.proofs.KeptLemmas.{among_objects, among_segments, among_requests, among_hooks, among_events, same_by_key, counted, counted-New, rises-counted, Sub, Sub-filter, Serials, New, Serials-from, Serials-test, Serials-more, map-kept, list_all-mapped, list_all-both, rises-keys, rises-both, rises-mapped}
 
 -- ---- new events
 
@@ -232,10 +235,21 @@ after_happened happened moment library = with_posted (record {
   next = library.next_serial + length (new_events happened moment library.next_serial library.outbox.hooks);
 }) library
 
--- an event's serial is below the next one
-event_below : (library : Library) → Names library → (event : EventRow) → In event library.outbox.events → event.serial < library.next_serial
-event_below library names event here =
-    (names.serials.within event.serial (In-back _ (map (λ row. row.serial) library.outbox.events) event.serial (map-In (λ row. row.serial) library.outbox.events event here))).1
+-- serials are below the next one
+pub object_below : (library : Library) → Names library → (row : ObjectRow) → In row library.objects → row.serial < library.next_serial
+object_below library names row here = (names.serials.within row.serial (among_objects (map (λ r. r.serial) library.objects) (map (λ r. r.serial) library.segments) (map (λ r. r.serial) library.requests) (map (λ r. r.serial) library.outbox.hooks) (map (λ r. r.serial) library.outbox.events) row.serial (map-In (λ r. r.serial) library.objects row here))).1
+
+pub segment_below : (library : Library) → Names library → (row : SegmentRow) → In row library.segments → row.serial < library.next_serial
+segment_below library names row here = (names.serials.within row.serial (among_segments (map (λ r. r.serial) library.objects) (map (λ r. r.serial) library.segments) (map (λ r. r.serial) library.requests) (map (λ r. r.serial) library.outbox.hooks) (map (λ r. r.serial) library.outbox.events) row.serial (map-In (λ r. r.serial) library.segments row here))).1
+
+pub request_below : (library : Library) → Names library → (row : DeleteRow) → In row library.requests → row.serial < library.next_serial
+request_below library names row here = (names.serials.within row.serial (among_requests (map (λ r. r.serial) library.objects) (map (λ r. r.serial) library.segments) (map (λ r. r.serial) library.requests) (map (λ r. r.serial) library.outbox.hooks) (map (λ r. r.serial) library.outbox.events) row.serial (map-In (λ r. r.serial) library.requests row here))).1
+
+pub hook_below : (library : Library) → Names library → (row : HookRow) → In row library.outbox.hooks → row.serial < library.next_serial
+hook_below library names row here = (names.serials.within row.serial (among_hooks (map (λ r. r.serial) library.objects) (map (λ r. r.serial) library.segments) (map (λ r. r.serial) library.requests) (map (λ r. r.serial) library.outbox.hooks) (map (λ r. r.serial) library.outbox.events) row.serial (map-In (λ r. r.serial) library.outbox.hooks row here))).1
+
+pub event_below : (library : Library) → Names library → (row : EventRow) → In row library.outbox.events → row.serial < library.next_serial
+event_below library names row here = (names.serials.within row.serial (among_events (map (λ r. r.serial) library.objects) (map (λ r. r.serial) library.segments) (map (λ r. r.serial) library.requests) (map (λ r. r.serial) library.outbox.hooks) (map (λ r. r.serial) library.outbox.events) row.serial (map-In (λ r. r.serial) library.outbox.events row here))).1
 
 serials_after : (library : Library) (hooks : List HookRow) (new : List EventRow) → map (λ row. row.serial) hooks ≡ map (λ row. row.serial) library.outbox.hooks
     → map (λ row. row.serial) library.objects ++ map (λ row. row.serial) library.segments ++ map (λ row. row.serial) library.requests ++ map (λ row. row.serial) hooks
