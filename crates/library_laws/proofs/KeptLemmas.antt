@@ -322,3 +322,9 @@ among_hooks o s r h e x here = In-front (o ++ s ++ r ++ h) e x (In-back (o ++ s 
 
 pub among_events : (o s r h e : List ℕ) (x : ℕ) → In x e → In x (o ++ s ++ r ++ h ++ e)
 among_events o s r h e x here = In-back (o ++ s ++ r ++ h) e x here
+
+-- fewer serials of one list
+pub fewer_requests : (next : ℕ) (o s r r₂ h e : List ℕ) → Sub r₂ r → Serials next (o ++ s ++ r ++ h ++ e) → Serials next (o ++ s ++ r₂ ++ h ++ e)
+fewer_requests next o s r r₂ h e sub is =
+    Serials-Sub next (o ++ s ++ r₂ ++ h ++ e) (o ++ s ++ r ++ h ++ e)
+    (Sub-append (o ++ s ++ r₂ ++ h) (o ++ s ++ r ++ h) e e (Sub-append (o ++ s ++ r₂) (o ++ s ++ r) h h (Sub-append (o ++ s) (o ++ s) r₂ r (Sub-same (o ++ s)) sub) (Sub-same h)) (Sub-same e)) is

@@ -11,3 +11,5 @@ mod FlowsKept
 mod CatalogKept
 mod SettingsKept
 mod PostsKept
+mod DeletionKept
+mod ChangesKept

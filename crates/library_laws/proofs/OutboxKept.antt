@@ -316,7 +316,7 @@ one_keeps happened moment library good at most =
     }
 
 -- the next serial never falls
-next_grows : (happened : List Happened) (moment : ℕ) (posted : Posted) → posted.next ≤ (after_post happened moment posted).next
+pub next_grows : (happened : List Happened) (moment : ℕ) (posted : Posted) → posted.next ≤ (after_post happened moment posted).next
 next_grows [] moment posted = omega arith
 next_grows (one ∷ later) moment posted =
     let rest = next_grows later moment (record {

@@ -1,23 +1,27 @@
 -- Laws over the definitions of the library.
-use Rattle.std.specs.Prelude.{◌≡◌, ◌↔◌, ◌≤◌, ◌+◌, ℕ, Bool, true, IsTrue, List, Option, Some, None, IfSome, length}
+use Rattle.std.specs.Prelude.{◌≡◌, ◌↔◌, ◌≤◌, ◌+◌, ◌==◌, ◌||◌, not, nat_lt, ℕ, Bool, true, IsTrue, List, Contains, Option, Some, None, IfSome, length}
 use Rattle.media_rows.specs.declared.change.Change.{Change}
 use Rattle.media_rows.specs.declared.command.Command.{Command}
 use Rattle.media_rows.specs.declared.command.Command.TheVariants as commands
 use Rattle.media_rows.specs.declared.flow.FlowRow.{FlowRow}
 use Rattle.media_rows.specs.declared.flow.Member.{Member}
-use Rattle.media_rows.specs.declared.request.DeleteRow.{DeleteRow}
 use Rattle.media_rows.specs.Answer.{answer}
-use Rattle.media_rows.specs.Apply.{is_allowed}
-use Rattle.media_rows.specs.Changes.{moment_of}
+use Rattle.media_rows.specs.Apply.{is_allowed, applied}
+use Rattle.media_rows.specs.Changes.{moment_of, after}
 use Rattle.media_rows.specs.Collections.{collects_itself, AnyReaches}
-use Rattle.media_rows.specs.Good.{if_there, is_tag_text, is_member_text}
+use Rattle.media_rows.specs.Good.{Good, is_good, if_there, is_tag_text, is_member_text, is_body_text, is_hook_text}
+use Rattle.media_rows.specs.Ids.{is_object_id}
+use Rattle.media_rows.specs.Moments.{is_moment}
+use Rattle.media_rows.specs.Outbox.{hook_row}
+use Rattle.media_rows.specs.Ranges.{has_both_ends, is_eternity}
+use Rattle.media_rows.specs.declared.object.ObjectRow.{ObjectRow}
+use Rattle.media_rows.specs.declared.change.Change.TheVariants as changes
 use Rattle.media_rows.specs.declared.part.Part.{Part}
 use Rattle.media_rows.specs.declared.part.Part.TheVariants as parts
 use Rattle.std.specs.List.{list_all}
 use Rattle.std.specs.Str.{is_utf8}
-use Rattle.media_rows.specs.Library.{Library}
-use Rattle.media_rows.specs.Objects.{is_free, blocks_of, swept_objects}
-use Rattle.media_rows.specs.Requests.{removed_by_step}
+use Rattle.media_rows.specs.Library.{Library, last_serial}
+use Rattle.media_rows.specs.Objects.{is_free, is_stored, blocks_of}
 
 -- ---- answers and changes
 
@@ -74,3 +78,55 @@ is_part_good (parts.ReadOnly new) = true
 is_part_good (parts.Collection new) = list_all is_member_text new
 is_part_good (parts.MaxBitRate new) = true
 is_part_good (parts.AvgBitRate new) = true
+
+-- what a change itself brings is good: its texts, the ends of its ranges, and the place of an object without
+-- bytes
+abbrev pub HasGoodValues : Change → Type 0
+HasGoodValues (changes.PutFlow moment flow) = IsTrue (is_body_text flow)
+HasGoodValues (changes.SetFlow moment flow part) = IsTrue (is_part_good part)
+HasGoodValues (changes.SetSource moment source part) = IsTrue (is_part_good part)
+HasGoodValues (changes.DropFlow moment flow) = Unit {0}
+HasGoodValues (changes.Allocate moment flow ids) = IsTrue (list_all is_object_id ids)
+HasGoodValues (changes.Store moment object start size) = IsTrue (nat_lt 0 size || (start == 0))
+HasGoodValues (changes.AddSegments moment flow posts) = IsTrue (list_all (λ post. has_both_ends post.range) posts)
+HasGoodValues (changes.CutSegments moment flow range) = Unit {0}
+HasGoodValues (changes.AskDelete moment flow range delete_flow) = IsTrue (not delete_flow || is_eternity range)
+HasGoodValues (changes.DeleteStep moment) = Unit {0}
+HasGoodValues (changes.SweepStep moment) = Unit {0}
+HasGoodValues (changes.PutHook moment hook) = IsTrue (is_hook_text (hook_row hook 0))
+HasGoodValues (changes.DropHook moment url) = Unit {0}
+
+-- a change at a moment whose values are good, and after which the serials haven't ended
+pub record IsSound (library : Library) (change : Change) : Type 0 where
+  pub at : IsTrue (is_moment (moment_of change))
+  pub values : HasGoodValues change
+  pub serials : (after change library).next_serial ≤ last_serial
+
+-- a sound change that a good library allows leaves a good library, and so applies
+abbrev pub ChangesKeepGood : Type 0
+ChangesKeepGood = (library : Library) (change : Change) → Good library → IsTrue (is_allowed library change) → IsSound library change → Good (after change library)
+
+abbrev pub ChangesApply : Type 0
+ChangesApply = (library : Library) (change : Change) → Good library → IsTrue (is_allowed library change) → IsSound library change → applied change library ≡ Some (after change library)
+
+-- the one test of a good library is its nine parts
+abbrev pub GoodIsTested : Type 0
+GoodIsTested = (library : Library) → IsTrue (is_good library) ↔ Good library
+
+-- ---- steps
+
+-- a step removes at most 32 segments, a sweep at most 16 objects
+pub record StepsAreBounded (library : Library) (moment : ℕ) : Type 0 where
+  pub deleted : length library.segments ≤ length (after (changes.DeleteStep moment) library).segments + 32
+  pub swept : length library.objects ≤ length (after (changes.SweepStep moment) library).objects + 16
+
+abbrev pub TurnsAreBounded : Type 0
+TurnsAreBounded = (library : Library) (moment : ℕ) → Good library → StepsAreBounded library moment
+
+-- ---- first bytes
+
+-- an object that is stored keeps its id and its place while it is kept
+abbrev pub FirstBytesStay : Type 0
+FirstBytesStay = (library : Library) (change : Change) → Good library → IsTrue (is_allowed library change) → (old new : ObjectRow)
+    → Contains library.objects old → Contains (after change library).objects new → new.serial ≡ old.serial → IsTrue (is_stored old.state)
+    → (new.id ≡ old.id) × (new.state ≡ old.state)

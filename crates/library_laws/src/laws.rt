@@ -1,5 +1,5 @@
 //! Laws over all libraries, commands and changes.
-ghost use Rattle.library_laws.specs.Laws.{AnswersAreAllowed, CirclesAreFound};
+ghost use Rattle.library_laws.specs.Laws.{AnswersAreAllowed, ChangesApply, ChangesKeepGood, CirclesAreFound, GoodIsTested};
 
 /// A command that is answered with a change is answered with one that the library allows.
 pub fn answers_are_allowed()
@@ -9,4 +9,19 @@ pub fn answers_are_allowed()
 /// The bounded test finds exactly the flows that reach themselves through collections.
 pub fn circles_are_found()
     ensures { CirclesAreFound }
+{}
+
+/// A change whose own values are good, and that a good library allows, leaves a good library.
+pub fn changes_keep_good()
+    ensures { ChangesKeepGood }
+{}
+
+/// Such a change applies.
+pub fn changes_apply()
+    ensures { ChangesApply }
+{}
+
+/// The one test of a good library holds exactly where its nine parts do.
+pub fn good_is_tested()
+    ensures { GoodIsTested }
 {}

@@ -5,7 +5,9 @@
 mod laws;
 mod worked;
 
-pub use crate::laws::{answers_are_allowed, circles_are_found};
+pub use crate::laws::{
+    answers_are_allowed, changes_apply, changes_keep_good, circles_are_found, good_is_tested,
+};
 pub use crate::worked::{
     collections_are_tested, deletes_in_steps, events_are_told, hooks_fail, pages_are_cut,
     posts_are_tested, sources_go, sweeps_when_due,
