@@ -13,3 +13,5 @@ mod SettingsKept
 mod PostsKept
 mod DeletionKept
 mod ChangesKept
+mod BoundLemmas
+mod FirstBytes

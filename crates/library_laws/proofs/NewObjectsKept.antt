@@ -53,7 +53,7 @@ ids-allocated : (serial moment : ℕ) (ids : List (List ℕ)) → map (λ row. r
 ids-allocated serial moment [] = refl
 ids-allocated serial moment (id ∷ later) = ap (λ l. id ∷ l) (ids-allocated (serial + 1) moment later)
 
-serials-allocated : (serial moment : ℕ) (ids : List (List ℕ)) → map (λ row. row.serial) (allocated_rows serial moment ids) ≡ counted serial (length ids)
+pub serials-allocated : (serial moment : ℕ) (ids : List (List ℕ)) → map (λ row. row.serial) (allocated_rows serial moment ids) ≡ counted serial (length ids)
 serials-allocated serial moment [] = refl
 serials-allocated serial moment (id ∷ later) = ap (λ l. serial ∷ l) (serials-allocated (serial + 1) moment later)
 

@@ -107,13 +107,13 @@ sweep_keeps_good library moment good =
 -- ---- segments that go
 
 -- an object that falls idle keeps all but its moment
-idled_id : (before after : List SegmentRow) (moment : ℕ) (row : ObjectRow) → (idled_row before after moment row).id ≡ row.id
+pub idled_id : (before after : List SegmentRow) (moment : ℕ) (row : ObjectRow) → (idled_row before after moment row).id ≡ row.id
 idled_id before after moment row = cond_both _ (record row { idle_since = moment }) row (λ (r : ObjectRow). r.id ≡ row.id) (λ e. refl) (λ e. refl)
 
-idled_serial : (before after : List SegmentRow) (moment : ℕ) (row : ObjectRow) → (idled_row before after moment row).serial ≡ row.serial
+pub idled_serial : (before after : List SegmentRow) (moment : ℕ) (row : ObjectRow) → (idled_row before after moment row).serial ≡ row.serial
 idled_serial before after moment row = cond_both _ (record row { idle_since = moment }) row (λ (r : ObjectRow). r.serial ≡ row.serial) (λ e. refl) (λ e. refl)
 
-idled_state : (before after : List SegmentRow) (moment : ℕ) (row : ObjectRow) → (idled_row before after moment row).state ≡ row.state
+pub idled_state : (before after : List SegmentRow) (moment : ℕ) (row : ObjectRow) → (idled_row before after moment row).state ≡ row.state
 idled_state before after moment row = cond_both _ (record row { idle_since = moment }) row (λ (r : ObjectRow). r.state ≡ row.state) (λ e. refl) (λ e. refl)
 
 idled_text : (before after : List SegmentRow) (moment : ℕ) (row : ObjectRow) → is_moment moment ≡ true → is_object_text row ≡ true → is_object_text (idled_row before after moment row) ≡ true

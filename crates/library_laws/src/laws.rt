@@ -1,5 +1,5 @@
 //! Laws over all libraries, commands and changes.
-ghost use Rattle.library_laws.specs.Laws.{AnswersAreAllowed, ChangesApply, ChangesKeepGood, CirclesAreFound, GoodIsTested};
+ghost use Rattle.library_laws.specs.Laws.{AnswersAreAllowed, ChangesApply, ChangesKeepGood, CirclesAreFound, FirstBytesStay, GoodIsTested, TurnsAreBounded};
 
 /// A command that is answered with a change is answered with one that the library allows.
 pub fn answers_are_allowed()
@@ -24,4 +24,14 @@ pub fn changes_apply()
 /// The one test of a good library holds exactly where its nine parts do.
 pub fn good_is_tested()
     ensures { GoodIsTested }
+{}
+
+/// A delete step removes at most 32 segments, and a sweep at most 16 objects.
+pub fn turns_are_bounded()
+    ensures { TurnsAreBounded }
+{}
+
+/// A stored object keeps its id and its place, and so its first bytes, while it is kept.
+pub fn first_bytes_stay()
+    ensures { FirstBytesStay }
 {}

@@ -6,7 +6,8 @@ mod laws;
 mod worked;
 
 pub use crate::laws::{
-    answers_are_allowed, changes_apply, changes_keep_good, circles_are_found, good_is_tested,
+    answers_are_allowed, changes_apply, changes_keep_good, circles_are_found, first_bytes_stay,
+    good_is_tested, turns_are_bounded,
 };
 pub use crate::worked::{
     collections_are_tested, deletes_in_steps, events_are_told, hooks_fail, pages_are_cut,

@@ -11,6 +11,7 @@ use Rattle.media_rows.specs.declared.command.Command.TheVariants as commands
 use Rattle.media_rows.specs.declared.command.Want.{Want}
 use Rattle.media_rows.specs.declared.command.Want.TheVariants.{Count, Named}
 use Rattle.media_rows.specs.declared.object.ObjectRow.{ObjectRow}
+use Rattle.media_rows.specs.declared.object.ObjectState.{ObjectState}
 use Rattle.media_rows.specs.declared.object.ObjectState.TheVariants.{Allocated, Stored}
 use Rattle.media_rows.specs.declared.refusal.Refusal.{Refusal}
 use Rattle.media_rows.specs.declared.refusal.Refusal.TheVariants as refusals
@@ -93,9 +94,13 @@ posts_refusal objects segments flow serial (post ∷ later) =
 
 -- ---- the storing of an object
 
+abbrev pub keep_state : ObjectState → Option Refusal
+keep_state Allocated = None
+keep_state (Stored start size) = Some refusals.OtherBytes
+
 abbrev pub keep_refusal : Option ObjectRow → Option Refusal
 keep_refusal None = Some refusals.UnknownObject
-keep_refusal (Some row) = elim row.state [ Allocated ↦ None | Stored start size ↦ Some refusals.OtherBytes ]
+keep_refusal (Some row) = keep_state row.state
 
 -- ---- the refusal of each changing command
 
@@ -222,10 +227,13 @@ placed_put (Some start) object size moment = changed replies.Created (changes.St
 abbrev pub stored_put : Bool → Outcome
 stored_put same = unchanged (if same then replies.Done else replies.Refused refusals.OtherBytes)
 
+abbrev pub put_by_state : ObjectState → Option ℕ → Bool → List ℕ → ℕ → ℕ → Outcome
+put_by_state Allocated place same object size moment = placed_put place object size moment
+put_by_state (Stored start kept) place same object size moment = stored_put same
+
 abbrev pub put_answer_by : Option ObjectRow → Option ℕ → Bool → List ℕ → ℕ → ℕ → Outcome
 put_answer_by None place same object size moment = unchanged (replies.Refused refusals.UnknownObject)
-put_answer_by (Some row) place same object size moment =
-    elim row.state [ Allocated ↦ placed_put place object size moment | Stored start kept ↦ stored_put same ]
+put_answer_by (Some row) place same object size moment = put_by_state row.state place same object size moment
 
 -- the answer to a PUT of an object's bytes, where these are the bytes of the library's objects
 abbrev pub put_media_answer : Library → List (List ℕ) → List ℕ → List ℕ → ℕ → Outcome
@@ -236,9 +244,13 @@ put_media_answer library held object bytes moment =
     object (length bytes) moment
 
 -- the reply to a GET of an object's bytes: their length, where they are stored
+abbrev pub media_of : ObjectState → Reply
+media_of Allocated = replies.Refused refusals.UnknownObject
+media_of (Stored start size) = replies.Media size
+
 abbrev pub media_reply : Option ObjectRow → Reply
 media_reply None = replies.Refused refusals.UnknownObject
-media_reply (Some row) = elim row.state [ Allocated ↦ replies.Refused refusals.UnknownObject | Stored start size ↦ replies.Media size ]
+media_reply (Some row) = media_of row.state
 
 abbrev pub get_media_reply : Library → List ℕ → Reply
 get_media_reply library object = media_reply (object_of object library.objects)
