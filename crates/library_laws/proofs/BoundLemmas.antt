@@ -16,7 +16,7 @@ use Rattle.media_rows.specs.Objects.{due_objects, swept_objects, without_objects
 use Rattle.media_rows.specs.Requests.{first_unfinished, requested, removed_by_step}
 use Rattle.media_rows.specs.Segments.{without_segments}
 use Rattle.library_laws.specs.Laws.{TurnsAreBounded}
-use Rattle.library_laws.proofs.ListLemmas.{In, list_all-In}
+use Rattle.library_laws.proofs.ListLemmas.{In, list_all-In, length-take_most}
 use Rattle.library_laws.proofs.OutboxKept.{Names-from}
 
 -- ---- how many items of given keys a list has
@@ -73,11 +73,6 @@ lost : {X : Type 0} (key : X → ℕ) (gone xs : List X) → rises (λ a b. nat_
     → length xs ≤ length (filter (λ x. not (list_any (λ g. key g == key x) gone)) xs) + length gone
 lost key gone xs e =
     omega (arith, length-filter_both (λ x. list_any (λ g. key g == key x) gone) (λ x. not (list_any (λ g. key g == key x) gone)) (λ x. refl) xs, count-keys key gone xs e)
-
-length-take_most : {X : Type 0} (n : ℕ) (xs : List X) → length (take n xs) ≤ n
-length-take_most zero xs = omega arith
-length-take_most (suc n) [] = omega arith
-length-take_most (suc n) (x ∷ xs) = let rest = length-take_most n xs in omega arith
 
 -- ---- steps
 

@@ -15,3 +15,4 @@ mod DeletionKept
 mod ChangesKept
 mod BoundLemmas
 mod FirstBytes
+mod PageLemmas

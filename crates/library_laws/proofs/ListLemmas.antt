@@ -290,6 +290,11 @@ filter-In p [] x h e = absurd h
 filter-In p (y ∷ ys) x (inl same) e = In-kept (p y) x y (filter p ys) same (ap p (sym same) ∙ e)
 filter-In p (y ∷ ys) x (inr later) e = In-passed (p y) x y (filter p ys) (filter-In p ys x later e)
 
+pub length-take_most : {X : Type 0} (n : ℕ) (xs : List X) → length (take n xs) ≤ n
+length-take_most zero xs = omega arith
+length-take_most (suc n) [] = omega arith
+length-take_most (suc n) (x ∷ xs) = let rest = length-take_most n xs in omega arith
+
 -- a whole list is taken where it isn't longer
 pub take-whole : {X : Type 0} (n : ℕ) (xs : List X) → length xs ≤ n → take n xs ≡ xs
 take-whole zero [] le = refl

@@ -1,5 +1,11 @@
 -- Laws over the definitions of the library.
-use Rattle.std.specs.Prelude.{◌≡◌, ◌↔◌, ◌≤◌, ◌+◌, ◌==◌, ◌||◌, not, nat_lt, ℕ, Bool, true, IsTrue, List, Contains, Option, Some, None, IfSome, length}
+use Rattle.std.specs.Prelude.{◌≡◌, ◌↔◌, ◌≤◌, ◌+◌, ◌==◌, ℤ, ◌||◌, not, nat_lt, ℕ, Bool, true, IsTrue, List, Contains, Option, Some, None, IfSome, length}
+use Rattle.time_range.specs.Points.{IsRange, Overlap}
+use Rattle.time_range.specs.declared.ranges.Span.{Span}
+use Rattle.media_rows.specs.Lists.{items_past, page_items, next_key}
+use Rattle.media_rows.specs.Segments.{first_point, names_object, overlapping}
+use Rattle.media_rows.specs.declared.command.Page.{Page}
+use Rattle.media_rows.specs.declared.segment.SegmentRow.{SegmentRow}
 use Rattle.media_rows.specs.declared.change.Change.{Change}
 use Rattle.media_rows.specs.declared.command.Command.{Command}
 use Rattle.media_rows.specs.declared.command.Command.TheVariants as commands
@@ -130,3 +136,30 @@ abbrev pub FirstBytesStay : Type 0
 FirstBytesStay = (library : Library) (change : Change) → Good library → IsTrue (is_allowed library change) → (old new : ObjectRow)
     → Contains library.objects old → Contains (after change library).objects new → new.serial ≡ old.serial → IsTrue (is_stored old.state)
     → (new.id ≡ old.id) × (new.state ≡ old.state)
+
+-- ---- range answers and pages
+
+-- each segment's range is one
+abbrev pub HaveRanges : List SegmentRow → Type 0
+HaveRanges segments = (row : SegmentRow) → Contains segments row → IsRange row.segment.range
+
+-- what is asked for: a segment of the flow of which some point is in the range, and that names the object
+pub record IsAsked (segments : List SegmentRow) (flow : ℕ) (range : Option Span) (object : Option (List ℕ)) (row : SegmentRow) : Type 0 where
+  pub kept : Contains segments row
+  pub under : row.flow ≡ flow
+  pub meets : Overlap row.segment.range range
+  pub names : IsTrue (names_object object row)
+
+-- the answer to a range has just the segments that are asked for
+abbrev pub RangeAnswerIsOnPoints : Type 0
+RangeAnswerIsOnPoints = (segments : List SegmentRow) (flow : ℕ) (range : Option Span) (object : Option (List ℕ)) → HaveRanges segments → IsRange range
+    → (row : SegmentRow) → Contains (overlapping segments flow range object) row ↔ IsAsked segments flow range object row
+
+-- the items past a page's key are those of the page, and then those past the next key, where there is one;
+-- and where there is none the page has them all
+pub record Cut {X : Type 0} (key : X → ℤ) (page : Page) (xs : List X) : Type 0 where
+  pub whole : next_key key page xs ≡ None → page_items key page xs ≡ items_past key page xs
+  pub most : length (page_items key page xs) ≤ page.limit
+
+abbrev pub PagesHaveAll : Type 0
+PagesHaveAll = (segments : List SegmentRow) (page : Page) → 1 ≤ page.limit → Cut first_point page segments

@@ -1,5 +1,5 @@
 //! Laws over all libraries, commands and changes.
-ghost use Rattle.library_laws.specs.Laws.{AnswersAreAllowed, ChangesApply, ChangesKeepGood, CirclesAreFound, FirstBytesStay, GoodIsTested, TurnsAreBounded};
+ghost use Rattle.library_laws.specs.Laws.{AnswersAreAllowed, ChangesApply, ChangesKeepGood, CirclesAreFound, FirstBytesStay, GoodIsTested, PagesHaveAll, RangeAnswerIsOnPoints, TurnsAreBounded};
 
 /// A command that is answered with a change is answered with one that the library allows.
 pub fn answers_are_allowed()
@@ -34,4 +34,14 @@ pub fn turns_are_bounded()
 /// A stored object keeps its id and its place, and so its first bytes, while it is kept.
 pub fn first_bytes_stay()
     ensures { FirstBytesStay }
+{}
+
+/// The answer to a range has just the segments of the flow that have a point in it.
+pub fn range_answer_is_on_points()
+    ensures { RangeAnswerIsOnPoints }
+{}
+
+/// A page has at most as many segments as its limit, and all that are left where no next key comes.
+pub fn pages_have_all()
+    ensures { PagesHaveAll }
 {}
