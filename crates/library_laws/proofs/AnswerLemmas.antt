@@ -1,8 +1,7 @@
 -- The change with which a command is answered is one that the library allows.
-use Rattle.std.proofs.Common.{◌≡◌, ℕ, ◌≤◌, ◌<◌, Bool, true, false, not, ◌&&◌, ◌||◌, cond, List, [], ◌∷◌, length, Option, Some, None, IsTrue, refl, sym, ap, ◌∙◌, arith}
-use Rattle.std.specs.Prelude.{IfSome, is_none, is_some, nat_le, nat_lt, ◌==◌}
-use Rattle.std.proofs.lemmas.Bool.{and_from, cond_both, or_parts, or_left, leb-false, leb-true, le-leb, lt-ltb, eqb-false, cases_Bool, true≢false}
-use Rattle.std.proofs.lemmas.Bool.Decides.{nat_tests}
+use Rattle.std.proofs.Common.{◌≡◌, ℕ, Bool, true, false, ◌||◌, cond, List, [], ◌∷◌, length, Option, Some, None, refl, ap, ◌∙◌, arith}
+use Rattle.std.specs.Prelude.{IfSome, is_none, is_some, nat_le, ◌==◌}
+use Rattle.std.proofs.lemmas.Bool.{and_from, cond_both, or_parts, leb-false, le-leb, lt-ltb, eqb-false, true≢false}
 use Rattle.time_range.specs.declared.ranges.Span.{Span}
 use Rattle.media_rows.specs.declared.change.Change.{Change}
 use Rattle.media_rows.specs.declared.command.Command.{Command}
@@ -14,12 +13,12 @@ use Rattle.media_rows.specs.declared.segment.SegmentRow.{SegmentRow}
 use Rattle.media_rows.specs.declared.change.Change.TheVariants as changes
 use Rattle.media_rows.specs.declared.reply.Reply.TheVariants as replies
 use Rattle.media_rows.specs.Outbox.{hook_of}
-use Rattle.media_rows.specs.Answer.{Outcome, changed, unchanged, answer, refusal_of, accepted, changing_answer, accepted_drop, accepted_cut, change_refusal, first_taken, is_taken, is_kept_object, taken_refusal, wanted_ids}
+use Rattle.media_rows.specs.Answer.{Outcome, changed, unchanged, refusal_of, accepted, changing_answer, accepted_drop, accepted_cut, change_refusal, first_taken, is_taken, is_kept_object, taken_refusal, wanted_ids}
 use Rattle.media_rows.specs.Library.{Library}
 use Rattle.media_rows.specs.Lists.{has_text, or_else}
 use Rattle.media_rows.specs.Ranges.{covers, eternity}
 use Rattle.media_rows.specs.Segments.{covered, segments_of, starts_before}
-use Rattle.library_laws.specs.Laws.{HasPlace, IsAllowedAt, AnswersAreAllowed}
+use Rattle.library_laws.specs.Laws.{IsAllowedAt, AnswersAreAllowed}
 use Rattle.library_laws.proofs.ListLemmas.{length-in_order, length-filter_passing}
 
 -- an answer has a change only where nothing is refused

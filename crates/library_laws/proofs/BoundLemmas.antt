@@ -1,18 +1,18 @@
 -- A step removes at most 32 segments, and a sweep at most 16 objects.
-use Rattle.std.proofs.Common.{◌≡◌, ◌⊎◌, inl, inr, ℕ, zero, suc, ◌+◌, ◌≤◌, ◌<◌, Bool, true, false, not, ◌&&◌, ◌||◌, cond, List, [], ◌∷◌, map, filter, length, take, nat_lt, Option, Some, None, refl, sym, ap, subst, ◌∙◌, arith}
+use Rattle.std.proofs.Common.{◌≡◌, inl, inr, ℕ, suc, ◌+◌, ◌≤◌, Bool, true, false, not, ◌||◌, cond, List, [], ◌∷◌, filter, length, nat_lt, Option, Some, None, refl, ap, ◌∙◌, arith}
 use Rattle.std.specs.Prelude.{◌==◌}
 use Rattle.std.specs.List.{list_any, list_all}
-use Rattle.std.proofs.lemmas.Bool.{and_parts, ltb-true, eqb-true, ne_eqb, cond_both, false≢true}
+use Rattle.std.proofs.lemmas.Bool.{and_parts, ltb-true, eqb-true, ne_eqb, cond_both}
 use Rattle.std.proofs.lemmas.List.Filters.{length-filter_both}
 use Rattle.media_rows.specs.declared.request.DeleteRow.{DeleteRow}
 use Rattle.media_rows.specs.declared.segment.SegmentRow.{SegmentRow}
 use Rattle.media_rows.specs.declared.object.ObjectRow.{ObjectRow}
 use Rattle.media_rows.specs.Catalog.{after_touch}
 use Rattle.media_rows.specs.Changes.{touch_flow, with_step, after_request_step, after_step_of, is_flow_gone}
-use Rattle.media_rows.specs.Good.{Good, rises_by}
+use Rattle.media_rows.specs.Good.{Good}
 use Rattle.media_rows.specs.Library.{Library}
 use Rattle.media_rows.specs.Lists.{rises}
-use Rattle.media_rows.specs.Objects.{due_objects, swept_objects, without_objects}
+use Rattle.media_rows.specs.Objects.{due_objects, swept_objects}
 use Rattle.media_rows.specs.Requests.{first_unfinished, requested, removed_by_step}
 use Rattle.media_rows.specs.Segments.{without_segments}
 use Rattle.library_laws.specs.Laws.{TurnsAreBounded}

@@ -1,32 +1,29 @@
 -- Each change of the catalog but the going of a flow keeps a library good.
-use Rattle.std.proofs.Common.{◌≡◌, ◌⊎◌, inl, inr, ℕ, zero, suc, ◌+◌, ◌≤◌, ◌<◌, Bool, true, false, not, ◌&&◌, ◌||◌, cond, List, [], ◌∷◌, ◌++◌, map, filter, find, length, nat_lt, Option, Some, None, refl, sym, ap, ap₂, subst, ◌∙◌, arith}
-use Rattle.std.specs.Prelude.{◌==◌, nat_le, option_map}
+use Rattle.std.proofs.Common.{◌≡◌, ◌⊎◌, inl, inr, ℕ, Bool, true, false, not, ◌||◌, cond, List, [], ◌∷◌, filter, find, Option, Some, None, refl, sym, ap, subst, ◌∙◌}
+use Rattle.std.specs.Prelude.{◌==◌}
 use Rattle.std.specs.Str.{is_utf8}
-use Rattle.std.specs.List.{list_all, list_any}
-use Rattle.std.proofs.lemmas.Bool.{and_parts, and_from, or_cases, or_left, or_right, ltb-true, lt-ltb, cases_order, eqb-true, eqb-false, eq-eqb, ne_eqb, not-true, not-false, not_from_true, not_from_false, cond_both, cases_Bool, false≢true, true≢false, false_from_ne_true}
+use Rattle.std.specs.List.{list_all}
+use Rattle.std.proofs.lemmas.Bool.{and_parts, and_from, or_left, lt-ltb, cases_order, eqb-true, eq-eqb, not-false, false≢true}
 use Rattle.media_rows.specs.declared.flow.FlowBody.{FlowBody}
 use Rattle.media_rows.specs.declared.flow.FlowRow.{FlowRow}
 use Rattle.media_rows.specs.declared.flow.Member.{Member}
-use Rattle.media_rows.specs.declared.flow.Tag.{Tag}
-use Rattle.media_rows.specs.declared.part.Part.{Part}
-use Rattle.media_rows.specs.declared.part.Part.TheVariants as parts
 use Rattle.media_rows.specs.declared.refusal.Refusal.{Refusal}
 use Rattle.media_rows.specs.declared.refusal.Refusal.TheVariants as refusals
 use Rattle.media_rows.specs.declared.source.SourceRow.{SourceRow}
-use Rattle.media_rows.specs.Catalog.{Catalog, source_of, flow_of, source_before, flow_before, has_flow, same_format, fits_format, fits_source, keeps_flow, collection_refusals, missing_refusal, put_refusals, put_refusal, put_row, new_source, sources_after_put, after_put, tag_before, tags_with, set_refusals, set_refusal, part_refusals, body_with, with_flow, set_row, after_set, source_with, set_source_row, with_source, after_set_source, touched, after_touch}
+use Rattle.media_rows.specs.Catalog.{Catalog, source_of, flow_of, source_before, flow_before, has_flow, same_format, fits_format, fits_source, keeps_flow, collection_refusals, missing_refusal, put_refusals, put_refusal, put_row, new_source, sources_after_put, after_put}
 use Rattle.media_rows.specs.Collections.{member_ids, is_kept, first_missing, collects_itself}
 use Rattle.media_rows.specs.Formats.{format_number}
 use Rattle.media_rows.specs.Essence.{is_essence}
 use Rattle.media_rows.specs.declared.flow.FormatKind.TheVariants.{Multi}
-use Rattle.media_rows.specs.Good.{Good, fits_kept, is_body_text, is_flow_text, is_source_text, is_tag_text, is_member_text, if_there, are_sources_good, is_collection_good}
+use Rattle.media_rows.specs.Good.{Good, fits_kept, is_body_text, is_flow_text, is_source_text, is_tag_text, is_member_text, if_there}
 use Rattle.media_rows.specs.Library.{Library}
-use Rattle.media_rows.specs.Lists.{rises, placed, or_else}
+use Rattle.media_rows.specs.Lists.{rises, placed}
 use Rattle.media_rows.specs.Moments.{is_moment}
 use Rattle.media_rows.specs.Refusals.{when, first_refusal}
-use Rattle.library_laws.proofs.ListLemmas.{In, In-append, In-front, In-back, In-filter, filter-In, map-In, In-map, find-In, find-some, find-map, list_all-In, list_all-from_In, list_any-In, list_any-from_In, list_all-filter}
-use Rattle.library_laws.proofs.KeptLemmas.{placed-In, rises-placed, rises-mapped, list_all-mapped, same_by_key}
-use Rattle.library_laws.proofs.FlowsKept.{Replaces, placed-Replaces, changed-Replaces, FlowChange, with_catalog, flow_change_keeps_good}
-use Rattle.library_laws.proofs.OutboxKept.{Names, Names-from, Names-test, Texts, Texts-from, Texts-test}
+use Rattle.library_laws.proofs.ListLemmas.{In, In-front, In-back, filter-In, find-In, find-some, list_all-In, list_all-from_In}
+use Rattle.library_laws.proofs.KeptLemmas.{placed-In, rises-placed, same_by_key}
+use Rattle.library_laws.proofs.FlowsKept.{placed-Replaces, FlowChange, with_catalog, flow_change_keeps_good}
+use Rattle.library_laws.proofs.OutboxKept.{Names-from, Texts-from}
 
 -- ---- what a refusal that doesn't stand tells
 

@@ -1,21 +1,19 @@
 -- Each of the thirteen changes keeps a library good.
-use Rattle.std.proofs.Common.{ℤ, ◌≡◌, ◌↔◌, ◌⊎◌, inl, inr, ℕ, zero, suc, ◌+◌, ◌≤◌, ◌<◌, Bool, true, false, not, ◌&&◌, ◌||◌, cond, List, [], ◌∷◌, ◌++◌, map, filter, find, length, take, nat_lt, Option, Some, None, IsTrue, refl, sym, ap, ap₂, subst, ◌∙◌, arith}
+use Rattle.std.proofs.Common.{ℤ, ◌≡◌, ℕ, ◌≤◌, Bool, true, false, not, ◌&&◌, ◌||◌, cond, List, [], ◌∷◌, filter, length, nat_lt, Option, Some, None, refl, sym, ap, subst, ◌∙◌, arith}
 use Rattle.std.specs.Prelude.{◌==◌, nat_le, is_some, is_none}
 use Rattle.std.specs.List.{list_all, list_any}
-use Rattle.std.proofs.lemmas.Bool.{and_parts, and_from, leb-true, eqb-true, eq-eqb, eqb-false, not-true, cond_both, cases_Bool, false≢true, true≢false}
+use Rattle.std.proofs.lemmas.Bool.{and_parts, and_from, leb-true, eq-eqb, not-true, cond_both, false≢true}
 use Rattle.time_range.specs.declared.ranges.Span.{Span}
-use Rattle.media_rows.specs.declared.change.Change.{Change}
 use Rattle.media_rows.specs.declared.change.Change.TheVariants as changes
 use Rattle.media_rows.specs.declared.event.Happened.{Happened}
 use Rattle.media_rows.specs.declared.segment.Segment.{Segment}
 use Rattle.media_rows.specs.declared.flow.FlowRow.{FlowRow}
-use Rattle.media_rows.specs.declared.refusal.Refusal.{Refusal}
 use Rattle.media_rows.specs.declared.refusal.Refusal.TheVariants as refusals
 use Rattle.media_rows.specs.declared.request.DeleteRow.{DeleteRow}
 use Rattle.media_rows.specs.declared.segment.SegmentRow.{SegmentRow}
 use Rattle.media_rows.specs.Answer.{deleting_refusal, change_refusal, first_taken, is_kept_object, keep_refusal, posts_refusal}
-use Rattle.media_rows.specs.Apply.{is_allowed, applied, applies}
-use Rattle.media_rows.specs.Catalog.{flow_of, after_touch, touched, put_refusal, set_refusal, set_source_refusal, flow_refusal, flow_refusals}
+use Rattle.media_rows.specs.Apply.{is_allowed}
+use Rattle.media_rows.specs.Catalog.{flow_of, after_touch, touched, put_refusal, set_refusal, flow_refusal, flow_refusals}
 use Rattle.media_rows.specs.Changes.{after, moment_of, remove_segments, touch_flow, remove_flow, with_step, is_flow_gone, after_request_step, after_step_of}
 use Rattle.media_rows.specs.Collections.{is_kept}
 use Rattle.media_rows.specs.Events.{put_events, set_events, source_event, added_events, removed_events, drop_events}
@@ -26,13 +24,13 @@ use Rattle.media_rows.specs.Lists.{or_else}
 use Rattle.media_rows.specs.Moments.{is_moment}
 use Rattle.media_rows.specs.Objects.{is_free, blocks_of, object_of}
 use Rattle.media_rows.specs.Ranges.{covers, reaches_down, reaches_up, is_eternity}
-use Rattle.media_rows.specs.Refusals.{when, first_refusal}
+use Rattle.media_rows.specs.Refusals.{first_refusal}
 use Rattle.media_rows.specs.Requests.{step_size, is_unfinished, is_deleting, first_unfinished, requested, removed_by_step, is_finished_by_step, done_count, done_kept}
 use Rattle.media_rows.specs.Segments.{posted, segments_of, covered, starts_before, without_segments}
 use Rattle.library_laws.specs.Laws.{IsSound, ChangesKeepGood, ChangesApply, GoodIsTested}
-use Rattle.library_laws.proofs.ListLemmas.{In, In-filter, filter-In, In-in_order, in_order-In, In-take, find-In, find-some, map-In, list_all-In, list_any-In, list_any-from_In, take-whole}
+use Rattle.library_laws.proofs.ListLemmas.{In, In-filter, filter-In, in_order-In, find-In, find-some, map-In, list_all-In, list_any-In, list_any-from_In, take-whole}
 use Rattle.library_laws.proofs.AnswerLemmas.{neither}
-use Rattle.library_laws.proofs.CatalogKept.{not_when, none_first, put_keeps_catalog}
+use Rattle.library_laws.proofs.CatalogKept.{not_when, put_keeps_catalog}
 use Rattle.library_laws.proofs.SettingsKept.{touch_keeps_good, set_keeps_catalog, set_source_keeps_catalog}
 use Rattle.library_laws.proofs.FlowsKept.{with_catalog}
 use Rattle.library_laws.proofs.ObjectsKept.{sweep_keeps_good, removal_keeps_good}

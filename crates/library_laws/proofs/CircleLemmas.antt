@@ -1,12 +1,12 @@
 -- As many steps through collections as there are flows find each flow that can be reached.
-use Rattle.std.proofs.Common.{◌≡◌, ◌↔◌, ◌⊎◌, inl, inr, ℕ, zero, suc, ◌+◌, ◌≤◌, ◌<◌, Bool, true, false, not, cond, List, [], ◌∷◌, ◌++◌, filter, length, IsTrue, Contains, refl, sym, ap, subst, ◌∙◌, arith}
+use Rattle.std.proofs.Common.{◌≡◌, ◌↔◌, ◌⊎◌, inl, inr, ℕ, zero, suc, ◌≤◌, ◌<◌, Bool, true, false, not, cond, List, [], filter, length, IsTrue, refl, sym, subst, arith}
 use Rattle.std.proofs.lemmas.Bool.{cases_lt, false≢true}
 use Rattle.std.proofs.lemmas.List.Filters.{length-filter_both}
 use Rattle.media_rows.specs.declared.flow.FlowRow.{FlowRow}
 use Rattle.media_rows.specs.declared.flow.Member.{Member}
 use Rattle.media_rows.specs.Collections.{member_ids, collected_by_row, collected_by, one_step, reached, collects_itself, Collects, Reaches, there, through, AnyReaches}
 use Rattle.media_rows.specs.Lists.{has_number}
-use Rattle.library_laws.proofs.ListLemmas.{In, In-append, In-front, In-back, In-flat_map, flat_map-In, In-from_Contains, Contains-from_In, has_number-In, In-has_number, count-le, count-same}
+use Rattle.library_laws.proofs.ListLemmas.{In, In-append, In-front, In-back, In-flat_map, flat_map-In, In-from_Contains, Contains-from_In, has_number-In, In-has_number, count-same}
 
 -- ---- what one step adds
 

@@ -1,34 +1,31 @@
 -- Delete requests that are made, worked off and ended, and flows that go, keep a library good.
-use Rattle.std.proofs.Common.{◌≡◌, ◌⊎◌, inl, inr, ℕ, zero, suc, ◌+◌, ◌≤◌, ◌<◌, Bool, true, false, not, ◌&&◌, ◌||◌, cond, List, [], ◌∷◌, ◌++◌, map, filter, find, length, take, nat_lt, Option, Some, None, Contains, refl, sym, ap, ap₂, subst, ◌∙◌, arith}
-use Rattle.std.specs.Prelude.{◌==◌, nat_le, option_map}
-use Rattle.std.specs.Str.{is_utf8}
-use Rattle.std.specs.List.{list_all, list_any}
+use Rattle.std.proofs.Common.{◌≡◌, ℕ, suc, ◌+◌, ◌≤◌, Bool, true, false, not, ◌&&◌, ◌||◌, cond, List, [], ◌∷◌, ◌++◌, map, filter, length, nat_lt, Option, Some, None, refl, sym, ap, subst, ◌∙◌, arith}
+use Rattle.std.specs.Prelude.{◌==◌, nat_le}
+use Rattle.std.specs.List.{list_all}
 use Rattle.std.proofs.lemmas.List.{map-append}
-use Rattle.std.proofs.lemmas.Bool.{and_parts, and_from, or_left, or_right, leb-true, le-leb, lt-ltb, ltb-true, eqb-true, eqb-false, eq-eqb, ne_eqb, not-true, not_from_false, not_from_true, cond_both, cases_Bool, false≢true, true≢false, false_from_ne_true}
+use Rattle.std.proofs.lemmas.Bool.{and_parts, and_from, or_right, le-leb, lt-ltb, eqb-true, eqb-false, eq-eqb, ne_eqb, not-true, not_from_false, cond_both, false≢true, true≢false, false_from_ne_true}
 use Rattle.time_range.specs.declared.ranges.Span.{Span}
-use Rattle.media_rows.specs.declared.flow.FlowBody.{FlowBody}
 use Rattle.media_rows.specs.declared.flow.FlowRow.{FlowRow}
 use Rattle.media_rows.specs.declared.flow.Member.{Member}
 use Rattle.media_rows.specs.declared.request.DeleteRow.{DeleteRow}
-use Rattle.media_rows.specs.declared.request.DeleteStatus.{DeleteStatus}
-use Rattle.media_rows.specs.declared.request.DeleteStatus.TheVariants.{Created, Started, Done}
+use Rattle.media_rows.specs.declared.request.DeleteStatus.TheVariants.{Done}
 use Rattle.media_rows.specs.declared.segment.SegmentRow.{SegmentRow}
 use Rattle.media_rows.specs.declared.source.SourceRow.{SourceRow}
 use Rattle.media_rows.specs.Catalog.{fits_format, source_of, source_before, flow_before, has_flow, flows_after_drop}
 use Rattle.media_rows.specs.Changes.{after_ask, with_step, remove_flow}
-use Rattle.media_rows.specs.Collections.{member_ids, is_kept, collects_itself, without_entries, Collects, Reaches, there, through, AnyReaches}
+use Rattle.media_rows.specs.Collections.{member_ids, is_kept, collects_itself, without_entries, Collects, Reaches, there, through}
 use Rattle.media_rows.specs.Good.{Good, are_compatible, is_segment_good, is_request_good, is_after_segments, is_collection_good, fits_kept, is_flow_text, is_source_text, is_request_text, is_member_text, rises_by, are_requests_good}
-use Rattle.media_rows.specs.Library.{Library, last_serial, serials_of}
+use Rattle.media_rows.specs.Library.{Library, last_serial}
 use Rattle.media_rows.specs.Lists.{rises}
 use Rattle.media_rows.specs.Moments.{is_moment}
 use Rattle.media_rows.specs.Ranges.{has_both_ends, is_eternity}
-use Rattle.media_rows.specs.Requests.{is_done, is_unfinished, asked_row, done_count, done_kept, newest_done, stepped_row, after_step, ended_row, after_end, is_finished_by_step}
+use Rattle.media_rows.specs.Requests.{is_done, is_unfinished, asked_row, done_count, done_kept, newest_done, stepped_row, ended_row, is_finished_by_step}
 use Rattle.library_laws.proofs.ListLemmas.{In, In-filter, filter-In, map-In, In-map, find-In, find-filter, In-from_Contains, Contains-from_In, list_all-In, list_all-from_In, list_any-In, list_any-from_In, rises-filter, list_all-filter}
-use Rattle.library_laws.proofs.KeptLemmas.{same_by_key, Sub, fewer_requests, rises-Sub, Serials, counted-New, rises-counted, serials_requests, map-kept, list_all-mapped, list_all-both, rises-mapped, rises-keys}
+use Rattle.library_laws.proofs.KeptLemmas.{same_by_key, Sub, fewer_requests, rises-Sub, Serials, counted-New, rises-counted, serials_requests, map-kept, list_all-both, rises-mapped, rises-keys}
 use Rattle.library_laws.proofs.CircleLemmas.{collects_itself_is}
-use Rattle.library_laws.proofs.CatalogKept.{BodyTexts, BodyTexts-from, BodyTexts-test, RowTexts, RowTexts-from, RowTexts-test}
+use Rattle.library_laws.proofs.CatalogKept.{BodyTexts-from, BodyTexts-test, RowTexts-from, RowTexts-test}
 use Rattle.library_laws.proofs.RequestLemmas.{request_stays_good, Sub-newest, In-newest, newest_few}
-use Rattle.library_laws.proofs.OutboxKept.{request_below, segment_below, Names, Names-from, Names-test, Texts, Texts-from, Texts-test}
+use Rattle.library_laws.proofs.OutboxKept.{request_below, segment_below, Names-from, Names-test, Texts-from, Texts-test}
 
 -- ---- a request that is made
 

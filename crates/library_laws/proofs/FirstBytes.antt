@@ -1,8 +1,8 @@
 -- An object that is stored keeps its id and its place while it is kept.
-use Rattle.std.proofs.Common.{◌≡◌, ◌⊎◌, inl, inr, ℕ, zero, suc, ◌+◌, ◌≤◌, ◌<◌, Bool, true, false, not, ◌&&◌, ◌||◌, cond, List, [], ◌∷◌, ◌++◌, map, filter, length, nat_lt, Option, Some, None, Contains, IsTrue, refl, sym, ap, subst, ◌∙◌, arith}
+use Rattle.std.proofs.Common.{◌≡◌, inl, inr, ℕ, Bool, true, false, not, cond, List, ◌++◌, map, filter, length, Option, Some, None, refl, sym, ap, subst, ◌∙◌, arith}
 use Rattle.std.specs.Prelude.{◌==◌, bytes_eq, is_none}
 use Rattle.std.specs.List.{list_any}
-use Rattle.std.proofs.lemmas.Bool.{and_parts, cond_both, not-true, false≢true, true≢false}
+use Rattle.std.proofs.lemmas.Bool.{and_parts, cond_both, not-true, false≢true}
 use Rattle.media_rows.specs.declared.change.Change.{Change}
 use Rattle.media_rows.specs.declared.change.Change.TheVariants as changes
 use Rattle.media_rows.specs.declared.object.ObjectRow.{ObjectRow}
@@ -16,16 +16,16 @@ use Rattle.media_rows.specs.Catalog.{after_touch}
 use Rattle.media_rows.specs.Changes.{after, after_step_of, touch_flow, with_step, is_flow_gone, after_request_step}
 use Rattle.media_rows.specs.Good.{Good}
 use Rattle.media_rows.specs.Library.{Library}
-use Rattle.media_rows.specs.Lists.{rises, are_distinct_texts}
+use Rattle.media_rows.specs.Lists.{are_distinct_texts}
 use Rattle.media_rows.specs.Objects.{object_of, is_stored, is_free, blocks_of, allocated_rows, stored_row, idled_row, idled, swept_objects}
 use Rattle.media_rows.specs.Requests.{first_unfinished, removed_by_step}
 use Rattle.media_rows.specs.Segments.{segments_of, covered, without_segments}
 use Rattle.library_laws.specs.Laws.{FirstBytesStay}
 use Rattle.library_laws.proofs.ListLemmas.{In, In-append, In-filter, In-map, map-In, find-In, In-from_Contains, rises-In}
-use Rattle.library_laws.proofs.KeptLemmas.{same_by_key, same_text, text_same, rises-keys, counted, counted-within}
+use Rattle.library_laws.proofs.KeptLemmas.{same_by_key, same_text, text_same, rises-keys, counted-within}
 use Rattle.library_laws.proofs.ObjectsKept.{idled_id, idled_serial, idled_state}
 use Rattle.library_laws.proofs.NewObjectsKept.{serials-allocated}
-use Rattle.library_laws.proofs.OutboxKept.{Names, Names-from, object_below}
+use Rattle.library_laws.proofs.OutboxKept.{Names-from, object_below}
 
 -- the same object: with its id and its place
 abbrev Same : ObjectRow → ObjectRow → Type 0

@@ -1,24 +1,22 @@
 -- A flow that is put, set or touched, and a source of which a part is set, keep a library good.
-use Rattle.std.proofs.Common.{◌≡◌, ◌⊎◌, inl, inr, ℕ, zero, suc, ◌+◌, ◌≤◌, ◌<◌, Bool, true, false, not, ◌&&◌, ◌||◌, cond, List, [], ◌∷◌, ◌++◌, map, filter, find, length, nat_lt, Option, Some, None, Contains, refl, sym, ap, ap₂, subst, ◌∙◌, arith}
-use Rattle.std.specs.Prelude.{◌==◌, nat_le, option_map}
-use Rattle.std.specs.List.{list_all, list_any}
-use Rattle.std.proofs.lemmas.Bool.{and_parts, and_from, or_cases, or_left, or_right, ltb-true, lt-ltb, eqb-true, eqb-false, eq-eqb, ne_eqb, not-true, not_from_false, cond_both, cases_order, false≢true, false_from_ne_true}
+use Rattle.std.proofs.Common.{◌≡◌, ◌⊎◌, inl, inr, ℕ, Bool, true, false, not, cond, List, ◌∷◌, map, filter, Option, Some, None, Contains, refl, sym, ap, subst, ◌∙◌, arith}
+use Rattle.std.specs.Prelude.{◌==◌, nat_le}
+use Rattle.std.specs.List.{list_all}
+use Rattle.std.proofs.lemmas.Bool.{and_parts, and_from, ltb-true, lt-ltb, eqb-true, eqb-false, eq-eqb, ne_eqb, not-true, not_from_false, cases_order, false≢true, false_from_ne_true}
 use Rattle.media_rows.specs.declared.flow.FlowRow.{FlowRow}
-use Rattle.media_rows.specs.declared.request.DeleteRow.{DeleteRow}
-use Rattle.media_rows.specs.declared.segment.SegmentRow.{SegmentRow}
 use Rattle.media_rows.specs.declared.source.SourceRow.{SourceRow}
-use Rattle.media_rows.specs.Catalog.{Catalog, source_of, flow_of, source_before, flow_before, has_flow, with_flow, with_source}
+use Rattle.media_rows.specs.Catalog.{Catalog, source_of, flow_of, source_before, flow_before, has_flow, with_flow}
 use Rattle.media_rows.specs.Collections.{member_ids, is_kept, collects_itself, Collects, Reaches, there, through, AnyReaches}
 use Rattle.media_rows.specs.Good.{Good, are_compatible, is_segment_good, is_request_good, is_collection_good, fits_kept, is_flow_text, is_source_text, are_sources_good}
 use Rattle.media_rows.specs.Library.{Library}
 use Rattle.media_rows.specs.Lists.{rises, placed}
 use Rattle.media_rows.specs.Ranges.{has_both_ends}
 use Rattle.media_rows.specs.Requests.{done_count, done_kept}
-use Rattle.library_laws.proofs.ListLemmas.{In, In-append, In-front, In-back, filter-In, map-In, In-map, find-In, find-some, In-from_Contains, Contains-from_In, list_all-In, list_all-from_In, list_any-In, list_any-from_In}
+use Rattle.library_laws.proofs.ListLemmas.{In, In-front, In-back, filter-In, map-In, In-map, find-In, find-some, In-from_Contains, Contains-from_In, list_all-In, list_all-from_In, list_any-In, list_any-from_In}
 use Rattle.library_laws.proofs.KeptLemmas.{placed-In, same_by_key}
 use Rattle.library_laws.proofs.CircleLemmas.{collects_itself_is}
 use Rattle.library_laws.proofs.RequestLemmas.{request_stays_good}
-use Rattle.library_laws.proofs.OutboxKept.{Names, Names-from, Names-test, Texts, Texts-from, Texts-test}
+use Rattle.library_laws.proofs.OutboxKept.{Names-from, Names-test, Texts-from, Texts-test}
 
 -- ---- one row in place of those of its id
 

@@ -1,20 +1,20 @@
 -- Hooks that come and go keep a library good.
-use Rattle.std.proofs.Common.{◌≡◌, ◌⊎◌, inl, inr, ℕ, zero, suc, ◌+◌, ◌≤◌, ◌<◌, Bool, true, false, not, ◌&&◌, ◌||◌, cond, List, [], ◌∷◌, ◌++◌, map, filter, length, nat_lt, refl, sym, ap, ap₂, subst, ◌∙◌, arith}
+use Rattle.std.proofs.Common.{◌≡◌, inl, inr, ℕ, ◌+◌, ◌≤◌, Bool, true, false, not, ◌&&◌, ◌||◌, cond, List, [], ◌∷◌, ◌++◌, map, filter, length, nat_lt, refl, sym, ap, ap₂, subst, ◌∙◌, arith}
 use Rattle.std.specs.Prelude.{◌==◌, nat_le, bytes_eq}
-use Rattle.std.specs.List.{list_all, list_any}
+use Rattle.std.specs.List.{list_all}
 use Rattle.std.proofs.lemmas.List.{map-append}
-use Rattle.std.proofs.lemmas.Bool.{and_parts, and_from, or_cases, or_left, or_right, ltb-true, leb-true, lt-ltb, le-leb, not-true, not_from_false, eqb-true, eq-eqb, ne_eqb, false≢true, true≢false, false_from_ne_true}
+use Rattle.std.proofs.lemmas.Bool.{and_parts, and_from, or_cases, or_left, or_right, ltb-true, leb-true, lt-ltb, le-leb, not-true, not_from_false, eqb-true, ne_eqb, true≢false, false_from_ne_true}
 use Rattle.media_rows.specs.declared.event.EventRow.{EventRow}
 use Rattle.media_rows.specs.declared.hook.Hook.{Hook}
 use Rattle.media_rows.specs.declared.hook.HookRow.{HookRow}
 use Rattle.media_rows.specs.Changes.{without_hook, after_hook}
-use Rattle.media_rows.specs.Good.{Good, has_hook, is_hook_good, is_outbox_good, is_hook_text, is_event_text, rises_by}
+use Rattle.media_rows.specs.Good.{Good, has_hook, is_hook_good, is_outbox_good, is_hook_text, is_event_text}
 use Rattle.media_rows.specs.Library.{Library, last_serial, serials_of}
 use Rattle.media_rows.specs.Lists.{are_distinct_texts, has_number}
 use Rattle.media_rows.specs.Outbox.{Outbox, has_url, waiting_for, waiting_count, gone_serials, after_drop_hook, hook_row, most_waiting}
-use Rattle.library_laws.proofs.ListLemmas.{In, In-append, In-front, In-back, In-filter, filter-In, map-In, In-map, list_all-In, list_all-from_In, list_any-In, list_any-from_In, rises-filter, list_all-filter, In-has_number, has_number-In, count-filter}
-use Rattle.library_laws.proofs.KeptLemmas.{Sub, Sub-same, Sub-filter, Sub-append, rises-Sub, Serials, Serials-Sub, counted-New, rises-counted, serials_hooks, list_all-both, rises-both, same_text, text_same}
-use Rattle.library_laws.proofs.OutboxKept.{hook_below, Names, Names-from, Names-test, Texts, Texts-from, Texts-test}
+use Rattle.library_laws.proofs.ListLemmas.{In, In-front, In-filter, filter-In, map-In, In-map, list_all-In, list_all-from_In, list_any-In, list_any-from_In, rises-filter, list_all-filter, In-has_number, count-filter}
+use Rattle.library_laws.proofs.KeptLemmas.{Sub-same, Sub-filter, Sub-append, rises-Sub, Serials, Serials-Sub, counted-New, rises-counted, serials_hooks, list_all-both, rises-both}
+use Rattle.library_laws.proofs.OutboxKept.{hook_below, Names-from, Names-test, Texts-from, Texts-test}
 
 -- ---- a hook that goes
 

@@ -1,13 +1,13 @@
 -- What parts of lists, maps and longer lists keep of tests on members and on pairs, and of serials.
-use Rattle.std.proofs.Common.{◌≡◌, ◌⊎◌, inl, inr, ℕ, zero, suc, ◌+◌, ◌≤◌, ◌<◌, Bool, true, false, not, ◌&&◌, ◌||◌, cond, List, [], ◌∷◌, ◌++◌, map, filter, find, length, Option, Some, None, nat_lt, refl, sym, ap, ap₂, subst, ◌∙◌, append_assoc, append-nil, arith}
+use Rattle.std.proofs.Common.{◌≡◌, ◌⊎◌, inl, inr, ℕ, zero, suc, ◌+◌, ◌≤◌, ◌<◌, Bool, true, false, not, ◌&&◌, cond, List, [], ◌∷◌, ◌++◌, map, filter, nat_lt, refl, sym, ap, ap₂, subst, ◌∙◌, append_assoc, arith}
 use Rattle.std.specs.Prelude.{◌==◌, nat_le, bytes_eq}
 use Rattle.std.specs.Cmp.Lexicographic.{bytes_decides}
-use Rattle.std.specs.List.{list_all, list_any}
-use Rattle.std.proofs.lemmas.Bool.{and_parts, and_from, ltb-true, leb-true, lt-ltb, le-leb, ne_eqb, eqb-true, eq-eqb, not_from_false, not-true, eqb-false, cond_both, false≢true}
+use Rattle.std.specs.List.{list_all}
+use Rattle.std.proofs.lemmas.Bool.{and_parts, and_from, ltb-true, leb-true, lt-ltb, le-leb, ne_eqb, not_from_false}
 use Rattle.media_rows.specs.Lists.{rises, are_distinct, placed}
-use Rattle.media_rows.specs.Good.{rises_by, are_serials_good}
+use Rattle.media_rows.specs.Good.{are_serials_good}
 use Rattle.media_rows.specs.Library.{last_serial}
-use Rattle.library_laws.proofs.ListLemmas.{In, In-append, In-front, In-back, In-filter, In-map, map-In, list_all-In, list_all-from_In, rises-In, rises-filter}
+use Rattle.library_laws.proofs.ListLemmas.{In, In-append, In-front, In-back, In-filter, map-In, list_all-In, list_all-from_In, rises-In, rises-filter}
 
 -- ---- a list within another, in its order
 

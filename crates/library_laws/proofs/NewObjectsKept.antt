@@ -1,23 +1,23 @@
 -- Objects that are allocated, and objects that are stored, keep a library good.
-use Rattle.std.proofs.Common.{◌≡◌, ◌⊎◌, inl, inr, ℕ, zero, suc, ◌+◌, ◌≤◌, ◌<◌, Bool, true, false, not, ◌&&◌, ◌||◌, cond, List, [], ◌∷◌, ◌++◌, map, filter, find, length, nat_lt, Option, Some, None, refl, sym, ap, ap₂, subst, ◌∙◌, arith}
-use Rattle.std.specs.Prelude.{◌==◌, nat_le, bytes_eq, option_map, is_some, is_none}
-use Rattle.std.specs.List.{list_all, list_any}
+use Rattle.std.proofs.Common.{◌≡◌, inl, inr, ℕ, ◌+◌, ◌≤◌, Bool, true, false, not, ◌||◌, cond, List, [], ◌∷◌, ◌++◌, map, find, length, nat_lt, Option, Some, None, refl, sym, ap, ap₂, subst, ◌∙◌, arith}
+use Rattle.std.specs.Prelude.{◌==◌, nat_le, bytes_eq, option_map, is_some}
+use Rattle.std.specs.List.{list_all}
 use Rattle.std.proofs.lemmas.List.{map-append}
-use Rattle.std.proofs.lemmas.Bool.{and_parts, and_from, or_cases, or_left, or_right, or_parts, not-true, not_from_false, cond_both, cases_Bool, false≢true, true≢false, false_from_ne_true}
+use Rattle.std.proofs.lemmas.Bool.{and_parts, and_from, or_cases, or_left, or_right, or_parts, not-true, not_from_false, cond_both, false≢true, false_from_ne_true}
 use Rattle.media_rows.specs.declared.object.ObjectRow.{ObjectRow}
 use Rattle.media_rows.specs.declared.object.ObjectState.{ObjectState}
 use Rattle.media_rows.specs.declared.object.ObjectState.TheVariants.{Allocated, Stored}
-use Rattle.media_rows.specs.Answer.{first_taken, is_kept_object, keep_refusal}
+use Rattle.media_rows.specs.Answer.{first_taken, is_kept_object}
 use Rattle.media_rows.specs.Changes.{after_allocate, after_store}
-use Rattle.media_rows.specs.Good.{Good, are_references_good, are_states_apart, is_extent_good, are_extents_good, is_object_text, rises_by, are_object_ids_distinct}
+use Rattle.media_rows.specs.Good.{Good, are_states_apart, is_extent_good, is_object_text}
 use Rattle.media_rows.specs.Ids.{is_object_id}
-use Rattle.media_rows.specs.Library.{Library, last_serial, serials_of}
+use Rattle.media_rows.specs.Library.{Library, last_serial}
 use Rattle.media_rows.specs.Lists.{rises, are_distinct_texts, has_text}
 use Rattle.media_rows.specs.Moments.{is_moment}
-use Rattle.media_rows.specs.Objects.{object_of, is_stored, is_stored_row, is_stored_object, allocated_rows, stored_row, with_bytes, is_free, is_clear_of, are_apart, blocks_of}
-use Rattle.library_laws.proofs.ListLemmas.{In, In-append, In-front, map-In, In-map, find-In, find-some, find-map, list_all-In, list_all-from_In, list_any-from_In}
-use Rattle.library_laws.proofs.KeptLemmas.{Serials, New, counted, counted-New, rises-counted, serials_objects, map-kept, list_all-mapped, list_all-both, rises-both, rises-mapped, rises-keys, same_text, text_same}
-use Rattle.library_laws.proofs.OutboxKept.{object_below, Names, Names-from, Names-test, Texts, Texts-from, Texts-test}
+use Rattle.media_rows.specs.Objects.{object_of, is_stored, is_stored_row, is_stored_object, allocated_rows, stored_row, is_free, is_clear_of, blocks_of}
+use Rattle.library_laws.proofs.ListLemmas.{In, In-map, find-some, find-map, list_all-In, list_all-from_In}
+use Rattle.library_laws.proofs.KeptLemmas.{Serials, counted, counted-New, rises-counted, serials_objects, map-kept, list_all-mapped, list_all-both, rises-both, rises-mapped, rises-keys, same_text, text_same}
+use Rattle.library_laws.proofs.OutboxKept.{object_below, Names-from, Names-test, Texts-from, Texts-test}
 
 -- ---- ids of an allocation
 

@@ -1,27 +1,21 @@
 -- Objects that come and go, and segments that go, keep a library good.
-use Rattle.std.proofs.Common.{◌≡◌, ◌⊎◌, inl, inr, ℕ, zero, suc, ◌+◌, ◌≤◌, ◌<◌, Bool, true, false, not, ◌&&◌, ◌||◌, cond, List, [], ◌∷◌, ◌++◌, map, filter, find, length, take, nat_lt, Option, Some, None, refl, sym, ap, ap₂, subst, ◌∙◌, append_assoc, append-nil, arith}
+use Rattle.std.proofs.Common.{◌≡◌, ℕ, Bool, true, false, not, ◌&&◌, ◌||◌, List, map, filter, nat_lt, Option, Some, None, refl, sym, ap, ap₂, subst, ◌∙◌}
 use Rattle.std.specs.Prelude.{◌==◌, nat_le, bytes_eq, option_map}
 use Rattle.std.specs.List.{list_all, list_any}
-use Rattle.std.proofs.lemmas.List.{map-append}
-use Rattle.std.proofs.lemmas.Bool.{and_parts, and_from, or_cases, or_left, or_right, ltb-true, lt-ltb, not-true, not_from_false, not_from_true, eq-eqb, eqb-true, cond_both, cases_Bool, false≢true, true≢false, false_from_ne_true}
+use Rattle.std.proofs.lemmas.Bool.{and_parts, and_from, not-true, not_from_false, eqb-true, cond_both, false≢true, true≢false, false_from_ne_true}
 use Rattle.media_rows.specs.declared.object.ObjectRow.{ObjectRow}
-use Rattle.media_rows.specs.declared.object.ObjectState.{ObjectState}
-use Rattle.media_rows.specs.declared.object.ObjectState.TheVariants.{Allocated, Stored}
 use Rattle.media_rows.specs.declared.segment.SegmentRow.{SegmentRow}
-use Rattle.media_rows.specs.declared.request.DeleteRow.{DeleteRow}
-use Rattle.media_rows.specs.declared.flow.FlowRow.{FlowRow}
 use Rattle.media_rows.specs.Changes.{remove_segments, after_sweep}
-use Rattle.media_rows.specs.Good.{Good, are_compatible, is_segment_good, are_segments_good, are_references_good, are_states_apart, is_extent_good, are_extents_good, is_request_good, are_requests_good, is_after_segments, is_object_text, rises_by, are_object_ids_distinct}
+use Rattle.media_rows.specs.Good.{Good, are_compatible, is_segment_good, are_states_apart, is_extent_good, is_request_good, is_object_text, rises_by}
 use Rattle.media_rows.specs.Library.{Library, serials_of}
 use Rattle.media_rows.specs.Lists.{rises, are_distinct_texts}
 use Rattle.media_rows.specs.Moments.{is_moment}
-use Rattle.media_rows.specs.Objects.{object_of, is_stored, is_stored_row, is_stored_object, is_named, idled_row, idled, is_due, idles_before, due_objects, swept_objects, without_objects}
-use Rattle.media_rows.specs.Requests.{done_kept, done_count, is_unfinished}
-use Rattle.media_rows.specs.Segments.{without_segments}
+use Rattle.media_rows.specs.Objects.{object_of, is_stored, is_stored_row, is_stored_object, is_named, idled_row, idled, is_due, idles_before, due_objects, swept_objects}
+use Rattle.media_rows.specs.Requests.{done_kept, done_count}
 use Rattle.library_laws.proofs.ListLemmas.{In, In-filter, In-take, In-in_order, find-In, find-filter, find-map, list_all-In, list_all-from_In, list_any-In, list_any-from_In, rises-filter, list_all-filter}
-use Rattle.library_laws.proofs.KeptLemmas.{Sub, Sub-same, Sub-filter, Sub-append, rises-Sub, Serials, Serials-Sub, map-kept, list_all-mapped, rises-mapped, rises-keys, same_by_key, same_text, text_same}
+use Rattle.library_laws.proofs.KeptLemmas.{Sub, Sub-same, Sub-filter, Sub-append, rises-Sub, Serials-Sub, map-kept, list_all-mapped, rises-mapped, same_by_key, same_text, text_same}
 use Rattle.library_laws.proofs.RequestLemmas.{request_stays_good}
-use Rattle.library_laws.proofs.OutboxKept.{Names, Names-from, Names-test, Texts, Texts-from, Texts-test}
+use Rattle.library_laws.proofs.OutboxKept.{Names-from, Names-test, Texts-from, Texts-test}
 
 -- ---- an object that is kept
 

@@ -1,22 +1,22 @@
 -- Events that wait, and hooks that fail, keep an outbox and its library good.
-use Rattle.std.proofs.Common.{◌≡◌, ◌⊎◌, inl, inr, ℕ, zero, suc, ◌+◌, ◌≤◌, ◌<◌, Bool, true, false, not, ◌&&◌, ◌||◌, cond, List, [], ◌∷◌, ◌++◌, map, filter, length, nat_lt, refl, sym, ap, ap₂, subst, ◌∙◌, append_assoc, append-nil, length-append, arith}
+use Rattle.std.proofs.Common.{◌≡◌, inl, inr, ℕ, suc, ◌+◌, ◌≤◌, ◌<◌, Bool, true, false, not, ◌&&◌, ◌||◌, cond, List, [], ◌∷◌, ◌++◌, map, filter, length, nat_lt, refl, sym, ap, ap₂, subst, ◌∙◌, append_assoc, append-nil, arith}
 use Rattle.std.specs.Prelude.{◌==◌, nat_le}
 use Rattle.std.specs.List.{list_all, list_any}
 use Rattle.std.proofs.lemmas.List.{map-append}
-use Rattle.std.proofs.lemmas.Bool.{and_parts, and_from, or_cases, or_left, or_right, ltb-true, leb-true, leb-false, lt-ltb, le-leb, lt-leb, ne_eqb, eqb-true, eq-eqb, not-true, cases_lt, false≢true}
+use Rattle.std.proofs.lemmas.Bool.{and_parts, and_from, or_cases, or_left, or_right, ltb-true, leb-true, lt-ltb, le-leb, ne_eqb, eqb-true, eq-eqb, cases_lt, false≢true}
 use Rattle.media_rows.specs.declared.event.EventRow.{EventRow}
 use Rattle.media_rows.specs.declared.event.Happened.{Happened}
 use Rattle.media_rows.specs.declared.hook.HookRow.{HookRow}
 use Rattle.media_rows.specs.declared.object.ObjectRow.{ObjectRow}
 use Rattle.media_rows.specs.declared.request.DeleteRow.{DeleteRow}
 use Rattle.media_rows.specs.declared.segment.SegmentRow.{SegmentRow}
-use Rattle.media_rows.specs.Lists.{rises, are_distinct, are_distinct_texts}
+use Rattle.media_rows.specs.Lists.{are_distinct_texts}
 use Rattle.media_rows.specs.Moments.{is_moment}
-use Rattle.media_rows.specs.Outbox.{Outbox, Posted, waiting_for, waiting_count, takes, event_row, events_for, new_events, marked, with_events, after_one, after_post, most_waiting, same_event, is_of_source, admits}
+use Rattle.media_rows.specs.Outbox.{Outbox, Posted, waiting_for, waiting_count, takes, event_row, events_for, new_events, marked, after_one, after_post, most_waiting, same_event, is_of_source, admits}
 use Rattle.media_rows.specs.Good.{Good, rises_by, are_serials_good, are_serials_in_order, are_names_good, has_hook, is_hook_good, is_outbox_good, are_urls_distinct, are_texts_good, is_hook_text, is_event_text, is_catalog_in_order, are_object_ids_distinct, is_source_text, is_flow_text, is_object_text, is_request_text}
 use Rattle.media_rows.specs.Library.{Library, last_serial, serials_of, with_posted, with_happened}
-use Rattle.library_laws.proofs.ListLemmas.{In, In-append, In-front, In-back, In-filter, In-map, map-In, list_all-In, list_all-from_In, list_any-In, list_any-from_In, rises-In, rises-filter}
-use Rattle.library_laws.proofs.KeptLemmas.{among_objects, among_segments, among_requests, among_hooks, among_events, same_by_key, counted, counted-New, rises-counted, Sub, Sub-filter, Serials, New, Serials-from, Serials-test, Serials-more, map-kept, list_all-mapped, list_all-both, rises-keys, rises-both, rises-mapped}
+use Rattle.library_laws.proofs.ListLemmas.{In, In-append, In-filter, map-In, list_all-In, list_all-from_In, list_any-In, list_any-from_In, rises-filter}
+use Rattle.library_laws.proofs.KeptLemmas.{among_objects, among_segments, among_requests, among_hooks, among_events, same_by_key, counted, counted-New, rises-counted, Serials, New, Serials-from, Serials-test, Serials-more, map-kept, list_all-mapped, list_all-both, rises-mapped}
 
 -- ---- new events
 

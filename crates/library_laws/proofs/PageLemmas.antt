@@ -1,17 +1,14 @@
 -- The answer to a range has just the segments that are asked for, and pages cut it without loss.
-use Rattle.std.proofs.Common.{◌≡◌, ◌↔◌, ◌⊎◌, inl, inr, ℕ, zero, suc, ◌≤◌, ◌<◌, ℤ, Bool, true, false, ◌&&◌, cond, List, [], ◌∷◌, filter, length, take, Option, Some, None, Contains, nat_lt, IsTrue, refl, sym, ap, subst, ◌∙◌, arith}
+use Rattle.std.proofs.Common.{◌≡◌, ℕ, zero, suc, ◌≤◌, ◌<◌, ℤ, Bool, true, false, ◌&&◌, cond, List, [], ◌∷◌, filter, length, take, None, nat_lt, refl, arith}
 use Rattle.std.specs.Prelude.{◌==◌}
 use Rattle.std.proofs.lemmas.Bool.{and_parts, and_from, eqb-true, eq-eqb, ltb-true, ltb-false}
-use Rattle.time_range.specs.Points.{IsRange, Overlap}
-use Rattle.time_range.specs.declared.ranges.Span.{Span}
 use Rattle.media_rows.proofs.RangeLemmas.{overlaps_decides}
-use Rattle.media_rows.specs.declared.command.Page.{Page}
 use Rattle.media_rows.specs.declared.segment.SegmentRow.{SegmentRow}
-use Rattle.media_rows.specs.Lists.{items_past, page_items, last_key, next_key}
+use Rattle.media_rows.specs.Lists.{items_past, last_key}
 use Rattle.media_rows.specs.Ranges.{overlaps}
 use Rattle.media_rows.specs.Segments.{first_point, segments_of, names_object, overlapping, starts_before}
-use Rattle.library_laws.specs.Laws.{IsAsked, RangeAnswerIsOnPoints, Cut, PagesHaveAll}
-use Rattle.library_laws.proofs.ListLemmas.{In, In-filter, filter-In, In-in_order, in_order-In, In-from_Contains, Contains-from_In, take-whole, length-take_most}
+use Rattle.library_laws.specs.Laws.{RangeAnswerIsOnPoints, PagesHaveAll}
+use Rattle.library_laws.proofs.ListLemmas.{In-filter, filter-In, In-in_order, in_order-In, In-from_Contains, Contains-from_In, take-whole, length-take_most}
 
 pub range_answer_on_points : RangeAnswerIsOnPoints
 range_answer_on_points segments flow range object fine is row =

@@ -1,32 +1,31 @@
 -- Segments that are posted keep a library good.
-use Rattle.std.proofs.Common.{◌≡◌, ◌⊎◌, inl, inr, ℕ, zero, suc, ◌+◌, ◌≤◌, ◌<◌, Bool, true, false, not, ◌&&◌, ◌||◌, cond, List, [], ◌∷◌, ◌++◌, map, filter, length, nat_lt, Option, Some, None, refl, sym, ap, ap₂, subst, ◌∙◌, append_assoc, append-nil, arith}
+use Rattle.std.proofs.Common.{◌≡◌, inl, inr, ℕ, ◌+◌, ◌≤◌, true, false, not, ◌&&◌, ◌||◌, List, [], ◌∷◌, ◌++◌, map, filter, length, nat_lt, Option, Some, None, refl, sym, ap, subst, ◌∙◌, append_assoc, append-nil, arith}
 use Rattle.std.specs.Prelude.{◌==◌, nat_le, slice_get}
-use Rattle.std.specs.List.{list_all, list_any}
+use Rattle.std.specs.List.{list_all}
 use Rattle.std.proofs.lemmas.List.{map-append}
-use Rattle.std.proofs.lemmas.Bool.{and_parts, and_from, or_left, eqb-true, eq-eqb, ne_eqb, not-false, not_from_false, cases_Bool, false≢true, false_from_ne_true}
+use Rattle.std.proofs.lemmas.Bool.{and_parts, and_from, or_left, eq-eqb, ne_eqb, not-false, not_from_false, false≢true, false_from_ne_true}
 use Rattle.time_range.specs.declared.ranges.Span.{Span}
 use Rattle.media_rows.specs.declared.object.ObjectRow.{ObjectRow}
-use Rattle.media_rows.specs.declared.refusal.Refusal.{Refusal}
 use Rattle.media_rows.specs.declared.refusal.Refusal.TheVariants as refusals
 use Rattle.media_rows.specs.declared.request.DeleteRow.{DeleteRow}
 use Rattle.media_rows.specs.declared.segment.Segment.{Segment}
 use Rattle.media_rows.specs.declared.segment.SegmentRow.{SegmentRow}
 use Rattle.media_rows.specs.Answer.{overlap_refusal, posts_refusal}
 use Rattle.media_rows.specs.Collections.{is_kept}
-use Rattle.media_rows.specs.Good.{Good, are_compatible, is_segment_good, are_segments_good, are_references_good, is_request_good, is_after_segments, rises_by}
-use Rattle.media_rows.specs.Library.{Library, last_serial, serials_of}
-use Rattle.media_rows.specs.Lists.{rises, in_order, or_else}
+use Rattle.media_rows.specs.Good.{Good, are_compatible, is_segment_good, is_request_good}
+use Rattle.media_rows.specs.Library.{Library, last_serial}
+use Rattle.media_rows.specs.Lists.{rises}
 use Rattle.media_rows.specs.Objects.{is_stored_object}
 use Rattle.media_rows.specs.Ranges.{overlaps, has_both_ends}
 use Rattle.media_rows.specs.Refusals.{when}
 use Rattle.media_rows.specs.Requests.{is_unfinished, is_deleting, done_count, done_kept}
 use Rattle.media_rows.specs.Segments.{segments_of, names_object, overlapping, starts_before, posted}
-use Rattle.library_laws.proofs.ListLemmas.{In, In-append, In-front, In-back, filter-In, in_order-In, map-In, list_all-In, list_all-from_In, list_any-from_In}
+use Rattle.library_laws.proofs.ListLemmas.{In, filter-In, in_order-In, list_all-In, list_all-from_In, list_any-from_In}
 use Rattle.library_laws.proofs.KeptLemmas.{Serials, counted, counted-New, rises-counted, serials_segments, list_all-both, rises-both}
 use Rattle.library_laws.proofs.AnswerLemmas.{neither}
 use Rattle.library_laws.proofs.CatalogKept.{not_when}
 use Rattle.library_laws.proofs.RequestLemmas.{request_stays_good}
-use Rattle.library_laws.proofs.OutboxKept.{segment_below, Names, Names-from, Names-test}
+use Rattle.library_laws.proofs.OutboxKept.{segment_below, Names-from, Names-test}
 
 -- ---- what a post that isn't refused tells
 

@@ -1,31 +1,29 @@
 -- A part of a flow or a source that is set, and a flow whose segments changed, keep a library good.
-use Rattle.std.proofs.Common.{◌≡◌, ◌⊎◌, inl, inr, ℕ, Bool, true, false, not, ◌&&◌, ◌||◌, cond, List, [], ◌∷◌, map, filter, find, length, nat_lt, Option, Some, None, refl, sym, ap, ap₂, subst, ◌∙◌, arith}
+use Rattle.std.proofs.Common.{◌≡◌, inl, inr, ℕ, true, not, ◌&&◌, cond, List, ◌∷◌, map, nat_lt, Option, Some, None, refl, sym, ap, ap₂, ◌∙◌}
 use Rattle.std.specs.Prelude.{◌==◌, option_map, bytes_eq}
 use Rattle.std.specs.Str.{is_utf8}
 use Rattle.std.specs.List.{list_all, list_any}
-use Rattle.std.proofs.lemmas.Bool.{and_parts, and_from, eqb-true, eq-eqb, not-true, not-false, cond_both, false≢true}
+use Rattle.std.proofs.lemmas.Bool.{and_parts, and_from, eqb-true, not-true, cond_both}
 use Rattle.media_rows.specs.declared.flow.FlowBody.{FlowBody}
 use Rattle.media_rows.specs.declared.flow.FlowRow.{FlowRow}
-use Rattle.media_rows.specs.declared.flow.Member.{Member}
 use Rattle.media_rows.specs.declared.flow.Tag.{Tag}
 use Rattle.media_rows.specs.declared.part.Part.{Part}
 use Rattle.media_rows.specs.declared.part.Part.TheVariants as parts
-use Rattle.media_rows.specs.declared.refusal.Refusal.{Refusal}
 use Rattle.media_rows.specs.declared.refusal.Refusal.TheVariants as refusals
 use Rattle.media_rows.specs.declared.source.SourceRow.{SourceRow}
-use Rattle.media_rows.specs.Catalog.{Catalog, source_of, flow_of, source_before, flow_before, has_flow, fits_format, tag_before, tags_with, set_refusals, set_refusal, part_refusals, flow_part_unset, sets_mark, body_with, with_flow, set_row, after_set, source_with, set_source_row, with_source, after_set_source, touched, after_touch}
+use Rattle.media_rows.specs.Catalog.{source_of, flow_of, source_before, flow_before, has_flow, fits_format, tag_before, tags_with, set_refusals, set_refusal, part_refusals, flow_part_unset, sets_mark, body_with, with_flow, set_row, after_set, set_source_row, after_set_source, touched, after_touch}
 use Rattle.media_rows.specs.Collections.{member_ids, is_kept, collects_itself}
-use Rattle.media_rows.specs.Good.{Good, fits_kept, is_body_text, is_flow_text, is_source_text, is_tag_text, is_member_text, if_there, is_collection_good, are_sources_good}
+use Rattle.media_rows.specs.Good.{Good, fits_kept, is_flow_text, is_source_text, is_tag_text, if_there, is_collection_good}
 use Rattle.media_rows.specs.Library.{Library}
 use Rattle.media_rows.specs.Lists.{rises, placed}
 use Rattle.media_rows.specs.Moments.{is_moment}
 use Rattle.media_rows.specs.Refusals.{when, first_refusal}
 use Rattle.library_laws.specs.Laws.{is_part_good}
-use Rattle.library_laws.proofs.ListLemmas.{In, In-map, find-In, find-map, list_all-In, list_all-from_In, list_any-In, list_any-from_In, map-In, list_all-filter}
+use Rattle.library_laws.proofs.ListLemmas.{find-In, find-map, list_all-In, list_all-from_In, list_all-filter}
 use Rattle.library_laws.proofs.KeptLemmas.{placed-In, rises-mapped, list_all-mapped, same_by_key}
-use Rattle.library_laws.proofs.FlowsKept.{Replaces, changed-Replaces, FlowChange, with_catalog, flow_change_keeps_good}
-use Rattle.library_laws.proofs.CatalogKept.{none_first, Entries, entries, old_fits, BodyTexts, BodyTexts-from, BodyTexts-test, RowTexts, RowTexts-from, RowTexts-test}
-use Rattle.library_laws.proofs.OutboxKept.{Names, Names-from, Names-test, Texts, Texts-from, Texts-test}
+use Rattle.library_laws.proofs.FlowsKept.{changed-Replaces, FlowChange, with_catalog, flow_change_keeps_good}
+use Rattle.library_laws.proofs.CatalogKept.{none_first, Entries, entries, old_fits, BodyTexts, BodyTexts-from, BodyTexts-test, RowTexts-from, RowTexts-test}
+use Rattle.library_laws.proofs.OutboxKept.{Names-from, Names-test, Texts-from, Texts-test}
 
 -- ---- a row that changes and keeps its source
 

@@ -1,5 +1,5 @@
 -- Small libraries, on which the definitions are computed. Our own examples.
-use Rattle.std.specs.Prelude.{ℕ, zero, suc, ◌+◌, ◌-◌, ◌*◌, ℤ, pos, ◌-ℤ◌, List, [], ◌∷◌, ◌++◌, Bool, true, false, Option, Some, None, map, codes}
+use Rattle.std.specs.Prelude.{ℕ, ◌+◌, ◌*◌, pos, ◌-ℤ◌, List, [], ◌∷◌, false, Option, Some, None, map, codes}
 use Rattle.time_range.specs.declared.ranges.Span.{Span}
 use Rattle.media_rows.specs.declared.change.Change.{Change}
 use Rattle.media_rows.specs.declared.change.Change.TheVariants as changes
@@ -8,12 +8,10 @@ use Rattle.media_rows.specs.declared.event.EventKind.TheVariants.{FlowCreated, F
 use Rattle.media_rows.specs.declared.event.EventRow.{EventRow}
 use Rattle.media_rows.specs.declared.flow.FlowBody.{FlowBody}
 use Rattle.media_rows.specs.declared.flow.FormatKind.{FormatKind}
-use Rattle.media_rows.specs.declared.flow.FormatKind.TheVariants.{Video, Audio}
+use Rattle.media_rows.specs.declared.flow.FormatKind.TheVariants.{Video}
 use Rattle.media_rows.specs.declared.flow.Member.{Member}
 use Rattle.media_rows.specs.declared.hook.Hook.{Hook}
-use Rattle.media_rows.specs.declared.hook.HookRow.{HookRow}
 use Rattle.media_rows.specs.declared.segment.Segment.{Segment}
-use Rattle.media_rows.specs.declared.segment.SegmentRow.{SegmentRow}
 use Rattle.media_rows.specs.Changes.{after}
 use Rattle.media_rows.specs.Library.{Library, empty_library}
 use Rattle.media_rows.specs.Lists.{numbers_below}

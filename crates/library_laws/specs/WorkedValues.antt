@@ -1,17 +1,14 @@
 -- What the definitions give on the examples, so that a slip in a definition doesn't check.
 use Rattle.std.specs.Prelude.{◌≡◌, ℕ, ◌+◌, pos, List, [], ◌∷◌, Bool, true, false, Option, Some, None, map, length, codes}
 use Rattle.time_range.specs.declared.ranges.Span.{Span}
-use Rattle.media_rows.specs.declared.change.Change.{Change}
 use Rattle.media_rows.specs.declared.change.Change.TheVariants as changes
 use Rattle.media_rows.specs.declared.command.Command.TheVariants as commands
 use Rattle.media_rows.specs.declared.command.Page.{Page}
-use Rattle.media_rows.specs.declared.event.EventRow.{EventRow}
 use Rattle.media_rows.specs.declared.flow.FormatKind.TheVariants.{Video, Audio}
 use Rattle.media_rows.specs.declared.part.Part.TheVariants as parts
 use Rattle.media_rows.specs.declared.refusal.Refusal.TheVariants as refusals
-use Rattle.media_rows.specs.declared.request.DeleteRow.{DeleteRow}
 use Rattle.media_rows.specs.Answer.{refusal_of, first_taken, is_kept_object}
-use Rattle.media_rows.specs.Apply.{applies, turn}
+use Rattle.media_rows.specs.Apply.{turn}
 use Rattle.media_rows.specs.Changes.{after}
 use Rattle.media_rows.specs.Events.{flow_event}
 use Rattle.media_rows.specs.Formats.{event_number, status_number}
@@ -19,7 +16,7 @@ use Rattle.media_rows.specs.Library.{Library}
 use Rattle.media_rows.specs.Objects.{free_place, swept_objects}
 use Rattle.media_rows.specs.Outbox.{Posted, after_post, waiting_count}
 use Rattle.media_rows.specs.Ranges.{eternity}
-use Rattle.media_rows.specs.Segments.{covered, first_point, segment_page, segment_next_key}
+use Rattle.media_rows.specs.Segments.{covered, segment_page, segment_next_key}
 use Rattle.media_rows.specs.declared.event.EventKind.TheVariants.{FlowCreated}
 use Rattle.library_laws.specs.Examples.{after_all, first_flow, second_flow, one_source, body, member, nothing, put, second, seconds, piece, stored, with_pieces, shared, hook, outbox_with}
 

@@ -1,11 +1,13 @@
 //! Ids in text: those of sources, flows and the store, and those of media objects.
-ghost use Rattle.std.specs.Prelude.{◌≡◌, ◌&&◌, IfOk, Some, length, nat_le};
+ghost use Rattle.std.specs.Prelude.{◌≡◌, ◌≤◌, ◌&&◌, IfOk, Some, length, nat_le};
 ghost use Rattle.std.specs.List.{list_all};
+ghost use Rattle.uuid.specs.Text.{hyphenated_text, lower};
 ghost use Rattle.media_rows.specs.Ids.{id_of, id_text, is_id_byte, is_object_id};
 
 use disk_trait::{Memory, Text};
 use std::alloc::Global;
 use uuid::Uuid;
+use uuid::fmt::Hyphenated;
 
 /// Bytes of the longest id of an object.
 const LONGEST_OBJECT_ID: usize = 200;
@@ -27,8 +29,17 @@ pub fn print_id(alloc: Global, id: u128) -> Result<Text, Memory>
     ensures reads_back { IfOk result (λ text. id_of text ≡ Some id) }
 {
     let mut buffer = Uuid::encode_buffer();
-    let printed = Uuid::from_u128(id).hyphenated().encode_lower(&mut buffer);
+    let spelled = Uuid::from_u128(id).hyphenated();
+    let printed = write_id(&spelled, &mut buffer);
     Text::from_bytes(alloc, printed.as_bytes())
+}
+
+/// Writes the text of an id in lower case to the start of a buffer of at least 36 bytes.
+fn write_id<'b>(id: &Hyphenated, buffer: &'b mut [u8]) -> &'b str
+    requires { 36 ≤ length buffer.old }
+    ensures { result.now ≡ hyphenated_text lower id.now }
+{
+    id.encode_lower(buffer)
 }
 
 /// Whether a text can be an object's id: 1 to 200 bytes from `!` to `~`. It is our own rule.
