@@ -19,3 +19,4 @@ pub mod Answer
 pub mod Good
 pub mod Apply
 pub mod Snapshot
+pub mod Restoring
