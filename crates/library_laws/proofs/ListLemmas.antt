@@ -266,7 +266,7 @@ In-take (suc n) [] x h = absurd h
 In-take (suc n) (y ∷ ys) x (inl same) = inl same
 In-take (suc n) (y ∷ ys) x (inr later) = inr (In-take n ys x later)
 
-In-inserted : {X : Type 0} (before : X → X → Bool) (x : X) (ys : List X) (z : X) → In z (inserted before x ys) → (z ≡ x) ⊎ In z ys
+pub In-inserted : {X : Type 0} (before : X → X → Bool) (x : X) (ys : List X) (z : X) → In z (inserted before x ys) → (z ≡ x) ⊎ In z ys
 In-inserted before x [] z (inl same) = inl same
 In-inserted before x [] z (inr bad) = absurd bad
 In-inserted before x (y ∷ ys) z h = inserted_step (before y x) x y ys (inserted before x ys) z h (In-inserted before x ys z)

@@ -2,8 +2,8 @@
 use Rattle.std.specs.Prelude.{◌≡◌, ◌↔◌, ◌≤◌, ◌+◌, ◌==◌, ℤ, ◌||◌, not, nat_lt, ℕ, Bool, true, IsTrue, List, Contains, Option, Some, None, IfSome, length}
 use Rattle.time_range.specs.Points.{IsRange, Overlap}
 use Rattle.time_range.specs.declared.ranges.Span.{Span}
-use Rattle.media_rows.specs.Lists.{items_past, page_items, next_key}
-use Rattle.media_rows.specs.Segments.{first_point, names_object, overlapping}
+use Rattle.media_rows.specs.Lists.{rises, items_past, page_items, next_key}
+use Rattle.media_rows.specs.Segments.{first_point, names_object, overlapping, starts_before}
 use Rattle.media_rows.specs.declared.command.Page.{Page}
 use Rattle.media_rows.specs.declared.segment.SegmentRow.{SegmentRow}
 use Rattle.media_rows.specs.declared.change.Change.{Change}
@@ -154,6 +154,11 @@ pub record IsAsked (segments : List SegmentRow) (flow : ℕ) (range : Option Spa
 abbrev pub RangeAnswerIsOnPoints : Type 0
 RangeAnswerIsOnPoints = (segments : List SegmentRow) (flow : ℕ) (range : Option Span) (object : Option (List ℕ)) → HaveRanges segments → IsRange range
     → (row : SegmentRow) → Contains (overlapping segments flow range object) row ↔ IsAsked segments flow range object row
+
+-- and has them by rising first point: none stands behind one that begins later
+abbrev pub RangeAnswerIsInOrder : Type 0
+RangeAnswerIsInOrder = (segments : List SegmentRow) (flow : ℕ) (range : Option Span) (object : Option (List ℕ))
+    → IsTrue (rises (λ a b. not (starts_before b a)) (overlapping segments flow range object))
 
 -- the items past a page's key are those of the page, and then those past the next key, where there is one;
 -- and where there is none the page has them all

@@ -151,7 +151,12 @@ page (Some at) limit backwards = record { after = Some (pos at); limit = limit; 
 abbrev pub points : Option Span → Page → List ℕ
 points range asked_page = map (λ row. row.serial) (segment_page (with_pieces 5).segments first_flow range None asked_page)
 
+-- segments that were posted in another order
+abbrev pub mixed : Library
+mixed = after (changes.AddSegments 0 first_flow (piece 30 40 ∷ piece 10 20 ∷ piece 20 30 ∷ piece 0 10 ∷ [])) stored
+
 pub record PagesAreCut : Type 0 where
+  pub in_order : map (λ row. row.serial) (segment_page mixed.segments first_flow eternity None (page None 9 false)) ≡ 5 ∷ 3 ∷ 4 ∷ 2 ∷ []
   pub first : points eternity (page None 2 false) ≡ 2 ∷ 3 ∷ []
   pub key : segment_next_key (with_pieces 5).segments first_flow eternity None (page None 2 false) ≡ Some (pos second)
   pub next : points eternity (page (Some second) 2 false) ≡ 4 ∷ 5 ∷ []

@@ -1,5 +1,5 @@
 //! Laws over all libraries, commands and changes.
-ghost use Rattle.library_laws.specs.Laws.{AnswersAreAllowed, ChangesApply, ChangesKeepGood, CirclesAreFound, FirstBytesStay, GoodIsTested, PagesHaveAll, RangeAnswerIsOnPoints, TurnsAreBounded};
+ghost use Rattle.library_laws.specs.Laws.{AnswersAreAllowed, ChangesApply, ChangesKeepGood, CirclesAreFound, FirstBytesStay, GoodIsTested, PagesHaveAll, RangeAnswerIsInOrder, RangeAnswerIsOnPoints, TurnsAreBounded};
 
 /// A command that is answered with a change is answered with one that the library allows.
 pub fn answers_are_allowed()
@@ -39,6 +39,11 @@ pub fn first_bytes_stay()
 /// The answer to a range has just the segments of the flow that have a point in it.
 pub fn range_answer_is_on_points()
     ensures { RangeAnswerIsOnPoints }
+{}
+
+/// And it has them by rising first point.
+pub fn range_answer_is_in_order()
+    ensures { RangeAnswerIsInOrder }
 {}
 
 /// A page has at most as many segments as its limit, and all that are left where no next key comes.

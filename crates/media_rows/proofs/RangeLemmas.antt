@@ -10,7 +10,8 @@ use Rattle.time_range.specs.Points.{From, UpTo, Has, IsLow, IsHigh, IsSpan, IsRa
 use Rattle.time_range.specs.Ends.{in_order, ReachesDown, ReachesUp}
 use Rattle.time_range.specs.Answers.{HasSamePoints}
 use Rattle.time_range.specs.declared.ranges.Span.{Span}
-use Rattle.time_range.proofs.SpanPoints.{point_between, covers_from_reach, reach_from_covers, not_covered_by_never}
+use Rattle.time_range.proofs.SpanPoints.{point_between, covers_from_reach, reach_from_covers, not_covered_by_never, hull_least}
+use Rattle.time_range.proofs.Theorems.{same_range}
 use Rattle.media_rows.specs.Ranges.{overlaps, covers, reaches_down, reaches_up, lower, higher, hull}
 
 le_true : (a b : ℤ) → int_le a b ≡ true → a ≤ℤ b
@@ -132,3 +133,91 @@ is_range_by_ends (Some s) true low high none some = absurd (let e = none refl in
 is_range_by_ends (Some s) false low high none some =
     let q = some refl in
     record { ordered = ordered_from_point s.low s.high q.0 q.1.0 q.1.1; low = low; high = high }
+
+-- ---- the least range that covers two
+
+lower_left : (a b : Option ℤ) → ReachesDown (lower a b) a
+lower_left None b = tt
+lower_left (Some a) None = tt
+lower_left (Some a) (Some b) = omega (arith, ints, clamps)
+
+lower_right : (a b : Option ℤ) → ReachesDown (lower a b) b
+lower_right None b = tt
+lower_right (Some a) None = tt
+lower_right (Some a) (Some b) = omega (arith, ints, clamps)
+
+lower_least : (a b l : Option ℤ) → ReachesDown l a → ReachesDown l b → ReachesDown l (lower a b)
+lower_least a b None h k = tt
+lower_least None b (Some l) h k = h
+lower_least (Some a) None (Some l) h k = k
+lower_least (Some a) (Some b) (Some l) h k = omega (arith, ints, clamps)
+
+higher_left : (a b : Option ℤ) → ReachesUp (higher a b) a
+higher_left None b = tt
+higher_left (Some a) None = tt
+higher_left (Some a) (Some b) = omega (arith, ints, clamps)
+
+higher_right : (a b : Option ℤ) → ReachesUp (higher a b) b
+higher_right None b = tt
+higher_right (Some a) None = tt
+higher_right (Some a) (Some b) = omega (arith, ints, clamps)
+
+higher_least : (a b l : Option ℤ) → ReachesUp l a → ReachesUp l b → ReachesUp l (higher a b)
+higher_least a b None h k = tt
+higher_least None b (Some l) h k = h
+higher_least (Some a) None (Some l) h k = k
+higher_least (Some a) (Some b) (Some l) h k = omega (arith, ints, clamps)
+
+-- ends that reach out stay in order
+ordered_out : (low low₂ high high₂ : Option ℤ) → ReachesDown low₂ low → ReachesUp high₂ high → AreOrdered low high → AreOrdered low₂ high₂
+unfolding AreOrdered
+ordered_out low None high high₂ d u h = tt
+ordered_out low (Some a) high None d u h = tt
+ordered_out None (Some a) high (Some b) d u h = absurd d
+ordered_out (Some l) (Some a) None (Some b) d u h = absurd u
+ordered_out (Some l) (Some a) (Some m) (Some b) d u h = omega (arith, ints)
+
+low_within : (a b : Option ℤ) → IfSome a IsLow → IfSome b IsLow → IfSome (lower a b) IsLow
+low_within None b h k = tt
+low_within (Some a) None h k = tt
+low_within (Some a) (Some b) h k = record { least = omega (arith, ints, clamps, h.least, k.least); most = omega (arith, ints, clamps, h.most, k.most) }
+
+high_within : (a b : Option ℤ) → IfSome a IsHigh → IfSome b IsHigh → IfSome (higher a b) IsHigh
+high_within None b h k = tt
+high_within (Some a) None h k = tt
+high_within (Some a) (Some b) h k = record { least = omega (arith, ints, clamps, h.least, k.least); most = omega (arith, ints, clamps, h.most, k.most) }
+
+pub hull_range : (a b : Option Span) → IsRange a → IsRange b → IsRange (hull a b)
+unfolding AreOrdered
+hull_range None b fine_a fine_b = fine_b
+hull_range (Some s) None fine_a fine_b = fine_a
+hull_range (Some s) (Some t) fine_a fine_b = record {
+  ordered = ordered_out s.low (lower s.low t.low) s.high (higher s.high t.high) (lower_left s.low t.low) (higher_left s.high t.high) fine_a.ordered;
+  low = low_within s.low t.low fine_a.low fine_b.low;
+  high = high_within s.high t.high fine_a.high fine_b.high;
+}
+
+pub hull_left : (a b : Option Span) → Covers (hull a b) a
+hull_left None b p h = absurd h
+hull_left (Some s) None p h = h
+hull_left (Some s) (Some t) p h =
+    covers_from_reach (record { low = lower s.low t.low; high = higher s.high t.high }) s (lower_left s.low t.low) (higher_left s.high t.high) p h
+
+pub hull_right : (a b : Option Span) → Covers (hull a b) b
+hull_right None b p h = h
+hull_right (Some s) None p h = absurd h
+hull_right (Some s) (Some t) p h =
+    covers_from_reach (record { low = lower s.low t.low; high = higher s.high t.high }) t (lower_right s.low t.low) (higher_right s.high t.high) p h
+
+pub hull_within : (range a b : Option Span) → IsRange a → IsRange b → Covers range a → Covers range b → Covers range (hull a b)
+hull_within range None b fine_a fine_b left right = right
+hull_within range (Some s) None fine_a fine_b left right = left
+hull_within range (Some s) (Some t) fine_a fine_b left right =
+    hull_least range s t (lower s.low t.low) (higher s.high t.high) fine_a fine_b (lower_least s.low t.low) (higher_least s.high t.high) left right
+
+-- the least range that covers two is this one
+pub least_is_hull : (range a b : Option Span) → IsRange range → IsRange a → IsRange b → Covers range a → Covers range b
+    → ((other : Option Span) → Covers other a → Covers other b → Covers other range) → range ≡ hull a b
+least_is_hull range a b fine fine_a fine_b left right least =
+    same_range range (hull a b) fine (hull_range a b fine_a fine_b)
+    (λ p. (λ h. least (hull a b) (hull_left a b) (hull_right a b) p h, λ h. hull_within range a b fine_a fine_b left right p h))

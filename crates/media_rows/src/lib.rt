@@ -38,7 +38,7 @@ pub use crate::moments::moment_text;
 pub use crate::object::{Extent, ObjectList, ObjectRow, ObjectState};
 pub use crate::order::{text_before, texts_have_an_order};
 pub use crate::part::{Part, PartName};
-pub use crate::ranges::{range_covers, range_overlaps};
+pub use crate::ranges::{range_covers, range_hull, range_overlaps};
 pub use crate::refusal::{ApplyFault, BookFault, Refusal};
 pub use crate::reply::{FlowShown, FlowShownList, HookShown, HookShownList, Reply, View};
 pub use crate::request::{DeleteList, DeleteRow, DeleteStatus};
