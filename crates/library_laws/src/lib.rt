@@ -2,9 +2,14 @@
 //! the definitions give on examples. Nothing here runs.
 #![tactic(auto)]
 
+mod answers;
 mod laws;
 mod worked;
 
+pub use crate::answers::{
+    changes_are_tested, ids_are_made, media_are_kept, refusals_stand_in_order, replies_are_given,
+    rows_are_kept, views_are_shown,
+};
 pub use crate::laws::{
     answers_are_allowed, changes_apply, changes_keep_good, circles_are_found, first_bytes_stay,
     good_is_tested, pages_have_all, range_answer_is_in_order, range_answer_is_on_points,
