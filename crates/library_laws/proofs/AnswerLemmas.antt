@@ -22,7 +22,7 @@ use Rattle.library_laws.specs.Laws.{IsAllowedAt, AnswersAreAllowed}
 use Rattle.library_laws.proofs.ListLemmas.{length-in_order, length-filter_passing}
 
 -- an answer has a change only where nothing is refused
-by_refusal : (P : Change → Type 0) (refusal : Option Refusal) (outcome : Outcome) → (refusal ≡ None → IfSome outcome.change P)
+pub by_refusal : (P : Change → Type 0) (refusal : Option Refusal) (outcome : Outcome) → (refusal ≡ None → IfSome outcome.change P)
     → IfSome (changing_answer refusal outcome).change P
 by_refusal P None outcome h = h refl
 by_refusal P (Some why) outcome h = tt

@@ -16,3 +16,4 @@ mod ChangesKept
 mod BoundLemmas
 mod FirstBytes
 mod PageLemmas
+mod AppliesLemmas

@@ -1,5 +1,5 @@
 -- Laws over the definitions of the library.
-use Rattle.std.specs.Prelude.{◌≡◌, ◌↔◌, ◌≤◌, ◌+◌, ◌==◌, ℤ, ◌||◌, not, nat_lt, ℕ, Bool, true, IsTrue, List, Contains, Option, Some, None, IfSome, length}
+use Rattle.std.specs.Prelude.{◌≡◌, ◌↔◌, ◌≤◌, ◌+◌, ◌==◌, ℤ, ◌||◌, not, nat_lt, ℕ, Bool, true, IsTrue, IsFalse, List, Contains, Option, Some, None, IfSome, length}
 use Rattle.time_range.specs.Points.{IsRange, Overlap}
 use Rattle.time_range.specs.declared.ranges.Span.{Span}
 use Rattle.media_rows.specs.Lists.{rises, items_past, page_items, next_key}
@@ -9,10 +9,12 @@ use Rattle.media_rows.specs.declared.segment.SegmentRow.{SegmentRow}
 use Rattle.media_rows.specs.declared.change.Change.{Change}
 use Rattle.media_rows.specs.declared.command.Command.{Command}
 use Rattle.media_rows.specs.declared.command.Command.TheVariants as commands
+use Rattle.media_rows.specs.declared.command.Want.{Want}
+use Rattle.media_rows.specs.declared.command.Want.TheVariants.{Count, Named}
 use Rattle.media_rows.specs.declared.flow.FlowRow.{FlowRow}
 use Rattle.media_rows.specs.declared.flow.Member.{Member}
 use Rattle.media_rows.specs.Answer.{answer}
-use Rattle.media_rows.specs.Apply.{is_allowed, applied}
+use Rattle.media_rows.specs.Apply.{is_allowed, applied, passes_serials}
 use Rattle.media_rows.specs.Changes.{moment_of, after}
 use Rattle.media_rows.specs.Collections.{collects_itself, AnyReaches}
 use Rattle.media_rows.specs.Good.{Good, is_good, if_there, is_tag_text, is_member_text, is_body_text, is_hook_text}
@@ -114,6 +116,45 @@ ChangesKeepGood = (library : Library) (change : Change) → Good library → IsT
 
 abbrev pub ChangesApply : Type 0
 ChangesApply = (library : Library) (change : Change) → Good library → IsTrue (is_allowed library change) → IsSound library change → applied change library ≡ Some (after change library)
+
+-- what a command itself brings is good, and an object that is stored has a free place
+abbrev pub IsGoodWant : Want → Type 0
+IsGoodWant (Count n) = Unit {0}
+IsGoodWant (Named ids) = IsTrue (list_all is_object_id ids)
+
+pub record IsGoodPlace (library : Library) (start size : ℕ) : Type 0 where
+  pub free : IsTrue (is_free library.objects library.blocks (blocks_of size) start)
+  pub zero : IsTrue (nat_lt 0 size || (start == 0))
+
+abbrev pub IsGoodCommand : Library → Command → Type 0
+IsGoodCommand library (commands.PutFlow body) = IsTrue (is_body_text body)
+IsGoodCommand library (commands.SetFlow flow part) = IsTrue (is_part_good part)
+IsGoodCommand library (commands.SetSource source part) = IsTrue (is_part_good part)
+IsGoodCommand library (commands.DropFlow flow) = Unit {0}
+IsGoodCommand library (commands.Allocate flow want) = IsGoodWant want
+IsGoodCommand library (commands.Keep object start size) = IsGoodPlace library start size
+IsGoodCommand library (commands.AddSegments flow posts) = IsTrue (list_all (λ post. has_both_ends post.range) posts)
+IsGoodCommand library (commands.CutSegments flow range) = Unit {0}
+IsGoodCommand library (commands.PutHook hook) = IsTrue (is_hook_text (hook_row hook 0))
+IsGoodCommand library (commands.DropHook url) = Unit {0}
+IsGoodCommand library commands.Root = Unit {0}
+IsGoodCommand library commands.Service = Unit {0}
+IsGoodCommand library commands.Hooks = Unit {0}
+IsGoodCommand library (commands.Sources wanted page) = Unit {0}
+IsGoodCommand library (commands.Source id) = Unit {0}
+IsGoodCommand library (commands.SourcePart id name) = Unit {0}
+IsGoodCommand library (commands.Flows wanted range page) = Unit {0}
+IsGoodCommand library (commands.Flow id) = Unit {0}
+IsGoodCommand library (commands.FlowPart id name) = Unit {0}
+IsGoodCommand library (commands.Segments id wanted page) = Unit {0}
+IsGoodCommand library (commands.Object id) = Unit {0}
+IsGoodCommand library commands.Requests = Unit {0}
+IsGoodCommand library (commands.Request serial) = Unit {0}
+
+-- where a command is answered with a change, the change applies, unless the serials would end
+abbrev pub AnswersApply : Type 0
+AnswersApply = (library : Library) (command : Command) (moment : ℕ) → Good library → IsGoodCommand library command → IsTrue (is_moment moment)
+    → IfSome (answer library command moment).change (λ change. IsFalse (passes_serials change library) → applied change library ≡ Some (after change library))
 
 -- the one test of a good library is its nine parts
 abbrev pub GoodIsTested : Type 0

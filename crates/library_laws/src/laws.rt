@@ -1,9 +1,15 @@
 //! Laws over all libraries, commands and changes.
-ghost use Rattle.library_laws.specs.Laws.{AnswersAreAllowed, ChangesApply, ChangesKeepGood, CirclesAreFound, FirstBytesStay, GoodIsTested, PagesHaveAll, RangeAnswerIsInOrder, RangeAnswerIsOnPoints, TurnsAreBounded};
+ghost use Rattle.library_laws.specs.Laws.{AnswersApply, AnswersAreAllowed, ChangesApply, ChangesKeepGood, CirclesAreFound, FirstBytesStay, GoodIsTested, PagesHaveAll, RangeAnswerIsInOrder, RangeAnswerIsOnPoints, TurnsAreBounded};
 
 /// A command that is answered with a change is answered with one that the library allows.
 pub fn answers_are_allowed()
     ensures { AnswersAreAllowed }
+{}
+
+/// Where a command with good values is answered with a change, the change applies, unless the
+/// serials would end.
+pub fn answers_apply()
+    ensures { AnswersApply }
 {}
 
 /// The bounded test finds exactly the flows that reach themselves through collections.
