@@ -1,8 +1,13 @@
 -- Where a command is answered with a change, the change applies.
-use Rattle.std.proofs.Common.{◌≡◌, inl, inr, ℕ, zero, suc, ◌+◌, ◌<◌, ◌≤◌, ◌^◌, ◌%◌, Bool, true, false, cond, List, [], ◌∷◌, map, length, Option, Some, None, codes, refl, ap, ◌∙◌, length-append, arith}
+use Rattle.library_laws.specs.Laws.{TurnsApply, HasGoodValues, HasPlace, IsAllowedAt, IsGoodWant, IsGoodCommand, AnswersApply}
+use Rattle.media_rows.specs.Apply.{is_allowed, applied, passes_serials}
+use Rattle.media_rows.specs.Requests.{first_unfinished}
+use Rattle.media_rows.specs.Objects.{swept_objects}
+use Rattle.std.proofs.Common.{Option, Some, None, cond, nat_lt, refl, ap, ◌∙◌, ◌≡◌, inl, inr, ℕ, zero, suc, ◌+◌, ◌<◌, ◌≤◌, ◌^◌, ◌%◌, Bool, true, false, List, [], ◌∷◌, map, length, codes, length-append, arith}
+use Rattle.std.proofs.lemmas.Bool.{cond_both, ltb-false, and_from, le-leb}
+use Rattle.media_rows.specs.Changes.{moment_of, after}
 use Rattle.std.specs.Prelude.{IfSome, IsFalse, is_some, nat_le, ◌==◌, decimal}
 use Rattle.std.specs.List.{list_all}
-use Rattle.std.proofs.lemmas.Bool.{and_from, cond_both, ltb-false, le-leb}
 use Rattle.std.proofs.lemmas.Bool.Decides.{nat_tests}
 use Rattle.std.proofs.lemmas.Fmt.{decimal_by_steps, length-decimal-le}
 use Rattle.std.specs.Int.{w128, to_be_bytes}
@@ -17,8 +22,6 @@ use Rattle.media_rows.specs.declared.command.Want.TheVariants.{Count, Named}
 use Rattle.media_rows.specs.declared.reply.Reply.TheVariants as replies
 use Rattle.time_range.specs.declared.ranges.Span.{Span}
 use Rattle.media_rows.specs.Answer.{Outcome, changed, unchanged, answer, accepted, refusal_of, changing_answer, accepted_drop, accepted_cut, wanted_ids, made_id, made_prefix}
-use Rattle.media_rows.specs.Apply.{applied, passes_serials}
-use Rattle.media_rows.specs.Changes.{after}
 use Rattle.media_rows.specs.Good.{Good}
 use Rattle.media_rows.specs.Ids.{id_text, is_id_byte, is_object_id}
 use Rattle.media_rows.specs.Library.{Library, last_serial}
@@ -26,7 +29,6 @@ use Rattle.media_rows.specs.Lists.{numbers_below}
 use Rattle.media_rows.specs.Moments.{is_moment}
 use Rattle.media_rows.specs.Outbox.{hook_of}
 use Rattle.media_rows.specs.Segments.{covered, segments_of}
-use Rattle.library_laws.specs.Laws.{HasPlace, IsAllowedAt, HasGoodValues, IsGoodWant, IsGoodCommand, AnswersApply}
 use Rattle.library_laws.proofs.ListLemmas.{In, In-append}
 use Rattle.library_laws.proofs.KeptLemmas.{list_all-both, list_all-mapped}
 use Rattle.library_laws.proofs.AnswerLemmas.{by_refusal, answers_allowed}
@@ -177,3 +179,19 @@ both library moment good at (Some change) allowed brings = λ room.
 pub answers_apply : AnswersApply
 answers_apply library command moment good command_good at =
     both library moment good at (answer library command moment).change (answers_allowed library command moment (good_place library command command_good)) (answers_bring library command moment command_good)
+
+-- ---- turns
+
+turn_by : (library : Library) (moment : ℕ) → Good library → is_moment moment ≡ true → (change : Change) → is_allowed library change ≡ true → moment_of change ≡ moment → HasGoodValues change
+    → IsFalse (passes_serials change library) → applied change library ≡ Some (after change library)
+turn_by library moment good at change allowed same values room =
+    changes_apply library change good allowed (record { at = ap is_moment same ∙ at; values = values; serials = ltb-false last_serial (after change library).next_serial room })
+
+pub turns_apply : TurnsApply
+turns_apply library moment good at =
+    cond_both (is_some (first_unfinished library.requests)) (Some (changes.DeleteStep moment)) (cond (nat_lt 0 (length (swept_objects library.segments library.objects moment))) (Some (changes.SweepStep moment)) None)
+    (λ (o : Option Change). IfSome o (λ change. IsFalse (passes_serials change library) → applied change library ≡ Some (after change library)))
+    (λ due. turn_by library moment good at (changes.DeleteStep moment) due refl tt)
+    (λ none. cond_both (nat_lt 0 (length (swept_objects library.segments library.objects moment))) (Some (changes.SweepStep moment)) None
+    (λ (o : Option Change). IfSome o (λ change. IsFalse (passes_serials change library) → applied change library ≡ Some (after change library)))
+    (λ due. turn_by library moment good at (changes.SweepStep moment) due refl tt) (λ nothing. tt))

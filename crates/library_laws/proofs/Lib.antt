@@ -17,3 +17,4 @@ mod BoundLemmas
 mod FirstBytes
 mod PageLemmas
 mod AppliesLemmas
+mod PlaceLemmas

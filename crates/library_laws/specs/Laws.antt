@@ -1,5 +1,5 @@
 -- Laws over the definitions of the library.
-use Rattle.std.specs.Prelude.{◌≡◌, ◌↔◌, ◌≤◌, ◌+◌, ◌==◌, ℤ, ◌||◌, not, nat_lt, ℕ, Bool, true, IsTrue, IsFalse, List, Contains, Option, Some, None, IfSome, length}
+use Rattle.std.specs.Prelude.{◌≡◌, ◌↔◌, ◌≤◌, ◌<◌, ◌+◌, ◌==◌, ℤ, ◌||◌, not, nat_lt, ℕ, Bool, true, IsTrue, IsFalse, List, Contains, Option, Some, None, IfSome, MatchOption, length}
 use Rattle.time_range.specs.Points.{IsRange, Overlap}
 use Rattle.time_range.specs.declared.ranges.Span.{Span}
 use Rattle.media_rows.specs.Lists.{rises, items_past, page_items, next_key}
@@ -14,7 +14,7 @@ use Rattle.media_rows.specs.declared.command.Want.TheVariants.{Count, Named}
 use Rattle.media_rows.specs.declared.flow.FlowRow.{FlowRow}
 use Rattle.media_rows.specs.declared.flow.Member.{Member}
 use Rattle.media_rows.specs.Answer.{answer}
-use Rattle.media_rows.specs.Apply.{is_allowed, applied, passes_serials}
+use Rattle.media_rows.specs.Apply.{is_allowed, applied, passes_serials, turn}
 use Rattle.media_rows.specs.Changes.{moment_of, after}
 use Rattle.media_rows.specs.Collections.{collects_itself, AnyReaches}
 use Rattle.media_rows.specs.Good.{Good, is_good, if_there, is_tag_text, is_member_text, is_body_text, is_hook_text}
@@ -29,7 +29,7 @@ use Rattle.media_rows.specs.declared.part.Part.TheVariants as parts
 use Rattle.std.specs.List.{list_all}
 use Rattle.std.specs.Str.{is_utf8}
 use Rattle.media_rows.specs.Library.{Library, last_serial}
-use Rattle.media_rows.specs.Objects.{is_free, is_stored, blocks_of}
+use Rattle.media_rows.specs.Objects.{free_place, is_free, is_stored, blocks_of}
 
 -- ---- answers and changes
 
@@ -155,6 +155,24 @@ IsGoodCommand library (commands.Request serial) = Unit {0}
 abbrev pub AnswersApply : Type 0
 AnswersApply = (library : Library) (command : Command) (moment : ℕ) → Good library → IsGoodCommand library command → IsTrue (is_moment moment)
     → IfSome (answer library command moment).change (λ change. IsFalse (passes_serials change library) → applied change library ≡ Some (after change library))
+
+-- the change of a turn applies, unless the serials would end
+abbrev pub TurnsApply : Type 0
+TurnsApply = (library : Library) (moment : ℕ) → Good library → IsTrue (is_moment moment)
+    → IfSome (turn library moment) (λ change. IsFalse (passes_serials change library) → applied change library ≡ Some (after change library))
+
+-- ---- places
+
+-- a place that is found is free, an object without bytes is placed at 0, and no lower place is free for others
+pub record IsLeastPlace (objects : List ObjectRow) (blocks count place : ℕ) : Type 0 where
+  pub free : IsTrue (is_free objects blocks count place)
+  pub zero : count ≡ 0 → place ≡ 0
+  pub least : (lower : ℕ) → lower < place → IsFalse (is_free objects blocks count lower)
+
+-- and where none is found no place is free
+abbrev pub PlacesAreLeast : Type 0
+PlacesAreLeast = (objects : List ObjectRow) (blocks count : ℕ)
+    → MatchOption (free_place objects blocks count) ((place : ℕ) → place < blocks → IsFalse (is_free objects blocks count place)) (IsLeastPlace objects blocks count)
 
 -- the one test of a good library is its nine parts
 abbrev pub GoodIsTested : Type 0

@@ -1,5 +1,5 @@
 //! Laws over all libraries, commands and changes.
-ghost use Rattle.library_laws.specs.Laws.{AnswersApply, AnswersAreAllowed, ChangesApply, ChangesKeepGood, CirclesAreFound, FirstBytesStay, GoodIsTested, PagesHaveAll, RangeAnswerIsInOrder, RangeAnswerIsOnPoints, TurnsAreBounded};
+ghost use Rattle.library_laws.specs.Laws.{AnswersApply, AnswersAreAllowed, ChangesApply, ChangesKeepGood, CirclesAreFound, FirstBytesStay, GoodIsTested, PagesHaveAll, PlacesAreLeast, RangeAnswerIsInOrder, RangeAnswerIsOnPoints, TurnsApply, TurnsAreBounded};
 
 /// A command that is answered with a change is answered with one that the library allows.
 pub fn answers_are_allowed()
@@ -10,6 +10,16 @@ pub fn answers_are_allowed()
 /// serials would end.
 pub fn answers_apply()
     ensures { AnswersApply }
+{}
+
+/// The change of a turn applies, unless the serials would end.
+pub fn turns_apply()
+    ensures { TurnsApply }
+{}
+
+/// The place for an object is the least one that is free.
+pub fn places_are_least()
+    ensures { PlacesAreLeast }
 {}
 
 /// The bounded test finds exactly the flows that reach themselves through collections.
