@@ -18,3 +18,4 @@ mod FirstBytes
 mod PageLemmas
 mod AppliesLemmas
 mod PlaceLemmas
+mod RestoreLemmas

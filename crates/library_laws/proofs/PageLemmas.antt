@@ -1,4 +1,4 @@
--- The answer to a range has just the segments that are asked for, and pages cut it without loss.
+-- The answer to a range has just the segments that are asked for, in order; and a page without a next key has all.
 use Rattle.library_laws.proofs.ListLemmas.{list_all-from_In, list_all-In, In-inserted, In-filter, filter-In, In-in_order, in_order-In, In-from_Contains, Contains-from_In, take-whole, length-take_most}
 use Rattle.std.proofs.Common.{Option, Some, inl, inr, ap, ◌∙◌, ◌≡◌, ℕ, zero, suc, ◌≤◌, ◌<◌, ℤ, Bool, true, false, not, ◌&&◌, ◌||◌, cond, List, [], ◌∷◌, filter, length, take, None, nat_lt, refl, arith}
 use Rattle.time_range.specs.Points.{low_of}

@@ -1,5 +1,5 @@
 -- Laws over the definitions of the library.
-use Rattle.std.specs.Prelude.{◌≡◌, ◌↔◌, ◌≤◌, ◌<◌, ◌+◌, ◌==◌, ℤ, ◌||◌, not, nat_lt, ℕ, Bool, true, IsTrue, IsFalse, List, Contains, Option, Some, None, IfSome, MatchOption, length}
+use Rattle.std.specs.Prelude.{◌≡◌, ◌↔◌, ◌≤◌, ◌<◌, ◌+◌, ◌==◌, ℤ, ◌||◌, not, nat_lt, ℕ, Bool, true, IsTrue, IsFalse, List, Contains, Option, Some, None, IfSome, MatchOption, length, [], ◌∷◌, ◌++◌}
 use Rattle.time_range.specs.Points.{IsRange, Overlap}
 use Rattle.time_range.specs.declared.ranges.Span.{Span}
 use Rattle.media_rows.specs.Lists.{rises, items_past, page_items, next_key}
@@ -29,6 +29,11 @@ use Rattle.media_rows.specs.declared.part.Part.TheVariants as parts
 use Rattle.std.specs.List.{list_all}
 use Rattle.std.specs.Str.{is_utf8}
 use Rattle.media_rows.specs.Library.{Library, last_serial}
+use Rattle.media_rows.specs.declared.event.EventRow.{EventRow}
+use Rattle.media_rows.specs.declared.hook.HookRow.{HookRow}
+use Rattle.media_rows.specs.declared.request.DeleteRow.{DeleteRow}
+use Rattle.media_rows.specs.declared.source.SourceRow.{SourceRow}
+use Rattle.media_rows.specs.Restoring.{catalog_of, objects_of, requests_of, outbox_of, can_restore_catalog, can_restore_objects, can_restore_requests, can_restore_outbox}
 use Rattle.media_rows.specs.Objects.{free_place, is_free, is_stored, blocks_of}
 
 -- ---- answers and changes
@@ -219,11 +224,40 @@ abbrev pub RangeAnswerIsInOrder : Type 0
 RangeAnswerIsInOrder = (segments : List SegmentRow) (flow : ℕ) (range : Option Span) (object : Option (List ℕ))
     → IsTrue (rises (λ a b. not (starts_before b a)) (overlapping segments flow range object))
 
--- the items past a page's key are those of the page, and then those past the next key, where there is one;
--- and where there is none the page has them all
+-- a page has at most as many items as its limit, and where no next key comes it has all that lie past its own
 pub record Cut {X : Type 0} (key : X → ℤ) (page : Page) (xs : List X) : Type 0 where
   pub whole : next_key key page xs ≡ None → page_items key page xs ≡ items_past key page xs
   pub most : length (page_items key page xs) ≤ page.limit
 
 abbrev pub PagesHaveAll : Type 0
 PagesHaveAll = (segments : List SegmentRow) (page : Page) → 1 ≤ page.limit → Cut first_point page segments
+
+-- ---- restoring
+
+-- before rows are put into a book two neighbours of two keys may change places, and so the rows may come in
+-- any order
+pub record AnyOrder {X : Type 0} (key : X → ℕ) (book : List X → List X) : Type 0 where
+  pub swapped : (front : List X) (a b : X) (back : List X) → IsFalse (key a == key b) → book (front ++ a ∷ b ∷ back) ≡ book (front ++ b ∷ a ∷ back)
+
+-- a good library's books are made from their own rows, and are the same
+pub record OwnBooks (library : Library) : Type 0 where
+  pub sources : (catalog_of library.catalog.sources library.catalog.flows).sources ≡ library.catalog.sources
+  pub flows : (catalog_of library.catalog.sources library.catalog.flows).flows ≡ library.catalog.flows
+  pub objects : objects_of library.objects ≡ library.objects
+  pub requests : requests_of library.requests ≡ library.requests
+  pub hooks : (outbox_of library.outbox.hooks library.outbox.events).hooks ≡ library.outbox.hooks
+  pub events : (outbox_of library.outbox.hooks library.outbox.events).events ≡ library.outbox.events
+  pub can_catalog : IsTrue (can_restore_catalog library.catalog.sources library.catalog.flows)
+  pub can_objects : IsTrue (can_restore_objects library.objects library.segments)
+  pub can_requests : IsTrue (can_restore_requests library.requests)
+  pub can_outbox : IsTrue (can_restore_outbox library.outbox.hooks library.outbox.events)
+
+-- rows in any order give the same book, and a good library's rows give its own
+pub record BooksAreRestored : Type 0 where
+  pub sources : AnyOrder (λ (row : SourceRow). row.id) (λ rows. (catalog_of rows []).sources)
+  pub flows : AnyOrder (λ (row : FlowRow). row.body.id) (λ rows. (catalog_of [] rows).flows)
+  pub objects : AnyOrder (λ (row : ObjectRow). row.serial) objects_of
+  pub requests : AnyOrder (λ (row : DeleteRow). row.serial) requests_of
+  pub hooks : AnyOrder (λ (row : HookRow). row.serial) (λ rows. (outbox_of rows []).hooks)
+  pub events : AnyOrder (λ (row : EventRow). row.serial) (λ rows. (outbox_of [] rows).events)
+  pub own : (library : Library) → Good library → OwnBooks library

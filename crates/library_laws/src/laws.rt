@@ -1,5 +1,5 @@
 //! Laws over all libraries, commands and changes.
-ghost use Rattle.library_laws.specs.Laws.{AnswersApply, AnswersAreAllowed, ChangesApply, ChangesKeepGood, CirclesAreFound, FirstBytesStay, GoodIsTested, PagesHaveAll, PlacesAreLeast, RangeAnswerIsInOrder, RangeAnswerIsOnPoints, TurnsApply, TurnsAreBounded};
+ghost use Rattle.library_laws.specs.Laws.{AnswersApply, AnswersAreAllowed, BooksAreRestored, ChangesApply, ChangesKeepGood, CirclesAreFound, FirstBytesStay, GoodIsTested, PagesHaveAll, PlacesAreLeast, RangeAnswerIsInOrder, RangeAnswerIsOnPoints, TurnsApply, TurnsAreBounded};
 
 /// A command that is answered with a change is answered with one that the library allows.
 pub fn answers_are_allowed()
@@ -65,4 +65,9 @@ pub fn range_answer_is_in_order()
 /// A page has at most as many segments as its limit, and all that are left where no next key comes.
 pub fn pages_have_all()
     ensures { PagesHaveAll }
+{}
+
+/// Books are the same from rows in any order, and a good library's rows give its own books.
+pub fn books_are_restored()
+    ensures { BooksAreRestored }
 {}
