@@ -19,3 +19,4 @@ mod PageLemmas
 mod AppliesLemmas
 mod PlaceLemmas
 mod RestoreLemmas
+mod FollowLemmas

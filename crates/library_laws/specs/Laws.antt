@@ -1,5 +1,5 @@
 -- Laws over the definitions of the library.
-use Rattle.std.specs.Prelude.{◌≡◌, ◌↔◌, ◌≤◌, ◌<◌, ◌+◌, ◌==◌, ℤ, ◌||◌, not, nat_lt, ℕ, Bool, true, IsTrue, IsFalse, List, Contains, Option, Some, None, IfSome, MatchOption, length, [], ◌∷◌, ◌++◌}
+use Rattle.std.specs.Prelude.{◌≡◌, ◌↔◌, ◌≤◌, ◌<◌, ◌+◌, ◌==◌, ℤ, ◌||◌, not, nat_lt, ℕ, Bool, true, IsTrue, IsFalse, List, Contains, Option, Some, None, IfSome, MatchOption, length, [], ◌∷◌, ◌++◌, int_lt}
 use Rattle.time_range.specs.Points.{IsRange, Overlap}
 use Rattle.time_range.specs.declared.ranges.Span.{Span}
 use Rattle.media_rows.specs.Lists.{rises, items_past, page_items, next_key}
@@ -33,6 +33,7 @@ use Rattle.media_rows.specs.declared.event.EventRow.{EventRow}
 use Rattle.media_rows.specs.declared.hook.HookRow.{HookRow}
 use Rattle.media_rows.specs.declared.request.DeleteRow.{DeleteRow}
 use Rattle.media_rows.specs.declared.source.SourceRow.{SourceRow}
+use Rattle.media_rows.specs.Views.{source_key, flow_key}
 use Rattle.media_rows.specs.Restoring.{catalog_of, objects_of, requests_of, outbox_of, can_restore_catalog, can_restore_objects, can_restore_requests, can_restore_outbox}
 use Rattle.media_rows.specs.Objects.{free_place, is_free, is_stored, blocks_of}
 
@@ -231,6 +232,20 @@ pub record Cut {X : Type 0} (key : X → ℤ) (page : Page) (xs : List X) : Type
 
 abbrev pub PagesHaveAll : Type 0
 PagesHaveAll = (segments : List SegmentRow) (page : Page) → 1 ≤ page.limit → Cut first_point page segments
+
+-- the page past a key
+abbrev pub page_past : Page → ℤ → Page
+page_past page key = record { after = Some key; limit = page.limit; reverse = page.reverse }
+
+-- what lies past a page's key is the page, and then what lies past its next key
+pub record Follows {X : Type 0} (key : X → ℤ) (page : Page) (xs : List X) : Type 0 where
+  pub next : (last : ℤ) → next_key key page xs ≡ Some last → items_past key page xs ≡ page_items key page xs ++ items_past key (page_past page last) xs
+
+-- and so pages follow one another without loss where the rows rise by their keys
+pub record PagesFollow : Type 0 where
+  pub segments : (rows : List SegmentRow) (page : Page) → IsTrue (rises (λ a b. int_lt (first_point a) (first_point b)) rows) → Follows first_point page rows
+  pub sources : (rows : List SourceRow) (page : Page) → IsTrue (rises (λ a b. int_lt (source_key a) (source_key b)) rows) → Follows source_key page rows
+  pub flows : (rows : List FlowRow) (page : Page) → IsTrue (rises (λ a b. int_lt (flow_key a) (flow_key b)) rows) → Follows flow_key page rows
 
 -- ---- restoring
 

@@ -1,5 +1,5 @@
 //! Laws over all libraries, commands and changes.
-ghost use Rattle.library_laws.specs.Laws.{AnswersApply, AnswersAreAllowed, BooksAreRestored, ChangesApply, ChangesKeepGood, CirclesAreFound, FirstBytesStay, GoodIsTested, PagesHaveAll, PlacesAreLeast, RangeAnswerIsInOrder, RangeAnswerIsOnPoints, TurnsApply, TurnsAreBounded};
+ghost use Rattle.library_laws.specs.Laws.{AnswersApply, AnswersAreAllowed, BooksAreRestored, ChangesApply, ChangesKeepGood, CirclesAreFound, FirstBytesStay, GoodIsTested, PagesFollow, PagesHaveAll, PlacesAreLeast, RangeAnswerIsInOrder, RangeAnswerIsOnPoints, TurnsApply, TurnsAreBounded};
 
 /// A command that is answered with a change is answered with one that the library allows.
 pub fn answers_are_allowed()
@@ -70,4 +70,9 @@ pub fn pages_have_all()
 /// Books are the same from rows in any order, and a good library's rows give its own books.
 pub fn books_are_restored()
     ensures { BooksAreRestored }
+{}
+
+/// Pages follow one another without loss, where the rows rise by the keys of the pages.
+pub fn pages_follow()
+    ensures { PagesFollow }
 {}

@@ -12,8 +12,9 @@ pub use crate::answers::{
 };
 pub use crate::laws::{
     answers_apply, answers_are_allowed, books_are_restored, changes_apply, changes_keep_good,
-    circles_are_found, first_bytes_stay, good_is_tested, pages_have_all, places_are_least,
-    range_answer_is_in_order, range_answer_is_on_points, turns_apply, turns_are_bounded,
+    circles_are_found, first_bytes_stay, good_is_tested, pages_follow, pages_have_all,
+    places_are_least, range_answer_is_in_order, range_answer_is_on_points, turns_apply,
+    turns_are_bounded,
 };
 pub use crate::worked::{
     collections_are_tested, deletes_in_steps, events_are_told, hooks_fail, pages_are_cut,
