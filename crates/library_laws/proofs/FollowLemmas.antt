@@ -8,9 +8,7 @@ use Rattle.std.proofs.lemmas.Int.{ints}
 use Rattle.std.proofs.lemmas.List.{reverse-append}
 use Rattle.media_rows.specs.declared.command.Page.{Page}
 use Rattle.media_rows.specs.Lists.{rises, is_past, last_key}
-use Rattle.media_rows.specs.Segments.{first_point}
-use Rattle.media_rows.specs.Views.{source_key, flow_key}
-use Rattle.library_laws.specs.Laws.{Follows, PagesFollow}
+use Rattle.library_laws.specs.Laws.{Follows}
 use Rattle.library_laws.proofs.ListLemmas.{In, In-append, In-filter, In-take, list_all-In, rises-filter}
 use Rattle.library_laws.proofs.KeptLemmas.{rises-both}
 
@@ -111,7 +109,7 @@ cond_some : (b : Bool) (o : Option ℤ) (k : ℤ) → cond b o None ≡ Some k �
 cond_some true o k e = e
 cond_some false o k e = absurd (cc)
 
-follows : {X : Type 0} (key : X → ℤ) (xs : List X) (page : Page) → rises (λ a b. int_lt (key a) (key b)) xs ≡ true → Follows key page xs
+pub follows : {X : Type 0} (key : X → ℤ) (xs : List X) (page : Page) → rises (λ a b. int_lt (key a) (key b)) xs ≡ true → Follows key page xs
 follows {X} key xs page rise = record {
   next = λ last e.
       let ys : List X = if page.reverse then reverse xs else xs in
@@ -122,11 +120,4 @@ follows {X} key xs page rise = record {
       let own = subst (λ j. is_past page.after page.reverse j ≡ true) found.2 (In-filter past ys found.0 (In-take page.limit (filter past ys) found.0 found.1)).1 in
       cut_at key page.reverse page.limit (filter past ys) last risen taken
       ∙ ap (λ l. take page.limit (filter past ys) ++ l) (filter-both past (λ x. behind page.reverse last (key x)) ys (λ x more. past_on page.after page.reverse last (key x) own more));
-}
-
-pub pages_follow : PagesFollow
-pages_follow = record {
-  segments = λ rows page rise. follows first_point rows page rise;
-  sources = λ rows page rise. follows source_key rows page rise;
-  flows = λ rows page rise. follows flow_key rows page rise;
 }

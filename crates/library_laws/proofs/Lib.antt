@@ -20,3 +20,4 @@ mod AppliesLemmas
 mod PlaceLemmas
 mod RestoreLemmas
 mod FollowLemmas
+mod ListsFollow

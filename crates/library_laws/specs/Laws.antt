@@ -1,5 +1,5 @@
 -- Laws over the definitions of the library.
-use Rattle.std.specs.Prelude.{◌≡◌, ◌↔◌, ◌≤◌, ◌<◌, ◌+◌, ◌==◌, ℤ, ◌||◌, not, nat_lt, ℕ, Bool, true, IsTrue, IsFalse, List, Contains, Option, Some, None, IfSome, MatchOption, length, [], ◌∷◌, ◌++◌, int_lt}
+use Rattle.std.specs.Prelude.{◌≡◌, ◌↔◌, ◌≤◌, ◌<◌, ◌+◌, ◌==◌, ℤ, ◌||◌, not, nat_lt, ℕ, Bool, true, IsTrue, IsFalse, List, Contains, Option, Some, None, IfSome, MatchOption, length, [], ◌∷◌, ◌++◌, filter}
 use Rattle.time_range.specs.Points.{IsRange, Overlap}
 use Rattle.time_range.specs.declared.ranges.Span.{Span}
 use Rattle.media_rows.specs.Lists.{rises, items_past, page_items, next_key}
@@ -241,11 +241,15 @@ page_past page key = record { after = Some key; limit = page.limit; reverse = pa
 pub record Follows {X : Type 0} (key : X → ℤ) (page : Page) (xs : List X) : Type 0 where
   pub next : (last : ℤ) → next_key key page xs ≡ Some last → items_past key page xs ≡ page_items key page xs ++ items_past key (page_past page last) xs
 
--- and so pages follow one another without loss where the rows rise by their keys
-pub record PagesFollow : Type 0 where
-  pub segments : (rows : List SegmentRow) (page : Page) → IsTrue (rises (λ a b. int_lt (first_point a) (first_point b)) rows) → Follows first_point page rows
-  pub sources : (rows : List SourceRow) (page : Page) → IsTrue (rises (λ a b. int_lt (source_key a) (source_key b)) rows) → Follows source_key page rows
-  pub flows : (rows : List FlowRow) (page : Page) → IsTrue (rises (λ a b. int_lt (flow_key a) (flow_key b)) rows) → Follows flow_key page rows
+-- the lists of a library that come in pages: a range's answer, and sources and flows that pass a test
+pub record ListsFollow (library : Library) : Type 0 where
+  pub segments : (flow : ℕ) (range : Option Span) (object : Option (List ℕ)) (page : Page) → Follows first_point page (overlapping library.segments flow range object)
+  pub sources : (test : SourceRow → Bool) (page : Page) → Follows source_key page (filter test library.catalog.sources)
+  pub flows : (test : FlowRow → Bool) (page : Page) → Follows flow_key page (filter test library.catalog.flows)
+
+-- pages of a good library follow one another without loss
+abbrev pub PagesFollow : Type 0
+PagesFollow = (library : Library) → Good library → HaveRanges library.segments → ListsFollow library
 
 -- ---- restoring
 

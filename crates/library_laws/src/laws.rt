@@ -72,7 +72,7 @@ pub fn books_are_restored()
     ensures { BooksAreRestored }
 {}
 
-/// Pages follow one another without loss, where the rows rise by the keys of the pages.
+/// Pages of a good library follow one another without loss.
 pub fn pages_follow()
     ensures { PagesFollow }
 {}

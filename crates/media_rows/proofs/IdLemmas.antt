@@ -1,7 +1,7 @@
 -- The text of an id is read as that id.
-use Rattle.std.proofs.Common.{◌≡◌, ◌<◌, ◌^◌, ◌∙◌, ℕ, zero, suc, List, All, Option, Some, option_map, inl, refl, sym, ap, length, arith}
+use Rattle.std.proofs.Common.{◌≡◌, ◌<◌, ◌^◌, ◌∙◌, ℕ, zero, suc, All, Some, option_map, inl, refl, sym, ap, length, arith}
 use Rattle.std.specs.Int.{w128, byte_at, bytes_high_first, to_be_bytes, from_be_bytes}
-use Rattle.uuid.specs.Text.{lower, parsed}
+use Rattle.uuid.specs.Text.{lower}
 use Rattle.uuid.proofs.RoundTrips.{parses_hyphenated}
 use Rattle.uuid.proofs.TextLemmas.{by_index_length}
 use Rattle.uuid.proofs.OrderLemmas.{from_be_bytes-to_be_bytes_16}

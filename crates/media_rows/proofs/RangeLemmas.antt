@@ -1,14 +1,12 @@
 -- The tests on ranges say what they should of points.
-use Rattle.std.proofs.Common.{◌≡◌, ℤ, ◌≤ℤ◌, ◌<ℤ◌, ◌+ℤ◌, pos, ◌↔◌, Bool, true, false, Option, Some, None, IsTrue, IfSome, ◌&&◌, refl, sym, ◌∙◌, arith}
+use Rattle.std.proofs.Common.{◌≡◌, ℤ, ◌≤ℤ◌, Bool, true, false, Option, Some, None, IfSome, refl, arith}
 use Rattle.std.specs.Prelude.{int_le}
 use Rattle.std.specs.Bool.{Decides}
 use Rattle.std.specs.Int.{int_min, int_max}
-use Rattle.std.proofs.lemmas.Bool.{and_parts, and_from, true≢false, false≢true}
-use Rattle.std.proofs.lemmas.Bool.Decides.{same_from_decides}
+use Rattle.std.proofs.lemmas.Bool.{and_parts, and_from, false≢true}
 use Rattle.std.proofs.lemmas.Int.{ints, clamps}
 use Rattle.time_range.specs.Points.{From, UpTo, Has, IsLow, IsHigh, IsSpan, IsRange, Overlap, Covers, low_of, high_of}
 use Rattle.time_range.specs.Ends.{in_order, ReachesDown, ReachesUp}
-use Rattle.time_range.specs.Answers.{HasSamePoints}
 use Rattle.time_range.specs.declared.ranges.Span.{Span}
 use Rattle.time_range.proofs.SpanPoints.{point_between, covers_from_reach, reach_from_covers, not_covered_by_never, hull_least}
 use Rattle.time_range.proofs.Theorems.{same_range}

@@ -1,6 +1,6 @@
 -- Books that are made from rows, as when a file is opened: rows in any order give the same book, and are
 -- refused where the book alone can tell that no good library has them. Our own rules.
-use Rattle.std.specs.Prelude.{ℕ, nat_lt, nat_le, List, [], Bool, ◌&&◌, ◌++◌, map}
+use Rattle.std.specs.Prelude.{ℕ, nat_lt, nat_le, List, Bool, ◌&&◌, ◌++◌, map}
 use Rattle.media_rows.specs.declared.event.EventRow.{EventRow}
 use Rattle.media_rows.specs.declared.flow.FlowRow.{FlowRow}
 use Rattle.media_rows.specs.declared.hook.HookRow.{HookRow}

@@ -1,4 +1,4 @@
-use Rattle.library_laws.proofs.FollowLemmas.{pages_follow}
+use Rattle.library_laws.proofs.ListsFollow.{pages_follow}
 use Rattle.library_laws.proofs.laws.pages_follow.Goals as goal
 
 pub returns : goal.returns
