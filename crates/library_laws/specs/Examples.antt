@@ -1,0 +1,114 @@
+-- Small libraries, on which the definitions are computed. Our own examples.
+use Rattle.std.specs.Prelude.{ℕ, ◌+◌, ◌*◌, pos, ◌-ℤ◌, List, [], ◌∷◌, false, Option, Some, None, map, codes}
+use Rattle.time_range.specs.declared.ranges.Span.{Span}
+use Rattle.media_rows.specs.declared.change.Change.{Change}
+use Rattle.media_rows.specs.declared.change.Change.TheVariants as changes
+use Rattle.media_rows.specs.declared.event.EventKind.{EventKind}
+use Rattle.media_rows.specs.declared.event.EventKind.TheVariants.{FlowCreated, FlowUpdated, FlowDeleted, SegmentsAdded, SegmentsDeleted, SourceCreated, SourceUpdated, SourceDeleted}
+use Rattle.media_rows.specs.declared.event.EventRow.{EventRow}
+use Rattle.media_rows.specs.declared.flow.FlowBody.{FlowBody}
+use Rattle.media_rows.specs.declared.flow.FormatKind.{FormatKind}
+use Rattle.media_rows.specs.declared.flow.FormatKind.TheVariants.{Video}
+use Rattle.media_rows.specs.declared.flow.Member.{Member}
+use Rattle.media_rows.specs.declared.hook.Hook.{Hook}
+use Rattle.media_rows.specs.declared.segment.Segment.{Segment}
+use Rattle.media_rows.specs.Changes.{after}
+use Rattle.media_rows.specs.Library.{Library, empty_library}
+use Rattle.media_rows.specs.Lists.{numbers_below}
+use Rattle.media_rows.specs.Outbox.{Outbox}
+
+-- changes one after the other
+abbrev pub after_all : List Change → Library → Library
+after_all [] library = library
+after_all (change ∷ later) library = after_all later (after change library)
+
+-- ids of two flows and of their source
+abbrev pub first_flow : ℕ
+first_flow = 241
+
+abbrev pub second_flow : ℕ
+second_flow = 242
+
+abbrev pub one_source : ℕ
+one_source = 161
+
+-- a video flow of that source that collects these flows
+abbrev pub body : ℕ → FormatKind → List Member → FlowBody
+body id format members = record {
+  id = id;
+  source = one_source;
+  format = format;
+  read_only = false;
+  codec = None;
+  container = None;
+  label = None;
+  description = None;
+  max_bit_rate = None;
+  avg_bit_rate = None;
+  tags = [];
+  members = members;
+  essence = None;
+}
+
+abbrev pub member : ℕ → Member
+member flow = record { flow = flow; role = None }
+
+-- a store of 46 media blocks
+abbrev pub nothing : Library
+nothing = empty_library 1 46
+
+abbrev pub put : ℕ → ℕ → Change
+put moment flow = changes.PutFlow moment (body flow Video [])
+
+-- a second in points of half nanoseconds, and the range from one second to another, without the last instant
+abbrev pub second : ℕ
+second = 2000000000
+
+abbrev pub seconds : ℕ → ℕ → Option Span
+seconds from to = Some (record { low = Some (pos (from * second)); high = Some (pos (to * second) -ℤ pos 1) })
+
+-- a segment of the one object
+abbrev pub piece : ℕ → ℕ → Segment
+piece from to = record {
+  object = codes "a";
+  range = seconds from to;
+  ts_offset = pos 0;
+  last_duration = None;
+  sample_offset = 0;
+  sample_count = None;
+  key_frames = None;
+}
+
+-- the first flow, with the one object stored
+abbrev pub stored : Library
+stored = after_all (put 0 first_flow ∷ changes.Allocate 0 first_flow (codes "a" ∷ []) ∷ changes.Store 0 (codes "a") 0 3 ∷ []) nothing
+
+-- and with a segment of each second
+abbrev pub pieces : ℕ → List Segment
+pieces count = map (λ i. piece i (i + 1)) (numbers_below count)
+
+abbrev pub with_pieces : ℕ → Library
+with_pieces count = after (changes.AddSegments 0 first_flow (pieces count)) stored
+
+-- both flows, each with the one object from the first second to the second one
+abbrev pub shared : Library
+shared = after_all
+    (changes.AddSegments 0 first_flow (pieces 1) ∷ put 0 second_flow ∷ changes.AddSegments 0 second_flow (pieces 1) ∷ []) stored
+
+-- a hook that takes everything, and a hook that keeps to the second flow
+abbrev pub all_events : List EventKind
+all_events = FlowCreated ∷ FlowUpdated ∷ FlowDeleted ∷ SegmentsAdded ∷ SegmentsDeleted ∷ SourceCreated ∷ SourceUpdated ∷ SourceDeleted ∷ []
+
+abbrev pub hook : List ℕ → Option (List ℕ) → Hook
+hook url flows = record { url = url; events = all_events; key_name = None; key_value = None; flow_ids = flows; source_ids = None }
+
+-- an event that waits for the hook of serial 1
+abbrev pub waiting : ℕ → EventRow
+waiting serial = record { serial = serial; hook = 1; kind = FlowCreated; subject = first_flow; range = None; moment = 0 }
+
+-- an outbox with one hook, for which so many events wait
+abbrev pub outbox_with : ℕ → Outbox
+outbox_with count = record {
+  hooks = record { serial = 1; hook = hook (codes "h") None; failed = false } ∷ [];
+  events = map (λ i. waiting (i + 2)) (numbers_below count);
+}

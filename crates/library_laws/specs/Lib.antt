@@ -1,0 +1,4 @@
+pub mod Examples
+pub mod WorkedValues
+pub mod WorkedAnswers
+pub mod Laws

@@ -1,0 +1,3 @@
+pub mod IdLemmas
+mod CalendarLemmas
+pub mod RangeLemmas

@@ -1,0 +1,256 @@
+-- What the library answers to each command, and the change that it makes: the refusals of a command in their
+-- order, and its reply where none stands. That a change doesn't fit the journal is no matter of the library,
+-- and is added by the state above it. Our own profile of the Time-addressable Media Store.
+use Rattle.std.specs.Prelude.{ℕ, ◌+◌, ◌==◌, nat_le, List, [], ◌∷◌, ◌++◌, Bool, true, false, not, ◌||◌, Option, Some, None, is_some, Result, Ok, Err, if◌then◌else◌, map, length, slice_get, nat_eq, bytes_eq, codes, decimal}
+use Rattle.std.specs.List.{starts_with}
+use Rattle.time_range.specs.declared.ranges.Span.{Span}
+use Rattle.media_rows.specs.declared.change.Change.{Change}
+use Rattle.media_rows.specs.declared.change.Change.TheVariants as changes
+use Rattle.media_rows.specs.declared.command.Command.{Command}
+use Rattle.media_rows.specs.declared.command.Command.TheVariants as commands
+use Rattle.media_rows.specs.declared.command.Want.{Want}
+use Rattle.media_rows.specs.declared.command.Want.TheVariants.{Count, Named}
+use Rattle.media_rows.specs.declared.object.ObjectRow.{ObjectRow}
+use Rattle.media_rows.specs.declared.object.ObjectState.{ObjectState}
+use Rattle.media_rows.specs.declared.object.ObjectState.TheVariants.{Allocated, Stored}
+use Rattle.media_rows.specs.declared.refusal.Refusal.{Refusal}
+use Rattle.media_rows.specs.declared.refusal.Refusal.TheVariants as refusals
+use Rattle.media_rows.specs.declared.reply.Reply.{Reply}
+use Rattle.media_rows.specs.declared.reply.Reply.TheVariants as replies
+use Rattle.media_rows.specs.declared.reply.View.{View}
+use Rattle.media_rows.specs.declared.segment.Segment.{Segment}
+use Rattle.media_rows.specs.declared.segment.SegmentRow.{SegmentRow}
+use Rattle.media_rows.specs.Catalog.{flow_of, put_refusal, set_refusal, set_source_refusal, flow_refusal}
+use Rattle.media_rows.specs.Ids.{id_text}
+use Rattle.media_rows.specs.Library.{Library}
+use Rattle.media_rows.specs.Lists.{has_text, numbers_below, or_else}
+use Rattle.media_rows.specs.Objects.{object_of, is_stored_object, free_place, blocks_of, bytes_of}
+use Rattle.media_rows.specs.Outbox.{hook_of}
+use Rattle.media_rows.specs.Ranges.{eternity}
+use Rattle.media_rows.specs.Refusals.{when}
+use Rattle.media_rows.specs.Requests.{step_size, is_deleting, asked_row}
+use Rattle.media_rows.specs.Segments.{segments_of, overlapping, covered}
+use Rattle.media_rows.specs.Views.{asked}
+
+-- ---- refusals
+
+-- an unfinished request deletes the flow: this stands before all that the flow's book refuses
+abbrev pub deleting_refusal : Library → ℕ → Option Refusal
+deleting_refusal library flow = when (is_deleting library.requests flow) refusals.Deleting
+
+-- the flow is being deleted, isn't kept, or is read-only
+abbrev pub change_refusal : Library → ℕ → Option Refusal
+change_refusal library flow = or_else (deleting_refusal library flow) (flow_refusal library.catalog flow)
+
+-- ---- ids of new objects
+
+-- what ids that the store makes begin with: its own id and a hyphen
+abbrev pub made_prefix : ℕ → List ℕ
+made_prefix store = id_text store ++ codes "-"
+
+-- the id that the store makes for an object of this serial
+abbrev pub made_id : ℕ → ℕ → List ℕ
+made_id store serial = made_prefix store ++ decimal serial
+
+-- the ids of an allocation: the store's own for the next serials, or those that the client names
+abbrev pub wanted_ids : Library → Want → List (List ℕ)
+wanted_ids library (Count n) = map (λ i. made_id library.id (library.next_serial + i)) (numbers_below n)
+wanted_ids library (Named ids) = ids
+
+-- a kept object has the id
+abbrev pub is_kept_object : Library → List ℕ → Bool
+is_kept_object library id = is_some (object_of id library.objects)
+
+-- a client may not name a kept object, nor an id that begins as those that the store makes
+abbrev pub is_taken : Library → Want → List ℕ → Bool
+is_taken library (Count n) id = is_kept_object library id
+is_taken library (Named ids) id = is_kept_object library id || starts_with nat_eq id (made_prefix library.id)
+
+-- the first id that is taken, or that stands earlier in the list
+abbrev pub first_taken : (List ℕ → Bool) → List (List ℕ) → List (List ℕ) → Option (List ℕ)
+first_taken taken earlier [] = None
+first_taken taken earlier (id ∷ later) =
+    if taken id || has_text id earlier then Some id else first_taken taken (id ∷ earlier) later
+
+abbrev pub taken_refusal : Option (List ℕ) → Option Refusal
+taken_refusal None = None
+taken_refusal (Some id) = Some (refusals.IdTaken id)
+
+-- ---- posts of segments
+
+-- the kept segment that overlaps a range and begins first
+abbrev pub overlap_refusal : Option SegmentRow → Option Refusal
+overlap_refusal None = None
+overlap_refusal (Some row) = Some (refusals.Overlap row.segment.range)
+
+-- For each segment of a post in order: its object isn't stored, or a kept segment of the flow overlaps it,
+-- where the earlier ones of the post count as kept.
+abbrev pub posts_refusal : List ObjectRow → List SegmentRow → ℕ → ℕ → List Segment → Option Refusal
+posts_refusal objects segments flow serial [] = None
+posts_refusal objects segments flow serial (post ∷ later) =
+    or_else (when (not (is_stored_object objects post.object)) (refusals.NoObject post.object))
+    (or_else (overlap_refusal (slice_get (overlapping segments flow post.range None) 0))
+    (posts_refusal objects (segments ++ record { flow = flow; serial = serial; segment = post } ∷ []) flow (serial + 1) later))
+
+-- ---- the storing of an object
+
+abbrev pub keep_state : ObjectState → Option Refusal
+keep_state Allocated = None
+keep_state (Stored start size) = Some refusals.OtherBytes
+
+abbrev pub keep_refusal : Option ObjectRow → Option Refusal
+keep_refusal None = Some refusals.UnknownObject
+keep_refusal (Some row) = keep_state row.state
+
+-- ---- the refusal of each changing command
+
+abbrev pub refusal_of : Library → Command → Option Refusal
+refusal_of library (commands.PutFlow body) = or_else (deleting_refusal library body.id) (put_refusal library.catalog body)
+refusal_of library (commands.SetFlow flow part) = or_else (deleting_refusal library flow) (set_refusal library.catalog flow part)
+refusal_of library (commands.SetSource source part) = set_source_refusal library.catalog source part
+refusal_of library (commands.DropFlow flow) = change_refusal library flow
+refusal_of library (commands.Allocate flow want) =
+    or_else (change_refusal library flow) (taken_refusal (first_taken (is_taken library want) [] (wanted_ids library want)))
+refusal_of library (commands.Keep object start size) = keep_refusal (object_of object library.objects)
+refusal_of library (commands.AddSegments flow posts) =
+    or_else (change_refusal library flow) (posts_refusal library.objects library.segments flow library.next_serial posts)
+refusal_of library (commands.CutSegments flow range) = change_refusal library flow
+refusal_of library (commands.PutHook hook) = None
+refusal_of library (commands.DropHook url) = None
+refusal_of library commands.Root = None
+refusal_of library commands.Service = None
+refusal_of library commands.Hooks = None
+refusal_of library (commands.Sources wanted page) = None
+refusal_of library (commands.Source id) = None
+refusal_of library (commands.SourcePart id name) = None
+refusal_of library (commands.Flows wanted range page) = None
+refusal_of library (commands.Flow id) = None
+refusal_of library (commands.FlowPart id name) = None
+refusal_of library (commands.Segments id wanted page) = None
+refusal_of library (commands.Object id) = None
+refusal_of library commands.Requests = None
+refusal_of library (commands.Request serial) = None
+
+-- ---- the reply and the change where nothing is refused
+
+-- A reply, and the change that it answers, where there is one.
+pub record Outcome : Type 0 where
+  pub reply : Reply
+  pub change : Option Change
+
+abbrev pub changed : Reply → Change → Outcome
+changed reply change = record { reply = reply; change = Some change }
+
+abbrev pub unchanged : Reply → Outcome
+unchanged reply = record { reply = reply; change = None }
+
+-- something is made, or one that is there is replaced
+abbrev pub created_unless : Bool → Reply
+created_unless there = if there then replies.Done else replies.Created
+
+-- more segments than go at once: a delete request is made, and is the reply
+abbrev pub accepted_request : Library → ℕ → Option Span → Bool → ℕ → Outcome
+accepted_request library flow range delete_flow moment =
+    changed (replies.Accepted (asked_row flow range delete_flow library.next_serial moment)) (changes.AskDelete moment flow range delete_flow)
+
+-- a flow goes with at most so many segments as go at once
+abbrev pub accepted_drop : Library → ℕ → ℕ → Outcome
+accepted_drop library flow moment =
+    if nat_le (length (segments_of flow library.segments)) step_size
+    then changed replies.Done (changes.DropFlow moment flow)
+    else accepted_request library flow eternity true moment
+
+-- no segment is covered; so many as go at once; or more
+abbrev pub accepted_cut : Library → ℕ → Option Span → ℕ → Outcome
+accepted_cut library flow range moment =
+    if length (covered library.segments flow range) == 0 then unchanged replies.Done
+    else if nat_le (length (covered library.segments flow range)) step_size
+    then changed replies.Done (changes.CutSegments moment flow range)
+    else accepted_request library flow range false moment
+
+abbrev pub accepted : Library → Command → ℕ → Outcome
+accepted library (commands.PutFlow body) moment =
+    changed (created_unless (is_some (flow_of body.id library.catalog.flows))) (changes.PutFlow moment body)
+accepted library (commands.SetFlow flow part) moment = changed replies.Done (changes.SetFlow moment flow part)
+accepted library (commands.SetSource source part) moment = changed replies.Done (changes.SetSource moment source part)
+accepted library (commands.DropFlow flow) moment = accepted_drop library flow moment
+accepted library (commands.Allocate flow want) moment =
+    changed (replies.CreatedObjects (wanted_ids library want)) (changes.Allocate moment flow (wanted_ids library want))
+accepted library (commands.Keep object start size) moment = changed replies.Created (changes.Store moment object start size)
+accepted library (commands.AddSegments flow posts) moment = changed replies.Created (changes.AddSegments moment flow posts)
+accepted library (commands.CutSegments flow range) moment = accepted_cut library flow range moment
+accepted library (commands.PutHook hook) moment =
+    changed (created_unless (is_some (hook_of hook.url library.outbox.hooks))) (changes.PutHook moment hook)
+accepted library (commands.DropHook url) moment =
+    if is_some (hook_of url library.outbox.hooks) then changed replies.Done (changes.DropHook moment url) else unchanged replies.Done
+accepted library commands.Root moment = unchanged replies.Done
+accepted library commands.Service moment = unchanged replies.Done
+accepted library commands.Hooks moment = unchanged replies.Done
+accepted library (commands.Sources wanted page) moment = unchanged replies.Done
+accepted library (commands.Source id) moment = unchanged replies.Done
+accepted library (commands.SourcePart id name) moment = unchanged replies.Done
+accepted library (commands.Flows wanted range page) moment = unchanged replies.Done
+accepted library (commands.Flow id) moment = unchanged replies.Done
+accepted library (commands.FlowPart id name) moment = unchanged replies.Done
+accepted library (commands.Segments id wanted page) moment = unchanged replies.Done
+accepted library (commands.Object id) moment = unchanged replies.Done
+accepted library commands.Requests moment = unchanged replies.Done
+accepted library (commands.Request serial) moment = unchanged replies.Done
+
+-- ---- the answer
+
+-- what is shown, or why nothing is
+abbrev pub shown_reply : Result View Refusal → Reply
+shown_reply (Ok view) = replies.Shown view
+shown_reply (Err refusal) = replies.Refused refusal
+
+abbrev pub changing_answer : Option Refusal → Outcome → Outcome
+changing_answer None outcome = outcome
+changing_answer (Some refusal) outcome = unchanged (replies.Refused refusal)
+
+abbrev pub answer_by : Option (Result View Refusal) → Option Refusal → Outcome → Outcome
+answer_by None refusal outcome = changing_answer refusal outcome
+answer_by (Some shown) refusal outcome = unchanged (shown_reply shown)
+
+-- the answer to a command at a moment
+abbrev pub answer : Library → Command → ℕ → Outcome
+answer library command moment = answer_by (asked library command) (refusal_of library command) (accepted library command moment)
+
+-- ---- media, whose bytes stand beside the library
+
+-- an allocated object takes the bytes at the least free place, if there is one
+abbrev pub placed_put : Option ℕ → List ℕ → ℕ → ℕ → Outcome
+placed_put None object size moment = unchanged (replies.Refused refusals.MediaFull)
+placed_put (Some start) object size moment = changed replies.Created (changes.Store moment object start size)
+
+-- a stored object takes equal bytes and changes nothing
+abbrev pub stored_put : Bool → Outcome
+stored_put same = unchanged (if same then replies.Done else replies.Refused refusals.OtherBytes)
+
+abbrev pub put_by_state : ObjectState → Option ℕ → Bool → List ℕ → ℕ → ℕ → Outcome
+put_by_state Allocated place same object size moment = placed_put place object size moment
+put_by_state (Stored start kept) place same object size moment = stored_put same
+
+abbrev pub put_answer_by : Option ObjectRow → Option ℕ → Bool → List ℕ → ℕ → ℕ → Outcome
+put_answer_by None place same object size moment = unchanged (replies.Refused refusals.UnknownObject)
+put_answer_by (Some row) place same object size moment = put_by_state row.state place same object size moment
+
+-- the answer to a PUT of an object's bytes, where these are the bytes of the library's objects
+abbrev pub put_media_answer : Library → List (List ℕ) → List ℕ → List ℕ → ℕ → Outcome
+put_media_answer library held object bytes moment =
+    put_answer_by (object_of object library.objects)
+    (free_place library.objects library.blocks (blocks_of (length bytes)))
+    (bytes_eq (bytes_of object library.objects held) bytes)
+    object (length bytes) moment
+
+-- the reply to a GET of an object's bytes: their length, where they are stored
+abbrev pub media_of : ObjectState → Reply
+media_of Allocated = replies.Refused refusals.UnknownObject
+media_of (Stored start size) = replies.Media size
+
+abbrev pub media_reply : Option ObjectRow → Reply
+media_reply None = replies.Refused refusals.UnknownObject
+media_reply (Some row) = media_of row.state
+
+abbrev pub get_media_reply : Library → List ℕ → Reply
+get_media_reply library object = media_reply (object_of object library.objects)

@@ -1,0 +1,173 @@
+-- What each change makes of a library. First come the changes of rows, with the next serials in list order,
+-- and last the events of the change. Our own rules.
+use Rattle.std.specs.Prelude.{ℕ, ◌+◌, ◌==◌, List, [], ◌∷◌, ◌++◌, Bool, ◌&&◌, Option, Some, None, if◌then◌else◌, length}
+use Rattle.time_range.specs.declared.ranges.Span.{Span}
+use Rattle.media_rows.specs.declared.change.Change.{Change}
+use Rattle.media_rows.specs.declared.change.Change.TheVariants as changes
+use Rattle.media_rows.specs.declared.event.EventKind.TheVariants.{SourceUpdated}
+use Rattle.media_rows.specs.declared.flow.FlowBody.{FlowBody}
+use Rattle.media_rows.specs.declared.hook.Hook.{Hook}
+use Rattle.media_rows.specs.declared.part.Part.{Part}
+use Rattle.media_rows.specs.declared.request.DeleteRow.{DeleteRow}
+use Rattle.media_rows.specs.declared.segment.Segment.{Segment}
+use Rattle.media_rows.specs.declared.segment.SegmentRow.{SegmentRow}
+use Rattle.media_rows.specs.Catalog.{after_put, after_set, after_set_source, after_touch, after_drop}
+use Rattle.media_rows.specs.Events.{put_events, set_events, source_event, added_events, removed_events, drop_events}
+use Rattle.media_rows.specs.Library.{Library, with_happened}
+use Rattle.media_rows.specs.Objects.{allocated_rows, with_bytes, idled, swept_objects, without_objects}
+use Rattle.media_rows.specs.Outbox.{after_put_hook, after_drop_hook}
+use Rattle.media_rows.specs.Requests.{asked_row, first_unfinished, removed_by_step, is_finished_by_step, after_step, after_end}
+use Rattle.media_rows.specs.Segments.{segments_of, covered, posted, without_segments}
+
+-- ---- parts that several changes share
+
+-- segments are gone: an object that lost its last reference is idle since this moment
+abbrev pub remove_segments : List SegmentRow → ℕ → Library → Library
+remove_segments removed moment library = record library {
+  segments = without_segments removed library.segments;
+  objects = idled library.segments (without_segments removed library.segments) moment library.objects;
+}
+
+-- segments came to a flow or went from it, if any did
+abbrev pub touch_flow : ℕ → List SegmentRow → ℕ → Library → Library
+touch_flow flow rows moment library =
+    if length rows == 0 then library else record library { catalog = after_touch flow moment library.catalog }
+
+-- a flow is gone, with its entries in collections, and with its source where that has no other flow; its
+-- unfinished requests are done
+abbrev pub remove_flow : ℕ → ℕ → Library → Library
+remove_flow flow moment library = record library {
+  catalog = after_drop flow library.catalog;
+  requests = after_end flow moment library.requests;
+}
+
+-- ---- the changes
+
+abbrev pub after_put_flow : ℕ → FlowBody → Library → Library
+after_put_flow moment body library =
+    with_happened (put_events library.catalog body) moment (record library { catalog = after_put body moment library.catalog })
+
+abbrev pub after_set_flow : ℕ → ℕ → Part → Library → Library
+after_set_flow moment flow part library =
+    with_happened (set_events library.catalog flow) moment (record library { catalog = after_set flow part moment library.catalog })
+
+abbrev pub after_set_source_part : ℕ → ℕ → Part → Library → Library
+after_set_source_part moment source part library =
+    with_happened (source_event SourceUpdated source ∷ []) moment (record library { catalog = after_set_source source part moment library.catalog })
+
+-- a flow goes with all its segments
+abbrev pub after_drop_flow : ℕ → ℕ → Library → Library
+after_drop_flow moment flow library =
+    with_happened (drop_events library.catalog flow (segments_of flow library.segments)) moment
+    (remove_flow flow moment (remove_segments (segments_of flow library.segments) moment library))
+
+abbrev pub after_allocate : ℕ → List (List ℕ) → Library → Library
+after_allocate moment ids library = record library {
+  objects = library.objects ++ allocated_rows library.next_serial moment ids;
+  next_serial = library.next_serial + length ids;
+}
+
+abbrev pub after_store : ℕ → List ℕ → ℕ → ℕ → Library → Library
+after_store moment object start size library = record library { objects = with_bytes object start size moment library.objects }
+
+-- the rows of a post, with rising serials in its order
+abbrev pub added_rows : ℕ → List Segment → Library → List SegmentRow
+added_rows flow segments library = posted flow library.next_serial segments
+
+abbrev pub after_add : ℕ → ℕ → List Segment → Library → Library
+after_add moment flow segments library =
+    with_happened (added_events library.catalog flow (added_rows flow segments library)) moment (record library {
+      catalog = after_touch flow moment library.catalog;
+      segments = library.segments ++ added_rows flow segments library;
+      next_serial = library.next_serial + length segments;
+    })
+
+-- the segments that a range covers go
+abbrev pub after_cut : ℕ → ℕ → Option Span → Library → Library
+after_cut moment flow range library =
+    with_happened (removed_events library.catalog flow (covered library.segments flow range)) moment
+    (touch_flow flow (covered library.segments flow range) moment (remove_segments (covered library.segments flow range) moment library))
+
+abbrev pub after_ask : ℕ → ℕ → Option Span → Bool → Library → Library
+after_ask moment flow range delete_flow library = record library {
+  requests = library.requests ++ asked_row flow range delete_flow library.next_serial moment ∷ [];
+  next_serial = library.next_serial + 1;
+}
+
+-- ---- a delete step
+
+-- the step leaves none of the request's segments, and the request deletes its flow
+abbrev pub is_flow_gone : DeleteRow → Library → Bool
+is_flow_gone request library = is_finished_by_step library.segments request && request.delete_flow
+
+-- the request after its segments went
+abbrev pub with_step : DeleteRow → ℕ → Library → Library
+with_step request moment library =
+    record library { requests = after_step request.serial (is_finished_by_step library.segments request) moment library.requests }
+
+-- the first segments of the request go, and the flow with the last ones where the request deletes it
+abbrev pub after_request_step : ℕ → DeleteRow → Library → Library
+after_request_step moment request library =
+    let removed = removed_by_step library.segments request in
+    let stepped : Library = remove_segments removed moment (touch_flow request.flow removed moment (with_step request moment library)) in
+    if is_flow_gone request library
+    then with_happened (drop_events library.catalog request.flow removed) moment (remove_flow request.flow moment stepped)
+    else with_happened (removed_events library.catalog request.flow removed) moment stepped
+
+abbrev pub after_step_of : Option DeleteRow → ℕ → Library → Library
+after_step_of None moment library = library
+after_step_of (Some request) moment library = after_request_step moment request library
+
+-- the unfinished request of least serial is worked off by one step
+abbrev pub after_delete_step : ℕ → Library → Library
+after_delete_step moment library = after_step_of (first_unfinished library.requests) moment library
+
+-- ---- a sweep, and hooks
+
+-- the first objects that are due go
+abbrev pub after_sweep : ℕ → Library → Library
+after_sweep moment library =
+    record library { objects = without_objects (swept_objects library.segments library.objects moment) library.objects }
+
+abbrev pub after_hook : Hook → Library → Library
+after_hook hook library = record library {
+  outbox = after_put_hook hook library.next_serial library.outbox;
+  next_serial = library.next_serial + 1;
+}
+
+abbrev pub without_hook : List ℕ → Library → Library
+without_hook url library = record library { outbox = after_drop_hook url library.outbox }
+
+-- ---- all together
+
+-- what a change makes of a library
+abbrev pub after : Change → Library → Library
+after (changes.PutFlow moment flow) library = after_put_flow moment flow library
+after (changes.SetFlow moment flow part) library = after_set_flow moment flow part library
+after (changes.SetSource moment source part) library = after_set_source_part moment source part library
+after (changes.DropFlow moment flow) library = after_drop_flow moment flow library
+after (changes.Allocate moment flow objects) library = after_allocate moment objects library
+after (changes.Store moment object start size) library = after_store moment object start size library
+after (changes.AddSegments moment flow segments) library = after_add moment flow segments library
+after (changes.CutSegments moment flow range) library = after_cut moment flow range library
+after (changes.AskDelete moment flow range delete_flow) library = after_ask moment flow range delete_flow library
+after (changes.DeleteStep moment) library = after_delete_step moment library
+after (changes.SweepStep moment) library = after_sweep moment library
+after (changes.PutHook moment hook) library = after_hook hook library
+after (changes.DropHook moment url) library = without_hook url library
+
+-- the moment of a change
+abbrev pub moment_of : Change → ℕ
+moment_of (changes.PutFlow moment flow) = moment
+moment_of (changes.SetFlow moment flow part) = moment
+moment_of (changes.SetSource moment source part) = moment
+moment_of (changes.DropFlow moment flow) = moment
+moment_of (changes.Allocate moment flow objects) = moment
+moment_of (changes.Store moment object start size) = moment
+moment_of (changes.AddSegments moment flow segments) = moment
+moment_of (changes.CutSegments moment flow range) = moment
+moment_of (changes.AskDelete moment flow range delete_flow) = moment
+moment_of (changes.DeleteStep moment) = moment
+moment_of (changes.SweepStep moment) = moment
+moment_of (changes.PutHook moment hook) = moment
+moment_of (changes.DropHook moment url) = moment

@@ -1,0 +1,65 @@
+-- The rows of a library, in the order in which a snapshot has them: by kind, then sources and flows by id,
+-- segments by flow and first point, and all else by serial; the next serial comes last. Our own format.
+use Rattle.std.specs.Prelude.{ℕ, ℤ, None, ◌==◌, nat_lt, List, [], ◌∷◌, ◌++◌, Bool, ◌&&◌, ◌||◌, Option, map}
+use Rattle.time_range.specs.Points.{low_of}
+use Rattle.media_rows.specs.declared.row.Row.{Row}
+use Rattle.media_rows.specs.declared.row.Row.TheVariants as rows
+use Rattle.media_rows.specs.declared.segment.SegmentRow.{SegmentRow}
+use Rattle.media_rows.specs.Library.{Library}
+use Rattle.media_rows.specs.Lists.{in_order}
+use Rattle.media_rows.specs.Segments.{starts_before, low_before}
+
+-- by flow, then by first point
+abbrev pub segment_row_before : SegmentRow → SegmentRow → Bool
+segment_row_before a b = nat_lt a.flow b.flow || ((a.flow == b.flow) && starts_before a b)
+
+-- the number of a row's kind in the file
+abbrev pub kind_number : Row → ℕ
+kind_number (rows.Source row) = 1
+kind_number (rows.Flow row) = 2
+kind_number (rows.Object row) = 3
+kind_number (rows.Segment row) = 4
+kind_number (rows.Request row) = 5
+kind_number (rows.Hook row) = 6
+kind_number (rows.Event row) = 7
+kind_number (rows.Numbers next_serial) = 8
+
+-- the number that a row has in the order of its kind; segments have an order of their own
+abbrev pub place_number : Row → ℕ
+place_number (rows.Source row) = row.id
+place_number (rows.Flow row) = row.body.id
+place_number (rows.Object row) = row.serial
+place_number (rows.Segment row) = row.flow
+place_number (rows.Request row) = row.serial
+place_number (rows.Hook row) = row.serial
+place_number (rows.Event row) = row.serial
+place_number (rows.Numbers next_serial) = 0
+
+-- the first point of a row that is a segment
+abbrev pub place_point : Row → Option ℤ
+place_point (rows.Source row) = None
+place_point (rows.Flow row) = None
+place_point (rows.Object row) = None
+place_point (rows.Segment row) = low_of row.segment.range
+place_point (rows.Request row) = None
+place_point (rows.Hook row) = None
+place_point (rows.Event row) = None
+place_point (rows.Numbers next_serial) = None
+
+-- a row stands before another in a snapshot: by kind, then in the order of its kind
+abbrev pub row_before : Row → Row → Bool
+row_before a b =
+    nat_lt (kind_number a) (kind_number b)
+    || ((kind_number a == kind_number b)
+    && (nat_lt (place_number a) (place_number b) || ((place_number a == place_number b) && low_before (place_point a) (place_point b))))
+
+abbrev pub rows_of : Library → List Row
+rows_of library =
+    map rows.Source library.catalog.sources
+    ++ map rows.Flow library.catalog.flows
+    ++ map rows.Object library.objects
+    ++ map rows.Segment (in_order segment_row_before library.segments)
+    ++ map rows.Request library.requests
+    ++ map rows.Hook library.outbox.hooks
+    ++ map rows.Event library.outbox.events
+    ++ rows.Numbers library.next_serial ∷ []

@@ -1,0 +1,199 @@
+-- What an asking command shows of a library, or why it shows nothing. Our own profile of the
+-- Time-addressable Media Store.
+use Rattle.std.specs.Prelude.{ℕ, ◌==◌, ◌^◌, ℤ, pos, ◌-ℤ◌, List, Bool, true, false, ◌&&◌, Option, Some, None, is_some, option_map, Result, Ok, Err, if◌then◌else◌, filter, map, length, bytes_eq, codes}
+use Rattle.std.specs.Bool.{beq}
+use Rattle.std.specs.List.{list_any, list_all}
+use Rattle.time_range.specs.declared.ranges.Span.{Span}
+use Rattle.media_rows.specs.declared.command.Command.{Command}
+use Rattle.media_rows.specs.declared.command.Command.TheVariants as commands
+use Rattle.media_rows.specs.declared.command.FlowFilter.{FlowFilter}
+use Rattle.media_rows.specs.declared.command.SourceFilter.{SourceFilter}
+use Rattle.media_rows.specs.declared.command.SegmentFilter.{SegmentFilter}
+use Rattle.media_rows.specs.declared.command.Page.{Page}
+use Rattle.media_rows.specs.declared.command.TagTest.{TagTest}
+use Rattle.media_rows.specs.declared.command.TagTest.TheVariants.{Equals, Exists}
+use Rattle.media_rows.specs.declared.flow.FormatKind.{FormatKind}
+use Rattle.media_rows.specs.declared.flow.FlowBody.{FlowBody}
+use Rattle.media_rows.specs.declared.flow.FlowRow.{FlowRow}
+use Rattle.media_rows.specs.declared.flow.Member.{Member}
+use Rattle.media_rows.specs.declared.flow.Tag.{Tag}
+use Rattle.media_rows.specs.declared.hook.HookRow.{HookRow}
+use Rattle.media_rows.specs.declared.object.ObjectRow.{ObjectRow}
+use Rattle.media_rows.specs.declared.part.Part.{Part}
+use Rattle.media_rows.specs.declared.part.Part.TheVariants as parts
+use Rattle.media_rows.specs.declared.part.PartName.{PartName}
+use Rattle.media_rows.specs.declared.part.PartName.TheVariants as names
+use Rattle.media_rows.specs.declared.refusal.Refusal.{Refusal}
+use Rattle.media_rows.specs.declared.refusal.Refusal.TheVariants as refusals
+use Rattle.media_rows.specs.declared.reply.FlowShown.{FlowShown}
+use Rattle.media_rows.specs.declared.reply.HookShown.{HookShown}
+use Rattle.media_rows.specs.declared.reply.View.{View}
+use Rattle.media_rows.specs.declared.reply.View.TheVariants as views
+use Rattle.media_rows.specs.declared.segment.SegmentRow.{SegmentRow}
+use Rattle.media_rows.specs.declared.source.SourceRow.{SourceRow}
+use Rattle.media_rows.specs.Catalog.{same_format, tag_of, source_of, flow_of}
+use Rattle.media_rows.specs.Library.{Library}
+use Rattle.media_rows.specs.Lists.{has_text, page_items, next_key}
+use Rattle.media_rows.specs.Objects.{object_of, flows_naming}
+use Rattle.media_rows.specs.Outbox.{waiting_count}
+use Rattle.media_rows.specs.Ranges.{overlaps}
+use Rattle.media_rows.specs.Requests.{request_of}
+use Rattle.media_rows.specs.Segments.{segments_of, hull_of_segments, segment_page, segment_next_key}
+
+-- ---- filters
+
+-- a text that may be asked for is the one that is there
+abbrev pub matches_text : Option (List ℕ) → Option (List ℕ) → Bool
+matches_text None there = true
+matches_text (Some asked) None = false
+matches_text (Some asked) (Some there) = bytes_eq asked there
+
+abbrev pub matches_format : Option FormatKind → FormatKind → Bool
+matches_format None there = true
+matches_format (Some asked) there = same_format asked there
+
+abbrev pub matches_id : Option ℕ → ℕ → Bool
+matches_id None there = true
+matches_id (Some asked) there = asked == there
+
+-- a tag that may be there has the value
+abbrev pub has_value : List ℕ → Option Tag → Bool
+has_value value None = false
+has_value value (Some tag) = has_text value tag.values
+
+abbrev pub passes_tag : List Tag → TagTest → Bool
+passes_tag tags (Equals name value) = has_value value (tag_of name tags)
+passes_tag tags (Exists name there) = beq (is_some (tag_of name tags)) there
+
+abbrev pub passes_tags : List Tag → List TagTest → Bool
+passes_tags tags tests = list_all (passes_tag tags) tests
+
+abbrev pub passes_source : SourceFilter → SourceRow → Bool
+passes_source wanted row =
+    matches_format wanted.format row.format && matches_text wanted.label row.label && passes_tags row.tags wanted.tags
+
+abbrev pub passes_flow : FlowFilter → FlowRow → Bool
+passes_flow wanted row =
+    matches_id wanted.source row.body.source
+    && matches_format wanted.format row.body.format
+    && matches_text wanted.codec row.body.codec
+    && matches_text wanted.label row.body.label
+    && passes_tags row.body.tags wanted.tags
+
+-- a segment of the flow overlaps the range, where one is asked for
+abbrev pub passes_range : List SegmentRow → Option (Option Span) → FlowRow → Bool
+passes_range segments None row = true
+passes_range segments (Some range) row = list_any (λ s. overlaps s.segment.range range) (segments_of row.body.id segments)
+
+-- ---- lists
+
+-- the key of a page by ids
+abbrev pub id_key : ℕ → ℤ
+id_key id = pos id -ℤ pos (2 ^ 127)
+
+abbrev pub source_key : SourceRow → ℤ
+source_key row = id_key row.id
+
+abbrev pub flow_key : FlowRow → ℤ
+flow_key row = id_key row.body.id
+
+abbrev pub listed_sources : Library → SourceFilter → List SourceRow
+listed_sources library wanted = filter (passes_source wanted) library.catalog.sources
+
+abbrev pub listed_flows : Library → FlowFilter → Option (Option Span) → List FlowRow
+listed_flows library wanted range =
+    filter (λ row. passes_flow wanted row && passes_range library.segments range row) library.catalog.flows
+
+-- a flow with the hull of its segments, and a hook with the number of its waiting events
+abbrev pub shown_flow : List SegmentRow → FlowRow → FlowShown
+shown_flow segments row = record { row = row; hull = hull_of_segments (segments_of row.body.id segments) }
+
+abbrev pub shown_hook : Library → HookRow → HookShown
+shown_hook library row = record { row = row; waiting = waiting_count row.serial library.outbox.events }
+
+-- ---- parts
+
+-- what is there is shown, and otherwise the part isn't set
+abbrev pub part_or : Option Part → List ℕ → Result View Refusal
+part_or None name = Err (refusals.NotSet name)
+part_or (Some part) name = Ok (views.OnePart part)
+
+abbrev pub text_part : (Option (List ℕ) → Part) → Option (List ℕ) → Option Part
+text_part make text = option_map (λ t. make (Some t)) text
+
+abbrev pub rate_part : (Option ℕ → Part) → Option ℕ → Option Part
+rate_part make rate = option_map (λ r. make (Some r)) rate
+
+abbrev pub tag_part : List ℕ → Option Tag → Option Part
+tag_part name tag = option_map (λ t. parts.Tag name (Some t)) tag
+
+abbrev pub collection_part : List Member → Option Part
+collection_part members = if length members == 0 then None else Some (parts.Collection members)
+
+abbrev pub flow_part : FlowBody → PartName → Result View Refusal
+flow_part body (names.Tag name) = part_or (tag_part name (tag_of name body.tags)) (codes "tags")
+flow_part body names.Tags = Ok (views.AllTags body.tags)
+flow_part body names.Label = part_or (text_part parts.Label body.label) (codes "label")
+flow_part body names.Description = part_or (text_part parts.Description body.description) (codes "description")
+flow_part body names.ReadOnly = Ok (views.OnePart (parts.ReadOnly body.read_only))
+flow_part body names.Collection = part_or (collection_part body.members) (codes "flow_collection")
+flow_part body names.MaxBitRate = part_or (rate_part parts.MaxBitRate body.max_bit_rate) (codes "max_bit_rate")
+flow_part body names.AvgBitRate = part_or (rate_part parts.AvgBitRate body.avg_bit_rate) (codes "avg_bit_rate")
+
+-- a source has tags, a label and a description alone
+abbrev pub source_part : SourceRow → PartName → Result View Refusal
+source_part row (names.Tag name) = part_or (tag_part name (tag_of name row.tags)) (codes "tags")
+source_part row names.Tags = Ok (views.AllTags row.tags)
+source_part row names.Label = part_or (text_part parts.Label row.label) (codes "label")
+source_part row names.Description = part_or (text_part parts.Description row.description) (codes "description")
+source_part row names.ReadOnly = Err (refusals.NotSet (codes "read_only"))
+source_part row names.Collection = Err (refusals.NotSet (codes "flow_collection"))
+source_part row names.MaxBitRate = Err (refusals.NotSet (codes "max_bit_rate"))
+source_part row names.AvgBitRate = Err (refusals.NotSet (codes "avg_bit_rate"))
+
+-- ---- each asking command
+
+-- what is shown of something that is kept, or the refusal
+abbrev pub kept_or : {X : Type 0} → Refusal → (X → Result View Refusal) → Option X → Result View Refusal
+kept_or refusal show None = Err refusal
+kept_or refusal show (Some kept) = show kept
+
+abbrev pub shown_segments : Library → ℕ → SegmentFilter → Page → View
+shown_segments library flow wanted page =
+    views.Segments (segment_page library.segments flow wanted.range wanted.object page) (segment_next_key library.segments flow wanted.range wanted.object page)
+
+abbrev pub shown_sources : Page → List SourceRow → View
+shown_sources page rows = views.Sources (page_items source_key page rows) (next_key source_key page rows)
+
+abbrev pub shown_flows : Library → Page → List FlowRow → View
+shown_flows library page rows =
+    views.Flows (map (shown_flow library.segments) (page_items flow_key page rows)) (next_key flow_key page rows)
+
+abbrev pub shown_object : Library → ObjectRow → View
+shown_object library row = views.Object row (flows_naming library.segments row.id)
+
+-- what an asking command shows, or its refusal; nothing for a command that changes something
+abbrev pub asked : Library → Command → Option (Result View Refusal)
+asked library (commands.PutFlow body) = None
+asked library (commands.SetFlow flow part) = None
+asked library (commands.SetSource source part) = None
+asked library (commands.DropFlow flow) = None
+asked library (commands.Allocate flow want) = None
+asked library (commands.Keep object start size) = None
+asked library (commands.AddSegments flow segments) = None
+asked library (commands.CutSegments flow range) = None
+asked library (commands.PutHook hook) = None
+asked library (commands.DropHook url) = None
+asked library commands.Root = Some (Ok views.Root)
+asked library commands.Service = Some (Ok views.Service)
+asked library commands.Hooks = Some (Ok (views.Hooks (map (shown_hook library) library.outbox.hooks)))
+asked library (commands.Sources wanted page) = Some (Ok (shown_sources page (listed_sources library wanted)))
+asked library (commands.Source id) = Some (kept_or refusals.NoSource (λ row. Ok (views.Source row)) (source_of id library.catalog.sources))
+asked library (commands.SourcePart id name) = Some (kept_or refusals.NoSource (λ row. source_part row name) (source_of id library.catalog.sources))
+asked library (commands.Flows wanted range page) = Some (Ok (shown_flows library page (listed_flows library wanted range)))
+asked library (commands.Flow id) = Some (kept_or refusals.NoFlow (λ row. Ok (views.Flow (shown_flow library.segments row))) (flow_of id library.catalog.flows))
+asked library (commands.FlowPart id name) = Some (kept_or refusals.NoFlow (λ row. flow_part row.body name) (flow_of id library.catalog.flows))
+asked library (commands.Segments id wanted page) = Some (kept_or refusals.NoFlow (λ row. Ok (shown_segments library id wanted page)) (flow_of id library.catalog.flows))
+asked library (commands.Object id) = Some (kept_or refusals.UnknownObject (λ row. Ok (shown_object library row)) (object_of id library.objects))
+asked library commands.Requests = Some (Ok (views.Requests library.requests))
+asked library (commands.Request serial) = Some (kept_or refusals.NoRequest (λ row. Ok (views.Request row)) (request_of serial library.requests))

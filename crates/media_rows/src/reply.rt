@@ -1,0 +1,61 @@
+//! Replies: what the library answers.
+use crate::flow::{FlowList, FlowRow, TagList};
+use crate::hook::HookRow;
+use crate::object::ObjectRow;
+use crate::part::Part;
+use crate::refusal::Refusal;
+use crate::request::{DeleteList, DeleteRow};
+use crate::segment::SegmentList;
+use crate::source::{IdList, SourceList, SourceRow};
+use disk_trait::{Listed, TextList};
+use time_range::TimeRange;
+
+/// A flow as it is shown: with the hull of its segments.
+#[derive(Drop)]
+pub struct FlowShown {
+    pub row: FlowRow,
+    pub hull: TimeRange,
+}
+
+pub type FlowShownList = Listed<FlowShown>;
+
+/// A hook as it is shown: with the number of its waiting events.
+#[derive(Drop)]
+pub struct HookShown {
+    pub row: HookRow,
+    pub waiting: u64,
+}
+
+pub type HookShownList = Listed<HookShown>;
+
+/// What an asking command shows. An `Option<i128>` is the key behind which the next page begins, and
+/// is there exactly where there is a next page.
+#[derive(Drop)]
+pub enum View {
+    Root,
+    Service,
+    Source(SourceRow),
+    Sources(SourceList, Option<i128>),
+    Flow(FlowShown),
+    Flows(FlowShownList, Option<i128>),
+    Segments(SegmentList, Option<i128>),
+    Object { row: ObjectRow, flows: IdList },
+    Request(DeleteRow),
+    Requests(DeleteList),
+    Hooks(HookShownList),
+    OnePart(Part),
+    AllTags(TagList),
+}
+
+/// The answer to a command.
+#[derive(Drop)]
+pub enum Reply {
+    Created,
+    CreatedObjects(TextList),
+    Accepted(DeleteRow),
+    Done,
+    Shown(View),
+    /// A media object of this length, whose bytes follow.
+    Media(u64),
+    Refused(Refusal),
+}
