@@ -5,3 +5,4 @@ mod KeptLemmas
 mod OutboxKept
 mod ObjectsKept
 mod NewObjectsKept
+mod HooksKept
