@@ -1,0 +1,4 @@
+pub mod Format
+pub mod Leaves
+pub mod Reading
+pub mod Answers
