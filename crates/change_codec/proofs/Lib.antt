@@ -1,0 +1,3 @@
+pub mod ValueLaws
+pub mod ChangeLaws
+pub mod RowLaws

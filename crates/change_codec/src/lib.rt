@@ -1,0 +1,4 @@
+//! Changes and rows in bytes.
+#![tactic(auto)]
+
+mod field;
