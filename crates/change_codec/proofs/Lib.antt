@@ -1,3 +1,4 @@
 pub mod ValueLaws
 pub mod ChangeLaws
 pub mod RowLaws
+pub mod Loops

@@ -2,13 +2,13 @@
 //! read and written once.
 ghost use Rattle.std.specs.Prelude.{◌≡◌, OnOk};
 ghost use Rattle.field_codec.specs.Format.{Format, pair, optional};
-ghost use Rattle.field_codec.specs.Leaves.{u64_format, u128_format, bool_format, ts_format, text_format, range_format, listed};
+ghost use Rattle.field_codec.specs.Leaves.{u64_format, u128_format, bool_format, ts_format, text_format, range_format};
 ghost use Rattle.field_codec.specs.Reading.{Gives, Wrote};
 
-use disk_trait::{Listed, Memory, Text};
+use disk_trait::{Memory, Text};
 use field_codec::{
-    BadField, Cursor, ReadFault, write_bool, write_range, write_text, write_ts, write_u32,
-    write_u64, write_u128,
+    BadField, Cursor, ReadFault, write_bool, write_range, write_text, write_ts, write_u64,
+    write_u128,
 };
 use std::alloc::Global;
 use time_range::{TimeRange, Ts};
