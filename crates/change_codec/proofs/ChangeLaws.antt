@@ -4,7 +4,7 @@ use Rattle.media_rows.specs.declared.change.Change.{Change}
 use Rattle.media_rows.specs.declared.change.Change.TheVariants as changes
 use Rattle.field_codec.specs.Format.{Format, pair, no_kind}
 use Rattle.field_codec.specs.Leaves.{u64_format, u128_format, bool_format, text_format, range_format, listed}
-use Rattle.field_codec.proofs.Lawful.{Lawful}
+use Rattle.field_codec.specs.Laws.{Lawful}
 use Rattle.field_codec.proofs.Combined.{pair_lawful, via_lawful}
 use Rattle.field_codec.proofs.KindLaws.{Kinds, no_kinds, one_kind}
 use Rattle.field_codec.proofs.LeafLaws.{bool_lawful, text_lawful, listed_lawful}
@@ -21,10 +21,10 @@ later_kinds : Kinds 7 later_format
 unfolding later_format
 later_kinds =
     one_kind 7 8 (at_moment (pair u128_format (listed segment_format))) _ (omega arith)
-      (at_moment_lawful _ (pair_lawful u128_format _ u128_lawful (listed_lawful segment_format segment_lawful)))
+    (at_moment_lawful _ (pair_lawful u128_format _ u128_lawful (listed_lawful segment_format segment_lawful)))
     (one_kind 8 9 (at_moment (pair u128_format range_format)) _ (omega arith) (at_moment_lawful _ (pair_lawful u128_format _ u128_lawful range_lawful))
     (one_kind 9 10 (at_moment (pair u128_format (pair range_format bool_format))) _ (omega arith)
-      (at_moment_lawful _ (pair_lawful u128_format _ u128_lawful (pair_lawful range_format _ range_lawful bool_lawful)))
+    (at_moment_lawful _ (pair_lawful u128_format _ u128_lawful (pair_lawful range_format _ range_lawful bool_lawful)))
     (one_kind 10 11 u64_format _ (omega arith) u64_lawful
     (one_kind 11 12 u64_format _ (omega arith) u64_lawful
     (one_kind 12 13 (at_moment hook_format) _ (omega arith) (at_moment_lawful _ hook_lawful)
@@ -73,6 +73,6 @@ change_lawful =
     (one_kind 3 4 (at_moment (pair u128_format source_part_format)) _ (omega arith) (at_moment_lawful _ (pair_lawful u128_format _ u128_lawful source_part_lawful))
     (one_kind 4 5 (at_moment u128_format) _ (omega arith) (at_moment_lawful _ u128_lawful)
     (one_kind 5 6 (at_moment (pair u128_format (listed text_format))) _ (omega arith)
-      (at_moment_lawful _ (pair_lawful u128_format _ u128_lawful (listed_lawful text_format text_lawful)))
+    (at_moment_lawful _ (pair_lawful u128_format _ u128_lawful (listed_lawful text_format text_lawful)))
     (one_kind 6 7 (at_moment (pair text_format (pair u64_format u64_format))) later_format (omega arith)
-      (at_moment_lawful _ (pair_lawful text_format _ text_lawful (pair_lawful u64_format u64_format u64_lawful u64_lawful))) later_kinds)))))).lawful
+    (at_moment_lawful _ (pair_lawful text_format _ text_lawful (pair_lawful u64_format u64_format u64_lawful u64_lawful))) later_kinds)))))).lawful

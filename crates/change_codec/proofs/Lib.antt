@@ -2,3 +2,5 @@ pub mod ValueLaws
 pub mod ChangeLaws
 pub mod RowLaws
 pub mod Loops
+pub mod TagLemmas
+pub mod PartLemmas

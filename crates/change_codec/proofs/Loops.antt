@@ -63,8 +63,8 @@ pub one_written : {A : Type 0} (f : Format A) (old : List ℕ) (xs : List A) (i 
 one_written {A = A} f old xs i x now next lt is before wrote =
     let more : i + 1 ≡ suc i = omega arith in
     let step : items_onto f.onto next (drop (suc i) xs) ≡ items_onto f.onto now (drop i xs) =
-      ap (λ (t : List ℕ). items_onto f.onto t (drop (suc i) xs)) (wrote.written ∙ ap (f.onto now) is)
-      ∙ sym (ap (items_onto f.onto now) (drop_one xs i x lt)) in
+    ap (λ (t : List ℕ). items_onto f.onto t (drop (suc i) xs)) (wrote.written ∙ ap (f.onto now) is)
+    ∙ sym (ap (items_onto f.onto now) (drop_one xs i x lt)) in
     rw more (record { rest = step ∙ before.rest; fits = all_more f.fits xs i x lt before.fits (subst f.fits is wrote.fits) })
 
 drop_all : {A : Type 0} (xs : List A) (i : ℕ) → length xs ≤ i → drop i xs ≡ []

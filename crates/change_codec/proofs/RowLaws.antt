@@ -11,7 +11,7 @@ use Rattle.media_rows.specs.declared.row.Row.{Row}
 use Rattle.media_rows.specs.declared.row.Row.TheVariants as rows
 use Rattle.field_codec.specs.Format.{Format, nothing, pair, narrowed, either, no_kind, optional}
 use Rattle.field_codec.specs.Leaves.{u32_format, u64_format, u128_format, bool_format, text_format, range_format, numbered}
-use Rattle.field_codec.proofs.Lawful.{Lawful}
+use Rattle.field_codec.specs.Laws.{Lawful}
 use Rattle.field_codec.proofs.Combined.{NarrowLaws, narrowed_lawful, nothing_lawful, pair_lawful, via_lawful}
 use Rattle.field_codec.proofs.KindLaws.{Kinds, no_kinds, one_kind, optional_lawful}
 use Rattle.field_codec.proofs.LeafLaws.{bool_lawful, text_lawful, one_of_lawful}
@@ -102,8 +102,8 @@ measured_is spell n x y false is e = absurd cc
 sized_laws : {A : Type 0} (f : Format A) → NarrowLaws (measured f.spell) (λ x. (length (f.spell x), x)) (λ x. Unit {0}) (λ x. length (f.spell x) < 2 ^ 32) (pair u32_format f).fits
 sized_laws {A = A} f = record {
   is = λ p y fits e.
-    let m = measured_is f.spell p.0 p.1 y (length (f.spell p.1) == p.0) refl e in
-    (ap₂ (λ (n : ℕ) (x : A). (n, x)) m.0 m.1, tt);
+      let m = measured_is f.spell p.0 p.1 y (length (f.spell p.1) == p.0) refl e in
+      (ap₂ (λ (n : ℕ) (x : A). (n, x)) m.0 m.1, tt);
   again = λ y fits has. rw (eq-eqb (length (f.spell y)) (length (f.spell y)) refl) refl;
 }
 

@@ -10,7 +10,7 @@ use Rattle.media_rows.specs.declared.part.Part.{Part}
 use Rattle.media_rows.specs.declared.part.Part.TheVariants as parts
 use Rattle.field_codec.specs.Format.{Format, pair, either, no_kind, optional}
 use Rattle.field_codec.specs.Leaves.{u64_format, u128_format, bool_format, ts_format, text_format, range_format, listed, numbered}
-use Rattle.field_codec.proofs.Lawful.{Lawful}
+use Rattle.field_codec.specs.Laws.{Lawful}
 use Rattle.field_codec.proofs.Combined.{pair_lawful, followed_lawful, via_lawful, where_is_lawful}
 use Rattle.field_codec.proofs.KindLaws.{Kinds, no_kinds, one_kind, optional_lawful}
 use Rattle.field_codec.proofs.LeafLaws.{bool_lawful, text_lawful, listed_lawful, one_of_lawful}

@@ -31,7 +31,13 @@ use Rattle.change_codec.specs.Values.{TextOption, kind_format, event_format, tag
 unfoldable pub source_row_format : Format SourceRow
 source_row_format = via
     (λ p. record {
-      id = p.0; format = p.1.0; label = p.1.1.0; description = p.1.1.1.0; tags = p.1.1.1.1.0; created = p.1.1.1.1.1.0; updated = p.1.1.1.1.1.1;
+      id = p.0;
+      format = p.1.0;
+      label = p.1.1.0;
+      description = p.1.1.1.0;
+      tags = p.1.1.1.1.0;
+      created = p.1.1.1.1.1.0;
+      updated = p.1.1.1.1.1.1;
     })
     (λ row. (row.id, (row.format, (row.label, (row.description, (row.tags, (row.created, row.updated)))))))
     (pair u128_format (pair kind_format (pair (optional text_format) (pair (optional text_format) (pair tags_format (pair u64_format u64_format))))))

@@ -85,26 +85,56 @@ flow_rest_format = pair (optional u64_format) (pair (optional u64_format) (pair 
 unfoldable pub flow_format : Format FlowBody
 flow_format = via
     (λ p. record {
-      id = p.0.0; source = p.0.1.0; format = p.0.1.1.0; read_only = p.0.1.1.1;
-      codec = p.1.0.0; container = p.1.0.1.0; label = p.1.0.1.1.0; description = p.1.0.1.1.1;
-      max_bit_rate = p.1.1.0; avg_bit_rate = p.1.1.1.0; tags = p.1.1.1.1.0; members = p.1.1.1.1.1.0; essence = p.1.1.1.1.1.1;
+      id = p.0.0;
+      source = p.0.1.0;
+      format = p.0.1.1.0;
+      read_only = p.0.1.1.1;
+      codec = p.1.0.0;
+      container = p.1.0.1.0;
+      label = p.1.0.1.1.0;
+      description = p.1.0.1.1.1;
+      max_bit_rate = p.1.1.0;
+      avg_bit_rate = p.1.1.1.0;
+      tags = p.1.1.1.1.0;
+      members = p.1.1.1.1.1.0;
+      essence = p.1.1.1.1.1.1;
     })
-    (λ flow. ((flow.id, (flow.source, (flow.format, flow.read_only))),
-      ((flow.codec, (flow.container, (flow.label, flow.description))),
-      (flow.max_bit_rate, (flow.avg_bit_rate, (flow.tags, (flow.members, flow.essence)))))))
+    (λ flow. (
+      (flow.id, (flow.source, (flow.format, flow.read_only))),
+      (
+        (flow.codec, (flow.container, (flow.label, flow.description))),
+        (flow.max_bit_rate, (flow.avg_bit_rate, (flow.tags, (flow.members, flow.essence)))),
+      ),
+    ))
     (pair flow_head_format (pair flow_texts_format flow_rest_format))
 
 -- object, range, offset, duration of the last sample, sample offset, sample count, key frames
 unfoldable pub segment_format : Format Segment
 segment_format = via
     (λ p. record {
-      object = p.0; range = p.1.0; ts_offset = p.1.1.0; last_duration = p.1.1.1.0;
-      sample_offset = p.1.1.1.1.0; sample_count = p.1.1.1.1.1.0; key_frames = p.1.1.1.1.1.1;
+      object = p.0;
+      range = p.1.0;
+      ts_offset = p.1.1.0;
+      last_duration = p.1.1.1.0;
+      sample_offset = p.1.1.1.1.0;
+      sample_count = p.1.1.1.1.1.0;
+      key_frames = p.1.1.1.1.1.1;
     })
-    (λ segment. (segment.object, (segment.range, (segment.ts_offset, (segment.last_duration,
-      (segment.sample_offset, (segment.sample_count, segment.key_frames)))))))
+    (λ segment. (
+      segment.object,
+      (
+        segment.range,
+        (
+          segment.ts_offset,
+          (
+            segment.last_duration,
+            (segment.sample_offset, (segment.sample_count, segment.key_frames)),
+          ),
+        ),
+      ),
+    ))
     (pair text_format (pair range_format (pair ts_format (pair (optional ts_format)
-      (pair u64_format (pair (optional u64_format) (optional u64_format)))))))
+    (pair u64_format (pair (optional u64_format) (optional u64_format)))))))
 
 -- ---- parts
 
@@ -160,4 +190,4 @@ hook_format = via
     (λ p. record { url = p.0; events = p.1.0; key_name = p.1.1.0; key_value = p.1.1.1.0; flow_ids = p.1.1.1.1.0; source_ids = p.1.1.1.1.1 })
     (λ hook. (hook.url, (hook.events, (hook.key_name, (hook.key_value, (hook.flow_ids, hook.source_ids))))))
     (pair text_format (pair (listed event_format) (pair (optional text_format) (pair (optional text_format)
-      (pair (optional (listed u128_format)) (optional (listed u128_format)))))))
+    (pair (optional (listed u128_format)) (optional (listed u128_format)))))))

@@ -3,7 +3,8 @@ use Rattle.std.proofs.Common.{◌≡◌, ◌≤◌, ℕ, List, ◌++◌, length,
 use Rattle.std.proofs.lemmas.List.{append-nil}
 use Rattle.std.specs.Prelude.{Bool, true, false, if◌then◌else◌}
 use Rattle.field_codec.specs.Format.{Format, Begins, ◌>>=◌, HasNone, found_or, leaf, nothing, followed, pair, via, narrowed, kept, where_is}
-use Rattle.field_codec.proofs.Lawful.{IsBytes, Lawful, IsBytes-behind, bind_ok, bind_err, ok_is}
+use Rattle.field_codec.specs.Laws.{IsBytes, Lawful}
+use Rattle.field_codec.proofs.Lawful.{IsBytes-behind, bind_ok, bind_err, ok_is}
 
 -- ---- a field without parts
 

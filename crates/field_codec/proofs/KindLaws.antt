@@ -4,7 +4,8 @@ use Rattle.std.specs.Prelude.{◌==◌}
 use Rattle.std.proofs.lemmas.Bool.{eq-eqb, ne_eqb, eqb-true, eqb-false}
 use Rattle.std.proofs.lemmas.List.{append-nil}
 use Rattle.field_codec.specs.Format.{Format, Begins, ◌>>=◌, nothing, by_kind, HasKind, either, no_kind, option_of, option_parts, optional}
-use Rattle.field_codec.proofs.Lawful.{IsBytes, Lawful, bind_ok, bind_err, ok_is}
+use Rattle.field_codec.specs.Laws.{IsBytes, Lawful}
+use Rattle.field_codec.proofs.Lawful.{bind_ok, bind_err, ok_is}
 use Rattle.field_codec.proofs.Combined.{via_lawful, nothing_lawful}
 
 -- each spelling of the format begins with a byte from this one on

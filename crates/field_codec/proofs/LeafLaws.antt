@@ -6,7 +6,7 @@ use Rattle.std.proofs.lemmas.List.{take_at, drop_at, take-append-drop, length-ta
 use Rattle.disk_trait.specs.Numbers.{u32_bytes}
 use Rattle.field_codec.specs.Format.{Format, followed, items}
 use Rattle.field_codec.specs.Leaves.{number_at, u32_of, u8_format, u32_format, mark_of, mark_number, bool_format, numbered, one_of, text_at, text_spelling, IsShort, text_format, HasFew, listed}
-use Rattle.field_codec.proofs.Lawful.{IsBytes, Lawful}
+use Rattle.field_codec.specs.Laws.{IsBytes, Lawful}
 use Rattle.field_codec.proofs.Combined.{leaf_lawful, NarrowLaws, narrowed_lawful, followed_lawful}
 use Rattle.field_codec.proofs.Many.{items_lawful}
 use Rattle.field_codec.proofs.Numbers.{wide32, cond_some, number_takes, number_again, u8_lawful, u32_lawful}

@@ -4,7 +4,8 @@ use Rattle.std.specs.List.{flat_map, AllByRecursion}
 use Rattle.std.proofs.lemmas.List.{append-nil}
 use Rattle.std.proofs.lemmas.List.Concat.{flat_map-cons}
 use Rattle.field_codec.specs.Format.{Format, Begins, ◌>>=◌, items_at, items_onto, ItemFault, items}
-use Rattle.field_codec.proofs.Lawful.{IsBytes, Lawful, IsBytes-behind, bind_ok, bind_err, ok_is}
+use Rattle.field_codec.specs.Laws.{IsBytes, Lawful}
+use Rattle.field_codec.proofs.Lawful.{IsBytes-behind, bind_ok, bind_err, ok_is}
 
 -- the first item, and then others
 cons_parts : {A : Type 0} (f : Format A) (x : A) (xs : List A) (rest : List ℕ) → flat_map f.spell (x ∷ xs) ++ rest ≡ f.spell x ++ (flat_map f.spell xs ++ rest)

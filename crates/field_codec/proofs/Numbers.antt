@@ -7,7 +7,8 @@ use Rattle.std.proofs.lemmas.Nat.{be_bytes_4, be_bytes_8, from_be_bytes-to_be_by
 use Rattle.disk_trait.specs.Numbers.{u32_bytes, u64_bytes, u128_bytes}
 use Rattle.disk_trait.proofs.NumberLemmas.{length-u64_bytes, length-u128_bytes, u128_of_halves}
 use Rattle.field_codec.specs.Leaves.{number, number_at, u8_bytes, u8_of, u32_of, u64_of, u128_of, u8_format, u32_format, u64_format, u128_format}
-use Rattle.field_codec.proofs.Lawful.{IsBytes, Lawful, IsBytes-take, IsBytes-drop}
+use Rattle.field_codec.specs.Laws.{IsBytes, Lawful}
+use Rattle.field_codec.proofs.Lawful.{IsBytes-take, IsBytes-drop}
 use Rattle.field_codec.proofs.Combined.{leaf_lawful}
 
 -- what is true of numbers in so many bytes

@@ -15,7 +15,7 @@ use Rattle.time_range.specs.declared.ends.End.{End}
 use Rattle.time_range.specs.declared.ends.End.TheVariants.{Unbounded, Including, Excluding}
 use Rattle.field_codec.specs.Format.{nothing, pair, either, no_kind, optional}
 use Rattle.field_codec.specs.Leaves.{u128_format, is_nanos, nanos_of, ts_format, end_of, end_parts, end_format, span_of, ends_of, range_format}
-use Rattle.field_codec.proofs.Lawful.{Lawful}
+use Rattle.field_codec.specs.Laws.{Lawful}
 use Rattle.field_codec.proofs.Combined.{narrowed_lawful, pair_lawful, via_lawful, nothing_lawful}
 use Rattle.field_codec.proofs.KindLaws.{no_kinds, one_kind, optional_lawful}
 use Rattle.field_codec.proofs.Numbers.{u128_lawful}

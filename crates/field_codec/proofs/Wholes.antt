@@ -2,7 +2,8 @@
 use Rattle.std.proofs.Common.{◌≡◌, ◌≤◌, ℕ, List, [], length, sym, ap, ◌∙◌, arith, inl, inr, length-append}
 use Rattle.std.proofs.lemmas.List.{append-nil}
 use Rattle.field_codec.specs.Format.{Format, Begins, Spells, WholeFault}
-use Rattle.field_codec.proofs.Lawful.{IsBytes, Lawful, ok_is, not_both}
+use Rattle.field_codec.specs.Laws.{IsBytes, Lawful}
+use Rattle.field_codec.proofs.Lawful.{ok_is, not_both}
 use Rattle.field_codec.proofs.Combined.{read_behind}
 
 -- Bytes begin with one spelling at most: no spelling is a proper front of another.
