@@ -4,3 +4,5 @@ pub mod RowLaws
 pub mod Loops
 pub mod TagLemmas
 pub mod PartLemmas
+pub mod SizedLemmas
+pub mod CodecLemmas

@@ -1,7 +1,10 @@
 -- Laws of the whole of some bytes: which value they spell, and where they are faulty.
-use Rattle.std.proofs.Common.{◌≡◌, ◌≤◌, ℕ, List, [], length, sym, ap, ◌∙◌, arith, inl, inr, length-append}
-use Rattle.std.proofs.lemmas.List.{append-nil}
+use Rattle.std.proofs.Common.{◌≡◌, ◌≤◌, ℕ, List, [], ◌++◌, Result, Ok, Err, length, refl, sym, ap, ◌∙◌, arith, inl, inr, length-append}
+use Rattle.std.proofs.lemmas.List.{append-nil, nil_from_length}
 use Rattle.field_codec.specs.Format.{Format, Begins, Spells, WholeFault}
+use Rattle.field_codec.specs.Reading.{Fails, ReadsWhole}
+use Rattle.field_codec.specs.declared.fault.ReadFault.{ReadFault}
+use Rattle.field_codec.specs.declared.fault.ReadFault.TheVariants as faults
 use Rattle.field_codec.specs.Laws.{IsBytes, Lawful}
 use Rattle.field_codec.proofs.Lawful.{ok_is, not_both}
 use Rattle.field_codec.proofs.Combined.{read_behind}
@@ -44,3 +47,30 @@ one_whole_place f law bytes left other is (inr a) (inr b) =
 pub whole_within : {A : Type 0} (f : Format A) → Lawful f → (bytes : List ℕ) (left : ℕ) → IsBytes bytes → WholeFault f bytes left → left ≤ length bytes
 whole_within f law bytes left is (inl h) = law.within bytes left is h
 whole_within f law bytes left is (inr b) = omega (arith, b.keeps.1, ap length b.begins.parts, length-append (f.spell b.value) b.rest)
+
+-- ---- what reading gave of the whole
+
+pub decoded : {A : Type 0} (f : Format A) → Lawful f → (bytes rest : List ℕ) (x : A) → IsBytes bytes → f.read bytes ≡ Ok (x, rest) → length rest ≡ 0 → Spells f bytes x
+decoded f law bytes rest x is e none =
+    let b = law.takes bytes x rest is e in
+    let empty : rest ≡ [] = nil_from_length rest none in
+    record { fits = b.fits; whole = b.parts ∙ ap (λ (t : List ℕ). f.spell x ++ t) empty ∙ append-nil (f.spell x) }
+
+pub left_over : {A : Type 0} (f : Format A) → Lawful f → (bytes rest : List ℕ) (x : A) → IsBytes bytes → f.read bytes ≡ Ok (x, rest) → (length rest ≡ 0 → ⊥) → WholeFault f bytes (length rest)
+left_over f law bytes rest x is e some =
+    inr (record { value = x; rest = rest; begins = law.takes bytes x rest is e; keeps = (λ none. some (ap length none), refl) })
+
+pub read_fault : {A : Type 0} (f : Format A) → Lawful f → (bytes : List ℕ) (e : ReadFault) → IsBytes bytes → Fails e (f.read bytes) → ReadsWhole f bytes (Err e)
+read_fault f law bytes faults.Memory is h = tt
+read_fault f law bytes (faults.Bad field) is h = inl (law.faults bytes field.left is h)
+
+pub less_left : {A : Type 0} (f : Format A) → Lawful f → (bytes rest : List ℕ) (x : A) → IsBytes bytes → f.read bytes ≡ Ok (x, rest) → length rest ≤ length bytes
+less_left f law bytes rest x is e =
+    let b = law.takes bytes x rest is e in
+    omega (arith, ap length b.parts, length-append (f.spell x) rest)
+
+pub fault_within : {A : Type 0} (f : Format A) → Lawful f → (bytes : List ℕ) (left : ℕ) → IsBytes bytes → f.read bytes ≡ Err left → left ≤ length bytes
+fault_within f law bytes left is e = law.within bytes left is (law.faults bytes left is e)
+
+pub fault_begins_none : {A : Type 0} (f : Format A) → Lawful f → (bytes rest : List ℕ) (left : ℕ) (x : A) → f.read bytes ≡ Err left → Begins f bytes x rest → ⊥
+fault_begins_none f law bytes rest left x e b = not_both (f.read bytes) (x, rest) left (read_behind f law bytes x rest b) e

@@ -10,6 +10,7 @@ use std::marker::Model;
 use time_range::{End, TimeRange, Ts};
 
 /// The bytes that are not read yet. After a fault they are any.
+#[derive(Drop)]
 pub struct Cursor<'a> {
     rest: &'a [u8],
 }
