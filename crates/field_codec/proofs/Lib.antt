@@ -8,3 +8,4 @@ pub mod LeafLaws
 pub mod RangeLaws
 pub mod WritingLaws
 pub mod ReadingLaws
+pub mod FieldLaws
