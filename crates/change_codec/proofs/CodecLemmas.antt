@@ -1,11 +1,12 @@
 -- What the codec's calls promise, from what reading and writing gave.
 use Rattle.std.proofs.Common.{◌≡◌, ◌≤◌, ◌+◌, ◌-◌, ℕ, List, [], ◌++◌, length, Ok, Err, refl, sym, ap, ◌∙◌, arith}
+use Rattle.std.proofs.lemmas.List.{append-nil}
 use Rattle.media_rows.specs.declared.change.Change.{Change}
 use Rattle.media_rows.specs.declared.row.Row.{Row}
 use Rattle.field_codec.specs.Format.{Begins, Spells, WholeFault}
 use Rattle.field_codec.specs.Laws.{IsBytes}
 use Rattle.field_codec.specs.Reading.{Wrote}
-use Rattle.field_codec.proofs.Wholes.{one_front, less_left, fault_within, fault_begins_none, whole_within}
+use Rattle.field_codec.proofs.Wholes.{one_front, one_value, one_place, one_whole_place, less_left, fault_within, fault_begins_none, whole_within}
 use Rattle.change_codec.specs.Changes.{change_format}
 use Rattle.change_codec.specs.Rows.{row_format}
 use Rattle.change_codec.specs.Codec.{ChangeFaultAt, BeginsWithRow, AppendsRow, RowFaultAt}
@@ -45,3 +46,23 @@ row_fault bytes left is e =
 
 pub no_row : (bytes : List ℕ) (left : ℕ) → row_format.read bytes ≡ Err left → (row : Row) (taken : ℕ) → BeginsWithRow bytes row taken → ⊥
 no_row bytes left e row taken b = fault_begins_none row_format row_lawful bytes b.rest left row e b.begins
+
+-- ---- laws
+
+pub one_change : (bytes : List ℕ) (a b : Change) → Spells change_format bytes a → Spells change_format bytes b → a ≡ b
+one_change bytes a b left right = one_value change_format change_lawful bytes a b left right
+
+pub no_prefix : (text more : List ℕ) (a b : Row) → Spells row_format text a → Spells row_format (text ++ more) b → more ≡ []
+no_prefix text more a b left right =
+    (one_front row_format row_lawful (text ++ more) a b more [] (record { fits = left.fits; parts = ap (λ (t : List ℕ). t ++ more) left.whole })
+    (record { fits = right.fits; parts = right.whole ∙ sym (append-nil (row_format.spell b)) })).1
+
+pub one_change_fault : (bytes : List ℕ) (at other : ℕ) → IsBytes bytes → ChangeFaultAt bytes at → ChangeFaultAt bytes other → at ≡ other
+one_change_fault bytes at other is a b =
+    let same = one_whole_place change_format change_lawful bytes a.left b.left is a.fault b.fault in
+    omega (arith, a.place, b.place, same)
+
+pub one_row_fault : (bytes : List ℕ) (at other : ℕ) → IsBytes bytes → RowFaultAt bytes at → RowFaultAt bytes other → at ≡ other
+one_row_fault bytes at other is a b =
+    let same = one_place row_format row_lawful bytes a.left b.left is a.fault b.fault in
+    omega (arith, a.place, b.place, same)

@@ -15,7 +15,7 @@ use Rattle.field_codec.specs.Laws.{Lawful}
 use Rattle.field_codec.proofs.Combined.{NarrowLaws, narrowed_lawful, nothing_lawful, pair_lawful, via_lawful}
 use Rattle.field_codec.proofs.KindLaws.{Kinds, no_kinds, one_kind, optional_lawful}
 use Rattle.field_codec.proofs.LeafLaws.{bool_lawful, text_lawful, one_of_lawful}
-use Rattle.field_codec.proofs.Numbers.{u32_lawful, u64_lawful, u128_lawful}
+use Rattle.field_codec.proofs.Numbers.{u32_below, u32_lawful, u64_lawful, u128_lawful}
 use Rattle.field_codec.proofs.RangeLaws.{range_lawful}
 use Rattle.change_codec.specs.Values.{kind_format, event_format, tags_format, flow_format, segment_format, hook_format}
 use Rattle.change_codec.specs.Rows.{source_row_format, flow_row_format, state_of, state_values, state_format, object_row_format, segment_row_format, all_statuses, status_format, delete_row_format, hook_row_format, event_row_format, measured, sized, RowFields, row_of, row_fields, row_format}
@@ -105,6 +105,7 @@ sized_laws {A = A} f = record {
       let m = measured_is f.spell p.0 p.1 y (length (f.spell p.1) == p.0) refl e in
       (ap₂ (λ (n : ℕ) (x : A). (n, x)) m.0 m.1, tt);
   again = λ y fits has. rw (eq-eqb (length (f.spell y)) (length (f.spell y)) refl) refl;
+  writable = λ y fits has. u32_below (length (f.spell y)) fits.0;
 }
 
 pub sized_lawful : {A : Type 0} (f : Format A) → Lawful f → Lawful (sized f)

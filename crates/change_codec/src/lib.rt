@@ -4,6 +4,7 @@
 mod changes;
 mod field;
 mod flows;
+mod laws;
 mod lists;
 mod parts;
 mod rows;
@@ -11,5 +12,9 @@ mod sized;
 mod values;
 mod whole;
 
+pub use crate::laws::{
+    change_faults_have_one_place, changes_have_one_spelling, row_faults_have_one_place,
+    rows_are_no_prefixes,
+};
 pub use crate::whole::{decode_change, decode_row, encode_change, encode_row};
 pub use field_codec::{CodecFault, Cursor};

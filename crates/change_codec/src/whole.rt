@@ -28,6 +28,7 @@ pub fn encode_change(alloc: Global, change: &Change) -> Result<Text, Memory>
 /// field begins that holds no other faulty field, or of the first byte behind the last field.
 pub fn decode_change(alloc: Global, bytes: &[u8]) -> Result<Change, CodecFault>
     ensures ok { IfOk result (SpellsChange bytes.now) }
+    ensures writable { IfOk result CanWriteChange }
     ensures only { (change : Change) → SpellsChange bytes.now change →
         IfOk result (λ decoded. decoded ≡ change) }
     ensures bad { OnBad result (ChangeFaultAt bytes.now) }
@@ -70,6 +71,7 @@ pub fn encode_row(alloc: Global, row: &Row, out: &mut Text) -> Result<(), Memory
 /// changes; where all fields of a row are spelled and its length isn't theirs, the offset is 1.
 pub fn decode_row(alloc: Global, bytes: &[u8]) -> Result<(Row, u64), CodecFault>
     ensures ok { IfOk result (λ found. BeginsWithRow bytes.now found.0 found.1) }
+    ensures writable { IfOk result (λ found. CanWriteRow found.0) }
     ensures only { (row : Row) (taken : ℕ) → BeginsWithRow bytes.now row taken →
         IfOk result (λ found. found ≡ (row, taken)) }
     ensures bad { OnBad result (RowFaultAt bytes.now) }

@@ -37,8 +37,8 @@ none_found spell fits find laws bytes is none =
 some_none : {A : Type 0} (o : Option A) (x : A) → o ≡ Some x → o ≡ None → ⊥
 some_none o x s n = let e = sym s ∙ n in cc
 
-pub leaf_lawful : {A : Type 0} (spell : A → List ℕ) (fits asks : A → Type 0) (find : List ℕ → Option (A × List ℕ)) → LeafLaws spell fits find → Lawful (leaf spell fits asks find)
-leaf_lawful spell fits asks find laws = record {
+pub leaf_lawful : {A : Type 0} (spell : A → List ℕ) (fits asks : A → Type 0) (find : List ℕ → Option (A × List ℕ)) → LeafLaws spell fits find → ((x : A) → fits x → asks x) → Lawful (leaf spell fits asks find)
+leaf_lawful spell fits asks find laws writable = record {
   takes = λ bytes x rest is e. let t = laws.takes bytes x rest is (found_ok (length bytes) (find bytes) (x, rest) e) in record { fits = t.0; parts = t.1 };
   again = λ x rest fit. rw (laws.again x rest fit) refl;
   adds = λ front x. refl;
@@ -47,6 +47,7 @@ leaf_lawful spell fits asks find laws = record {
       ((λ x rest fit p. some_none (find (spell x ++ rest)) (x, rest) (laws.again x rest fit) (ap find (sym p) ∙ f.0)), sym f.1);
   ends = λ bytes left is f. rw (none_found spell fits find laws bytes is f.0, f.1) refl;
   within = λ bytes left is f. omega (arith, f.1);
+  writable = writable;
 }
 
 pub nothing_lawful : Lawful nothing
@@ -57,6 +58,7 @@ nothing_lawful = record {
   faults = λ bytes left is e. absurd cc;
   ends = λ bytes left is f. absurd f;
   within = λ bytes left is f. absurd f;
+  writable = λ x h. tt;
 }
 
 -- ---- fields one after the other
@@ -120,6 +122,7 @@ followed_lawful f g law laws = record {
   faults = followed_faults f g law laws;
   ends = followed_ends f g law laws;
   within = followed_within f g law laws;
+  writable = λ x h. (law.writable x.0 h.0, (laws x.0).writable x.1 h.1);
 }
 
 pub pair_lawful : {A B : Type 0} (f : Format A) (g : Format B) → Lawful f → Lawful g → Lawful (pair f g)
@@ -143,14 +146,16 @@ via_lawful {A = A} {B = B} to from f back forth law = record {
       ];
   ends = λ bytes left is h. rw (law.ends bytes left is h) refl;
   within = law.within;
+  writable = λ y h. law.writable (from y) h;
 }
 
 -- ---- values that stand for one of another type
 
 -- what is true of such a narrowing
-pub record NarrowLaws {A B : Type 0} (to : A → Option B) (from : B → A) (has given : B → Type 0) (given_first : A → Type 0) : Type 0 where
+pub record NarrowLaws {A B : Type 0} (to : A → Option B) (from : B → A) (has asks : B → Type 0) (given_first : A → Type 0) : Type 0 where
   pub is : (x : A) (y : B) → given_first x → to x ≡ Some y → (from y ≡ x) × has y
   pub again : (y : B) → given_first (from y) → has y → to (from y) ≡ Some y
+  pub writable : (y : B) → given_first (from y) → has y → asks y
 
 narrowed_takes : {A B : Type 0} (to : A → Option B) (from : B → A) (has asks : B → Type 0) (f : Format A) → NarrowLaws to from has asks f.fits → Lawful f
     → (bytes : List ℕ) (y : B) (rest : List ℕ) → IsBytes bytes → (narrowed to from has asks f).read bytes ≡ Ok (y, rest) → Begins (narrowed to from has asks f) bytes y rest
@@ -194,6 +199,7 @@ narrowed_lawful to from has asks f laws law = record {
   faults = narrowed_faults to from has asks f law;
   ends = narrowed_ends to from has asks f law;
   within = narrowed_within to from has asks f law;
+  writable = λ y h. (law.writable (from y) h.0, laws.writable y h.0 h.1);
 }
 
 -- ---- a field with a test
@@ -206,6 +212,7 @@ kept_laws : {A : Type 0} (test : A → Bool) (fits : A → Type 0) → NarrowLaw
 kept_laws test fits = record {
   is = λ x y fit e. let k = kept_some (test x) x y e in (k.0, ap test k.0 ∙ k.1);
   again = λ y fit has. rw has refl;
+  writable = λ y fit has. has;
 }
 
 pub where_is_lawful : {A : Type 0} (test : A → Bool) (f : Format A) → Lawful f → Lawful (where_is test f)

@@ -3,7 +3,7 @@ use Rattle.std.proofs.Common.{◌≡◌, ◌≤◌, ◌<◌, ℕ, suc, Bool, tru
 use Rattle.std.specs.Prelude.{◌==◌}
 use Rattle.std.proofs.lemmas.Bool.{eq-eqb, ne_eqb, eqb-true, eqb-false}
 use Rattle.std.proofs.lemmas.List.{append-nil}
-use Rattle.field_codec.specs.Format.{Format, Begins, ◌>>=◌, nothing, by_kind, HasKind, either, no_kind, option_of, option_parts, optional}
+use Rattle.field_codec.specs.Format.{OfKind, Format, Begins, ◌>>=◌, nothing, by_kind, HasKind, either, no_kind, option_of, option_parts, optional}
 use Rattle.field_codec.specs.Laws.{IsBytes, Lawful}
 use Rattle.field_codec.proofs.Lawful.{bind_ok, bind_err, ok_is}
 use Rattle.field_codec.proofs.Combined.{via_lawful, nothing_lawful}
@@ -25,6 +25,7 @@ no_kind_lawful = record {
   faults = λ bytes left is e. let same : length bytes ≡ left = cc in sym same;
   ends = λ bytes left is f. rw f refl;
   within = λ bytes left is f. omega (arith, f);
+  writable = λ x fits. absurd fits;
 }
 
 pub no_kinds : {A : Type 0} (low : ℕ) → Kinds low (no_kind {A = A})
@@ -127,6 +128,10 @@ either_from : {A B : Type 0} (kind low : ℕ) (f : Format A) (g : Format B) → 
 either_from kind low f g lt from (inl x) fits = (kind, f.spell x, refl, omega arith)
 either_from kind low f g lt from (inr y) fits = let o = from y fits in (o.0, o.1, o.2, omega (arith, o.3))
 
+either_writable : {A B : Type 0} (f : Format A) (g : Format B) → Lawful f → Lawful g → (x : A ⊎ B) → OfKind f.fits g.fits x → OfKind f.asks g.asks x
+either_writable f g law other (inl x) h = law.writable x h
+either_writable f g law other (inr y) h = other.writable y h
+
 -- one kind in front of later ones
 pub one_kind : {A B : Type 0} (kind low : ℕ) (f : Format A) (g : Format B) → kind < low → Lawful f → Kinds low g → Kinds kind (either kind f g)
 one_kind kind low f g lt law other = record {
@@ -137,6 +142,7 @@ one_kind kind low f g lt law other = record {
     faults = either_faults kind f g law other.lawful;
     ends = either_ends kind f g law other.lawful;
     within = either_within kind f g law other.lawful;
+    writable = either_writable f g law other.lawful;
   };
   from = either_from kind low f g lt other.from;
 }

@@ -9,7 +9,7 @@ use Rattle.field_codec.specs.Leaves.{number_at, u32_of, u8_format, u32_format, m
 use Rattle.field_codec.specs.Laws.{IsBytes, Lawful}
 use Rattle.field_codec.proofs.Combined.{leaf_lawful, NarrowLaws, narrowed_lawful, followed_lawful}
 use Rattle.field_codec.proofs.Many.{items_lawful}
-use Rattle.field_codec.proofs.Numbers.{wide32, cond_some, number_takes, number_again, u8_lawful, u32_lawful}
+use Rattle.field_codec.proofs.Numbers.{wide32, cond_some, number_takes, number_again, u32_below, u8_lawful, u32_lawful}
 
 some_is : {A : Type 0} (x y : A) (o : Option A) → o ≡ Some x → o ≡ Some y → x ≡ y
 some_is x y o a b = let e = sym a ∙ b in cc
@@ -36,7 +36,7 @@ pub bool_lawful : Lawful bool_format
 unfolding bool_format
 bool_lawful =
     narrowed_lawful mark_of mark_number (λ b. Unit {0}) (λ b. Unit {0}) u8_format
-    (record { is = λ n b fits e. (mark_is n b e, tt); again = λ b fits has. mark_again b }) u8_lawful
+    (record { is = λ n b fits e. (mark_is n b e, tt); again = λ b fits has. mark_again b; writable = λ b fits has. tt }) u8_lawful
 
 -- ---- one of some values
 
@@ -51,7 +51,7 @@ numbered_is number_of (y ∷ ys) n x e =
 pub one_of_lawful : {A : Type 0} (number_of : A → ℕ) (values : List A) → ((x : A) → numbered number_of values (number_of x) ≡ Some x) → Lawful (one_of number_of values)
 one_of_lawful number_of values all =
     narrowed_lawful (numbered number_of values) number_of (λ x. Unit {0}) (λ x. Unit {0}) u8_format
-    (record { is = λ n x fits e. (numbered_is number_of values n x e, tt); again = λ x fits has. all x }) u8_lawful
+    (record { is = λ n x fits e. (numbered_is number_of values n x e, tt); again = λ x fits has. all x; writable = λ x fits has. tt }) u8_lawful
 
 -- ---- texts
 
@@ -92,7 +92,7 @@ text_again text rest short =
 
 pub text_lawful : Lawful text_format
 unfolding text_format
-text_lawful = leaf_lawful text_spelling IsShort IsShort (λ bytes. text_at (number_at 4 u32_of bytes)) (record { takes = text_takes; again = text_again })
+text_lawful = leaf_lawful text_spelling IsShort IsShort (λ bytes. text_at (number_at 4 u32_of bytes)) (record { takes = text_takes; again = text_again }) (λ text short. short)
 
 -- ---- lists
 
@@ -103,6 +103,7 @@ listed_laws {A = A} f = record {
       let same : x.1 ≡ xs = some_is x.1 xs (Some x.1) refl e in
       (ap₂ (λ (n : ℕ) (ys : List A). (n, ys)) (ap length (sym same) ∙ fits.1.0) (sym same), tt);
   again = λ xs fits has. refl;
+  writable = λ xs fits has. u32_below (length xs) fits.0;
 }
 
 pub listed_lawful : {A : Type 0} (f : Format A) → Lawful f → Lawful (listed f)

@@ -80,6 +80,10 @@ items_within f law count bytes left is h =
     let rest_is = IsBytes-behind bytes (flat_map f.spell h.items) h.rest is h.parts in
     omega (arith, law.within h.rest left rest_is h.fault, ap length h.parts, length-append (flat_map f.spell h.items) h.rest)
 
+all_writable : {A : Type 0} (f : Format A) → Lawful f → (xs : List A) → AllByRecursion f.fits xs → AllByRecursion f.asks xs
+all_writable f law [] h = tt
+all_writable f law (x ∷ xs) h = (law.writable x h.0, all_writable f law xs h.1)
+
 pub items_lawful : {A : Type 0} (f : Format A) (count : ℕ) → Lawful f → Lawful (items f count)
 items_lawful f count law = record {
   takes = items_takes f law count;
@@ -88,4 +92,5 @@ items_lawful f count law = record {
   faults = items_faults f law count;
   ends = items_ends f law count;
   within = items_within f law count;
+  writable = λ xs h. all_writable f law xs h.1;
 }

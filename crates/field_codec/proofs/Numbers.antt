@@ -107,7 +107,7 @@ number_again size limit bytes_of number_of wide n rest lt =
 pub number_lawful : (size limit : ℕ) (bytes_of : ℕ → List ℕ) (number_of : List ℕ → ℕ) → IsWide size limit bytes_of number_of → Lawful (number size limit bytes_of number_of)
 number_lawful size limit bytes_of number_of wide =
     leaf_lawful bytes_of (λ n. n < limit) (λ n. Unit {0}) (number_at size number_of)
-    (record { takes = number_takes size limit bytes_of number_of wide; again = number_again size limit bytes_of number_of wide })
+    (record { takes = number_takes size limit bytes_of number_of wide; again = number_again size limit bytes_of number_of wide }) (λ n lt. tt)
 
 pub u8_lawful : Lawful u8_format
 unfolding u8_format
@@ -116,6 +116,10 @@ u8_lawful = number_lawful 1 (2 ^ 8) u8_bytes u8_of wide8
 pub u32_lawful : Lawful u32_format
 unfolding u32_format
 u32_lawful = number_lawful 4 (2 ^ 32) u32_bytes u32_of wide32
+
+pub u32_below : (n : ℕ) → u32_format.fits n → n < 2 ^ 32
+unfolding u32_format
+u32_below n h = h
 
 pub u64_lawful : Lawful u64_format
 unfolding u64_format

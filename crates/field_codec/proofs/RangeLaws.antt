@@ -63,7 +63,7 @@ pub ts_lawful : Lawful ts_format
 unfolding ts_format u128_format
 ts_lawful =
     narrowed_lawful nanos_of (cast_unsigned w128) IsNanos (λ n. Unit {0}) u128_format
-    (record { is = λ bits z lt e. nanos_is bits z lt e; again = λ z lt h. nanos_again z h }) u128_lawful
+    (record { is = λ bits z lt e. nanos_is bits z lt e; again = λ z lt h. nanos_again z h; writable = λ z lt h. tt }) u128_lawful
 
 pub ts_fits : (z : ℤ) → IsNanos z → ts_format.fits z
 unfolding ts_format u128_format
@@ -188,4 +188,4 @@ pub range_lawful : Lawful range_format
 unfolding range_format
 range_lawful =
     narrowed_lawful span_of ends_of IsRange (λ r. Unit {0}) (optional (pair end_format end_format))
-    (record { is = range_is; again = λ r fits h. range_again r h }) (optional_lawful (pair end_format end_format) (pair_lawful end_format end_format end_lawful end_lawful))
+    (record { is = range_is; again = λ r fits h. range_again r h; writable = λ r fits h. tt }) (optional_lawful (pair end_format end_format) (pair_lawful end_format end_format end_lawful end_lawful))

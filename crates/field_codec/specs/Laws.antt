@@ -16,3 +16,5 @@ pub record Lawful {A : Type 0} (f : Format A) : Type 0 where
   pub faults : (bytes : List ℕ) (left : ℕ) → IsBytes bytes → f.read bytes ≡ Err left → f.faulty bytes left
   pub ends : (bytes : List ℕ) (left : ℕ) → IsBytes bytes → f.faulty bytes left → f.read bytes ≡ Err left
   pub within : (bytes : List ℕ) (left : ℕ) → IsBytes bytes → f.faulty bytes left → left ≤ length bytes
+  -- what has a spelling can be written
+  pub writable : (x : A) → f.fits x → f.asks x

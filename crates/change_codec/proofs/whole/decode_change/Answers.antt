@@ -19,3 +19,6 @@ returns-in-Err-Bad-clause-bad c = change_fault c.args.bytes.now c.in-Err-Bad.fie
 
 pub returns-in-Err-Bad-clause-none : goal.returns-in-Err-Bad-clause-none
 returns-in-Err-Bad-clause-none c = fault_refuses change_format change_lawful c.args.bytes.now c.in-Err-Bad.field.left (λ i. omega (arith, c.type_inv.bytes i)) (rw c.in-Err-Bad.field-0-is at c.in-Err-Bad.ensures)
+
+pub returns-in-Ok-clause-writable : goal.returns-in-Ok-clause-writable
+returns-in-Ok-clause-writable c = change_lawful.writable c.in-Ok.change c.in-Ok.ensures.fits

@@ -37,3 +37,7 @@ returns-in-Err-Bad-clause-bad c =
 pub returns-in-Err-Bad-clause-none : goal.returns-in-Err-Bad-clause-none
 returns-in-Err-Bad-clause-none c =
     no_row c.args.bytes.now c.in-Err-Bad.field.left (rw (c.in-Err-Bad.field-0-is, c.new-input.ensures) at c.in-Err-Bad.ensures)
+
+pub returns-in-Ok-clause-writable : goal.returns-in-Ok-clause-writable
+returns-in-Ok-clause-writable c =
+    row_lawful.writable c.in-Ok.row (row_lawful.takes c.args.bytes.now c.in-Ok.row c.read_row.new.input (λ i. omega (arith, c.type_inv.bytes i)) (rw c.new-input.ensures at c.in-Ok.ensures)).fits
