@@ -9,6 +9,8 @@ mod lists;
 mod parts;
 mod rows;
 mod sized;
+#[cfg(test)]
+mod tests;
 mod values;
 mod whole;
 

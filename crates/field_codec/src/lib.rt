@@ -5,6 +5,8 @@
 mod cursor;
 mod fault;
 mod fields;
+#[cfg(test)]
+mod tests;
 mod writing;
 
 pub use crate::cursor::Cursor;
