@@ -1,5 +1,5 @@
 -- The format of changes is lawful.
-use Rattle.std.proofs.Common.{◌≡◌, refl, ap, arith, inl, inr}
+use Rattle.std.proofs.Common.{◌≡◌, refl, arith, inl, inr}
 use Rattle.media_rows.specs.declared.change.Change.{Change}
 use Rattle.media_rows.specs.declared.change.Change.TheVariants as changes
 use Rattle.field_codec.specs.Format.{Format, pair, no_kind}

@@ -1,9 +1,9 @@
 -- What the codec's calls promise, from what reading and writing gave.
-use Rattle.std.proofs.Common.{◌≡◌, ◌≤◌, ◌+◌, ◌-◌, ℕ, List, [], ◌++◌, length, Ok, Err, refl, sym, ap, ◌∙◌, arith}
+use Rattle.std.proofs.Common.{◌≡◌, ◌-◌, ℕ, List, [], ◌++◌, length, Ok, Err, sym, ap, ◌∙◌, arith}
 use Rattle.std.proofs.lemmas.List.{append-nil}
 use Rattle.media_rows.specs.declared.change.Change.{Change}
 use Rattle.media_rows.specs.declared.row.Row.{Row}
-use Rattle.field_codec.specs.Format.{Begins, Spells, WholeFault}
+use Rattle.field_codec.specs.Format.{Spells, WholeFault}
 use Rattle.field_codec.specs.Laws.{IsBytes}
 use Rattle.field_codec.specs.Reading.{Wrote}
 use Rattle.field_codec.proofs.Wholes.{one_front, one_value, one_place, one_whole_place, less_left, fault_within, fault_begins_none, whole_within}

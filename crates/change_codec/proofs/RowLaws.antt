@@ -1,5 +1,5 @@
 -- The format of rows is lawful.
-use Rattle.std.proofs.Common.{◌≡◌, ◌<◌, ◌^◌, ℕ, List, length, Option, Some, None, Bool, true, false, refl, sym, ap, ap₂, ◌∙◌, arith, inl, inr, ◌⊎◌}
+use Rattle.std.proofs.Common.{◌≡◌, ◌<◌, ◌^◌, ℕ, List, length, Some, None, Bool, true, false, refl, ap, ap₂, ◌∙◌, arith, inl, inr, ◌⊎◌}
 use Rattle.std.specs.Prelude.{◌==◌, if◌then◌else◌}
 use Rattle.std.proofs.lemmas.Bool.{eqb-true, eq-eqb}
 use Rattle.media_rows.specs.Formats.{status_number}
@@ -9,15 +9,15 @@ use Rattle.media_rows.specs.declared.request.DeleteStatus.{DeleteStatus}
 use Rattle.media_rows.specs.declared.request.DeleteStatus.TheVariants.{Created, Started, Done}
 use Rattle.media_rows.specs.declared.row.Row.{Row}
 use Rattle.media_rows.specs.declared.row.Row.TheVariants as rows
-use Rattle.field_codec.specs.Format.{Format, nothing, pair, narrowed, either, no_kind, optional}
+use Rattle.field_codec.specs.Format.{Format, nothing, pair, no_kind, optional}
 use Rattle.field_codec.specs.Leaves.{u32_format, u64_format, u128_format, bool_format, text_format, range_format, numbered}
 use Rattle.field_codec.specs.Laws.{Lawful}
 use Rattle.field_codec.proofs.Combined.{NarrowLaws, narrowed_lawful, nothing_lawful, pair_lawful, via_lawful}
-use Rattle.field_codec.proofs.KindLaws.{Kinds, no_kinds, one_kind, optional_lawful}
+use Rattle.field_codec.proofs.KindLaws.{no_kinds, one_kind, optional_lawful}
 use Rattle.field_codec.proofs.LeafLaws.{bool_lawful, text_lawful, one_of_lawful}
 use Rattle.field_codec.proofs.Numbers.{u32_below, u32_lawful, u64_lawful, u128_lawful}
 use Rattle.field_codec.proofs.RangeLaws.{range_lawful}
-use Rattle.change_codec.specs.Values.{kind_format, event_format, tags_format, flow_format, segment_format, hook_format}
+use Rattle.change_codec.specs.Values.{kind_format, event_format, tags_format, flow_format, hook_format}
 use Rattle.change_codec.specs.Rows.{source_row_format, flow_row_format, state_of, state_values, state_format, object_row_format, segment_row_format, all_statuses, status_format, delete_row_format, hook_row_format, event_row_format, measured, sized, RowFields, row_of, row_fields, row_format}
 use Rattle.change_codec.proofs.ValueLaws.{opt_text, opt_u64, kind_lawful, event_lawful, tags_lawful, flow_lawful, segment_lawful, hook_lawful}
 

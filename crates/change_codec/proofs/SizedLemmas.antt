@@ -1,12 +1,11 @@
 -- Fields behind their length, as they are read and written.
-use Rattle.std.proofs.Common.{◌≡◌, ◌≤◌, ◌<◌, ◌+◌, ◌-◌, ◌^◌, ℕ, List, [], ◌∷◌, ◌++◌, length, Bool, true, false, Result, Ok, Err, refl, sym, ap, subst, ◌∙◌, append_assoc, arith, length-append}
+use Rattle.std.proofs.Common.{◌≡◌, ◌<◌, ◌+◌, ◌-◌, ◌^◌, ℕ, List, [], ◌++◌, length, Ok, Err, refl, sym, ap, subst, ◌∙◌, arith, length-append}
 use Rattle.std.proofs.lemmas.Bool.{eq-eqb, ne_eqb}
-use Rattle.disk_trait.specs.Numbers.{u32_bytes}
-use Rattle.field_codec.specs.Format.{Format, pair, Begins}
+use Rattle.field_codec.specs.Format.{Format}
 use Rattle.field_codec.specs.Laws.{IsBytes, Lawful}
 use Rattle.field_codec.specs.Leaves.{u32_format}
 use Rattle.field_codec.specs.Reading.{Wrote}
-use Rattle.change_codec.specs.Rows.{measured, sized}
+use Rattle.change_codec.specs.Rows.{sized}
 
 -- what a value takes of the bytes is its spelling
 taken : {A : Type 0} (f : Format A) → Lawful f → (bytes rest : List ℕ) (x : A) → IsBytes bytes → f.read bytes ≡ Ok (x, rest) → length (f.spell x) + length rest ≡ length bytes

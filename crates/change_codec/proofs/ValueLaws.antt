@@ -1,5 +1,5 @@
 -- The formats of the values that stand in changes and rows are lawful.
-use Rattle.std.proofs.Common.{◌≡◌, ℕ, List, Option, Some, refl, arith, inl, inr, ◌⊎◌}
+use Rattle.std.proofs.Common.{◌≡◌, Some, refl, arith, inl, inr}
 use Rattle.std.specs.Prelude.{bytes_eq}
 use Rattle.media_rows.specs.Formats.{format_number, event_number}
 use Rattle.media_rows.specs.declared.event.EventKind.{EventKind}
@@ -8,7 +8,7 @@ use Rattle.media_rows.specs.declared.flow.FormatKind.{FormatKind}
 use Rattle.media_rows.specs.declared.flow.FormatKind.TheVariants as formats
 use Rattle.media_rows.specs.declared.part.Part.{Part}
 use Rattle.media_rows.specs.declared.part.Part.TheVariants as parts
-use Rattle.field_codec.specs.Format.{Format, pair, either, no_kind, optional}
+use Rattle.field_codec.specs.Format.{Format, no_kind, optional}
 use Rattle.field_codec.specs.Leaves.{u64_format, u128_format, bool_format, ts_format, text_format, range_format, listed, numbered}
 use Rattle.field_codec.specs.Laws.{Lawful}
 use Rattle.field_codec.proofs.Combined.{pair_lawful, followed_lawful, via_lawful, where_is_lawful}

@@ -2,7 +2,7 @@
 use Rattle.std.specs.Prelude.{◌≡◌, ◌+◌, ◌++◌, ℕ, List, length}
 use Rattle.media_rows.specs.declared.change.Change.{Change}
 use Rattle.media_rows.specs.declared.row.Row.{Row}
-use Rattle.field_codec.specs.Format.{Format, Begins, Spells, WholeFault}
+use Rattle.field_codec.specs.Format.{Begins, Spells, WholeFault}
 use Rattle.change_codec.specs.Changes.{change_format}
 use Rattle.change_codec.specs.Rows.{row_format}
 

@@ -1,15 +1,10 @@
 -- The spelling of rows: a kind, the length of the fields in 4 bytes, and the fields. Our own rules.
 use Rattle.std.proofs.Common.{inl, inr}
-use Rattle.std.specs.Prelude.{◌⊎◌, ◌==◌, ◌<◌, ◌^◌, ℕ, Bool, List, length, Option, Some, None, if◌then◌else◌}
+use Rattle.std.specs.Prelude.{◌⊎◌, ◌==◌, ◌<◌, ◌^◌, ℕ, List, length, Option, Some, None, if◌then◌else◌}
 use Rattle.std.specs.Prelude.{[], ◌∷◌}
-use Rattle.time_range.specs.declared.ranges.Span.{Span}
 use Rattle.media_rows.specs.Formats.{status_number}
-use Rattle.media_rows.specs.declared.event.EventKind.{EventKind}
 use Rattle.media_rows.specs.declared.event.EventRow.{EventRow}
-use Rattle.media_rows.specs.declared.flow.FlowBody.{FlowBody}
 use Rattle.media_rows.specs.declared.flow.FlowRow.{FlowRow}
-use Rattle.media_rows.specs.declared.flow.FormatKind.{FormatKind}
-use Rattle.media_rows.specs.declared.flow.Tag.{Tag}
 use Rattle.media_rows.specs.declared.hook.HookRow.{HookRow}
 use Rattle.media_rows.specs.declared.object.ObjectRow.{ObjectRow}
 use Rattle.media_rows.specs.declared.object.ObjectState.{ObjectState}
@@ -23,7 +18,7 @@ use Rattle.media_rows.specs.declared.segment.SegmentRow.{SegmentRow}
 use Rattle.media_rows.specs.declared.source.SourceRow.{SourceRow}
 use Rattle.field_codec.specs.Format.{Format, nothing, pair, via, narrowed, either, no_kind, optional}
 use Rattle.field_codec.specs.Leaves.{u32_format, u64_format, u128_format, bool_format, text_format, range_format, one_of}
-use Rattle.change_codec.specs.Values.{TextOption, kind_format, event_format, tags_format, flow_format, segment_format, hook_format}
+use Rattle.change_codec.specs.Values.{kind_format, event_format, tags_format, flow_format, segment_format, hook_format}
 
 -- ---- the fields of each kind of row
 

@@ -1,8 +1,7 @@
 -- The spelling of the values that stand in changes and rows: formats, events, tags, members, flows, segments,
 -- parts and hooks. A list of fields is their order in the file. Our own rules.
 use Rattle.std.proofs.Common.{inl, inr}
-use Rattle.std.specs.Prelude.{◌⊎◌, ◌==◌, ◌&&◌, ℕ, ℤ, Bool, true, if◌then◌else◌, List, [], ◌∷◌, length, Option, bytes_eq}
-use Rattle.time_range.specs.declared.ranges.Span.{Span}
+use Rattle.std.specs.Prelude.{◌⊎◌, ◌==◌, ◌&&◌, ℕ, Bool, true, if◌then◌else◌, List, [], ◌∷◌, length, Option, bytes_eq}
 use Rattle.media_rows.specs.Formats.{format_number, event_number}
 use Rattle.media_rows.specs.Lists.{text_before}
 use Rattle.media_rows.specs.declared.event.EventKind.{EventKind}

@@ -1,4 +1,5 @@
-//! Changes and rows in bytes.
+//! Changes and rows in bytes: each value has one spelling, and bytes that are none have one place of
+//! their fault. `field.rt` says how a value is read and written; the other files do so for each type.
 #![tactic(auto)]
 
 mod changes;
@@ -19,4 +20,4 @@ pub use crate::laws::{
     rows_are_no_prefixes,
 };
 pub use crate::whole::{decode_change, decode_row, encode_change, encode_row};
-pub use field_codec::{CodecFault, Cursor};
+pub use field_codec::{CodecFault, Fields};

@@ -129,30 +129,15 @@ const ROWS: [(&str, u64); 9] = [
         "07 0000003d 0000000000000002 0000000000000002 04 0000000000000000000000000000000a 01 01 0100000000000000000000000000000000 00 0000000000000002 ff",
         66,
     ),
-    (
-        "08 00000008 0000000000000001 ff",
-        13,
-    ),
+    ("08 00000008 0000000000000001 ff", 13),
 ];
 
 /// Bytes that are no change, with the place of the fault.
 const CHANGE_FAULTS: [(&str, usize); 15] = [
-    (
-        "",
-        0,
-    ),
-    (
-        "0e",
-        0,
-    ),
-    (
-        "0a 00",
-        1,
-    ),
-    (
-        "0a 0000000000000001 00",
-        9,
-    ),
+    ("", 0),
+    ("0e", 0),
+    ("0a 00", 1),
+    ("0a 0000000000000001 00", 9),
     (
         "02 0000000000000001 0000000000000000000000000000000a 01 00000001 61 01 00000001 62 01 00000001 00000000",
         32,
@@ -207,7 +192,10 @@ const ROW_FAULTS: [(&str, usize); 7] = [
     ("08 00000009 0000000000000002", 1),
     ("08 00000007 0000000000000002", 1),
     ("08 00000001 00", 5),
-    ("05 0000002b 0000000000000002 0000000000000000000000000000000a 00 01 04 0000000000000002 0000000000000002", 31),
+    (
+        "05 0000002b 0000000000000002 0000000000000000000000000000000a 00 01 04 0000000000000002 0000000000000002",
+        31,
+    ),
 ];
 
 #[test]
@@ -240,9 +228,17 @@ fn each_row_is_read_and_written(rt: HostRuntime) {
 #[test]
 fn faults_have_these_places(rt: HostRuntime) {
     for (digits, at) in &CHANGE_FAULTS {
-        assert_eq!(rt; change_fault(rt.alloc(), digits), Some(CodecFault::Bad(*at)), "{digits}");
+        assert_eq!(rt;
+            change_fault(rt.alloc(), digits),
+            Some(CodecFault::Bad(*at)),
+            "{digits}"
+        );
     }
     for (digits, at) in &ROW_FAULTS {
-        assert_eq!(rt; row_fault(rt.alloc(), digits), Some(CodecFault::Bad(*at)), "{digits}");
+        assert_eq!(rt;
+            row_fault(rt.alloc(), digits),
+            Some(CodecFault::Bad(*at)),
+            "{digits}"
+        );
     }
 }

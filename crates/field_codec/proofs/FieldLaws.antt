@@ -1,5 +1,5 @@
 -- What a call for the next field answers, from what reading gave.
-use Rattle.std.proofs.Common.{◌≡◌, ◌≤◌, ◌+◌, ◌-◌, ℕ, List, ◌++◌, length, Ok, Err, sym, ap, ◌∙◌, arith}
+use Rattle.std.proofs.Common.{◌≡◌, ◌≤◌, ◌-◌, ℕ, List, ◌++◌, length, Ok, Err, sym, ap, ◌∙◌, arith}
 use Rattle.field_codec.specs.Format.{Format}
 use Rattle.field_codec.specs.Laws.{IsBytes, Lawful}
 use Rattle.field_codec.specs.Answers.{Unread, Takes, IsFaultAt}

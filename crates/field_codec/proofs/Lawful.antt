@@ -1,9 +1,9 @@
 -- Bytes behind a front, and what a step of reading gave.
-use Rattle.std.proofs.Common.{◌≡◌, ◌≤◌, ◌<◌, ◌+◌, ℕ, List, ◌++◌, length, get_or, take, drop, Result, Ok, Err, refl, sym, ap, ◌∙◌, arith, inl, inr, ◌⊎◌}
+use Rattle.std.proofs.Common.{◌≡◌, ◌+◌, ℕ, List, ◌++◌, length, take, drop, Result, Ok, Err, refl, sym, ap, ◌∙◌, arith, inl, inr, ◌⊎◌}
 use Rattle.std.proofs.lemmas.Bool.{cases_lt}
 use Rattle.std.proofs.lemmas.List.{drop_at, length-take, get_or-drop, get_or-take, get_or_past}
 use Rattle.field_codec.specs.Laws.{IsBytes}
-use Rattle.field_codec.specs.Format.{Format, Begins, ◌>>=◌}
+use Rattle.field_codec.specs.Format.{◌>>=◌}
 
 -- ---- bytes
 

@@ -1,5 +1,5 @@
 -- Laws of the whole of some bytes: which value they spell, and where they are faulty.
-use Rattle.std.proofs.Common.{◌≡◌, ◌≤◌, ℕ, List, [], ◌++◌, Result, Ok, Err, length, refl, sym, ap, ◌∙◌, arith, inl, inr, length-append}
+use Rattle.std.proofs.Common.{◌≡◌, ◌≤◌, ℕ, List, [], ◌++◌, Ok, Err, length, refl, sym, ap, ◌∙◌, arith, inl, inr, length-append}
 use Rattle.std.proofs.lemmas.List.{append-nil, nil_from_length}
 use Rattle.field_codec.specs.Format.{Format, Begins, Spells, WholeFault}
 use Rattle.field_codec.specs.Reading.{Fails, ReadsWhole}

@@ -1,5 +1,5 @@
 -- What is true of each format: reading and writing agree with its meaning.
-use Rattle.std.specs.Prelude.{◌≡◌, ◌≤◌, ◌<◌, ℕ, List, ◌++◌, length, get_or, Result, Ok, Err}
+use Rattle.std.specs.Prelude.{◌≡◌, ◌≤◌, ◌<◌, ℕ, List, ◌++◌, length, get_or, Ok, Err}
 use Rattle.field_codec.specs.Format.{Format, Begins}
 
 -- each is a byte

@@ -1,4 +1,3 @@
-use Rattle.std.proofs.Common.{◌∷◌, ◌++◌, []}
 use Rattle.field_codec.specs.Format.{items_at}
 use Rattle.change_codec.proofs.Loops.{goes_on}
 use Rattle.change_codec.proofs.lists.read_items.Goals as goal

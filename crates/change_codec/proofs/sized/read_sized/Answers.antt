@@ -1,4 +1,4 @@
-use Rattle.std.proofs.Common.{rules, arith, sym, ap, ◌∙◌, length}
+use Rattle.std.proofs.Common.{rules, arith, ap, length}
 use Rattle.field_codec.specs.Laws.{IsBytes}
 use Rattle.field_codec.proofs.Wholes.{less_left}
 use Rattle.change_codec.proofs.SizedLemmas.{sized_found, sized_wrong}

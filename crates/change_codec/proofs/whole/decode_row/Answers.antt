@@ -1,5 +1,4 @@
-use Rattle.std.proofs.Common.{◌≡◌, ℕ, length, ◌-◌, ap, ap₂, sym, ◌∙◌, arith}
-use Rattle.field_codec.specs.Laws.{IsBytes}
+use Rattle.std.proofs.Common.{ℕ, length, ◌-◌, ap₂, arith}
 use Rattle.media_rows.specs.declared.row.Row.{Row}
 use Rattle.field_codec.proofs.Wholes.{fault_within, less_left}
 use Rattle.change_codec.specs.Rows.{row_format}

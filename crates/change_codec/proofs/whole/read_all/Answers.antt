@@ -1,6 +1,5 @@
-use Rattle.std.proofs.Common.{arith, length, ap, sym, ◌∙◌}
+use Rattle.std.proofs.Common.{arith, sym, ◌∙◌}
 use Rattle.std.proofs.lemmas.Result.{err_from_is_err_and}
-use Rattle.field_codec.specs.Laws.{IsBytes}
 use Rattle.field_codec.proofs.Wholes.{decoded, left_over, read_fault}
 use Rattle.change_codec.proofs.whole.read_all.Goals as goal
 
