@@ -1,0 +1,81 @@
+-- The spelling of changes: a kind, a moment, and the fields of that kind. Our own rules.
+use Rattle.std.proofs.Common.{inl, inr}
+use Rattle.std.specs.Prelude.{◌⊎◌, ℕ, Bool, List, Option}
+use Rattle.time_range.specs.declared.ranges.Span.{Span}
+use Rattle.media_rows.specs.declared.change.Change.{Change}
+use Rattle.media_rows.specs.declared.change.Change.TheVariants as changes
+use Rattle.media_rows.specs.declared.flow.FlowBody.{FlowBody}
+use Rattle.media_rows.specs.declared.segment.Segment.{Segment}
+use Rattle.media_rows.specs.declared.part.Part.{Part}
+use Rattle.media_rows.specs.declared.hook.Hook.{Hook}
+use Rattle.field_codec.specs.Format.{Format, pair, via, either, no_kind}
+use Rattle.field_codec.specs.Leaves.{u64_format, u128_format, bool_format, text_format, range_format, listed}
+use Rattle.change_codec.specs.Values.{flow_format, segment_format, flow_part_format, source_part_format, hook_format}
+
+-- the moment and the fields of each kind of change, in the order of the kinds: from the seventh on
+abbrev pub LaterFields : Type 0
+LaterFields =
+    (ℕ × (ℕ × List Segment)) ⊎ ((ℕ × (ℕ × Option Span)) ⊎ ((ℕ × (ℕ × (Option Span × Bool))) ⊎ (ℕ ⊎ (ℕ ⊎ ((ℕ × Hook) ⊎ ((ℕ × List ℕ) ⊎ ⊥))))))
+
+-- and all of them
+abbrev pub ChangeFields : Type 0
+ChangeFields =
+    (ℕ × FlowBody) ⊎ ((ℕ × (ℕ × Part)) ⊎ ((ℕ × (ℕ × Part)) ⊎ ((ℕ × ℕ) ⊎ ((ℕ × (ℕ × List (List ℕ))) ⊎ ((ℕ × (List ℕ × (ℕ × ℕ))) ⊎ LaterFields)))))
+
+abbrev pub later_change : LaterFields → Change
+later_change (inl p) = changes.AddSegments p.0 p.1.0 p.1.1
+later_change (inr (inl p)) = changes.CutSegments p.0 p.1.0 p.1.1
+later_change (inr (inr (inl p))) = changes.AskDelete p.0 p.1.0 p.1.1.0 p.1.1.1
+later_change (inr (inr (inr (inl moment)))) = changes.DeleteStep moment
+later_change (inr (inr (inr (inr (inl moment))))) = changes.SweepStep moment
+later_change (inr (inr (inr (inr (inr (inl p)))))) = changes.PutHook p.0 p.1
+later_change (inr (inr (inr (inr (inr (inr (inl p))))))) = changes.DropHook p.0 p.1
+later_change (inr (inr (inr (inr (inr (inr (inr x))))))) = absurd x
+
+abbrev pub change_of : ChangeFields → Change
+change_of (inl p) = changes.PutFlow p.0 p.1
+change_of (inr (inl p)) = changes.SetFlow p.0 p.1.0 p.1.1
+change_of (inr (inr (inl p))) = changes.SetSource p.0 p.1.0 p.1.1
+change_of (inr (inr (inr (inl p)))) = changes.DropFlow p.0 p.1
+change_of (inr (inr (inr (inr (inl p))))) = changes.Allocate p.0 p.1.0 p.1.1
+change_of (inr (inr (inr (inr (inr (inl p)))))) = changes.Store p.0 p.1.0 p.1.1.0 p.1.1.1
+change_of (inr (inr (inr (inr (inr (inr p)))))) = later_change p
+
+abbrev pub change_fields : Change → ChangeFields
+change_fields (changes.PutFlow moment flow) = inl (moment, flow)
+change_fields (changes.SetFlow moment flow part) = inr (inl (moment, (flow, part)))
+change_fields (changes.SetSource moment source part) = inr (inr (inl (moment, (source, part))))
+change_fields (changes.DropFlow moment flow) = inr (inr (inr (inl (moment, flow))))
+change_fields (changes.Allocate moment flow objects) = inr (inr (inr (inr (inl (moment, (flow, objects))))))
+change_fields (changes.Store moment object start size) = inr (inr (inr (inr (inr (inl (moment, (object, (start, size))))))))
+change_fields (changes.AddSegments moment flow segments) = inr (inr (inr (inr (inr (inr (inl (moment, (flow, segments))))))))
+change_fields (changes.CutSegments moment flow range) = inr (inr (inr (inr (inr (inr (inr (inl (moment, (flow, range)))))))))
+change_fields (changes.AskDelete moment flow range delete_flow) = inr (inr (inr (inr (inr (inr (inr (inr (inl (moment, (flow, (range, delete_flow)))))))))))
+change_fields (changes.DeleteStep moment) = inr (inr (inr (inr (inr (inr (inr (inr (inr (inl moment)))))))))
+change_fields (changes.SweepStep moment) = inr (inr (inr (inr (inr (inr (inr (inr (inr (inr (inl moment))))))))))
+change_fields (changes.PutHook moment hook) = inr (inr (inr (inr (inr (inr (inr (inr (inr (inr (inr (inl (moment, hook))))))))))))
+change_fields (changes.DropHook moment url) = inr (inr (inr (inr (inr (inr (inr (inr (inr (inr (inr (inr (inl (moment, url)))))))))))))
+
+-- a moment, and what stands behind it
+abbrev pub at_moment : {A : Type 0} → Format A → Format (ℕ × A)
+at_moment f = pair u64_format f
+
+unfoldable pub later_format : Format LaterFields
+later_format =
+    either 7 (at_moment (pair u128_format (listed segment_format)))
+    (either 8 (at_moment (pair u128_format range_format))
+    (either 9 (at_moment (pair u128_format (pair range_format bool_format)))
+    (either 10 u64_format
+    (either 11 u64_format
+    (either 12 (at_moment hook_format)
+    (either 13 (at_moment text_format) no_kind))))))
+
+unfoldable pub change_format : Format Change
+change_format = via change_of change_fields
+    (either 1 (at_moment flow_format)
+    (either 2 (at_moment (pair u128_format flow_part_format))
+    (either 3 (at_moment (pair u128_format source_part_format))
+    (either 4 (at_moment u128_format)
+    (either 5 (at_moment (pair u128_format (listed text_format)))
+    (either 6 (at_moment (pair text_format (pair u64_format u64_format)))
+    later_format))))))

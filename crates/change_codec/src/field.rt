@@ -1,0 +1,142 @@
+//! One trait for every value that stands in a change or a row, so that options and lists of them are
+//! read and written once.
+ghost use Rattle.std.specs.Prelude.{◌≡◌, OnOk};
+ghost use Rattle.field_codec.specs.Format.{Format, pair, optional};
+ghost use Rattle.field_codec.specs.Leaves.{u64_format, u128_format, bool_format, ts_format, text_format, range_format};
+ghost use Rattle.field_codec.specs.Reading.{Gives, Wrote};
+
+use disk_trait::{Memory, Text};
+use field_codec::{
+    BadField, Cursor, ReadFault, write_bool, write_range, write_text, write_ts, write_u64,
+    write_u128,
+};
+use std::alloc::Global;
+use time_range::{TimeRange, Ts};
+
+/// A value with a format.
+pub(crate) trait Field: Drop + Sized {
+    ghost format: { Format Self };
+
+    /// Reads the value at the front.
+    fn read_from(alloc: Global, input: &mut Cursor) -> Result<Self, ReadFault>
+        ensures { Gives format input.old input.new result };
+
+    /// Writes the value at the end. After an error the text is any.
+    fn write_to(&self, out: &mut Text) -> Result<(), Memory>
+        requires { format.asks self.now }
+        ensures { OnOk result (Wrote format out.old self.now out.new) };
+}
+
+impl Field for u64 {
+    ghost format = { u64_format };
+
+    fn read_from(_alloc: Global, input: &mut Cursor) -> Result<u64, ReadFault> {
+        Ok(input.u64_field()?)
+    }
+
+    fn write_to(&self, out: &mut Text) -> Result<(), Memory> {
+        write_u64(out, *self)
+    }
+}
+
+impl Field for u128 {
+    ghost format = { u128_format };
+
+    fn read_from(_alloc: Global, input: &mut Cursor) -> Result<u128, ReadFault> {
+        Ok(input.u128_field()?)
+    }
+
+    fn write_to(&self, out: &mut Text) -> Result<(), Memory> {
+        write_u128(out, *self)
+    }
+}
+
+impl Field for bool {
+    ghost format = { bool_format };
+
+    fn read_from(_alloc: Global, input: &mut Cursor) -> Result<bool, ReadFault> {
+        Ok(input.bool_field()?)
+    }
+
+    fn write_to(&self, out: &mut Text) -> Result<(), Memory> {
+        write_bool(out, *self)
+    }
+}
+
+impl Field for Ts {
+    ghost format = { ts_format };
+
+    fn read_from(_alloc: Global, input: &mut Cursor) -> Result<Ts, ReadFault> {
+        Ok(input.ts_field()?)
+    }
+
+    fn write_to(&self, out: &mut Text) -> Result<(), Memory> {
+        write_ts(out, *self)
+    }
+}
+
+impl Field for TimeRange {
+    ghost format = { range_format };
+
+    fn read_from(_alloc: Global, input: &mut Cursor) -> Result<TimeRange, ReadFault> {
+        Ok(input.range_field()?)
+    }
+
+    fn write_to(&self, out: &mut Text) -> Result<(), Memory> {
+        write_range(out, self)
+    }
+}
+
+impl Field for Text {
+    ghost format = { text_format };
+
+    fn read_from(alloc: Global, input: &mut Cursor) -> Result<Text, ReadFault> {
+        input.text_field(alloc)
+    }
+
+    #[tactic(auto, unfolding(field_codec::specs::Leaves::text_format))]
+    fn write_to(&self, out: &mut Text) -> Result<(), Memory> {
+        write_text(out, self)
+    }
+}
+
+impl<A: Field, B: Field> Field for (A, B) {
+    ghost format = { pair A.format B.format };
+
+    fn read_from(alloc: Global, input: &mut Cursor) -> Result<(A, B), ReadFault> {
+        let first = A::read_from(alloc, input)?;
+        let second = B::read_from(alloc, input)?;
+        Ok((first, second))
+    }
+
+    fn write_to(&self, out: &mut Text) -> Result<(), Memory> {
+        let (first, second) = self;
+        first.write_to(out)?;
+        second.write_to(out)?;
+        Ok(())
+    }
+}
+
+impl<T: Field> Field for Option<T> {
+    ghost format = { optional T.format };
+
+    fn read_from(alloc: Global, input: &mut Cursor) -> Result<Option<T>, ReadFault> {
+        let left = input.left();
+        match input.first() {
+            Some(0) => Ok(None),
+            Some(1) => Ok(Some(T::read_from(alloc, input)?)),
+            _ => Err(BadField { left })?,
+        }
+    }
+
+    fn write_to(&self, out: &mut Text) -> Result<(), Memory> {
+        match self {
+            None => out.push(0)?,
+            Some(value) => {
+                out.push(1)?;
+                value.write_to(out)?;
+            }
+        }
+        Ok(())
+    }
+}

@@ -1,0 +1,76 @@
+//! The fields of a flow.
+ghost use Rattle.std.specs.Prelude.{◌≡◌, OnOk};
+ghost use Rattle.field_codec.specs.Reading.{Gives, Wrote};
+ghost use Rattle.change_codec.specs.Values.{flow_head_format, flow_texts_format, flow_rest_format, flow_format};
+
+use crate::field::Field;
+use crate::values::{read_tags, write_tags};
+use disk_trait::{Memory, Text};
+use field_codec::{Cursor, ReadFault};
+use media_rows::{FlowBody, FormatKind, MemberList, TagList};
+use std::alloc::Global;
+
+type Head = (u128, (u128, (FormatKind, bool)));
+
+type Texts = (Option<Text>, (Option<Text>, (Option<Text>, Option<Text>)));
+
+impl Field for FlowBody {
+    ghost format = { flow_format };
+
+    #[tactic(auto, unfolding(crate::specs::Values::flow_format, crate::specs::Values::flow_head_format, crate::specs::Values::flow_texts_format))]
+    fn read_from(alloc: Global, input: &mut Cursor) -> Result<FlowBody, ReadFault> {
+        let (id, (source, (format, read_only))) = Head::read_from(alloc, input)?;
+        let (codec, (container, (label, description))) = Texts::read_from(alloc, input)?;
+        let (max_bit_rate, (avg_bit_rate, (tags, (members, essence)))) = read_rest(alloc, input)?;
+        Ok(FlowBody {
+            id,
+            source,
+            format,
+            read_only,
+            codec,
+            container,
+            label,
+            description,
+            max_bit_rate,
+            avg_bit_rate,
+            tags,
+            members,
+            essence,
+        })
+    }
+
+    #[tactic(auto, unfolding(crate::specs::Values::flow_format, crate::specs::Values::flow_head_format, crate::specs::Values::flow_texts_format, crate::specs::Values::flow_rest_format))]
+    fn write_to(&self, out: &mut Text) -> Result<(), Memory> {
+        self.id.write_to(out)?;
+        self.source.write_to(out)?;
+        self.format.write_to(out)?;
+        self.read_only.write_to(out)?;
+        self.codec.write_to(out)?;
+        self.container.write_to(out)?;
+        self.label.write_to(out)?;
+        self.description.write_to(out)?;
+        self.max_bit_rate.write_to(out)?;
+        self.avg_bit_rate.write_to(out)?;
+        write_tags(&self.tags, out)?;
+        self.members.write_to(out)?;
+        self.essence.write_to(out)?;
+        Ok(())
+    }
+}
+
+type Rest = (
+    Option<u64>,
+    (Option<u64>, (TagList, (MemberList, Option<Text>))),
+);
+
+#[tactic(auto, unfolding(crate::specs::Values::flow_rest_format))]
+fn read_rest(alloc: Global, input: &mut Cursor) -> Result<Rest, ReadFault>
+    ensures { Gives flow_rest_format input.old input.new result }
+{
+    let max_bit_rate = Field::read_from(alloc, input)?;
+    let avg_bit_rate = Field::read_from(alloc, input)?;
+    let tags = read_tags(alloc, input)?;
+    let members = Field::read_from(alloc, input)?;
+    let essence = Field::read_from(alloc, input)?;
+    Ok((max_bit_rate, (avg_bit_rate, (tags, (members, essence)))))
+}

@@ -1,0 +1,32 @@
+//! Laws of the spellings, which hold of all bytes.
+ghost use Rattle.std.specs.Prelude.{◌≡◌, ◌++◌, [], List, ℕ};
+ghost use Rattle.field_codec.specs.Format.{Spells};
+ghost use Rattle.field_codec.specs.Laws.{IsBytes};
+ghost use Rattle.change_codec.specs.Codec.{SpellsChange, ChangeFaultAt, RowFaultAt};
+ghost use Rattle.change_codec.specs.Rows.{row_format};
+ghost use Rattle.media_rows.specs.declared.change.Change.{Change};
+ghost use Rattle.media_rows.specs.declared.row.Row.{Row};
+
+/// Bytes are the spelling of one change at most.
+pub fn changes_have_one_spelling()
+    ensures { (bytes : List ℕ) (a b : Change) →
+        SpellsChange bytes a → SpellsChange bytes b → a ≡ b }
+{}
+
+/// No spelling of a row is a proper prefix of another's.
+pub fn rows_are_no_prefixes()
+    ensures { (text more : List ℕ) (a b : Row) →
+        Spells row_format text a → Spells row_format (text ++ more) b → more ≡ [] }
+{}
+
+/// The fault of some bytes as a change has one place.
+pub fn change_faults_have_one_place()
+    ensures { (bytes : List ℕ) (at other : ℕ) →
+        IsBytes bytes → ChangeFaultAt bytes at → ChangeFaultAt bytes other → at ≡ other }
+{}
+
+/// The fault of some bytes as a row has one place.
+pub fn row_faults_have_one_place()
+    ensures { (bytes : List ℕ) (at other : ℕ) →
+        IsBytes bytes → RowFaultAt bytes at → RowFaultAt bytes other → at ≡ other }
+{}

@@ -1,0 +1,23 @@
+//! Changes and rows in bytes: each value has one spelling, and bytes that are none have one place of
+//! their fault. `field.rt` says how a value is read and written; the other files do so for each type.
+#![tactic(auto)]
+
+mod changes;
+mod field;
+mod flows;
+mod laws;
+mod lists;
+mod parts;
+mod rows;
+mod sized;
+#[cfg(test)]
+mod tests;
+mod values;
+mod whole;
+
+pub use crate::laws::{
+    change_faults_have_one_place, changes_have_one_spelling, row_faults_have_one_place,
+    rows_are_no_prefixes,
+};
+pub use crate::whole::{decode_change, decode_row, encode_change, encode_row};
+pub use field_codec::{CodecFault, Fields};

@@ -1,0 +1,242 @@
+//! The fields of each kind of row.
+ghost use Rattle.std.specs.Prelude.{◌≡◌, OnOk};
+ghost use Rattle.field_codec.specs.Reading.{Gives, Wrote};
+ghost use Rattle.change_codec.specs.Rows.{source_row_format, flow_row_format, state_format, object_row_format, segment_row_format, status_format, delete_row_format, hook_row_format, event_row_format};
+
+use crate::field::Field;
+use crate::values::{read_tags, write_tags};
+use disk_trait::{Memory, Text};
+use field_codec::{BadField, Cursor, ReadFault, write_u8};
+use media_rows::{
+    DeleteRow, DeleteStatus, EventRow, FlowRow, HookRow, ObjectRow, ObjectState, SegmentRow,
+    SourceRow,
+};
+use std::alloc::Global;
+
+impl Field for SourceRow {
+    ghost format = { source_row_format };
+
+    #[tactic(auto, unfolding(crate::specs::Rows::source_row_format))]
+    fn read_from(alloc: Global, input: &mut Cursor) -> Result<SourceRow, ReadFault> {
+        Ok(SourceRow {
+            id: Field::read_from(alloc, input)?,
+            format: Field::read_from(alloc, input)?,
+            label: Field::read_from(alloc, input)?,
+            description: Field::read_from(alloc, input)?,
+            tags: read_tags(alloc, input)?,
+            created: Field::read_from(alloc, input)?,
+            updated: Field::read_from(alloc, input)?,
+        })
+    }
+
+    #[tactic(auto, unfolding(crate::specs::Rows::source_row_format))]
+    fn write_to(&self, out: &mut Text) -> Result<(), Memory> {
+        self.id.write_to(out)?;
+        self.format.write_to(out)?;
+        self.label.write_to(out)?;
+        self.description.write_to(out)?;
+        write_tags(&self.tags, out)?;
+        self.created.write_to(out)?;
+        self.updated.write_to(out)?;
+        Ok(())
+    }
+}
+
+impl Field for FlowRow {
+    ghost format = { flow_row_format };
+
+    #[tactic(auto, unfolding(crate::specs::Rows::flow_row_format))]
+    fn read_from(alloc: Global, input: &mut Cursor) -> Result<FlowRow, ReadFault> {
+        Ok(FlowRow {
+            body: Field::read_from(alloc, input)?,
+            created: Field::read_from(alloc, input)?,
+            metadata_updated: Field::read_from(alloc, input)?,
+            segments_updated: Field::read_from(alloc, input)?,
+        })
+    }
+
+    #[tactic(auto, unfolding(crate::specs::Rows::flow_row_format))]
+    fn write_to(&self, out: &mut Text) -> Result<(), Memory> {
+        self.body.write_to(out)?;
+        self.created.write_to(out)?;
+        self.metadata_updated.write_to(out)?;
+        self.segments_updated.write_to(out)?;
+        Ok(())
+    }
+}
+
+impl Field for ObjectState {
+    ghost format = { state_format };
+
+    #[tactic(auto, unfolding(crate::specs::Rows::state_format))]
+    fn read_from(alloc: Global, input: &mut Cursor) -> Result<ObjectState, ReadFault> {
+        let left = input.left();
+        match input.first() {
+            Some(0) => Ok(ObjectState::Allocated),
+            Some(1) => Ok(ObjectState::Stored {
+                start_block: Field::read_from(alloc, input)?,
+                length: Field::read_from(alloc, input)?,
+            }),
+            _ => Err(BadField { left })?,
+        }
+    }
+
+    #[tactic(auto, unfolding(crate::specs::Rows::state_format))]
+    fn write_to(&self, out: &mut Text) -> Result<(), Memory> {
+        match self {
+            ObjectState::Allocated => out.push(0)?,
+            ObjectState::Stored {
+                start_block,
+                length,
+            } => {
+                out.push(1)?;
+                start_block.write_to(out)?;
+                length.write_to(out)?;
+            }
+        }
+        Ok(())
+    }
+}
+
+impl Field for ObjectRow {
+    ghost format = { object_row_format };
+
+    #[tactic(auto, unfolding(crate::specs::Rows::object_row_format))]
+    fn read_from(alloc: Global, input: &mut Cursor) -> Result<ObjectRow, ReadFault> {
+        let (serial, (id, (state, idle_since))) = Field::read_from(alloc, input)?;
+        Ok(ObjectRow {
+            id,
+            serial,
+            state,
+            idle_since,
+        })
+    }
+
+    #[tactic(auto, unfolding(crate::specs::Rows::object_row_format))]
+    fn write_to(&self, out: &mut Text) -> Result<(), Memory> {
+        self.serial.write_to(out)?;
+        self.id.write_to(out)?;
+        self.state.write_to(out)?;
+        self.idle_since.write_to(out)?;
+        Ok(())
+    }
+}
+
+impl Field for SegmentRow {
+    ghost format = { segment_row_format };
+
+    #[tactic(auto, unfolding(crate::specs::Rows::segment_row_format))]
+    fn read_from(alloc: Global, input: &mut Cursor) -> Result<SegmentRow, ReadFault> {
+        Ok(SegmentRow {
+            flow: Field::read_from(alloc, input)?,
+            serial: Field::read_from(alloc, input)?,
+            segment: Field::read_from(alloc, input)?,
+        })
+    }
+
+    #[tactic(auto, unfolding(crate::specs::Rows::segment_row_format))]
+    fn write_to(&self, out: &mut Text) -> Result<(), Memory> {
+        self.flow.write_to(out)?;
+        self.serial.write_to(out)?;
+        self.segment.write_to(out)?;
+        Ok(())
+    }
+}
+
+impl Field for DeleteStatus {
+    ghost format = { status_format };
+
+    #[tactic(auto, unfolding(crate::specs::Rows::status_format))]
+    fn read_from(_alloc: Global, input: &mut Cursor) -> Result<DeleteStatus, ReadFault> {
+        let left = input.left();
+        match input.u8_field()? {
+            1 => Ok(DeleteStatus::Created),
+            2 => Ok(DeleteStatus::Started),
+            3 => Ok(DeleteStatus::Done),
+            _ => Err(BadField { left })?,
+        }
+    }
+
+    #[tactic(auto, unfolding(crate::specs::Rows::status_format))]
+    fn write_to(&self, out: &mut Text) -> Result<(), Memory> {
+        write_u8(out, self.number())?;
+        Ok(())
+    }
+}
+
+impl Field for DeleteRow {
+    ghost format = { delete_row_format };
+
+    #[tactic(auto, unfolding(crate::specs::Rows::delete_row_format))]
+    fn read_from(alloc: Global, input: &mut Cursor) -> Result<DeleteRow, ReadFault> {
+        Ok(DeleteRow {
+            serial: Field::read_from(alloc, input)?,
+            flow: Field::read_from(alloc, input)?,
+            range: Field::read_from(alloc, input)?,
+            delete_flow: Field::read_from(alloc, input)?,
+            status: Field::read_from(alloc, input)?,
+            created: Field::read_from(alloc, input)?,
+            updated: Field::read_from(alloc, input)?,
+        })
+    }
+
+    #[tactic(auto, unfolding(crate::specs::Rows::delete_row_format))]
+    fn write_to(&self, out: &mut Text) -> Result<(), Memory> {
+        self.serial.write_to(out)?;
+        self.flow.write_to(out)?;
+        self.range.write_to(out)?;
+        self.delete_flow.write_to(out)?;
+        self.status.write_to(out)?;
+        self.created.write_to(out)?;
+        self.updated.write_to(out)?;
+        Ok(())
+    }
+}
+
+impl Field for HookRow {
+    ghost format = { hook_row_format };
+
+    #[tactic(auto, unfolding(crate::specs::Rows::hook_row_format))]
+    fn read_from(alloc: Global, input: &mut Cursor) -> Result<HookRow, ReadFault> {
+        Ok(HookRow {
+            serial: Field::read_from(alloc, input)?,
+            hook: Field::read_from(alloc, input)?,
+            failed: Field::read_from(alloc, input)?,
+        })
+    }
+
+    #[tactic(auto, unfolding(crate::specs::Rows::hook_row_format))]
+    fn write_to(&self, out: &mut Text) -> Result<(), Memory> {
+        self.serial.write_to(out)?;
+        self.hook.write_to(out)?;
+        self.failed.write_to(out)?;
+        Ok(())
+    }
+}
+
+impl Field for EventRow {
+    ghost format = { event_row_format };
+
+    #[tactic(auto, unfolding(crate::specs::Rows::event_row_format))]
+    fn read_from(alloc: Global, input: &mut Cursor) -> Result<EventRow, ReadFault> {
+        Ok(EventRow {
+            serial: Field::read_from(alloc, input)?,
+            hook: Field::read_from(alloc, input)?,
+            kind: Field::read_from(alloc, input)?,
+            subject: Field::read_from(alloc, input)?,
+            range: Field::read_from(alloc, input)?,
+            moment: Field::read_from(alloc, input)?,
+        })
+    }
+
+    #[tactic(auto, unfolding(crate::specs::Rows::event_row_format))]
+    fn write_to(&self, out: &mut Text) -> Result<(), Memory> {
+        self.serial.write_to(out)?;
+        self.hook.write_to(out)?;
+        self.kind.write_to(out)?;
+        self.subject.write_to(out)?;
+        self.range.write_to(out)?;
+        self.moment.write_to(out)?;
+        Ok(())
+    }
+}

@@ -1,0 +1,80 @@
+//! Rows: a kind, the length of the fields in 4 bytes, and the fields.
+ghost use Rattle.std.specs.Prelude.{◌≡◌, ◌<◌, ◌^◌, ◌∷◌, ◌++◌, [], length, OnOk};
+ghost use Rattle.field_codec.specs.Laws.{Lawful};
+ghost use Rattle.field_codec.specs.Reading.{Gives, Wrote};
+ghost use Rattle.change_codec.specs.Rows.{sized, row_format};
+
+use crate::field::Field;
+use disk_trait::{Memory, Text};
+use field_codec::{BadField, Cursor, ReadFault, write_u32};
+use media_rows::Row;
+use std::alloc::Global;
+
+#[tactic(auto, unfolding(crate::specs::Rows::row_format))]
+pub(crate) fn read_row(alloc: Global, input: &mut Cursor) -> Result<Row, ReadFault>
+    ensures { Gives row_format input.old input.new result }
+{
+    let left = input.left();
+    match input.first() {
+        Some(1) => Ok(Row::Source(read_sized(alloc, input)?)),
+        Some(2) => Ok(Row::Flow(read_sized(alloc, input)?)),
+        Some(3) => Ok(Row::Object(read_sized(alloc, input)?)),
+        Some(4) => Ok(Row::Segment(read_sized(alloc, input)?)),
+        Some(5) => Ok(Row::Request(read_sized(alloc, input)?)),
+        Some(6) => Ok(Row::Hook(read_sized(alloc, input)?)),
+        Some(7) => Ok(Row::Event(read_sized(alloc, input)?)),
+        Some(8) => Ok(Row::Numbers {
+            next_serial: read_sized(alloc, input)?,
+        }),
+        _ => Err(BadField { left })?,
+    }
+}
+
+#[tactic(auto, unfolding(crate::specs::Rows::row_format))]
+pub(crate) fn write_row(alloc: Global, row: &Row, out: &mut Text) -> Result<(), Memory>
+    requires { row_format.asks row.now }
+    ensures { OnOk result (Wrote row_format out.old row.now out.new) }
+{
+    match row {
+        Row::Source(row) => write_sized(alloc, 1, row, out)?,
+        Row::Flow(row) => write_sized(alloc, 2, row, out)?,
+        Row::Object(row) => write_sized(alloc, 3, row, out)?,
+        Row::Segment(row) => write_sized(alloc, 4, row, out)?,
+        Row::Request(row) => write_sized(alloc, 5, row, out)?,
+        Row::Hook(row) => write_sized(alloc, 6, row, out)?,
+        Row::Event(row) => write_sized(alloc, 7, row, out)?,
+        Row::Numbers { next_serial } => write_sized(alloc, 8, next_serial, out)?,
+    }
+    Ok(())
+}
+
+/// Reads fields behind their length. The fields are read without regard to it, and it is compared
+/// with what they took.
+fn read_sized<T: Field>(alloc: Global, input: &mut Cursor) -> Result<T, ReadFault>
+    requires { Lawful T.format }
+    ensures { Gives (sized T.format) input.old input.new result }
+{
+    let left = input.left();
+    let size = input.u32_field()?;
+    let fields = input.rest();
+    let value = T::read_from(alloc, input)?;
+    if fields.len() - input.left() != size as usize {
+        return Err(ReadFault::Bad(BadField { left }));
+    }
+    Ok(value)
+}
+
+/// Writes a kind, and the fields behind their length.
+fn write_sized<T: Field>(alloc: Global, kind: u8, value: &T, out: &mut Text) -> Result<(), Memory>
+    requires lawful { Lawful T.format }
+    requires asks { (sized T.format).asks value.now }
+    ensures { OnOk result (Wrote (sized T.format) (out.old ++ kind ∷ []) value.now out.new) }
+{
+    let mut fields = Text::new(alloc);
+    value.write_to(&mut fields)?;
+    let bytes = fields.bytes();
+    out.push(kind)?;
+    write_u32(out, bytes.len() as u32)?;
+    out.append(bytes)?;
+    Ok(())
+}

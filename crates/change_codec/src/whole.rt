@@ -1,0 +1,87 @@
+//! Changes and rows in bytes, each with one spelling.
+ghost use Rattle.std.specs.Prelude.{◌≡◌, ℕ, IfOk, OnOk, OnErr};
+ghost use Rattle.field_codec.specs.Laws.{Lawful};
+ghost use Rattle.field_codec.specs.Reading.{ReadsWhole};
+ghost use Rattle.field_codec.specs.Answers.{OnBad};
+ghost use Rattle.change_codec.specs.Codec.{SpellsChange, CanWriteChange, ChangeFaultAt, BeginsWithRow, AppendsRow, CanWriteRow, RowFaultAt};
+ghost use Rattle.media_rows.specs.declared.change.Change.{Change};
+ghost use Rattle.media_rows.specs.declared.row.Row.{Row};
+
+use crate::field::Field;
+use crate::sized::{read_row, write_row};
+use disk_trait::{Memory, Text};
+use field_codec::{BadField, CodecFault, Cursor, ReadFault};
+use media_rows::{Change, Row};
+use std::alloc::Global;
+
+/// The one spelling of a change.
+pub fn encode_change(alloc: Global, change: &Change) -> Result<Text, Memory>
+    requires { CanWriteChange change.now }
+    ensures { IfOk result (λ text. SpellsChange text change.now) }
+{
+    let mut text = Text::new(alloc);
+    change.write_to(&mut text)?;
+    Ok(text)
+}
+
+/// The change that these bytes spell, all of them. `Bad` names the offset at which the first faulty
+/// field begins that holds no other faulty field, or of the first byte behind the last field.
+pub fn decode_change(alloc: Global, bytes: &[u8]) -> Result<Change, CodecFault>
+    ensures ok { IfOk result (SpellsChange bytes.now) }
+    ensures writable { IfOk result CanWriteChange }
+    ensures only { (change : Change) → SpellsChange bytes.now change →
+        IfOk result (λ decoded. decoded ≡ change) }
+    ensures bad { OnBad result (ChangeFaultAt bytes.now) }
+    ensures none { OnBad result (λ at. (change : Change) → SpellsChange bytes.now change → ⊥) }
+{
+    match read_all(alloc, bytes) {
+        Ok(change) => Ok(change),
+        Err(ReadFault::Bad(field)) => Err(CodecFault::Bad(bytes.len() - field.left)),
+        Err(ReadFault::Memory) => Err(CodecFault::Memory),
+    }
+}
+
+/// Reads a value that takes all of the bytes.
+fn read_all<T: Field>(alloc: Global, bytes: &[u8]) -> Result<T, ReadFault>
+    requires { Lawful T.format }
+    ensures { ReadsWhole T.format bytes.now result }
+{
+    let mut input = Cursor::new(bytes);
+    let value = T::read_from(alloc, &mut input)?;
+    let left = input.left();
+    if left != 0 {
+        return Err(ReadFault::Bad(BadField { left }));
+    }
+    Ok(value)
+}
+
+/// Adds the one spelling of a row at the end of `out`. After an error `out` is as it was.
+pub fn encode_row(alloc: Global, row: &Row, out: &mut Text) -> Result<(), Memory>
+    requires { CanWriteRow row.now }
+    ensures ok { OnOk result (AppendsRow out.old row.now out.new) }
+    ensures err { OnErr result (out.new ≡ out.old) }
+{
+    let mut spelling = Text::new(alloc);
+    write_row(alloc, row, &mut spelling)?;
+    out.append(spelling.bytes())?;
+    Ok(())
+}
+
+/// The row whose spelling the bytes begin with, and how many bytes it takes. `Bad` is as for
+/// changes; where all fields of a row are spelled and its length isn't theirs, the offset is 1.
+pub fn decode_row(alloc: Global, bytes: &[u8]) -> Result<(Row, u64), CodecFault>
+    ensures ok { IfOk result (λ found. BeginsWithRow bytes.now found.0 found.1) }
+    ensures writable { IfOk result (λ found. CanWriteRow found.0) }
+    ensures only { (row : Row) (taken : ℕ) → BeginsWithRow bytes.now row taken →
+        IfOk result (λ found. found ≡ (row, taken)) }
+    ensures bad { OnBad result (RowFaultAt bytes.now) }
+    ensures none { OnBad result
+        (λ at. (row : Row) (taken : ℕ) → BeginsWithRow bytes.now row taken → ⊥) }
+{
+    let mut input = Cursor::new(bytes);
+    match read_row(alloc, &mut input) {
+        Ok(row) => Ok((row, (bytes.len() - input.left()) as u64)),
+        Err(ReadFault::Bad(field)) => Err(CodecFault::Bad(bytes.len() - field.left)),
+        Err(ReadFault::Memory) => Err(CodecFault::Memory),
+    }
+}

@@ -1,0 +1,11 @@
+pub mod Lawful
+pub mod Combined
+pub mod KindLaws
+pub mod Many
+pub mod Wholes
+pub mod Numbers
+pub mod LeafLaws
+pub mod RangeLaws
+pub mod WritingLaws
+pub mod ReadingLaws
+pub mod FieldLaws

@@ -1,0 +1,142 @@
+-- The fields of the file: numbers, ids, timestamps, marks, texts, options, lists, ends and ranges. Numbers
+-- stand with the highest byte first. Our own rules.
+use Rattle.std.proofs.Common.{inl, inr}
+use Rattle.std.specs.Prelude.{◌==◌, ◌<◌, ◌+◌, ◌*◌, ◌^◌, ◌&&◌, ℕ, zero, suc, ℤ, neg_ℤ, nat_lt, int_le, Bool, true, false, if◌then◌else◌, List, [], ◌∷◌, ◌++◌, length, take, drop, get_or, Option, Some, None, ◌⊎◌}
+use Rattle.std.specs.Int.{w32, w64, w128, from_be_bytes, cast_signed, cast_unsigned}
+use Rattle.disk_trait.specs.Numbers.{u32_bytes, u64_bytes, u128_bytes}
+use Rattle.time_range.specs.Points.{limit, IsNanos, IsRange}
+use Rattle.time_range.specs.Ends.{low_point, high_point, in_order}
+use Rattle.time_range.specs.Spelling.{low_end, high_end}
+use Rattle.time_range.specs.declared.ranges.Span.{Span}
+use Rattle.time_range.specs.declared.ends.End.{End}
+use Rattle.time_range.specs.declared.ends.End.TheVariants.{Unbounded, Including, Excluding}
+use Rattle.field_codec.specs.Format.{Format, leaf, nothing, followed, pair, via, narrowed, either, no_kind, optional, items}
+
+-- ---- numbers
+
+-- the number of so many bytes at the front
+abbrev pub number_at : ℕ → (List ℕ → ℕ) → List ℕ → Option (ℕ × List ℕ)
+number_at size number_of bytes = if nat_lt (length bytes) size then None else Some (number_of (take size bytes), drop size bytes)
+
+-- numbers below a limit, each in so many bytes
+abbrev pub number : ℕ → ℕ → (ℕ → List ℕ) → (List ℕ → ℕ) → Format ℕ
+number size limit bytes_of number_of = leaf bytes_of (λ n. n < limit) (λ n. Unit {0}) (number_at size number_of)
+
+abbrev pub u8_bytes : ℕ → List ℕ
+u8_bytes n = n ∷ []
+
+abbrev pub u8_of : List ℕ → ℕ
+u8_of bytes = get_or bytes 0 0
+
+unfoldable pub u32_of : List ℕ → ℕ
+u32_of bytes = from_be_bytes w32 bytes
+
+unfoldable pub u64_of : List ℕ → ℕ
+u64_of bytes = from_be_bytes w64 bytes
+
+-- the number whose high half stands first
+unfoldable pub u128_of : List ℕ → ℕ
+u128_of bytes = u64_of (take 8 bytes) * 2 ^ 64 + u64_of (drop 8 bytes)
+
+unfoldable pub u8_format : Format ℕ
+u8_format = number 1 (2 ^ 8) u8_bytes u8_of
+
+unfoldable pub u32_format : Format ℕ
+u32_format = number 4 (2 ^ 32) u32_bytes u32_of
+
+unfoldable pub u64_format : Format ℕ
+u64_format = number 8 (2 ^ 64) u64_bytes u64_of
+
+-- an id, and the bits of a timestamp
+unfoldable pub u128_format : Format ℕ
+u128_format = number 16 (2 ^ 128) u128_bytes u128_of
+
+-- the value with this number, of those in a list
+abbrev pub numbered : {A : Type 0} → (A → ℕ) → List A → ℕ → Option A
+numbered number_of [] n = None
+numbered number_of (x ∷ xs) n = if n == number_of x then Some x else numbered number_of xs n
+
+-- one of some values, as one byte with its number
+abbrev pub one_of : {A : Type 0} → (A → ℕ) → List A → Format A
+one_of number_of values = narrowed (numbered number_of values) number_of (λ x. Unit {0}) (λ x. Unit {0}) u8_format
+
+-- ---- marks and timestamps
+
+abbrev pub mark_of : ℕ → Option Bool
+mark_of zero = Some false
+mark_of (suc zero) = Some true
+mark_of (suc (suc n)) = None
+
+abbrev pub mark_number : Bool → ℕ
+mark_number false = 0
+mark_number true = 1
+
+-- 0 or 1
+unfoldable pub bool_format : Format Bool
+bool_format = narrowed mark_of mark_number (λ b. Unit {0}) (λ b. Unit {0}) u8_format
+
+-- whether this many nanoseconds are a timestamp
+abbrev pub is_nanos : ℤ → Bool
+is_nanos n = int_le (neg_ℤ limit) n && int_le n limit
+
+-- the timestamp with these bits, if there is one
+abbrev pub nanos_of : ℕ → Option ℤ
+nanos_of bits = if is_nanos (cast_signed w128 bits) then Some (cast_signed w128 bits) else None
+
+-- nanoseconds in two's complement
+unfoldable pub ts_format : Format ℤ
+ts_format = narrowed nanos_of (cast_unsigned w128) IsNanos (λ n. Unit {0}) u128_format
+
+-- ---- texts and lists
+
+abbrev pub text_at : Option (ℕ × List ℕ) → Option (List ℕ × List ℕ)
+text_at None = None
+text_at (Some n) = if nat_lt (length n.1) n.0 then None else Some (take n.0 n.1, drop n.0 n.1)
+
+-- the number of its bytes, and these
+abbrev pub text_spelling : List ℕ → List ℕ
+text_spelling text = u32_bytes (length text) ++ text
+
+abbrev pub IsShort : List ℕ → Type 0
+IsShort text = length text < 2 ^ 32
+
+unfoldable pub text_format : Format (List ℕ)
+text_format = leaf text_spelling IsShort IsShort (λ bytes. text_at (number_at 4 u32_of bytes))
+
+abbrev pub HasFew : {A : Type 0} → List A → Type 0
+HasFew xs = length xs < 2 ^ 32
+
+-- the number of its items, and these
+abbrev pub listed : {A : Type 0} → Format A → Format (List A)
+listed f = narrowed (λ x. Some x.1) (λ xs. (length xs, xs)) (λ xs. Unit {0}) HasFew (followed u32_format (items f))
+
+-- ---- ranges
+
+abbrev pub end_of : Unit {0} ⊎ (ℤ ⊎ (ℤ ⊎ ⊥)) → End
+end_of (inl x) = Unbounded
+end_of (inr (inl t)) = Including t
+end_of (inr (inr (inl t))) = Excluding t
+end_of (inr (inr (inr x))) = Unbounded
+
+abbrev pub end_parts : End → Unit {0} ⊎ (ℤ ⊎ (ℤ ⊎ ⊥))
+end_parts Unbounded = inl tt
+end_parts (Including t) = inr (inl t)
+end_parts (Excluding t) = inr (inr (inl t))
+
+-- 0 open, 1 a timestamp that is in the range, 2 one that isn't
+unfoldable pub end_format : Format End
+end_format = via end_of end_parts (either 0 nothing (either 1 ts_format (either 2 ts_format no_kind)))
+
+abbrev pub span_of : Option (End × End) → Option (Option Span)
+span_of None = Some None
+span_of (Some ends) =
+    if in_order (low_point ends.0) (high_point ends.1)
+    then Some (Some (record { low = low_point ends.0; high = high_point ends.1 })) else None
+
+abbrev pub ends_of : Option Span → Option (End × End)
+ends_of None = None
+ends_of (Some s) = Some (low_end s.low, high_end s.high)
+
+-- 0 never, or 1 and two ends that hold a point
+unfoldable pub range_format : Format (Option Span)
+range_format = narrowed span_of ends_of IsRange (λ r. Unit {0}) (optional (pair end_format end_format))

@@ -1,0 +1,5 @@
+pub mod Format
+pub mod Leaves
+pub mod Laws
+pub mod Reading
+pub mod Answers

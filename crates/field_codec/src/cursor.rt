@@ -1,0 +1,180 @@
+//! Reading one field after another from the front of some bytes.
+ghost use Rattle.std.specs.Prelude.{◌≡◌, length, OnErr};
+ghost use Rattle.field_codec.specs.Leaves.{u8_format, u32_format, u64_format, u128_format, bool_format, ts_format, text_format, end_format, range_format};
+ghost use Rattle.field_codec.specs.Reading.{Finds, Gives, TakesFirst};
+
+use crate::fault::{BadField, ReadFault};
+use disk_trait::{Text, numbers};
+use std::alloc::Global;
+use std::marker::Model;
+use time_range::{End, TimeRange, Ts};
+
+/// The bytes that are not read yet. After a fault they are any.
+#[derive(Drop)]
+pub struct Cursor<'a> {
+    rest: &'a [u8],
+}
+
+impl<'a> Model for Cursor<'a> {
+    ghost use Rattle.std.specs.Prelude.{List, ℕ};
+
+    ghost Value = { List ℕ };
+
+    ghost view = { λ c. c.rest.now };
+}
+
+impl<'a> Cursor<'a> {
+    pub fn new(bytes: &'a [u8]) -> Cursor<'a>
+        ensures { result ≡ bytes.now }
+    {
+        Cursor { rest: bytes }
+    }
+
+    /// How many bytes are left.
+    pub fn left(&self) -> usize
+        ensures { result ≡ length self.now }
+    {
+        self.rest.len()
+    }
+
+    /// The bytes that are left.
+    pub fn rest(&self) -> &'a [u8]
+        ensures { result.now ≡ self.now }
+    {
+        self.rest
+    }
+
+    /// The next byte, where there is one.
+    pub fn first(&mut self) -> Option<u8>
+        ensures { TakesFirst self.old self.new result }
+    {
+        match self.rest {
+            [first, rest @ ..] => {
+                self.rest = rest;
+                Some(*first)
+            }
+            [] => None,
+        }
+    }
+
+    #[tactic(auto, unfolding(crate::specs::Leaves::u8_format))]
+    pub fn u8_field(&mut self) -> Result<u8, BadField>
+        ensures { Finds u8_format self.old self.new result }
+    {
+        self.first().ok_or(BadField { left: 0 })
+    }
+
+    #[tactic(auto, using(crate::proofs::ReadingLaws::u32_found), unfolding(crate::specs::Leaves::u32_format))]
+    pub fn u32_field(&mut self) -> Result<u32, BadField>
+        ensures { Finds u32_format self.old self.new result }
+    {
+        if self.rest.len() < 4 {
+            return Err(BadField {
+                left: self.rest.len(),
+            });
+        }
+        let (front, rest) = self.rest.split_at(4);
+        self.rest = rest;
+        Ok(numbers::read_u32(front))
+    }
+
+    #[tactic(auto, using(crate::proofs::ReadingLaws::u64_found), unfolding(crate::specs::Leaves::u64_format))]
+    pub fn u64_field(&mut self) -> Result<u64, BadField>
+        ensures { Finds u64_format self.old self.new result }
+    {
+        if self.rest.len() < 8 {
+            return Err(BadField {
+                left: self.rest.len(),
+            });
+        }
+        let (front, rest) = self.rest.split_at(8);
+        self.rest = rest;
+        Ok(numbers::read_u64(front))
+    }
+
+    #[tactic(auto, using(crate::proofs::ReadingLaws::u128_found), unfolding(crate::specs::Leaves::u128_format))]
+    pub fn u128_field(&mut self) -> Result<u128, BadField>
+        ensures { Finds u128_format self.old self.new result }
+    {
+        if self.rest.len() < 16 {
+            return Err(BadField {
+                left: self.rest.len(),
+            });
+        }
+        let (front, rest) = self.rest.split_at(16);
+        self.rest = rest;
+        Ok(numbers::read_u128(front))
+    }
+
+    #[tactic(auto, unfolding(crate::specs::Leaves::u8_format, crate::specs::Leaves::bool_format))]
+    pub fn bool_field(&mut self) -> Result<bool, BadField>
+        ensures { Finds bool_format self.old self.new result }
+    {
+        let left = self.left();
+        match self.first() {
+            Some(0) => Ok(false),
+            Some(1) => Ok(true),
+            _ => Err(BadField { left }),
+        }
+    }
+
+    #[tactic(auto, unfolding(crate::specs::Leaves::ts_format))]
+    pub fn ts_field(&mut self) -> Result<Ts, BadField>
+        ensures { Finds ts_format self.old self.new result }
+    {
+        let left = self.left();
+        let bits = self.u128_field()?;
+        Ts::from_nanos(bits.cast_signed()).ok_or(BadField { left })
+    }
+
+    #[tactic(auto, using(crate::proofs::ReadingLaws::text_found, crate::proofs::ReadingLaws::text_short), unfolding(crate::specs::Leaves::text_format))]
+    pub fn text_field(&mut self, alloc: Global) -> Result<Text, ReadFault>
+        ensures { Gives text_format self.old self.new result }
+    {
+        let left = self.left();
+        if left < 4 {
+            return Err(ReadFault::Bad(BadField { left }));
+        }
+        let (front, behind) = self.rest.split_at(4);
+        let size = numbers::read_u32(front) as usize;
+        if behind.len() < size {
+            return Err(ReadFault::Bad(BadField { left }));
+        }
+        let (text, rest) = behind.split_at(size);
+        self.rest = rest;
+        Ok(Text::from_bytes(alloc, text)?)
+    }
+
+    #[tactic(auto, unfolding(crate::specs::Leaves::end_format))]
+    pub fn end_field(&mut self) -> Result<End, BadField>
+        ensures { Finds end_format self.old self.new result }
+    {
+        let left = self.left();
+        match self.first() {
+            Some(0) => Ok(End::Unbounded),
+            Some(1) => Ok(End::Including(self.ts_field()?)),
+            Some(2) => Ok(End::Excluding(self.ts_field()?)),
+            _ => Err(BadField { left }),
+        }
+    }
+
+    #[tactic(auto, unfolding(crate::specs::Leaves::range_format))]
+    pub fn range_field(&mut self) -> Result<TimeRange, BadField>
+        ensures { Finds range_format self.old self.new result }
+    {
+        let left = self.left();
+        match self.first() {
+            Some(0) => Ok(TimeRange::never()),
+            Some(1) => {
+                let low = self.end_field()?;
+                let high = self.end_field()?;
+                let range = TimeRange::between(low, high);
+                if range.is_never() {
+                    return Err(BadField { left });
+                }
+                Ok(range)
+            }
+            _ => Err(BadField { left }),
+        }
+    }
+}

@@ -1,0 +1,114 @@
+//! Writing one field at the end of a text. What stands in the text after an error is free.
+ghost use Rattle.std.specs.Prelude.{◌≡◌, OnOk};
+ghost use Rattle.std.specs.Int.{w128, cast_unsigned};
+ghost use Rattle.time_range.specs.Points.{IsRange};
+ghost use Rattle.time_range.specs.Ends.{IsEndWithin};
+ghost use Rattle.field_codec.specs.Leaves.{IsShort, u8_format, u32_format, u64_format, u128_format, bool_format, ts_format, text_format, end_format, range_format};
+ghost use Rattle.field_codec.specs.Reading.{Wrote};
+
+use disk_trait::numbers::{u32_bytes, u64_bytes, u128_bytes};
+use disk_trait::{Memory, Text};
+use time_range::{End, TimeRange, Ts};
+
+#[tactic(auto, unfolding(crate::specs::Leaves::u8_format))]
+pub fn write_u8(out: &mut Text, number: u8) -> Result<(), Memory>
+    ensures { OnOk result (Wrote u8_format out.old number out.new) }
+{
+    out.push(number)
+}
+
+#[tactic(auto, unfolding(crate::specs::Leaves::u32_format))]
+pub fn write_u32(out: &mut Text, number: u32) -> Result<(), Memory>
+    ensures { OnOk result (Wrote u32_format out.old number out.new) }
+{
+    out.append(&u32_bytes(number))
+}
+
+#[tactic(auto, unfolding(crate::specs::Leaves::u64_format))]
+pub fn write_u64(out: &mut Text, number: u64) -> Result<(), Memory>
+    ensures { OnOk result (Wrote u64_format out.old number out.new) }
+{
+    out.append(&u64_bytes(number))
+}
+
+#[tactic(auto, unfolding(crate::specs::Leaves::u128_format))]
+pub fn write_u128(out: &mut Text, number: u128) -> Result<(), Memory>
+    ensures { OnOk result (Wrote u128_format out.old number out.new) }
+{
+    out.append(&u128_bytes(number))
+}
+
+#[tactic(auto, unfolding(crate::specs::Leaves::u8_format, crate::specs::Leaves::bool_format))]
+pub fn write_bool(out: &mut Text, mark: bool) -> Result<(), Memory>
+    ensures { OnOk result (Wrote bool_format out.old mark out.new) }
+{
+    write_u8(out, u8::from(mark))
+}
+
+/// The bits of a timestamp in two's complement.
+fn bits_of(ts: Ts) -> u128
+    ensures { result ≡ cast_unsigned w128 ts }
+{
+    ts.nanos().cast_unsigned()
+}
+
+pub fn write_ts(out: &mut Text, ts: Ts) -> Result<(), Memory>
+    ensures { OnOk result (Wrote ts_format out.old ts out.new) }
+{
+    let _nanos = ts.nanos();
+    write_u128(out, bits_of(ts))?;
+    Ok(())
+}
+
+pub fn write_text(out: &mut Text, text: &Text) -> Result<(), Memory>
+    requires { IsShort text.now }
+    ensures { OnOk result (Wrote text_format out.old text.now out.new) }
+{
+    let bytes = text.bytes();
+    out.append(&u32_bytes(bytes.len() as u32))?;
+    out.append(bytes)?;
+    Ok(())
+}
+
+#[tactic(auto, unfolding(crate::specs::Leaves::end_format))]
+pub fn write_end(out: &mut Text, end: End) -> Result<(), Memory>
+    requires { IsEndWithin end }
+    ensures { OnOk result (Wrote end_format out.old end out.new) }
+{
+    match end {
+        End::Unbounded => out.push(0),
+        End::Including(ts) => {
+            out.push(1)?;
+            write_ts(out, ts)
+        }
+        End::Excluding(ts) => {
+            out.push(2)?;
+            write_ts(out, ts)
+        }
+    }
+}
+
+pub fn write_range(out: &mut Text, range: &TimeRange) -> Result<(), Memory>
+    ensures { OnOk result (Wrote range_format out.old range.now out.new) }
+{
+    let _known = has_points(range);
+    match range.ends() {
+        None => out.push(0)?,
+        Some((low, high)) => {
+            out.push(1)?;
+            write_end(out, low)?;
+            write_end(out, high)?;
+        }
+    }
+    Ok(())
+}
+
+/// What is true of each range, gathered from its calls: its ends are in order and within the limit.
+/// The answer is that it has a point.
+fn has_points(range: &TimeRange) -> bool
+    ensures { IsRange range.now }
+{
+    let _low = range.low();
+    let _high = range.high();
+    !range.is_never()
+}
