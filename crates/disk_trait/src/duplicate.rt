@@ -16,9 +16,24 @@ impl Duplicate for u64 {
     }
 }
 
+impl Duplicate for u128 {
+    fn duplicate(&self, _alloc: Global) -> Result<Self, Memory> {
+        Ok(*self)
+    }
+}
+
 impl Duplicate for Text {
     fn duplicate(&self, alloc: Global) -> Result<Self, Memory> {
         self.copy(alloc)
+    }
+}
+
+impl<T: Duplicate> Duplicate for Option<T> {
+    fn duplicate(&self, alloc: Global) -> Result<Self, Memory> {
+        match self {
+            Some(value) => Ok(Some(value.duplicate(alloc)?)),
+            None => Ok(None),
+        }
     }
 }
 

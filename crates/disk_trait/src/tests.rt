@@ -109,7 +109,7 @@ fn copied<T: Duplicate>(alloc: Global, value: &T) -> Result<T, Memory> {
 }
 
 #[test]
-fn lists_and_texts_keep_what_was_pushed(rt: HostRuntime) -> Result<(), Fail> {
+fn texts_lists_and_options_keep_what_was_pushed(rt: HostRuntime) -> Result<(), Fail> {
     let alloc = rt.alloc();
     let mut text = Text::new(alloc);
     text.push(b'a')?;
@@ -125,6 +125,12 @@ fn lists_and_texts_keep_what_was_pushed(rt: HostRuntime) -> Result<(), Fail> {
     assert!(rt; again.items()[0].same(&text));
     let numbers = copied(alloc, &NumberList::from_slice(alloc, &[3, 1])?)?;
     assert_eq!(rt; numbers.numbers(), [3, 1].as_slice());
+    let mut ids = Listed::new(alloc);
+    ids.push(7_u128)?;
+    match copied(alloc, &Some(ids))? {
+        Some(copy) => assert_eq!(rt; copy.items(), [7].as_slice()),
+        None => assert!(rt; false, "a list was there"),
+    }
     Ok(())
 }
 

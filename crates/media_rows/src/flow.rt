@@ -2,7 +2,6 @@
 ghost use Rattle.std.specs.Prelude.{◌≡◌};
 ghost use Rattle.media_rows.specs.Formats.{format_number};
 
-use crate::copies::duplicate_option;
 use disk_trait::{Duplicate, Listed, Memory, Text, TextList};
 use std::alloc::Global;
 
@@ -93,7 +92,7 @@ impl Duplicate for Member {
     fn duplicate(&self, alloc: Global) -> Result<Self, Memory> {
         Ok(Member {
             flow: self.flow,
-            role: duplicate_option(alloc, &self.role)?,
+            role: self.role.duplicate(alloc)?,
         })
     }
 }
@@ -105,15 +104,15 @@ impl Duplicate for FlowBody {
             source: self.source,
             format: self.format,
             read_only: self.read_only,
-            codec: duplicate_option(alloc, &self.codec)?,
-            container: duplicate_option(alloc, &self.container)?,
-            label: duplicate_option(alloc, &self.label)?,
-            description: duplicate_option(alloc, &self.description)?,
+            codec: self.codec.duplicate(alloc)?,
+            container: self.container.duplicate(alloc)?,
+            label: self.label.duplicate(alloc)?,
+            description: self.description.duplicate(alloc)?,
             max_bit_rate: self.max_bit_rate,
             avg_bit_rate: self.avg_bit_rate,
             tags: self.tags.duplicate(alloc)?,
             members: self.members.duplicate(alloc)?,
-            essence: duplicate_option(alloc, &self.essence)?,
+            essence: self.essence.duplicate(alloc)?,
         })
     }
 }

@@ -1,5 +1,4 @@
 //! Webhooks: addresses to which events go.
-use crate::copies::{duplicate_id_option, duplicate_option};
 use crate::event::EventList;
 use crate::source::IdList;
 use disk_trait::{Duplicate, Listed, Memory, Text};
@@ -32,10 +31,10 @@ impl Duplicate for Hook {
         Ok(Hook {
             url: self.url.duplicate(alloc)?,
             events: self.events.duplicate(alloc)?,
-            key_name: duplicate_option(alloc, &self.key_name)?,
-            key_value: duplicate_option(alloc, &self.key_value)?,
-            flow_ids: duplicate_id_option(alloc, &self.flow_ids)?,
-            source_ids: duplicate_id_option(alloc, &self.source_ids)?,
+            key_name: self.key_name.duplicate(alloc)?,
+            key_value: self.key_value.duplicate(alloc)?,
+            flow_ids: self.flow_ids.duplicate(alloc)?,
+            source_ids: self.source_ids.duplicate(alloc)?,
         })
     }
 }

@@ -4,7 +4,6 @@
 
 mod change;
 mod command;
-mod copies;
 mod essence;
 mod event;
 mod flow;
@@ -28,7 +27,6 @@ pub use crate::change::Change;
 pub use crate::command::{
     Command, FlowFilter, Page, SegmentFilter, SourceFilter, TagTest, TagTests, Want,
 };
-pub use crate::copies::{duplicate_ids, duplicate_option};
 pub use crate::essence::{holds_float, is_essence};
 pub use crate::event::{EventKind, EventList, EventRow, EventRowList, Happened, HappenedList};
 pub use crate::flow::{FlowBody, FlowList, FlowRow, FormatKind, Member, MemberList, Tag, TagList};

@@ -1,5 +1,4 @@
 //! Parts of a flow or a source that are set, shown and cleared one by one.
-use crate::copies::duplicate_option;
 use crate::flow::{MemberList, Tag};
 use disk_trait::{Duplicate, Memory, Text};
 use std::alloc::Global;
@@ -34,12 +33,9 @@ pub enum PartName {
 impl Duplicate for Part {
     fn duplicate(&self, alloc: Global) -> Result<Self, Memory> {
         match self {
-            Part::Tag(name, tag) => Ok(Part::Tag(
-                name.duplicate(alloc)?,
-                duplicate_option(alloc, tag)?,
-            )),
-            Part::Label(text) => Ok(Part::Label(duplicate_option(alloc, text)?)),
-            Part::Description(text) => Ok(Part::Description(duplicate_option(alloc, text)?)),
+            Part::Tag(name, tag) => Ok(Part::Tag(name.duplicate(alloc)?, tag.duplicate(alloc)?)),
+            Part::Label(text) => Ok(Part::Label(text.duplicate(alloc)?)),
+            Part::Description(text) => Ok(Part::Description(text.duplicate(alloc)?)),
             Part::ReadOnly(mark) => Ok(Part::ReadOnly(*mark)),
             Part::Collection(members) => Ok(Part::Collection(members.duplicate(alloc)?)),
             Part::MaxBitRate(rate) => Ok(Part::MaxBitRate(*rate)),

@@ -1,5 +1,4 @@
 //! Sources: what flows were made from.
-use crate::copies::duplicate_option;
 use crate::flow::{FormatKind, TagList};
 use disk_trait::{Duplicate, Listed, Memory, Text};
 use std::alloc::Global;
@@ -26,8 +25,8 @@ impl Duplicate for SourceRow {
         Ok(SourceRow {
             id: self.id,
             format: self.format,
-            label: duplicate_option(alloc, &self.label)?,
-            description: duplicate_option(alloc, &self.description)?,
+            label: self.label.duplicate(alloc)?,
+            description: self.description.duplicate(alloc)?,
             tags: self.tags.duplicate(alloc)?,
             created: self.created,
             updated: self.updated,
