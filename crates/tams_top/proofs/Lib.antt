@@ -12,6 +12,7 @@ mod OpenLemmas
 pub mod RequestLemmas
 mod RightLemmas
 mod RunningLemmas
+mod CompletenessLemmas
 mod ServingLemmas
 mod StoreLemmas
 mod WordLemmas

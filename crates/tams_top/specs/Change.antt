@@ -1,14 +1,38 @@
--- Changes in bytes: the PUT of a video flow, as the journal's records keep it.
-use Rattle.std.specs.Prelude.{◌<◌, ◌^◌, ℕ, List, ◌∷◌, ◌++◌, replicate}
-use Rattle.disk_trait.specs.Numbers.{u64_bytes, u128_bytes}
+-- Changes: the put of a video flow without further members, as a change of the media library and in bytes.
+use Rattle.std.specs.Prelude.{◌<◌, ◌^◌, ℕ, List, [], false, None}
+use Rattle.media_rows.specs.declared.change.Change as media
+use Rattle.media_rows.specs.declared.change.Change.TheVariants.{PutFlow}
+use Rattle.media_rows.specs.declared.flow.FlowBody.{FlowBody}
+use Rattle.media_rows.specs.declared.flow.FormatKind.TheVariants.{Video}
+use Rattle.change_codec.specs.Changes.{change_format}
 use Rattle.site_edge.specs.Clocks.{IsMoment}
 use Rattle.tams_top.specs.declared.change.Change.{Change}
 
--- Kind 1, the moment, the ids of the flow and of its source, the format video, and no other member: not
--- read-only, six optional members that are absent, no tag, no collected flow and no essence text.
+-- the video flow of an id and a source, with no other member
+abbrev pub plain_flow : ℕ → ℕ → FlowBody
+plain_flow flow source = record {
+  id = flow;
+  source = source;
+  format = Video;
+  read_only = false;
+  codec = None;
+  container = None;
+  label = None;
+  description = None;
+  max_bit_rate = None;
+  avg_bit_rate = None;
+  tags = [];
+  members = [];
+  essence = None;
+}
+
+-- the put of it, as a change of the media library
+abbrev pub media_change : Change → media.Change
+media_change c = PutFlow c.moment (plain_flow c.flow c.source)
+
+-- its bytes, as the codec of changes spells them
 unfoldable pub change_text : Change → List ℕ
-change_text c =
-    1 ∷ (u64_bytes c.moment ++ (u128_bytes c.flow ++ (u128_bytes c.source ++ (1 ∷ 0 ∷ replicate 15 0))))
+change_text c = change_format.spell (media_change c)
 
 -- the ids have 128 bits, and the moment is one up to the year 9999
 pub record IsChange (c : Change) : Type 0 where

@@ -12,3 +12,4 @@ pub mod Unread
 pub mod Moments
 pub mod Serving
 pub mod Running
+pub mod Completeness

@@ -1,6 +1,7 @@
 -- What the image of a store stands for.
-use Rattle.std.specs.Prelude.{◌≡◌, ◌-◌, ◌+◌, ◌*◌, ℕ, List, [], ◌∷◌, ◌++◌, Some}
-use Rattle.disk_trait.specs.Numbers.{u32_bytes, u64_bytes}
+use Rattle.std.specs.Prelude.{◌≡◌, ◌-◌, ◌+◌, ◌*◌, ℕ, List, [], ◌∷◌, Some}
+use Rattle.media_rows.specs.declared.row.Row.TheVariants.{Numbers}
+use Rattle.change_codec.specs.Rows.{row_format}
 use Rattle.media_journal.specs.declared.header.Header.{Header}
 use Rattle.media_journal.specs.declared.record.Record.{Record}
 use Rattle.media_journal.specs.File.{Reads, active_start}
@@ -9,9 +10,9 @@ use Rattle.tams_top.specs.declared.library.Library.{Library}
 use Rattle.tams_top.specs.Change.{IsChange, change_text}
 use Rattle.tams_top.specs.Library.{applied, empty_library}
 
--- the rows of the empty library: one row, of kind 8, whose fields are 8 bytes: the next serial, which is 1
+-- the rows of the empty library: one row with the next serial, which is 1
 unfoldable pub empty_rows : List ℕ
-empty_rows = 8 ∷ (u32_bytes 8 ++ u64_bytes 1)
+empty_rows = row_format.spell (Numbers 1)
 
 -- The records' payloads are changes, which take one library to another in order.
 abbrev pub Folds : List Record → Library → Library → Type 0

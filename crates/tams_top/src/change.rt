@@ -1,13 +1,16 @@
 //! A change of the library, and its bytes.
-ghost use Rattle.std.specs.Prelude.{◌≡◌, IfSome, IsNone, length};
-ghost use Rattle.tams_top.specs.Change.{IsChange, change_text};
+ghost use Rattle.std.specs.Prelude.{◌≡◌, ◌↔◌, IfOk, IfSome, IsNone, IsTrue};
+ghost use Rattle.site_edge.specs.Clocks.{IsMoment};
+ghost use Rattle.tams_top.specs.Change.{IsChange, change_text, media_change, plain_flow};
 ghost use Rattle.tams_top.specs.declared.change.Change.{Change};
 
-use disk_trait::numbers::{read_u64, read_u128, u64_bytes, u128_bytes};
-use disk_trait::same_bytes;
+use change_codec::{CodecFault, decode_change, encode_change};
+use disk_trait::{Memory, Text};
+use media_rows::{FlowBody, FormatKind, MemberList, TagList};
 use site_edge::LAST_MOMENT;
+use std::alloc::Global;
 
-/// The PUT of a video flow at a moment.
+/// The put of a video flow at a moment.
 #[derive(Clone, Copy, Debug, PartialEq, Eq)]
 pub struct Change {
     /// Whole seconds since 1970-01-01T00:00:00Z.
@@ -16,54 +19,104 @@ pub struct Change {
     pub source: u128,
 }
 
+/// How many bytes each change has.
+pub(crate) const CHANGE_LEN: u64 = 58;
+
 impl Change {
     /// The change in bytes.
-    pub fn bytes(&self) -> [u8; 58]
-        ensures { result ≡ change_text self.now }
+    #[tactic(auto, using(crate::proofs::ChangeLemmas::can_write, crate::proofs::ChangeLemmas::spelled))]
+    pub fn bytes(&self, alloc: Global) -> Result<Text, Memory>
+        ensures { IfOk result (λ text. text ≡ change_text self.now) }
     {
-        let mut bytes = [0u8; 58];
-        let (kind, rest) = bytes.split_at_mut(1);
-        let (moment, rest) = rest.split_at_mut(8);
-        let (flow, rest) = rest.split_at_mut(16);
-        let (source, members) = rest.split_at_mut(16);
-        kind[0] = 1;
-        moment.copy_from_slice(&u64_bytes(self.moment));
-        flow.copy_from_slice(&u128_bytes(self.flow));
-        source.copy_from_slice(&u128_bytes(self.source));
-        members[0] = 1;
-        bytes
+        encode_change(alloc, &self.as_media(alloc))
+    }
+
+    /// The change as one of the media library.
+    fn as_media(&self, alloc: Global) -> media_rows::Change
+        ensures { result ≡ media_change self.now }
+    {
+        media_rows::Change::PutFlow {
+            moment: self.moment,
+            flow: FlowBody {
+                id: self.flow,
+                source: self.source,
+                format: FormatKind::Video,
+                read_only: false,
+                codec: None,
+                container: None,
+                label: None,
+                description: None,
+                max_bit_rate: None,
+                avg_bit_rate: None,
+                tags: TagList::new(alloc),
+                members: MemberList::new(alloc),
+                essence: None,
+            },
+        }
     }
 }
 
 /// The change that these bytes spell, if there is one.
-pub(crate) fn read_change(bytes: &[u8]) -> Option<Change>
-    ensures found { IfSome result (λ c. IsChange c × (bytes.now ≡ change_text c)) }
-    ensures none { IsNone result → (c : Change) → IsChange c → bytes.now ≡ change_text c → ⊥ }
+#[tactic(auto, using(crate::proofs::ChangeLemmas::spelled))]
+pub(crate) fn read_change(alloc: Global, bytes: &[u8]) -> Result<Option<Change>, Memory>
+    ensures found { IfOk result (λ found. IfSome found
+        (λ c. IsChange c × (bytes.now ≡ change_text c))) }
+    ensures none { IfOk result (λ found. IsNone found
+        → (c : Change) → IsChange c → bytes.now ≡ change_text c → ⊥) }
 {
-    if bytes.len() != 58 {
-        return None;
+    match decode_change(alloc, bytes) {
+        Ok(change) => Ok(plain_put(&change)),
+        Err(CodecFault::Bad(_)) => Ok(None),
+        Err(CodecFault::Memory) => Err(Memory),
     }
-    let change = only_change(bytes);
-    if change.moment > LAST_MOMENT || !same_bytes(&change.bytes(), bytes) {
-        return None;
-    }
-    Some(change)
 }
 
-/// The fields at their places: no other change has these bytes.
-fn only_change(bytes: &[u8]) -> Change
-    requires { length bytes.now ≡ 58 }
-    ensures { (c : Change) → IsChange c → bytes.now ≡ change_text c → result ≡ c }
+/// The change of the media library, if it is the put of a video flow without further members.
+fn plain_put(change: &media_rows::Change) -> Option<Change>
+    ensures found { IfSome result (λ c. IsChange c × (change.now ≡ media_change c)) }
+    ensures none { IsNone result
+        → (c : Change) → IsChange c → change.now ≡ media_change c → ⊥ }
 {
-    let (_, rest) = bytes.split_at(1);
-    let (moment, rest) = rest.split_at(8);
-    let (flow, rest) = rest.split_at(16);
-    let (source, _) = rest.split_at(16);
-    Change {
-        moment: read_u64(moment),
-        flow: read_u128(flow),
-        source: read_u128(source),
+    match change {
+        media_rows::Change::PutFlow { moment, flow } if is_plain(flow) => {
+            put_at(*moment, flow.id, flow.source)
+        }
+        _ => None,
     }
+}
+
+/// The put at this moment, if it is one up to the year 9999.
+fn put_at(moment: u64, flow: u128, source: u128) -> Option<Change>
+    ensures found { IfSome result IsChange }
+    ensures is { IfSome result
+        (λ c. c ≡ record { moment = moment; flow = flow; source = source }) }
+    ensures none { IsNone result → ¬ (IsMoment moment) }
+{
+    if moment > LAST_MOMENT {
+        return None;
+    }
+    Some(Change {
+        moment,
+        flow,
+        source,
+    })
+}
+
+/// Whether this is a video flow without further members.
+fn is_plain(flow: &FlowBody) -> bool
+    ensures { IsTrue result ↔ (flow.now ≡ plain_flow flow.now.id flow.now.source) }
+{
+    flow.format == FormatKind::Video
+        && !flow.read_only
+        && flow.codec.is_none()
+        && flow.container.is_none()
+        && flow.label.is_none()
+        && flow.description.is_none()
+        && flow.max_bit_rate.is_none()
+        && flow.avg_bit_rate.is_none()
+        && flow.tags.items().is_empty()
+        && flow.members.items().is_empty()
+        && flow.essence.is_none()
 }
 
 #[cfg(test)]
@@ -77,17 +130,19 @@ mod tests {
     ];
 
     #[test]
-    fn a_change_is_these_bytes(rt: HostRuntime) {
+    fn a_change_is_these_bytes(rt: HostRuntime) -> Result<(), Memory> {
+        let alloc = rt.alloc();
         let change = Change {
             moment: 0,
             flow: 0x4000_8000_0000_0000_00f1,
             source: 0x4000_8000_0000_0000_00a1,
         };
-        assert_eq!(rt; change.bytes(), VECTOR, "written");
-        assert_eq!(rt; read_change(&VECTOR), Some(change), "read");
-        assert_eq!(rt; read_change(&VECTOR[1..]), None, "a byte less");
+        assert_eq!(rt; change.bytes(alloc)?.bytes(), VECTOR.as_slice(), "written");
+        assert_eq!(rt; read_change(alloc, &VECTOR)?, Some(change), "read");
+        assert_eq!(rt; read_change(alloc, &VECTOR[1..])?, None, "a byte less");
         let mut other = VECTOR;
         other[57] = 1;
-        assert_eq!(rt; read_change(&other), None, "another last byte");
+        assert_eq!(rt; read_change(alloc, &other)?, None, "another last byte");
+        Ok(())
     }
 }

@@ -10,7 +10,7 @@ ghost use Rattle.tams_top.specs.Opening.{StoreAnswer};
 
 use crate::Change;
 use crate::answer::Answer;
-use crate::change::read_change;
+use crate::change::{CHANGE_LEN, read_change};
 use crate::fault::MakeFault;
 use crate::library::{Flow, Library};
 use disk_trait::{Disk, Memory, same_bytes};
@@ -40,15 +40,15 @@ impl Store {
         answer_by(
             self.library.flow(change.flow),
             change.source,
-            self.fits(change),
+            self.has_room(),
         )
     }
 
-    /// Whether the record of a change fits the room.
-    fn fits(&self, change: &Change) -> bool
-        ensures { result ≡ fits (state_of self.now) change.now }
+    /// Whether the record of a change fits the room: all changes have the same length.
+    fn has_room(&self) -> bool
+        ensures { (c : Change) → result ≡ fits (state_of self.now) c }
     {
-        change.bytes().len() as u64 + 6 <= self.journal.room()
+        CHANGE_LEN + 6 <= self.journal.room()
     }
 
     /// Answers a change, which is made where the machine accepts it. After `DiskFault` the store must be
@@ -100,7 +100,7 @@ impl Store {
         let Some(library) = self.library.after(alloc, change)? else {
             unreachable!();
         };
-        let frame = Frame::new(alloc, &change.bytes())?;
+        let frame = Frame::new(alloc, change.bytes(alloc)?.bytes())?;
         match self.journal.append(disk, &frame) {
             Ok(()) => {
                 self.library = library;
@@ -190,7 +190,7 @@ fn store_of(alloc: Global, opened: Opened) -> Result<Store, StoreFault>
     })
 }
 
-/// The rows of the empty library.
+/// The rows of the empty library: one row with the next serial, which is 1.
 pub(crate) fn empty_rows() -> [u8; 13]
     ensures { result ≡ empty_rows }
 {
@@ -214,7 +214,7 @@ fn step(alloc: Global, entry: &Record, library: &Library) -> Result<Library, Sto
     ensures next { IfOk result (StepOf entry.now library.now) }
     ensures refused { IfErr result (λ fault. IsStepRefused entry.now library.now fault) }
 {
-    let Some(change) = read_change(entry.payload.bytes()) else {
+    let Some(change) = read_change(alloc, entry.payload.bytes())? else {
         return Err(StoreFault::Damaged(entry.offset));
     };
     match library.after(alloc, &change)? {

@@ -1,8 +1,9 @@
 //! The top call.
-ghost use Rattle.std.specs.Prelude.{◌≡◌, ◌≤◌, ◌<◌, ◌*◌, ◌⊎◌, [], ℕ, List, Bool, true};
+ghost use Rattle.std.specs.Prelude.{◌≡◌, ◌≢◌, ◌≤◌, ◌<◌, ◌*◌, ◌⊎◌, [], ℕ, List, Bool, true};
 ghost use Rattle.disk_trait.specs.Calls.{Rose};
 ghost use Rattle.disk_trait.specs.Device.{Left};
 ghost use Rattle.media_journal.specs.File.{HasOpenHeader};
+ghost use Rattle.tams_top.specs.Completeness.{IsServedWhole, NoneRose};
 ghost use Rattle.tams_top.specs.Moments.{IsSettled, TellsAll};
 ghost use Rattle.tams_top.specs.Running.{ConnectEnds, FaultCounts, FormatEnds, FormatMoments, IsNoCommand, OutcomeBy, beginning, RefusedFor, ReplayEnds, Replayed, RunEnds, TakesPart, Untouched, formatted_state, line_of, status_of};
 ghost use Rattle.tams_top.specs.Store.{State, StandsFor};
@@ -75,6 +76,15 @@ pub fn run<X: Site, C: Clock, N: Sink>(
         × (result ≡ status_of outcome)
         × Replayed (beginning from (X.device site.old) (C.given clock.old)) (X.device site.new)
         (C.given clock.new) outcome }
+
+    // Where nothing failed over such a file, each request that was heard whole was answered by the
+    // machine, each answer was said whole, and the status is 0, or 6 by the input alone.
+    ensures complete { TellsAll (X.device site.old) (C.tells clock.new) → IsSettled (X.device site.old)
+        → (path base : List ℕ) → IsCommand words.now (Replay path base)
+        → (from : State) → StandsFor (X.device site.old).seen from
+        → NoneRose (X.device site.old) (X.device site.new) → result ≢ 4
+        → IsServedWhole from (X.device site.old) (X.device site.new) (C.given clock.old)
+        (C.given clock.new) result }
 
     // Each run has an outcome with its cause, which gives the status and the line of the notes. A fault
     // of the notes changes no status.

@@ -1,7 +1,11 @@
--- Bytes of another length are no change's.
-use Rattle.std.proofs.Common.{length, ap, arith}
-use Rattle.tams_top.proofs.ChangeLemmas.{length-change_text}
+-- The change that the bytes spell is the decoded one, which is no plain put.
+use Rattle.tams_top.specs.Change.{media_change}
+use Rattle.tams_top.proofs.ChangeLemmas.{spells}
 use Rattle.tams_top.proofs.change.read_change.Goals as goal
 
-pub returns-then-bytes-ne58-clause-none : goal.returns-then-bytes-ne58-clause-none
-returns-then-bytes-ne58-clause-none c = λ _ other is e. omega (arith, ap length e, length-change_text other)
+pub returns-in-Ok-clause-none : goal.returns-in-Ok-clause-none
+returns-in-Ok-clause-none c = λ none other is e.
+    c.plain_put.ensures.none none other is (c.in-Ok.ensures.only (media_change other) (spells _ other is e))
+
+pub returns-in-Err-Bad-clause-none : goal.returns-in-Err-Bad-clause-none
+returns-in-Err-Bad-clause-none c = λ none other is e. (rw c.in-Err-Bad.field-0-is at c.in-Err-Bad.ensures.none) (media_change other) (spells _ other is e)

@@ -1,4 +1,5 @@
 use Rattle.std.proofs.Common.{sym, ◌∙◌}
+use Rattle.tams_top.proofs.CompletenessLemmas.{served_whole}
 use Rattle.tams_top.proofs.EndingLemmas.{run_formatted, run_formatting, run_only, run_refused, run_replayed}
 use Rattle.tams_top.proofs.top.run.Goals as goal
 
@@ -19,3 +20,9 @@ returns-clause-formatting g c = λ path blocks half id is honest shows settled b
 pub returns-clause-replayed : goal.returns-clause-replayed
 returns-clause-replayed g c = λ all settled path base is from stands.
     (c.outcome_of-outcome.result, c.status.ensures, run_replayed _ _ _ _ _ _ _ c.outcome_of-outcome.ensures (g.met.X.Disk.sound c.args.site.now) all settled path base is from stands)
+
+pub returns-clause-complete : goal.returns-clause-complete
+returns-clause-complete g c = λ all settled path base is from stands none fed.
+    rw c.status.ensures
+    (served_whole from _ _ _ _ c.outcome_of-outcome.result c.outcome_of-outcome.ensures.counts none (λ four. fed (c.status.ensures ∙ four))
+    (run_replayed _ _ _ _ _ _ _ c.outcome_of-outcome.ensures (g.met.X.Disk.sound c.args.site.now) all settled path base is from stands))
