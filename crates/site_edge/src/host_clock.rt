@@ -53,7 +53,8 @@ impl<R: MachineClock> Clock for HostClock<R> {
 fn moment_of(reading: io::Result<Duration>, before: u64) -> u64
     requires { IsMoment before }
     ensures moment { IsMoment result }
-    ensures read { IfOk reading (λ time. result ≡ min (as_nanos time / NANOS_PER_SECOND) LAST_MOMENT) }
+    ensures read { IfOk reading
+        (λ time. result ≡ min (as_nanos time / NANOS_PER_SECOND) LAST_MOMENT) }
     ensures failed { OnErr reading (result ≡ before) }
 {
     match reading {

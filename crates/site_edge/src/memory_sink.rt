@@ -23,7 +23,12 @@ impl Model for MemorySink {
 
     ghost Value = { SinkState };
 
-    ghost view = { λ s. record { taken = s.taken.items; broken = s.broken; faults = s.faults; starved = s.starved } };
+    ghost view = { λ s. record {
+      taken = s.taken.items;
+      broken = s.broken;
+      faults = s.faults;
+      starved = s.starved;
+    } };
 }
 
 impl MemorySink {
@@ -73,7 +78,8 @@ impl Sink for MemorySink {
 
 /// Takes these bytes, or counts a starved call.
 fn grow(taken: &mut Vec<u8>, starved: &mut u64, bytes: &[u8]) -> bool
-    ensures taken { taken.new.items ≡ (if result then taken.old.items ++ bytes.now else taken.old.items) }
+    ensures taken { taken.new.items
+        ≡ (if result then taken.old.items ++ bytes.now else taken.old.items) }
     ensures starved { IsCounted result starved.old starved.new }
 {
     let grown = taken.extend_from_slice(bytes).is_ok();

@@ -29,21 +29,23 @@ pub trait Site: Disk {
         requires under_way { (Self.device self.old).link.under_way ≡ true }
         requires not_empty { 0 < length out.old }
         ensures within { IfOk result (λ count. count ≤ length out.old) }
-        ensures call { LinkCall Unchanged Unchanged (is_ok result) (Self.device self.old) (Self.device self.new) }
+        ensures call { LinkCall Unchanged Unchanged (is_ok result)
+            (Self.device self.old) (Self.device self.new) }
         ensures heard { Heard result out.new (Self.device self.old) (Self.device self.new) }
         ensures fails { link_fails self.old self.new (is_ok result) };
 
     /// Tells the peer all of these bytes, or a prefix of them where it fails.
     fn say(&mut self, bytes: &[u8]) -> Result<(), LinkFailed>
         requires { (Self.device self.old).link.under_way ≡ true }
-        ensures call { LinkCall (Tells false bytes.now) (Tells (is_ok result) bytes.now) (is_ok result)
-            (Self.device self.old) (Self.device self.new) }
+        ensures call { LinkCall (Tells false bytes.now) (Tells (is_ok result) bytes.now)
+            (is_ok result) (Self.device self.old) (Self.device self.new) }
         ensures said { Said (is_ok result) bytes.now (Self.device self.old) (Self.device self.new) }
         ensures fails { link_fails self.old self.new (is_ok result) };
 
     /// Ends the connection that is under way.
     fn close_peer(&mut self)
         requires { (Self.device self.old).link.under_way ≡ true }
-        ensures call { LinkCall Unchanged Unchanged true (Self.device self.old) (Self.device self.new) }
+        ensures call { LinkCall Unchanged Unchanged true
+            (Self.device self.old) (Self.device self.new) }
         ensures closed { Closed (Self.device self.old) (Self.device self.new) };
 }

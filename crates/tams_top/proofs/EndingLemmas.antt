@@ -11,8 +11,8 @@ use Rattle.tams_top.specs.declared.words.Command.TheVariants.{Format, Replay}
 use Rattle.tams_top.specs.Words.{IsCommand}
 use Rattle.tams_top.specs.Store.{State, StandsFor, empty_rows}
 use Rattle.tams_top.specs.Opening.{StandsForNone}
-use Rattle.tams_top.specs.Moments.{IsSettled, TellsAll}
-use Rattle.tams_top.specs.Running.{CommandEnds, FormatEnds, RefusedFor, ReplayCause, Replayed, ReplayEnds, RunEnds, Untouched, beginning, formatted_state, status_of}
+use Rattle.tams_top.specs.Moments.{IsSettled}
+use Rattle.tams_top.specs.Running.{CommandEnds, FormatEnds, IsReplayFrom, RefusedFor, ReplayCause, Replayed, ReplayEnds, RunEnds, Untouched, beginning, formatted_state, status_of}
 use Rattle.tams_top.proofs.FormattingLemmas.{untouched_bare}
 use Rattle.tams_top.proofs.RunningLemmas.{no_store, unopened}
 use Rattle.tams_top.proofs.WordTheorems.{one_command}
@@ -123,15 +123,16 @@ module _ (words : List (List ℕ)) (old new : Device) (clock : Bool) (begun give
   ]
 
   -- the history of a run of `replay`
-  pub run_replayed : IsDevice old → TellsAll old clock → IsSettled old → (path base : List ℕ) → IsCommand words (Replay path base) → (from : State) → StandsFor old.seen from → Replayed (beginning from old begun) new given o
-  run_replayed sound all settled path base is from stands = elim run.cause [
+  pub run_replayed : IsDevice old → (from : State) → IsReplayFrom from words old clock → Replayed (beginning from old begun) new given o
+  run_replayed sound from replay = elim run.cause [
     | inl starved ↦
-        let none = unopened old new clock begun NoMemory sound starved.2.seen starved.2.link starved.2.time tt all settled from stands in
+        let none = unopened old new clock begun NoMemory sound starved.2.seen starved.2.link starved.2.time tt replay.tells replay.settled from replay.stands in
         rw (starved.1, starved.0) none
     | inr other ↦ elim other [
-      | inl bad ↦ absurd (bad.1 (Replay path base) is)
+      | inl bad ↦ absurd (bad.1 (Replay replay.command.0 replay.command.1) replay.command.2)
       | inr did ↦
-          let ends : ReplayEnds old new clock begun given o = subst (CommandEnds old new clock begun given o) (one_command words did.0 (Replay path base) did.1 is) did.2 in
-          ends.history all settled from stands
+          let ends : ReplayEnds old new clock begun given o =
+          subst (CommandEnds old new clock begun given o) (one_command words did.0 (Replay replay.command.0 replay.command.1) did.1 replay.command.2) did.2 in
+          ends.history replay.tells replay.settled from replay.stands
     ]
   ]

@@ -11,7 +11,7 @@ use Rattle.tams_top.specs.declared.library.Library.{Library}
 use Rattle.tams_top.specs.declared.store.Store.{Store}
 use Rattle.tams_top.specs.Change.{IsChange}
 use Rattle.tams_top.specs.Library.{AreFlowsFrom, IsGood, IsGoodFlow, applied, empty_library, flow_of, placed, put_flow, with_flow}
-use Rattle.tams_top.specs.Store.{Folds, State}
+use Rattle.tams_top.specs.Store.{Folds, State, StandsFor}
 use Rattle.tams_top.specs.History.{Last, Session, Taken, after, after_last, answer_to, change_of, changed, end_of, is_changing, requests_of, session_of, state_after, taken_last}
 use Rattle.tams_top.specs.History as history
 use Rattle.tams_top.specs.Moments.{EachKeeps}
@@ -103,6 +103,9 @@ folds_good : (rs : List Record) (from to : Library) → IsGood from → Folds rs
 folds_good [] from to good e = subst IsGood (sym e) good
 folds_good (r ∷ rs) from to good all =
     folds_good rs all.3.0 to (applied_good all.0 from all.3.0 all.1 good all.3.1) all.3.2
+
+pub stands_good : (image : List ℕ) (s : State) → StandsFor image s → IsGood s.library
+stands_good image s stands = folds_good stands.records (empty_library stands.header) s.library tt stands.folds
 
 pub keeps_good : (d : Device) (s : Store) → IsDevice d → d.honest ≡ true → d.shows ≡ true → d.tells ≡ true → EachKeeps d s → IsGood s.library
 keeps_good d s sound honest shows tells keeps = folds_good keeps.records (empty_library keeps.header) s.library tt keeps.folds

@@ -18,7 +18,7 @@ use Rattle.tams_top.specs.Serving.{Counts, CountsAt, Ended}
 use Rattle.tams_top.specs.Running.{ConnectEnds, EndsWithoutPeer, IsOfOpened, NoPeer, OnePeer, OutcomeBy, OutcomeIs, Replayed, ReplayCause, StandsForOne, beginning}
 use Rattle.tams_top.specs.Library.{IsGood}
 use Rattle.tams_top.proofs.GoingLemmas.{tells_later}
-use Rattle.tams_top.proofs.GoodLemmas.{all_good}
+use Rattle.tams_top.proofs.GoodLemmas.{all_good, stands_good}
 use Rattle.tams_top.proofs.OpenLemmas.{one_state}
 use Rattle.tams_top.proofs.RightLemmas.{all_over, all_quiet, keeps_quiet, stands_at}
 use Rattle.tams_top.proofs.ServingLemmas.{stands_read}
@@ -109,13 +109,16 @@ one_peer b served new given n ending o good sound e by seen connections time = r
 
 -- no connection began
 pub no_peer : (b : Beginning) (old new : Device) (s : Store) (given : List ℕ) (o : Outcome) → IsDevice old → IsDevice new → new.honest ≡ true → new.shows ≡ true → new.tells ≡ true → b.state ≡ state_of s → EachKeeps old s → AllRight b (session_of []) old → Elapses Unchanged Unchanged old new → new.link.connections ≡ b.before → given ≡ b.given → EndsWithoutPeer new o → NoPeer b new given o
-no_peer b old new s given o sound new_sound honest shows tells state keeps right time connections given_is ends = record {
-  connections = connections;
-  given_is = given_is;
-  stands = rw state (stands_read new s new_sound honest shows tells (keeps_quiet old new s keeps time));
-  ends = ends;
-  right = all_quiet b (session_of []) old new sound right time;
-}
+no_peer b old new s given o sound new_sound honest shows tells state keeps right time connections given_is ends =
+    let stands : StandsFor new.seen b.state = rw state (stands_read new s new_sound honest shows tells (keeps_quiet old new s keeps time)) in
+    record {
+      connections = connections;
+      given_is = given_is;
+      stands = stands;
+      ends = ends;
+      right = all_quiet b (session_of []) old new sound right time;
+      good = stands_good new.seen b.state stands;
+    }
 
 -- the outcome of a connection is one of a store that was opened
 pub of_opened : (n : Counts) (ending : Ending) (o : Outcome) → OutcomeBy ending n o → IsOfOpened o
@@ -135,6 +138,7 @@ unopened old new clock begun o sound seen link time ends all settled from stands
       stands = rw seen stands;
       ends = ends;
       right = opened_right old new from begun sound all.honest all.tells settled stands time;
+      good = stands_good old.seen from stands;
     }
 
 -- an image that is no store stands for no state

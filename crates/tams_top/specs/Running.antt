@@ -95,6 +95,14 @@ beginning from old begun = record { state = from; before = old.link.connections;
 abbrev pub AllGood : State → Session → Type 0
 AllGood from h = (g : Session) → IsEarlier g h → IsGood (end_of from g).library
 
+-- The premises of the headline: the words are a `replay`, the outside is as the model says, nothing is
+-- pending, and the file stands for a state.
+pub record IsReplayFrom (from : State) (words : List (List ℕ)) (old : Device) (clock : Bool) : Type 0 where
+  pub command : (path : List ℕ) × (base : List ℕ) × IsCommand words (Replay path base)
+  pub tells : TellsAll old clock
+  pub settled : IsSettled old
+  pub stands : StandsFor old.seen from
+
 -- One connection was served to its end, by one history.
 pub record OnePeer (b : Beginning) (new : Device) (given : List ℕ) (o : Outcome) : Type 0 where
   pub session : Session
@@ -130,6 +138,7 @@ pub record NoPeer (b : Beginning) (new : Device) (given : List ℕ) (o : Outcome
   pub stands : StandsFor new.seen b.state
   pub ends : EndsWithoutPeer new o
   pub right : AllRight b (session_of []) new
+  pub good : IsGood b.state.library
 
 -- A run of `replay` from its beginning.
 abbrev pub Replayed : Beginning → Device → List ℕ → Outcome → Type 0

@@ -77,7 +77,8 @@ fn take_put<X: Site, C: Clock>(
     ensures few { IsNone result → tally.new.requests < 1000000 }
     ensures goes { TellsAll (X.device site.old) (C.tells clock.new) → (b : Beginning)
         → Reached b (X.device site.old) (C.given clock.old) unread.old store.old tally.old
-        → TurnAnswer b (X.device site.new) (C.given clock.new) unread.new store.new tally.new result }
+        → TurnAnswer b (X.device site.new) (C.given clock.new) unread.new store.new tally.new
+        result }
 {
     let change = Change {
         moment: clock.now(),
@@ -154,7 +155,8 @@ fn take_turn<X: Site, C: Clock>(
         < 168 * tally.new.requests + length unread.new }
     ensures goes { TellsAll (X.device site.old) (C.tells clock.new) → (b : Beginning)
         → Reached b (X.device site.old) (C.given clock.old) unread.old store.old tally.old
-        → TurnAnswer b (X.device site.new) (C.given clock.new) unread.new store.new tally.new result }
+        → TurnAnswer b (X.device site.new) (C.given clock.new) unread.new store.new tally.new
+        result }
 {
     match read_front(unread.bytes()) {
         Front::Whole(put) => take_put(alloc, store, site, clock, unread, tally, put),
@@ -179,7 +181,8 @@ pub(crate) fn serve<X: Site, C: Clock>(
     ensures calls { SiteCalls (Some result) (X.device site.old) (X.device site.new) }
     ensures clock { C.tells clock.new ≡ true → C.tells clock.old ≡ true }
     ensures served { TellsAll (X.device site.old) (C.tells clock.new) → (b : Beginning)
-        → Reached b (X.device site.old) (C.given clock.old) [] store.old record { requests = 0; changes = 0 }
+        → Reached b (X.device site.old) (C.given clock.old) [] store.old
+        record { requests = 0; changes = 0 }
         → Ended b (X.device site.new) (C.given clock.new) tally.new result }
 {
     for _ in 0..TURNS {

@@ -91,11 +91,12 @@ impl Store {
         ensures blocks { self.new.journal.blocks ≡ self.old.journal.blocks }
         ensures state { OnOk result (state_of self.new ≡ changed (state_of self.old) change.now) }
         ensures keeps { (D.device disk.old).honest ≡ true → (D.device disk.old).shows ≡ true
-            → EachKeeps (D.device disk.old) self.old → OnOk result (EachKeeps (D.device disk.new) self.new) }
+            → EachKeeps (D.device disk.old) self.old
+            → OnOk result (EachKeeps (D.device disk.new) self.new) }
         ensures time { (D.device disk.old).honest ≡ true → (D.device disk.old).shows ≡ true
             → EachKeeps (D.device disk.old) self.old
-            → Elapses (Handles (state_of self.old) change.now) (Handles (state_of self.old) change.now)
-            (D.device disk.old) (D.device disk.new) }
+            → Elapses (Handles (state_of self.old) change.now)
+            (Handles (state_of self.old) change.now) (D.device disk.old) (D.device disk.new) }
     {
         let Some(library) = self.library.after(alloc, change)? else {
             unreachable!();
@@ -160,7 +161,8 @@ impl From<StoreFault> for JournalFault {
 pub(crate) fn open_store<D: Disk>(alloc: Global, disk: &mut D) -> Result<Store, JournalFault>
     ensures reads { DiskReads (not_disk result) (D.device disk.old) (D.device disk.new) }
     ensures within { IfOk result (λ s. 4096 * s.journal.blocks ≤ (D.device disk.new).size) }
-    ensures answer { (D.device disk.old).shows ≡ true → StoreAnswer (D.device disk.old).seen result }
+    ensures answer { (D.device disk.old).shows ≡ true
+        → StoreAnswer (D.device disk.old).seen result }
 {
     let opened = open_journal(alloc, disk)?;
     Ok(store_of(alloc, opened)?)

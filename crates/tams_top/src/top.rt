@@ -4,13 +4,13 @@ ghost use Rattle.disk_trait.specs.Calls.{Rose};
 ghost use Rattle.disk_trait.specs.Device.{Left};
 ghost use Rattle.media_journal.specs.File.{HasOpenHeader};
 ghost use Rattle.tams_top.specs.Completeness.{IsServedWhole, NoneRose};
-ghost use Rattle.tams_top.specs.Moments.{IsSettled, TellsAll};
-ghost use Rattle.tams_top.specs.Running.{ConnectEnds, FaultCounts, FormatEnds, FormatMoments, IsNoCommand, OutcomeBy, beginning, RefusedFor, ReplayEnds, Replayed, RunEnds, TakesPart, Untouched, formatted_state, line_of, status_of};
+ghost use Rattle.tams_top.specs.Moments.{IsSettled};
+ghost use Rattle.tams_top.specs.Running.{ConnectEnds, FaultCounts, FormatEnds, FormatMoments, IsNoCommand, IsReplayFrom, OutcomeBy, beginning, RefusedFor, ReplayEnds, Replayed, RunEnds, TakesPart, Untouched, formatted_state, line_of, status_of};
 ghost use Rattle.tams_top.specs.Store.{State, StandsFor};
 ghost use Rattle.tams_top.specs.Words.{IsCommand};
 ghost use Rattle.tams_top.specs.declared.outcome.Outcome.{Outcome};
 ghost use Rattle.tams_top.specs.declared.words.Command.{Command};
-ghost use Rattle.tams_top.specs.declared.words.Command.TheVariants.{Format, Replay};
+ghost use Rattle.tams_top.specs.declared.words.Command.TheVariants.{Format};
 
 use crate::connection::{Ending, serve};
 use crate::outcome::Outcome;
@@ -50,7 +50,8 @@ pub fn run<X: Site, C: Clock, N: Sink>(
     // The statuses of faults: wherever a count rose, and only where it rose or stands at its last value.
     ensures disk { result ≡ 3 → Rose (X.device site.old).faults (X.device site.new).faults }
     ensures disk_only { (X.device site.old).faults < (X.device site.new).faults → result ≡ 3 }
-    ensures link { result ≡ 5 → Rose (X.device site.old).link.faults (X.device site.new).link.faults }
+    ensures link { result ≡ 5
+        → Rose (X.device site.old).link.faults (X.device site.new).link.faults }
     ensures link_only { (X.device site.old).link.faults < (X.device site.new).link.faults
         → (result ≡ 3) ⊎ ((result ≡ 4) ⊎ (result ≡ 5)) }
 
@@ -70,18 +71,16 @@ pub fn run<X: Site, C: Clock, N: Sink>(
 
     // Over a file that stands for a state, one history from it gives all that a run of `replay` heard,
     // told and left, whatever failed; the outcome by it has the status, and its line is put.
-    ensures replayed { TellsAll (X.device site.old) (C.tells clock.new) → IsSettled (X.device site.old)
-        → (path base : List ℕ) → IsCommand words.now (Replay path base)
-        → (from : State) → StandsFor (X.device site.old).seen from → (outcome : Outcome)
-        × (result ≡ status_of outcome)
+    ensures replayed { (from : State)
+        → IsReplayFrom from words.now (X.device site.old) (C.tells clock.new)
+        → (outcome : Outcome) × (result ≡ status_of outcome)
         × Replayed (beginning from (X.device site.old) (C.given clock.old)) (X.device site.new)
         (C.given clock.new) outcome }
 
     // Where nothing failed over such a file, each request that was heard whole was answered by the
     // machine, each answer was said whole, and the status is 0, or 6 by the input alone.
-    ensures complete { TellsAll (X.device site.old) (C.tells clock.new) → IsSettled (X.device site.old)
-        → (path base : List ℕ) → IsCommand words.now (Replay path base)
-        → (from : State) → StandsFor (X.device site.old).seen from
+    ensures complete { (from : State)
+        → IsReplayFrom from words.now (X.device site.old) (C.tells clock.new)
         → NoneRose (X.device site.old) (X.device site.new) → result ≢ 4
         → IsServedWhole from (X.device site.old) (X.device site.new) (C.given clock.old)
         (C.given clock.new) result }

@@ -72,12 +72,15 @@ impl Unread {
     pub(crate) fn hear<X: Site>(&mut self, site: &mut X) -> Result<usize, LinkFailed>
         requires room { length self.old < 1130496 }
         requires under_way { (X.device site.old).link.under_way ≡ true }
-        ensures call { LinkCall Unchanged Unchanged (is_ok result) (X.device site.old) (X.device site.new) }
+        ensures call { LinkCall Unchanged Unchanged (is_ok result)
+            (X.device site.old) (X.device site.new) }
         ensures under_way { (X.device site.new).link.under_way ≡ true }
         ensures heard { (X.device site.old).tells ≡ true
-            → IfOk result (λ count. HeardMore (X.device site.old) (X.device site.new) self.old self.new count) }
+            → IfOk result (λ count. HeardMore (X.device site.old) (X.device site.new)
+            self.old self.new count) }
         ensures grows { IfOk result (λ count. length self.new ≡ length self.old + count) }
-        ensures failed { (X.device site.old).tells ≡ true → OnErr result ((X.device site.new).link.connections
+        ensures failed { (X.device site.old).tells ≡ true
+            → OnErr result ((X.device site.new).link.connections
             ≡ change_last (λ c. record c { failed = true }) (X.device site.old).link.connections) }
         ensures err { OnErr result (self.new ≡ self.old) }
     {
@@ -107,15 +110,17 @@ fn move_to_front(bytes: &mut [u8], start: usize, end: usize) -> usize
 fn hear_behind<X: Site>(site: &mut X, bytes: &mut [u8], end: usize) -> Result<usize, LinkFailed>
     requires room { end < length bytes.old }
     requires under_way { (X.device site.old).link.under_way ≡ true }
-    ensures call { LinkCall Unchanged Unchanged (is_ok result) (X.device site.old) (X.device site.new) }
+    ensures call { LinkCall Unchanged Unchanged (is_ok result)
+        (X.device site.old) (X.device site.new) }
     ensures under_way { (X.device site.new).link.under_way ≡ true }
     ensures within { IfOk result (λ count. end + count ≤ length bytes.new) }
     ensures len { length bytes.new ≡ length bytes.old }
     ensures kept { take end bytes.new ≡ take end bytes.old }
     ensures heard { (X.device site.old).tells ≡ true
-        → IfOk result (λ count. HeardMore (X.device site.old) (X.device site.new) (take end bytes.old)
-        (take (end + count) bytes.new) count) }
-    ensures failed { (X.device site.old).tells ≡ true → OnErr result ((X.device site.new).link.connections
+        → IfOk result (λ count. HeardMore (X.device site.old) (X.device site.new)
+        (take end bytes.old) (take (end + count) bytes.new) count) }
+    ensures failed { (X.device site.old).tells ≡ true
+        → OnErr result ((X.device site.new).link.connections
         ≡ change_last (λ c. record c { failed = true }) (X.device site.old).link.connections) }
 {
     let (_, free) = bytes.split_at_mut(end);

@@ -18,11 +18,11 @@ returns-clause-formatting g c = λ path blocks half id is honest shows settled b
     run_formatting _ _ _ _ _ _ _ c.outcome_of-outcome.ensures path blocks half id is honest shows settled bare p left
 
 pub returns-clause-replayed : goal.returns-clause-replayed
-returns-clause-replayed g c = λ all settled path base is from stands.
-    (c.outcome_of-outcome.result, c.status.ensures, run_replayed _ _ _ _ _ _ _ c.outcome_of-outcome.ensures (g.met.X.Disk.sound c.args.site.now) all settled path base is from stands)
+returns-clause-replayed g c = λ from replay.
+    (c.outcome_of-outcome.result, c.status.ensures, run_replayed _ _ _ _ _ _ _ c.outcome_of-outcome.ensures (g.met.X.Disk.sound c.args.site.now) from replay)
 
 pub returns-clause-complete : goal.returns-clause-complete
-returns-clause-complete g c = λ all settled path base is from stands none fed.
+returns-clause-complete g c = λ from replay none fed.
     rw c.status.ensures
     (served_whole from _ _ _ _ c.outcome_of-outcome.result c.outcome_of-outcome.ensures.counts none (λ four. fed (c.status.ensures ∙ four))
-    (run_replayed _ _ _ _ _ _ _ c.outcome_of-outcome.ensures (g.met.X.Disk.sound c.args.site.now) all settled path base is from stands))
+    (run_replayed _ _ _ _ _ _ _ c.outcome_of-outcome.ensures (g.met.X.Disk.sound c.args.site.now) from replay))
