@@ -22,17 +22,19 @@ abbrev pub after_all : List Change → Library → Library
 after_all [] library = library
 after_all (change ∷ later) library = after_all later (after change library)
 
--- ids of two flows and of their source
+-- the id of the first flow, whose text ends in `f1`
 abbrev pub first_flow : ℕ
 first_flow = 241
 
+-- the id of the second flow, whose text ends in `f2`
 abbrev pub second_flow : ℕ
 second_flow = 242
 
+-- the id of the source of both flows, whose text ends in `a1`
 abbrev pub one_source : ℕ
 one_source = 161
 
--- a video flow of that source that collects these flows
+-- a flow of that source with this format and these collected flows, and with no other member
 abbrev pub body : ℕ → FormatKind → List Member → FlowBody
 body id format members = record {
   id = id;
@@ -50,6 +52,7 @@ body id format members = record {
   essence = None;
 }
 
+-- an entry of a flow, without a role
 abbrev pub member : ℕ → Member
 member flow = record { flow = flow; role = None }
 
@@ -57,17 +60,19 @@ member flow = record { flow = flow; role = None }
 abbrev pub nothing : Library
 nothing = empty_library 1 46
 
+-- the PUT of a video flow of that source, which collects none
 abbrev pub put : ℕ → ℕ → Change
 put moment flow = changes.PutFlow moment (body flow Video [])
 
--- a second in points of half nanoseconds, and the range from one second to another, without the last instant
+-- a second in points of half nanoseconds
 abbrev pub second : ℕ
 second = 2000000000
 
+-- the range from one second to another, without the last instant
 abbrev pub seconds : ℕ → ℕ → Option Span
 seconds from to = Some (record { low = Some (pos (from * second)); high = Some (pos (to * second) -ℤ pos 1) })
 
--- a segment of the one object
+-- a segment of the one object from one second to another
 abbrev pub piece : ℕ → ℕ → Segment
 piece from to = record {
   object = codes "a";
@@ -79,26 +84,28 @@ piece from to = record {
   key_frames = None;
 }
 
--- the first flow, with the one object stored
+-- the first flow, with the one object `a` of three bytes at block 0, stored and named by no segment
 abbrev pub stored : Library
 stored = after_all (put 0 first_flow ∷ changes.Allocate 0 first_flow (codes "a" ∷ []) ∷ changes.Store 0 (codes "a") 0 3 ∷ []) nothing
 
--- and with a segment of each second
+-- segments of the one object for so many seconds, one after the other, each of a second
 abbrev pub pieces : ℕ → List Segment
 pieces count = map (λ i. piece i (i + 1)) (numbers_below count)
 
+-- the first flow with these segments, whose serials begin at 2
 abbrev pub with_pieces : ℕ → Library
 with_pieces count = after (changes.AddSegments 0 first_flow (pieces count)) stored
 
--- both flows, each with the one object from the first second to the second one
+-- both flows, each with a segment of the one object for the first second
 abbrev pub shared : Library
 shared = after_all
     (changes.AddSegments 0 first_flow (pieces 1) ∷ put 0 second_flow ∷ changes.AddSegments 0 second_flow (pieces 1) ∷ []) stored
 
--- a hook that takes everything, and a hook that keeps to the second flow
+-- every kind of event
 abbrev pub all_events : List EventKind
 all_events = FlowCreated ∷ FlowUpdated ∷ FlowDeleted ∷ SegmentsAdded ∷ SegmentsDeleted ∷ SourceCreated ∷ SourceUpdated ∷ SourceDeleted ∷ []
 
+-- a hook of an address that takes every kind of event, of these flows alone where a list is given
 abbrev pub hook : List ℕ → Option (List ℕ) → Hook
 hook url flows = record { url = url; events = all_events; key_name = None; key_value = None; flow_ids = flows; source_ids = None }
 

@@ -116,22 +116,25 @@ pub record IsSound (library : Library) (change : Change) : Type 0 where
   pub values : HasGoodValues change
   pub serials : (after change library).next_serial ≤ last_serial
 
--- a sound change that a good library allows leaves a good library, and so applies
+-- a sound change that a good library allows leaves a good library
 abbrev pub ChangesKeepGood : Type 0
 ChangesKeepGood = (library : Library) (change : Change) → Good library → IsTrue (is_allowed library change) → IsSound library change → Good (after change library)
 
+-- and so it applies: no test of the next library is needed
 abbrev pub ChangesApply : Type 0
 ChangesApply = (library : Library) (change : Change) → Good library → IsTrue (is_allowed library change) → IsSound library change → applied change library ≡ Some (after change library)
 
--- what a command itself brings is good, and an object that is stored has a free place
+-- the ids that a client names for an allocation have their form
 abbrev pub IsGoodWant : Want → Type 0
 IsGoodWant (Count n) = Unit {0}
 IsGoodWant (Named ids) = IsTrue (list_all is_object_id ids)
 
+-- a place for so many bytes is free, and is block 0 for none
 pub record IsGoodPlace (library : Library) (start size : ℕ) : Type 0 where
   pub free : IsTrue (is_free library.objects library.blocks (blocks_of size) start)
   pub zero : IsTrue (nat_lt 0 size || (start == 0))
 
+-- what a command itself brings is good, and an object that is stored has a free place
 abbrev pub IsGoodCommand : Library → Command → Type 0
 IsGoodCommand library (commands.PutFlow body) = IsTrue (is_body_text body)
 IsGoodCommand library (commands.SetFlow flow part) = IsTrue (is_part_good part)
@@ -169,7 +172,7 @@ TurnsApply = (library : Library) (moment : ℕ) → Good library → IsTrue (is_
 
 -- ---- places
 
--- a place that is found is free, an object without bytes is placed at 0, and no lower place is free for others
+-- a place that is found is free, and no lower one is; no blocks are placed at 0
 pub record IsLeastPlace (objects : List ObjectRow) (blocks count place : ℕ) : Type 0 where
   pub free : IsTrue (is_free objects blocks count place)
   pub zero : count ≡ 0 → place ≡ 0
@@ -186,11 +189,12 @@ GoodIsTested = (library : Library) → IsTrue (is_good library) ↔ Good library
 
 -- ---- steps
 
--- a step removes at most 32 segments, a sweep at most 16 objects
+-- a delete step removes at most 32 segments, and a sweep at most 16 objects
 pub record StepsAreBounded (library : Library) (moment : ℕ) : Type 0 where
   pub deleted : length library.segments ≤ length (after (changes.DeleteStep moment) library).segments + 32
   pub swept : length library.objects ≤ length (after (changes.SweepStep moment) library).objects + 16
 
+-- in a good library no delete step and no sweep removes more than that
 abbrev pub TurnsAreBounded : Type 0
 TurnsAreBounded = (library : Library) (moment : ℕ) → Good library → StepsAreBounded library moment
 
@@ -230,6 +234,7 @@ pub record Cut {X : Type 0} (key : X → ℤ) (page : Page) (xs : List X) : Type
   pub whole : next_key key page xs ≡ None → page_items key page xs ≡ items_past key page xs
   pub most : length (page_items key page xs) ≤ page.limit
 
+-- this holds of pages of segments, whose limit is at least 1
 abbrev pub PagesHaveAll : Type 0
 PagesHaveAll = (segments : List SegmentRow) (page : Page) → 1 ≤ page.limit → Cut first_point page segments
 

@@ -31,18 +31,23 @@ use Rattle.media_rows.specs.Snapshot.{rows_of, row_before, kind_number}
 use Rattle.media_rows.specs.Views.{listed_flows}
 use Rattle.library_laws.specs.Examples.{after_all, first_flow, second_flow, one_source, body, member, nothing, put, seconds, piece, stored, with_pieces, shared, hook}
 
+-- the reply to a command at moment 5
 abbrev pub reply : Library → Command → Reply
 reply library command = (answer library command 5).reply
 
 -- ---- refusals in order
 
--- a flow that is read-only, and one that an unfinished request deletes
+-- a read-only flow
 abbrev pub read_only : Library
 read_only = after (changes.SetFlow 0 first_flow (parts.ReadOnly true)) stored
 
+-- a read-only flow with 33 segments that an unfinished request deletes
 abbrev pub going : Library
 going = after_all (changes.SetFlow 0 first_flow (parts.ReadOnly true) ∷ changes.AskDelete 0 first_flow eternity true ∷ []) (with_pieces 33)
 
+-- Of several refusals that could stand the first in a command's order is answered: being deleted before
+-- read-only, read-only before another format, another format before a missing member. The mark of a read-only
+-- flow may be set.
 pub record RefusalsStandInOrder : Type 0 where
   pub no_flow : refusal_of nothing (commands.DropFlow first_flow) ≡ Some refusals.NoFlow
   pub read_only_put : refusal_of read_only (commands.PutFlow (body first_flow Audio (member second_flow ∷ []))) ≡ Some refusals.ReadOnly
@@ -63,6 +68,8 @@ pub record RefusalsStandInOrder : Type 0 where
 
 -- ---- ids that the store makes
 
+-- An id that the store makes is its own id, a hyphen and the serial. A client may name none that begins so,
+-- but one that begins with another store's id.
 pub record IdsAreMade : Type 0 where
   pub first : made_id 1 1 ≡ codes "00000000-0000-0000-0000-000000000001-1"
   pub like_it : is_taken nothing (Named []) (codes "00000000-0000-0000-0000-000000000001-x") ≡ true
@@ -70,6 +77,8 @@ pub record IdsAreMade : Type 0 where
 
 -- ---- replies
 
+-- What is new is created, and what replaces is done. 32 segments go at once, more make a request, and a range
+-- that covers none changes nothing.
 pub record RepliesAreGiven : Type 0 where
   pub new_flow : reply nothing (commands.PutFlow (body first_flow Video [])) ≡ replies.Created
   pub kept_flow : reply stored (commands.PutFlow (body first_flow Video [])) ≡ replies.Done
@@ -83,6 +92,8 @@ pub record RepliesAreGiven : Type 0 where
 
 -- ---- media
 
+-- The first bytes of an object take the least free place, equal bytes change nothing, and others are refused.
+-- An object without bytes is stored even where no block is free.
 pub record MediaAreKept : Type 0 where
   pub unknown : put_media_answer nothing [] (codes "a") (codes "xyz") 5 ≡ record { reply = replies.Refused refusals.UnknownObject; change = None }
   pub first : put_media_answer (after (changes.Allocate 0 first_flow (codes "b" ∷ [])) stored) (codes "xyz" ∷ [] ∷ []) (codes "b") (codes "q") 5
@@ -98,16 +109,20 @@ pub record MediaAreKept : Type 0 where
 
 -- ---- views
 
--- the first flow with a tag
+-- both flows, of which the first has a tag of two values
 abbrev pub tagged : Library
 tagged = after (changes.SetFlow 0 first_flow (parts.Tag (codes "t") (Some (record { name = codes "t"; single = false; values = codes "x" ∷ codes "y" ∷ [] })))) shared
 
+-- a filter of flows by a format and by tests on tags alone
 abbrev pub wanted : Option FormatKind → List TagTest → FlowFilter
 wanted format tests = record { source = None; format = format; codec = None; label = None; tags = tests }
 
+-- the ids of flows, in their order
 abbrev pub ids : List FlowRow → List ℕ
 ids rows = map (λ row. row.body.id) rows
 
+-- What isn't kept or isn't set is refused by its kind. Flows are listed by the value of a tag, by the lack of
+-- one, by format and by a range in which they have a segment.
 pub record ViewsAreShown : Type 0 where
   pub no_flow : reply nothing (commands.Flow first_flow) ≡ replies.Refused refusals.NoFlow
   pub no_source : reply nothing (commands.Source one_source) ≡ replies.Refused refusals.NoSource
@@ -125,6 +140,9 @@ pub record ViewsAreShown : Type 0 where
 
 -- ---- changes that apply
 
+-- A change is refused where its moment is no moment, where there is nothing to do, where an object is stored
+-- or a block is taken, where too many or too few segments would go, and where the next library wouldn't be
+-- good.
 pub record ChangesAreTested : Type 0 where
   pub put_applies : applies nothing (put 0 first_flow) ≡ true
   pub late : applied (put 253402300800 first_flow) nothing ≡ None
@@ -141,12 +159,16 @@ pub record ChangesAreTested : Type 0 where
 
 -- ---- done requests, snapshots, and books that are restored
 
+-- a done request of this serial for the whole of the first flow
 abbrev pub done_request : ℕ → DeleteRow
 done_request serial = record (asked_row first_flow eternity false serial 0) { status = Done }
 
+-- a request of serial 0 for the whole of the first flow, before its first step
 abbrev pub waiting_request : DeleteRow
 waiting_request = asked_row first_flow eternity false 0 0
 
+-- The 64 done requests of highest serials are kept, and each unfinished one. A snapshot has its rows by kind,
+-- and a book is the same from rows in another order, but refused where flows have no source.
 pub record RowsAreKept : Type 0 where
   pub sixty_four : map (λ row. row.serial) (newest_done (waiting_request ∷ map (λ i. done_request (i + 1)) (numbers_below 66))) ≡ 0 ∷ map (λ i. i + 3) (numbers_below 64)
   pub too_many : can_restore_requests (map done_request (numbers_below 65)) ≡ false

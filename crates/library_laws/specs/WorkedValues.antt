@@ -22,9 +22,12 @@ use Rattle.library_laws.specs.Examples.{after_all, first_flow, second_flow, one_
 
 -- ---- sources go with their last flow
 
+-- the ids of the sources, in their order
 abbrev pub source_ids : Library → List ℕ
 source_ids library = map (λ row. row.id) library.catalog.sources
 
+-- Flows of one source share it, and it goes with the last of them. A flow of another format is refused under
+-- a kept source.
 pub record SourcesGo : Type 0 where
   pub one_source_for_two : source_ids (after_all (put 0 first_flow ∷ put 5 second_flow ∷ []) nothing) ≡ one_source ∷ []
   pub stays_with_one : source_ids (after (changes.DropFlow 20 first_flow) shared) ≡ one_source ∷ []
@@ -33,6 +36,8 @@ pub record SourcesGo : Type 0 where
 
 -- ---- collections
 
+-- A collected flow has to be kept. A flow that collects itself is refused, directly or through another one.
+-- The entries of a flow that goes leave the collections of others.
 pub record CollectionsAreTested : Type 0 where
   pub missing : refusal_of stored (commands.PutFlow (body first_flow Video (member second_flow ∷ []))) ≡ Some (refusals.CollectedMissing second_flow)
   pub itself : refusal_of nothing (commands.PutFlow (body first_flow Video (member first_flow ∷ []))) ≡ Some refusals.CollectsItself
@@ -43,6 +48,8 @@ pub record CollectionsAreTested : Type 0 where
 
 -- ---- a post that overlaps itself
 
+-- A segment that overlaps an earlier one of its own post is refused, and so is one of an object without
+-- bytes. Of ids in an allocation the first that repeats an earlier one counts as taken.
 pub record PostsAreTested : Type 0 where
   pub within : refusal_of stored (commands.AddSegments first_flow (piece 30 40 ∷ piece 10 20 ∷ piece 39 41 ∷ [])) ≡ Some (refusals.Overlap (seconds 30 40))
   pub unstored : refusal_of (after (changes.Allocate 0 first_flow (codes "a" ∷ [])) (after (put 0 first_flow) nothing))
@@ -51,22 +58,28 @@ pub record PostsAreTested : Type 0 where
 
 -- ---- 33 segments
 
--- the request to delete all of them, with its first step made, a post made behind it, and its second step
+-- 33 segments, and the request to delete all of them
 abbrev pub asked : Library
 asked = after (changes.AskDelete 7 first_flow eternity false) (with_pieces 33)
 
+-- the same after the first step, with a segment that was posted behind it
 abbrev pub half_done : Library
 half_done = after (changes.AddSegments 8 first_flow (piece 0 1 ∷ [])) (after (changes.DeleteStep 7) asked)
 
+-- the same after the second step
 abbrev pub all_done : Library
 all_done = after (changes.DeleteStep 9) half_done
 
+-- the serials of the segments, in their order
 abbrev pub serials : Library → List ℕ
 serials library = map (λ row. row.serial) library.segments
 
+-- the serials and the statuses of the delete requests, in their order
 abbrev pub statuses : Library → List (ℕ × ℕ)
 statuses library = map (λ row. (row.serial, status_number row.status)) library.requests
 
+-- A range that covers 32 of 33 segments leaves one. A request for all of them takes two steps, of which the
+-- first removes 32, and a segment that was posted after it stays.
 pub record DeletesInSteps : Type 0 where
   pub at_once : length (covered (with_pieces 33).segments first_flow (seconds 0 32)) ≡ 32
   pub one_left : serials (after (changes.CutSegments 0 first_flow (seconds 0 32)) (with_pieces 33)) ≡ 34 ∷ []
@@ -84,6 +97,8 @@ pub record DeletesInSteps : Type 0 where
 abbrev pub idle : Library
 idle = after_all (changes.DropFlow 20 first_flow ∷ changes.DropFlow 100 second_flow ∷ []) shared
 
+-- An object is due 86,400 seconds after it lost its last reference, and not one second earlier. One that a
+-- segment names is never due. The block of a swept one is free again.
 pub record SweepsWhenDue : Type 0 where
   pub idle_since : map (λ row. row.idle_since) idle.objects ≡ 100 ∷ []
   pub not_yet : turn idle 86499 ≡ None
@@ -96,6 +111,7 @@ pub record SweepsWhenDue : Type 0 where
 
 -- ---- events of each change
 
+-- an empty library with a hook that takes everything
 abbrev pub listening : Library
 listening = after (changes.PutHook 0 (hook (codes "h") None)) nothing
 
@@ -103,12 +119,14 @@ listening = after (changes.PutHook 0 (hook (codes "h") None)) nothing
 abbrev pub kinds : Library → List ℕ
 kinds library = map (λ row. event_number row.kind) library.outbox.events
 
--- what a change adds to what waits, in a library in which the first flow has two segments
+-- the first flow with two segments, and then a hook that takes everything
 abbrev pub at_work : Library
 at_work = after_all
     (put 0 first_flow ∷ changes.Allocate 0 first_flow (codes "a" ∷ []) ∷ changes.Store 0 (codes "a") 0 3
     ∷ changes.AddSegments 0 first_flow (piece 0 1 ∷ piece 1 2 ∷ []) ∷ changes.PutHook 0 (hook (codes "h") None) ∷ []) nothing
 
+-- A change of flows, sources or segments makes its events in order, with rising serials. An allocation and a
+-- request to delete make none. A hook that keeps to some flows hears of sources all the same.
 pub record EventsAreTold : Type 0 where
   pub new_flow : kinds (after (put 0 first_flow) listening) ≡ 6 ∷ 1 ∷ []
   pub flow_of_kept_source : kinds (after (put 0 second_flow) at_work) ≡ 1 ∷ []
@@ -127,14 +145,16 @@ pub record EventsAreTold : Type 0 where
 
 -- ---- a hook with 1,000 waiting events
 
--- one event more
+-- an outbox with so many waiting events, once one thing more happened
 abbrev pub one_more : ℕ → Posted
 one_more count = after_post (flow_event FlowCreated first_flow one_source ∷ []) 0 (record { outbox = outbox_with count; next = count + 2 })
 
--- and another one behind it
+-- the same once another thing happened behind it
 abbrev pub two_more : ℕ → Posted
 two_more count = after_post (flow_event FlowCreated second_flow one_source ∷ []) 0 (one_more count)
 
+-- The event that makes 1,000 waiting marks its hook as failed. From then on the hook takes none, and none
+-- gets a serial.
 pub record HooksFail : Type 0 where
   pub below : map (λ row. row.failed) (one_more 998).outbox.hooks ≡ false ∷ []
   pub failed : map (λ row. row.failed) (one_more 999).outbox.hooks ≡ true ∷ []
@@ -144,17 +164,21 @@ pub record HooksFail : Type 0 where
 
 -- ---- pages
 
+-- a page of at most so many items past a point, forwards or backwards
 abbrev pub page : Option ℕ → ℕ → Bool → Page
 page None limit backwards = record { after = None; limit = limit; reverse = backwards }
 page (Some at) limit backwards = record { after = Some (pos at); limit = limit; reverse = backwards }
 
+-- the serials of a page of five segments, each of a second, that overlap a range
 abbrev pub points : Option Span → Page → List ℕ
 points range asked_page = map (λ row. row.serial) (segment_page (with_pieces 5).segments first_flow range None asked_page)
 
--- segments that were posted in another order
+-- four segments that were posted out of order, each of ten seconds
 abbrev pub mixed : Library
 mixed = after (changes.AddSegments 0 first_flow (piece 30 40 ∷ piece 10 20 ∷ piece 20 30 ∷ piece 0 10 ∷ [])) stored
 
+-- Segments come by rising first point, or by falling. A page that isn't the last has the key of the next one,
+-- and a segment that begins before the range is in it all the same. Never overlaps none.
 pub record PagesAreCut : Type 0 where
   pub in_order : map (λ row. row.serial) (segment_page mixed.segments first_flow eternity None (page None 9 false)) ≡ 5 ∷ 3 ∷ 4 ∷ 2 ∷ []
   pub first : points eternity (page None 2 false) ≡ 2 ∷ 3 ∷ []

@@ -72,13 +72,14 @@ first_taken taken earlier [] = None
 first_taken taken earlier (id ∷ later) =
     if taken id || has_text id earlier then Some id else first_taken taken (id ∷ earlier) later
 
+-- the refusal of an allocation, with the id that is taken
 abbrev pub taken_refusal : Option (List ℕ) → Option Refusal
 taken_refusal None = None
 taken_refusal (Some id) = Some (refusals.IdTaken id)
 
 -- ---- posts of segments
 
--- the kept segment that overlaps a range and begins first
+-- the refusal of a segment of a post, with the range of the kept segment that overlaps it and begins first
 abbrev pub overlap_refusal : Option SegmentRow → Option Refusal
 overlap_refusal None = None
 overlap_refusal (Some row) = Some (refusals.Overlap row.segment.range)
@@ -94,16 +95,21 @@ posts_refusal objects segments flow serial (post ∷ later) =
 
 -- ---- the storing of an object
 
+-- Bytes are stored once: a stored object takes none. A PUT of equal bytes asks for no storing.
 abbrev pub keep_state : ObjectState → Option Refusal
 keep_state Allocated = None
 keep_state (Stored start size) = Some refusals.OtherBytes
 
+-- the refusal to store an object: it isn't kept, or it is stored already
 abbrev pub keep_refusal : Option ObjectRow → Option Refusal
 keep_refusal None = Some refusals.UnknownObject
 keep_refusal (Some row) = keep_state row.state
 
 -- ---- the refusal of each changing command
 
+-- The first refusal that stands of a changing command. That the flow is being deleted comes before all that
+-- the catalog refuses, and what the command brings is looked at last. An asking command has its refusals with
+-- what it shows.
 abbrev pub refusal_of : Library → Command → Option Refusal
 refusal_of library (commands.PutFlow body) = or_else (deleting_refusal library body.id) (put_refusal library.catalog body)
 refusal_of library (commands.SetFlow flow part) = or_else (deleting_refusal library flow) (set_refusal library.catalog flow part)
@@ -133,14 +139,16 @@ refusal_of library (commands.Request serial) = None
 
 -- ---- the reply and the change where nothing is refused
 
--- A reply, and the change that it answers, where there is one.
+-- a reply, and the change that it answers, where there is one
 pub record Outcome : Type 0 where
   pub reply : Reply
   pub change : Option Change
 
+-- a reply to a command that makes this change
 abbrev pub changed : Reply → Change → Outcome
 changed reply change = record { reply = reply; change = Some change }
 
+-- a reply to a command that leaves the library as it is
 abbrev pub unchanged : Reply → Outcome
 unchanged reply = record { reply = reply; change = None }
 
@@ -168,6 +176,8 @@ accepted_cut library flow range moment =
     then changed replies.Done (changes.CutSegments moment flow range)
     else accepted_request library flow range false moment
 
+-- The reply and the change of a changing command that nothing refuses. The lines of asking commands stand for
+-- nothing, since these are answered by what they show.
 abbrev pub accepted : Library → Command → ℕ → Outcome
 accepted library (commands.PutFlow body) moment =
     changed (created_unless (is_some (flow_of body.id library.catalog.flows))) (changes.PutFlow moment body)
@@ -204,10 +214,12 @@ abbrev pub shown_reply : Result View Refusal → Reply
 shown_reply (Ok view) = replies.Shown view
 shown_reply (Err refusal) = replies.Refused refusal
 
+-- the answer to a changing command: its refusal, which changes nothing, or what it makes
 abbrev pub changing_answer : Option Refusal → Outcome → Outcome
 changing_answer None outcome = outcome
 changing_answer (Some refusal) outcome = unchanged (replies.Refused refusal)
 
+-- an asking command is answered by what it shows, and a changing one by its refusal or by what it makes
 abbrev pub answer_by : Option (Result View Refusal) → Option Refusal → Outcome → Outcome
 answer_by None refusal outcome = changing_answer refusal outcome
 answer_by (Some shown) refusal outcome = unchanged (shown_reply shown)
@@ -227,10 +239,12 @@ placed_put (Some start) object size moment = changed replies.Created (changes.St
 abbrev pub stored_put : Bool → Outcome
 stored_put same = unchanged (if same then replies.Done else replies.Refused refusals.OtherBytes)
 
+-- an allocated object takes the bytes if there is a place, and a stored one only compares them
 abbrev pub put_by_state : ObjectState → Option ℕ → Bool → List ℕ → ℕ → ℕ → Outcome
 put_by_state Allocated place same object size moment = placed_put place object size moment
 put_by_state (Stored start kept) place same object size moment = stored_put same
 
+-- bytes for an object that isn't kept are refused, and others go by its state
 abbrev pub put_answer_by : Option ObjectRow → Option ℕ → Bool → List ℕ → ℕ → ℕ → Outcome
 put_answer_by None place same object size moment = unchanged (replies.Refused refusals.UnknownObject)
 put_answer_by (Some row) place same object size moment = put_by_state row.state place same object size moment
@@ -243,14 +257,16 @@ put_media_answer library held object bytes moment =
     (bytes_eq (bytes_of object library.objects held) bytes)
     object (length bytes) moment
 
--- the reply to a GET of an object's bytes: their length, where they are stored
+-- the length of an object's bytes, where they are stored; an allocated object has none to give
 abbrev pub media_of : ObjectState → Reply
 media_of Allocated = replies.Refused refusals.UnknownObject
 media_of (Stored start size) = replies.Media size
 
+-- the same of an object that may be missing, where one that isn't kept is as unknown as one without bytes
 abbrev pub media_reply : Option ObjectRow → Reply
 media_reply None = replies.Refused refusals.UnknownObject
 media_reply (Some row) = media_of row.state
 
+-- the reply to a GET of an object's bytes: their length, where the object is kept and stored
 abbrev pub get_media_reply : Library → List ℕ → Reply
 get_media_reply library object = media_reply (object_of object library.objects)

@@ -43,14 +43,17 @@ remove_flow flow moment library = record library {
 
 -- ---- the changes
 
+-- a flow is put: it comes, with its source where that is new too, or its body is replaced
 abbrev pub after_put_flow : ℕ → FlowBody → Library → Library
 after_put_flow moment body library =
     with_happened (put_events library.catalog body) moment (record library { catalog = after_put body moment library.catalog })
 
+-- a part of a flow is set or cleared
 abbrev pub after_set_flow : ℕ → ℕ → Part → Library → Library
 after_set_flow moment flow part library =
     with_happened (set_events library.catalog flow) moment (record library { catalog = after_set flow part moment library.catalog })
 
+-- a part of a source is set or cleared
 abbrev pub after_set_source_part : ℕ → ℕ → Part → Library → Library
 after_set_source_part moment source part library =
     with_happened (source_event SourceUpdated source ∷ []) moment (record library { catalog = after_set_source source part moment library.catalog })
@@ -61,12 +64,14 @@ after_drop_flow moment flow library =
     with_happened (drop_events library.catalog flow (segments_of flow library.segments)) moment
     (remove_flow flow moment (remove_segments (segments_of flow library.segments) moment library))
 
+-- objects without bytes come, with the next serials in list order; no event tells of them
 abbrev pub after_allocate : ℕ → List (List ℕ) → Library → Library
 after_allocate moment ids library = record library {
   objects = library.objects ++ allocated_rows library.next_serial moment ids;
   next_serial = library.next_serial + length ids;
 }
 
+-- an allocated object has its bytes at a place from now on; no event tells of it
 abbrev pub after_store : ℕ → List ℕ → ℕ → ℕ → Library → Library
 after_store moment object start size library = record library { objects = with_bytes object start size moment library.objects }
 
@@ -74,6 +79,7 @@ after_store moment object start size library = record library { objects = with_b
 abbrev pub added_rows : ℕ → List Segment → Library → List SegmentRow
 added_rows flow segments library = posted flow library.next_serial segments
 
+-- the segments of a post come to a flow; their event has the serials behind theirs
 abbrev pub after_add : ℕ → ℕ → List Segment → Library → Library
 after_add moment flow segments library =
     with_happened (added_events library.catalog flow (added_rows flow segments library)) moment (record library {
@@ -88,6 +94,7 @@ after_cut moment flow range library =
     with_happened (removed_events library.catalog flow (covered library.segments flow range)) moment
     (touch_flow flow (covered library.segments flow range) moment (remove_segments (covered library.segments flow range) moment library))
 
+-- a delete request comes, with the next serial; no segment goes yet, and no event tells of it
 abbrev pub after_ask : ℕ → ℕ → Option Span → Bool → Library → Library
 after_ask moment flow range delete_flow library = record library {
   requests = library.requests ++ asked_row flow range delete_flow library.next_serial moment ∷ [];
@@ -114,6 +121,7 @@ after_request_step moment request library =
     then with_happened (drop_events library.catalog request.flow removed) moment (remove_flow request.flow moment stepped)
     else with_happened (removed_events library.catalog request.flow removed) moment stepped
 
+-- a step of the request that is due; where none is, all stays
 abbrev pub after_step_of : Option DeleteRow → ℕ → Library → Library
 after_step_of None moment library = library
 after_step_of (Some request) moment library = after_request_step moment request library
@@ -129,12 +137,14 @@ abbrev pub after_sweep : ℕ → Library → Library
 after_sweep moment library =
     record library { objects = without_objects (swept_objects library.segments library.objects moment) library.objects }
 
+-- a hook comes, with the next serial, in place of the one of its address; no event tells of it
 abbrev pub after_hook : Hook → Library → Library
 after_hook hook library = record library {
   outbox = after_put_hook hook library.next_serial library.outbox;
   next_serial = library.next_serial + 1;
 }
 
+-- the hook of an address goes with the events that wait for it
 abbrev pub without_hook : List ℕ → Library → Library
 without_hook url library = record library { outbox = after_drop_hook url library.outbox }
 

@@ -5,9 +5,11 @@ use Rattle.media_rows.specs.declared.flow.Member.{Member}
 use Rattle.media_rows.specs.declared.flow.FlowRow.{FlowRow}
 use Rattle.media_rows.specs.Lists.{has_number}
 
+-- the flows that these entries collect, in the order of the entries
 abbrev pub member_ids : List Member → List ℕ
 member_ids members = map (λ m. m.flow) members
 
+-- a flow of this id is kept
 abbrev pub is_kept : List FlowRow → ℕ → Bool
 is_kept flows id = list_any (λ row. row.body.id == id) flows
 

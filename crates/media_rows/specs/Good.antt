@@ -33,6 +33,7 @@ use Rattle.media_rows.specs.Requests.{done_kept, is_unfinished, done_count}
 abbrev pub are_compatible : SegmentRow → SegmentRow → Bool
 are_compatible a b = not ((a.flow == b.flow) && overlaps a.segment.range b.segment.range)
 
+-- a segment is bounded at both ends, isn't never, and belongs to a kept flow
 abbrev pub is_segment_good : List FlowRow → SegmentRow → Bool
 is_segment_good flows row = has_both_ends row.segment.range && is_kept flows row.flow
 
@@ -70,6 +71,7 @@ are_extents_good blocks objects =
 abbrev pub rises_by : {X : Type 0} → (X → ℕ) → List X → Bool
 rises_by serial rows = rises (λ a b. nat_lt (serial a) (serial b)) rows
 
+-- objects, segments, delete requests, hooks and events stand by rising serial
 abbrev pub are_serials_in_order : Library → Bool
 are_serials_in_order library =
     rises_by (λ row. row.serial) library.objects
@@ -87,9 +89,11 @@ are_serials_good next serials =
 abbrev pub is_catalog_in_order : Catalog → Bool
 is_catalog_in_order catalog = rises source_before catalog.sources && rises flow_before catalog.flows
 
+-- no two objects have one id
 abbrev pub are_object_ids_distinct : List ObjectRow → Bool
 are_object_ids_distinct objects = are_distinct_texts (map (λ row. row.id) objects)
 
+-- no two hooks have one address
 abbrev pub are_urls_distinct : List HookRow → Bool
 are_urls_distinct hooks = are_distinct_texts (map (λ row. row.hook.url) hooks)
 
@@ -116,6 +120,7 @@ are_sources_good catalog =
 
 -- ---- 6. collections
 
+-- each flow that this one collects is kept, and no way through collections leads back to it
 abbrev pub is_collection_good : List FlowRow → FlowRow → Bool
 is_collection_good flows row =
     list_all (is_kept flows) (member_ids row.body.members) && not (collects_itself flows row.body.id row.body.members)
@@ -144,6 +149,7 @@ are_requests_good flows segments requests =
 
 -- ---- 8. hooks
 
+-- the hook for which an event waits is kept
 abbrev pub has_hook : List HookRow → EventRow → Bool
 has_hook hooks event = list_any (λ row. row.serial == event.hook) hooks
 
@@ -163,36 +169,45 @@ abbrev pub if_there : {X : Type 0} → (X → Bool) → Option X → Bool
 if_there test None = true
 if_there test (Some x) = test x
 
+-- a tag's name and its values are UTF-8
 abbrev pub is_tag_text : Tag → Bool
 is_tag_text tag = is_utf8 tag.name && list_all is_utf8 tag.values
 
+-- the role of a collected flow is UTF-8, where it has one
 abbrev pub is_member_text : Member → Bool
 is_member_text m = if_there is_utf8 m.role
 
+-- what a client says of a flow is UTF-8, and its essence text is one
 abbrev pub is_body_text : FlowBody → Bool
 is_body_text body =
     if_there is_utf8 body.codec && if_there is_utf8 body.container && if_there is_utf8 body.label
     && if_there is_utf8 body.description && list_all is_tag_text body.tags && list_all is_member_text body.members
     && if_there is_essence body.essence
 
+-- a flow's texts are good, and so are the moments of its making, of its last change and of its segments
 abbrev pub is_flow_text : FlowRow → Bool
 is_flow_text row =
     is_body_text row.body && is_moment row.created && is_moment row.metadata_updated && if_there is_moment row.segments_updated
 
+-- a source's texts are UTF-8, and the moments of its making and of its last change are moments
 abbrev pub is_source_text : SourceRow → Bool
 is_source_text row =
     if_there is_utf8 row.label && if_there is_utf8 row.description && list_all is_tag_text row.tags
     && is_moment row.created && is_moment row.updated
 
+-- an object's id has its form, and the moment since which it is idle is one
 abbrev pub is_object_text : ObjectRow → Bool
 is_object_text row = is_object_id row.id && is_moment row.idle_since
 
+-- a delete request has no text; when it was asked for and last worked off are moments
 abbrev pub is_request_text : DeleteRow → Bool
 is_request_text row = is_moment row.created && is_moment row.updated
 
+-- a hook's address is UTF-8, and so are the name and the value of its key, where they are there
 abbrev pub is_hook_text : HookRow → Bool
 is_hook_text row = is_utf8 row.hook.url && if_there is_utf8 row.hook.key_name && if_there is_utf8 row.hook.key_value
 
+-- an event has no text; when it happened is a moment
 abbrev pub is_event_text : EventRow → Bool
 is_event_text row = is_moment row.moment
 
@@ -209,6 +224,7 @@ are_texts_good library =
 
 -- ---- all nine
 
+-- a library to which the store may come: all nine parts hold
 pub record Good (library : Library) : Type 0 where
   pub segments : IsTrue (are_segments_good library.catalog.flows library.segments)
   pub references : IsTrue (are_references_good library.objects library.segments)

@@ -8,6 +8,8 @@ use Rattle.media_rows.specs.declared.segment.SegmentRow.{SegmentRow}
 use Rattle.media_rows.specs.Catalog.{Catalog}
 use Rattle.media_rows.specs.Outbox.{Outbox, Posted, after_post}
 
+-- the store's id, the number of its media blocks, its rows of each kind, and the serial that the next new row
+-- of a kind with serials gets
 pub record Library : Type 0 where
   pub id : ℕ
   pub blocks : ℕ
@@ -35,10 +37,11 @@ empty_library id blocks = record {
 abbrev pub last_serial : ℕ
 last_serial = 9223372036854775807
 
--- the library once these things happened at a moment: their events wait, with the next serials
+-- the library once events were posted: they wait, and the next serial stands behind theirs
 abbrev pub with_posted : Posted → Library → Library
 with_posted posted library = record library { outbox = posted.outbox; next_serial = posted.next }
 
+-- the library once these things happened at a moment: their events wait, with the next serials
 abbrev pub with_happened : List Happened → ℕ → Library → Library
 with_happened happened moment library =
     with_posted (after_post happened moment (record { outbox = library.outbox; next = library.next_serial })) library

@@ -10,9 +10,11 @@ use Rattle.media_rows.specs.Lists.{in_order, placed_all, numbers_below}
 
 -- ---- look-ups
 
+-- the object of an id, if it is kept, be it allocated or stored
 abbrev pub object_of : List ℕ → List ObjectRow → Option ObjectRow
 object_of id objects = find (λ row. bytes_eq row.id id) objects
 
+-- an object in this state has its bytes
 abbrev pub is_stored : ObjectState → Bool
 is_stored Allocated = false
 is_stored (Stored start size) = true
@@ -22,11 +24,13 @@ abbrev pub is_stored_row : Option ObjectRow → Bool
 is_stored_row None = false
 is_stored_row (Some row) = is_stored row.state
 
+-- the object of an id is kept, and its bytes are stored; no other may be named by a segment
 abbrev pub is_stored_object : List ObjectRow → List ℕ → Bool
 is_stored_object objects id = is_stored_row (object_of id objects)
 
 -- ---- references, counted by a scan of all segments
 
+-- the segments, of one flow or of several, that name the object
 abbrev pub references : List SegmentRow → List ℕ → List SegmentRow
 references segments object = filter (λ row. bytes_eq row.segment.object object) segments
 
@@ -34,6 +38,7 @@ references segments object = filter (λ row. bytes_eq row.segment.object object)
 abbrev pub reference_count : List SegmentRow → List ℕ → ℕ
 reference_count segments object = length (references segments object)
 
+-- some segment names the object
 abbrev pub is_named : List SegmentRow → List ℕ → Bool
 is_named segments object = list_any (λ row. bytes_eq row.segment.object object) segments
 
@@ -67,6 +72,7 @@ free_place objects blocks count =
 
 -- ---- what changes make
 
+-- the rows of an allocation, without bytes and idle since this moment, with rising serials in list order
 abbrev pub allocated_rows : ℕ → ℕ → List (List ℕ) → List ObjectRow
 allocated_rows serial moment [] = []
 allocated_rows serial moment (id ∷ later) = record { id = id; serial = serial; state = Allocated; idle_since = moment } ∷ allocated_rows (serial + 1) moment later
@@ -75,6 +81,7 @@ allocated_rows serial moment (id ∷ later) = record { id = id; serial = serial;
 abbrev pub stored_row : ℕ → ℕ → ℕ → ObjectRow → ObjectRow
 stored_row start size moment row = record row { state = Stored start size; idle_since = moment }
 
+-- the objects once the one of an id was stored at a place; all others stay
 abbrev pub with_bytes : List ℕ → ℕ → ℕ → ℕ → List ObjectRow → List ObjectRow
 with_bytes id start size moment objects =
     map (λ row. if bytes_eq row.id id then stored_row start size moment row else row) objects
@@ -84,6 +91,7 @@ abbrev pub idled_row : List SegmentRow → List SegmentRow → ℕ → ObjectRow
 idled_row before after moment row =
     if is_named before row.id && not (is_named after row.id) then record row { idle_since = moment } else row
 
+-- the objects once segments went; an object that was named by none before stays as it was
 abbrev pub idled : List SegmentRow → List SegmentRow → ℕ → List ObjectRow → List ObjectRow
 idled before after moment objects = map (idled_row before after moment) objects
 

@@ -11,6 +11,7 @@ use Rattle.media_rows.specs.declared.hook.HookRow.{HookRow}
 use Rattle.media_rows.specs.Formats.{event_number}
 use Rattle.media_rows.specs.Lists.{has_number}
 
+-- the hooks, and the events that wait for them, each by rising serial
 pub record Outbox : Type 0 where
   pub hooks : List HookRow
   pub events : List EventRow
@@ -19,21 +20,25 @@ pub record Outbox : Type 0 where
 abbrev pub most_waiting : ℕ
 most_waiting = 1000
 
+-- a hook has this address, which no other hook of a good library has
 abbrev pub has_url : List ℕ → HookRow → Bool
 has_url url row = bytes_eq row.hook.url url
 
+-- the hook of an address, if there is one
 abbrev pub hook_of : List ℕ → List HookRow → Option HookRow
 hook_of url hooks = find (has_url url) hooks
 
--- the events that wait for a hook, and their number
+-- the events that wait for the hook of a serial
 abbrev pub waiting_for : ℕ → List EventRow → List EventRow
 waiting_for hook events = filter (λ row. row.hook == hook) events
 
+-- the number of events that wait for the hook of a serial
 abbrev pub waiting_count : ℕ → List EventRow → ℕ
 waiting_count hook events = length (waiting_for hook events)
 
 -- ---- which hook takes what
 
+-- two kinds of event are the same, which their numbers tell
 abbrev pub same_event : EventKind → EventKind → Bool
 same_event a b = event_number a == event_number b
 
@@ -65,6 +70,7 @@ takes happened row =
 
 -- ---- posting
 
+-- what happened, as an event that waits for one hook under a serial of its own
 abbrev pub event_row : Happened → ℕ → HookRow → ℕ → EventRow
 event_row happened moment row serial = record {
   serial = serial;
@@ -80,6 +86,7 @@ abbrev pub events_for : Happened → ℕ → ℕ → List HookRow → List Event
 events_for happened moment serial [] = []
 events_for happened moment serial (row ∷ later) = event_row happened moment row serial ∷ events_for happened moment (serial + 1) later
 
+-- the events of one happening for the hooks that take it, by rising serial of the hooks
 abbrev pub new_events : Happened → ℕ → ℕ → List HookRow → List EventRow
 new_events happened moment serial hooks = events_for happened moment serial (filter (takes happened) hooks)
 
@@ -91,10 +98,11 @@ marked events row = record row { failed = row.failed || nat_le most_waiting (wai
 abbrev pub with_events : List EventRow → Outbox → Outbox
 with_events new outbox = record { hooks = map (marked (outbox.events ++ new)) outbox.hooks; events = outbox.events ++ new }
 
+-- the outbox once one thing happened: its events wait, and hooks that are full have failed
 abbrev pub after_one : Happened → ℕ → ℕ → Outbox → Outbox
 after_one happened moment serial outbox = with_events (new_events happened moment serial outbox.hooks) outbox
 
--- An outbox and the next serial.
+-- an outbox and the next serial
 pub record Posted : Type 0 where
   pub outbox : Outbox
   pub next : ℕ
@@ -110,16 +118,18 @@ after_post (happened ∷ later) moment posted =
 
 -- ---- hooks that come and go
 
--- the outbox without the hook of an address and its events
+-- the serials of the hooks of an address, by which their events are known
 abbrev pub gone_serials : List ℕ → List HookRow → List ℕ
 gone_serials url hooks = map (λ row. row.serial) (filter (has_url url) hooks)
 
+-- the outbox without the hook of an address and its events
 abbrev pub after_drop_hook : List ℕ → Outbox → Outbox
 after_drop_hook url outbox = record {
   hooks = filter (λ row. not (has_url url row)) outbox.hooks;
   events = filter (λ row. not (has_number row.hook (gone_serials url outbox.hooks))) outbox.events;
 }
 
+-- a hook that comes under a serial and hasn't failed
 abbrev pub hook_row : Hook → ℕ → HookRow
 hook_row hook serial = record { serial = serial; hook = hook; failed = false }
 

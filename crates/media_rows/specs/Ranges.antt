@@ -35,6 +35,7 @@ lower None b = None
 lower (Some a) None = None
 lower (Some a) (Some b) = Some (int_min a b)
 
+-- the higher of two high ends, where an open end goes furthest
 abbrev pub higher : Option ℤ → Option ℤ → Option ℤ
 higher None b = None
 higher (Some a) None = None
@@ -61,5 +62,6 @@ abbrev pub is_eternity : Option Span → Bool
 is_eternity None = false
 is_eternity (Some s) = is_none s.low && is_none s.high
 
+-- the range that is open at both ends, and so holds every point
 abbrev pub eternity : Option Span
 eternity = Some (record { low = None; high = None })

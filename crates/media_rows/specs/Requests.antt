@@ -16,14 +16,17 @@ step_size = 32
 abbrev pub done_kept : ℕ
 done_kept = 64
 
+-- a request in this state is worked off, or its flow is gone
 abbrev pub is_done : DeleteStatus → Bool
 is_done Created = false
 is_done Started = false
 is_done Done = true
 
+-- a request was asked for, and steps have yet to work it off
 abbrev pub is_unfinished : DeleteRow → Bool
 is_unfinished row = not (is_done row.status)
 
+-- the request of a serial, if it is kept, be it done or not
 abbrev pub request_of : ℕ → List DeleteRow → Option DeleteRow
 request_of serial requests = find (λ row. row.serial == serial) requests
 
@@ -76,6 +79,7 @@ is_finished_by_step segments request = nat_le (length (requested segments reques
 abbrev pub stepped_row : Bool → ℕ → DeleteRow → DeleteRow
 stepped_row finished moment row = record row { status = if finished then Done else Started; updated = moment }
 
+-- the requests after a step of the one of a serial; of more done ones than are kept, those of least serial go
 abbrev pub after_step : ℕ → Bool → ℕ → List DeleteRow → List DeleteRow
 after_step serial finished moment requests =
     newest_done (map (λ row. if row.serial == serial then stepped_row finished moment row else row) requests)
@@ -85,5 +89,6 @@ abbrev pub ended_row : ℕ → ℕ → DeleteRow → DeleteRow
 ended_row flow moment row =
     if is_unfinished row && (row.flow == flow) then record row { status = Done; updated = moment } else row
 
+-- the requests once a flow goes; of more done ones than are kept, those of least serial go
 abbrev pub after_end : ℕ → ℕ → List DeleteRow → List DeleteRow
 after_end flow moment requests = newest_done (map (ended_row flow moment) requests)

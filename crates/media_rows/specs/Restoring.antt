@@ -20,9 +20,11 @@ by_serial serial rows = in_order (λ a b. nat_lt (serial a) (serial b)) rows
 
 -- ---- the catalog
 
+-- the catalog of rows in any order: sources and flows by rising id
 abbrev pub catalog_of : List SourceRow → List FlowRow → Catalog
 catalog_of sources flows = record { sources = in_order source_before sources; flows = in_order flow_before flows }
 
+-- the parts of a good library that speak of the catalog alone: its sources and its collections
 abbrev pub is_catalog_good : Catalog → Bool
 is_catalog_good catalog = are_sources_good catalog && are_collections_good catalog.flows
 
@@ -33,6 +35,7 @@ can_restore_catalog sources flows =
 
 -- ---- objects and their references
 
+-- the objects of rows in any order, by rising serial
 abbrev pub objects_of : List ObjectRow → List ObjectRow
 objects_of objects = by_serial (λ row. row.serial) objects
 
@@ -43,6 +46,7 @@ can_restore_objects objects segments =
 
 -- ---- delete requests
 
+-- the delete requests of rows in any order, by rising serial
 abbrev pub requests_of : List DeleteRow → List DeleteRow
 requests_of requests = by_serial (λ row. row.serial) requests
 
@@ -52,6 +56,7 @@ can_restore_requests requests = are_distinct (map (λ row. row.serial) requests)
 
 -- ---- the outbox
 
+-- the outbox of rows in any order: hooks and events by rising serial
 abbrev pub outbox_of : List HookRow → List EventRow → Outbox
 outbox_of hooks events = record { hooks = by_serial (λ row. row.serial) hooks; events = by_serial (λ row. row.serial) events }
 

@@ -26,6 +26,7 @@ starts_before a b =
     low_before (low_of a.segment.range) (low_of b.segment.range)
     || (not (low_before (low_of b.segment.range) (low_of a.segment.range)) && nat_lt a.serial b.serial)
 
+-- the segments of one flow, by rising serial
 abbrev pub segments_of : ℕ → List SegmentRow → List SegmentRow
 segments_of flow segments = filter (λ row. row.flow == flow) segments
 
@@ -39,10 +40,11 @@ abbrev pub overlapping : List SegmentRow → ℕ → Option Span → Option (Lis
 overlapping segments flow range object =
     in_order starts_before (filter (λ row. overlaps row.segment.range range && names_object object row) (segments_of flow segments))
 
--- the page of those that is asked for, and the key of the next one
+-- a page of the segments of a flow that overlap a range and name the object, in the page's direction
 abbrev pub segment_page : List SegmentRow → ℕ → Option Span → Option (List ℕ) → Page → List SegmentRow
 segment_page segments flow range object page = page_items first_point page (overlapping segments flow range object)
 
+-- the first point after which the next of these pages begins, where a further segment lies behind
 abbrev pub segment_next_key : List SegmentRow → ℕ → Option Span → Option (List ℕ) → Page → Option ℤ
 segment_next_key segments flow range object page = next_key first_point page (overlapping segments flow range object)
 
@@ -51,10 +53,11 @@ abbrev pub covered : List SegmentRow → ℕ → Option Span → List SegmentRow
 covered segments flow range =
     in_order starts_before (filter (λ row. covers range row.segment.range) (segments_of flow segments))
 
--- the ranges of segments, and the least range that covers them all
+-- the ranges of segments, one for each
 abbrev pub ranges_of : List SegmentRow → List (Option Span)
 ranges_of segments = map (λ row. row.segment.range) segments
 
+-- the least range that covers all these segments, and never where there are none
 abbrev pub hull_of_segments : List SegmentRow → Option Span
 hull_of_segments segments = hull_of (ranges_of segments)
 

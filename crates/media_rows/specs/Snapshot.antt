@@ -53,6 +53,8 @@ row_before a b =
     || ((kind_number a == kind_number b)
     && (nat_lt (place_number a) (place_number b) || ((place_number a == place_number b) && low_before (place_point a) (place_point b))))
 
+-- the rows of all that a library keeps; its id and the number of its media blocks follow from the file's
+-- header
 abbrev pub rows_of : Library → List Row
 rows_of library =
     map rows.Source library.catalog.sources

@@ -48,10 +48,12 @@ matches_text None there = true
 matches_text (Some asked) None = false
 matches_text (Some asked) (Some there) = bytes_eq asked there
 
+-- a format that may be asked for is the one that is there
 abbrev pub matches_format : Option FormatKind → FormatKind → Bool
 matches_format None there = true
 matches_format (Some asked) there = same_format asked there
 
+-- an id that may be asked for is the one that is there
 abbrev pub matches_id : Option ℕ → ℕ → Bool
 matches_id None there = true
 matches_id (Some asked) there = asked == there
@@ -61,17 +63,21 @@ abbrev pub has_value : List ℕ → Option Tag → Bool
 has_value value None = false
 has_value value (Some tag) = has_text value tag.values
 
+-- the tag of a name has the value, or the tag is there exactly where that is asked for
 abbrev pub passes_tag : List Tag → TagTest → Bool
 passes_tag tags (Equals name value) = has_value value (tag_of name tags)
 passes_tag tags (Exists name there) = beq (is_some (tag_of name tags)) there
 
+-- tags pass each of the tests
 abbrev pub passes_tags : List Tag → List TagTest → Bool
 passes_tags tags tests = list_all (passes_tag tags) tests
 
+-- a source has the format and the whole label that are asked for, and its tags pass
 abbrev pub passes_source : SourceFilter → SourceRow → Bool
 passes_source wanted row =
     matches_format wanted.format row.format && matches_text wanted.label row.label && passes_tags row.tags wanted.tags
 
+-- a flow has the source, the format and the whole codec and label that are asked for, and its tags pass
 abbrev pub passes_flow : FlowFilter → FlowRow → Bool
 passes_flow wanted row =
     matches_id wanted.source row.body.source
@@ -91,23 +97,28 @@ passes_range segments (Some range) row = list_any (λ s. overlaps s.segment.rang
 abbrev pub id_key : ℕ → ℤ
 id_key id = pos id -ℤ pos (2 ^ 127)
 
+-- the key by which sources come in pages
 abbrev pub source_key : SourceRow → ℤ
 source_key row = id_key row.id
 
+-- the key by which flows come in pages
 abbrev pub flow_key : FlowRow → ℤ
 flow_key row = id_key row.body.id
 
+-- the sources that pass, by rising id
 abbrev pub listed_sources : Library → SourceFilter → List SourceRow
 listed_sources library wanted = filter (passes_source wanted) library.catalog.sources
 
+-- the flows that pass, with a segment in the range where one is asked for, by rising id
 abbrev pub listed_flows : Library → FlowFilter → Option (Option Span) → List FlowRow
 listed_flows library wanted range =
     filter (λ row. passes_flow wanted row && passes_range library.segments range row) library.catalog.flows
 
--- a flow with the hull of its segments, and a hook with the number of its waiting events
+-- a flow with the hull of its segments
 abbrev pub shown_flow : List SegmentRow → FlowRow → FlowShown
 shown_flow segments row = record { row = row; hull = hull_of_segments (segments_of row.body.id segments) }
 
+-- a hook with the number of its waiting events
 abbrev pub shown_hook : Library → HookRow → HookShown
 shown_hook library row = record { row = row; waiting = waiting_count row.serial library.outbox.events }
 
@@ -118,18 +129,23 @@ abbrev pub part_or : Option Part → List ℕ → Result View Refusal
 part_or None name = Err (refusals.NotSet name)
 part_or (Some part) name = Ok (views.OnePart part)
 
+-- a text of a flow or of a source as a part, where it is set
 abbrev pub text_part : (Option (List ℕ) → Part) → Option (List ℕ) → Option Part
 text_part make text = option_map (λ t. make (Some t)) text
 
+-- a bit rate of a flow as a part, where it is set
 abbrev pub rate_part : (Option ℕ → Part) → Option ℕ → Option Part
 rate_part make rate = option_map (λ r. make (Some r)) rate
 
+-- the tag of a name as a part, where it is set
 abbrev pub tag_part : List ℕ → Option Tag → Option Part
 tag_part name tag = option_map (λ t. parts.Tag name (Some t)) tag
 
+-- the collected flows as a part, which is set where there are any
 abbrev pub collection_part : List Member → Option Part
 collection_part members = if length members == 0 then None else Some (parts.Collection members)
 
+-- a part of a flow, where it is set; the mark and the list of all tags are there always
 abbrev pub flow_part : FlowBody → PartName → Result View Refusal
 flow_part body (names.Tag name) = part_or (tag_part name (tag_of name body.tags)) (codes "tags")
 flow_part body names.Tags = Ok (views.AllTags body.tags)
@@ -158,17 +174,21 @@ abbrev pub kept_or : {X : Type 0} → Refusal → (X → Result View Refusal) �
 kept_or refusal show None = Err refusal
 kept_or refusal show (Some kept) = show kept
 
+-- a page of a flow's segments, with the key of the next page
 abbrev pub shown_segments : Library → ℕ → SegmentFilter → Page → View
 shown_segments library flow wanted page =
     views.Segments (segment_page library.segments flow wanted.range wanted.object page) (segment_next_key library.segments flow wanted.range wanted.object page)
 
+-- a page of sources, with the key of the next page
 abbrev pub shown_sources : Page → List SourceRow → View
 shown_sources page rows = views.Sources (page_items source_key page rows) (next_key source_key page rows)
 
+-- a page of flows, each with its hull, with the key of the next page
 abbrev pub shown_flows : Library → Page → List FlowRow → View
 shown_flows library page rows =
     views.Flows (map (shown_flow library.segments) (page_items flow_key page rows)) (next_key flow_key page rows)
 
+-- an object with the flows whose segments name it, by rising id
 abbrev pub shown_object : Library → ObjectRow → View
 shown_object library row = views.Object row (flows_naming library.segments row.id)
 
