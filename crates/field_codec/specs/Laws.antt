@@ -6,6 +6,8 @@ use Rattle.field_codec.specs.Format.{Format, Begins}
 abbrev pub IsBytes : List ℕ → Type 0
 IsBytes bytes = (i : ℕ) → get_or bytes i 0 < 256
 
+-- The members of a format agree: bytes are read exactly as they are spelled and exactly up to their fault, and
+-- what is written is the spelling.
 pub record Lawful {A : Type 0} (f : Format A) : Type 0 where
   -- what is read is spelled so
   pub takes : (bytes : List ℕ) (x : A) (rest : List ℕ) → IsBytes bytes → f.read bytes ≡ Ok (x, rest) → Begins f bytes x rest
