@@ -12,12 +12,12 @@ use Rattle.field_codec.specs.Format.{Format, pair, via, either, no_kind}
 use Rattle.field_codec.specs.Leaves.{u64_format, u128_format, bool_format, text_format, range_format, listed}
 use Rattle.change_codec.specs.Values.{flow_format, segment_format, flow_part_format, source_part_format, hook_format}
 
--- the moment and the fields of each kind of change, in the order of the kinds: from the seventh on
+-- the moment and the fields of each kind of change from the seventh on, in the order of the kinds
 abbrev pub LaterFields : Type 0
 LaterFields =
     (ℕ × (ℕ × List Segment)) ⊎ ((ℕ × (ℕ × Option Span)) ⊎ ((ℕ × (ℕ × (Option Span × Bool))) ⊎ (ℕ ⊎ (ℕ ⊎ ((ℕ × Hook) ⊎ ((ℕ × List ℕ) ⊎ ⊥))))))
 
--- and all of them
+-- the moment and the fields of each kind of change, in the order of the kinds
 abbrev pub ChangeFields : Type 0
 ChangeFields =
     (ℕ × FlowBody) ⊎ ((ℕ × (ℕ × Part)) ⊎ ((ℕ × (ℕ × Part)) ⊎ ((ℕ × ℕ) ⊎ ((ℕ × (ℕ × List (List ℕ))) ⊎ ((ℕ × (List ℕ × (ℕ × ℕ))) ⊎ LaterFields)))))

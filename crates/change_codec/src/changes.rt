@@ -1,7 +1,6 @@
 //! The fields of each kind of change.
-ghost use Rattle.std.specs.Prelude.{◌≡◌, ◌∷◌, ◌++◌, [], OnOk};
+ghost use Rattle.std.specs.Prelude.{◌≡◌, ◌∷◌, OnOk};
 ghost use Rattle.media_rows.specs.Changes.{moment_of};
-ghost use Rattle.field_codec.specs.Leaves.{u64_format};
 ghost use Rattle.field_codec.specs.Format.{pair};
 ghost use Rattle.field_codec.specs.Reading.{Gives, Wrote};
 ghost use Rattle.change_codec.specs.Changes.{change_kind, change_format};
