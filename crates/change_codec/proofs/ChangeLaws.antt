@@ -14,9 +14,11 @@ use Rattle.change_codec.specs.Values.{flow_format, segment_format, flow_part_for
 use Rattle.change_codec.specs.Changes.{LaterFields, ChangeFields, later_change, change_of, change_fields, at_moment, later_format, change_format}
 use Rattle.change_codec.proofs.ValueLaws.{flow_lawful, segment_lawful, flow_part_lawful, source_part_lawful, hook_lawful}
 
+-- a moment before a lawful format
 at_moment_lawful : {A : Type 0} (f : Format A) → Lawful f → Lawful (at_moment f)
 at_moment_lawful f law = pair_lawful u64_format f u64_lawful law
 
+-- the later kinds begin with 7 or more
 later_kinds : Kinds 7 later_format
 unfolding later_format
 later_kinds =
@@ -30,6 +32,7 @@ later_kinds =
     (one_kind 12 13 (at_moment hook_format) _ (omega arith) (at_moment_lawful _ hook_lawful)
     (one_kind 13 14 (at_moment text_format) no_kind (omega arith) (at_moment_lawful _ text_lawful) (no_kinds 14)))))))
 
+-- a later change has the fields that it was made of
 fields-later : (p : LaterFields) → change_fields (later_change p) ≡ inr (inr (inr (inr (inr (inr p)))))
 fields-later (inl p) = refl
 fields-later (inr (inl p)) = refl
@@ -40,6 +43,7 @@ fields-later (inr (inr (inr (inr (inr (inl p)))))) = refl
 fields-later (inr (inr (inr (inr (inr (inr (inl p))))))) = refl
 fields-later (inr (inr (inr (inr (inr (inr (inr x))))))) = absurd x
 
+-- a change has the fields that it was made of
 fields-change : (p : ChangeFields) → change_fields (change_of p) ≡ p
 fields-change (inl p) = refl
 fields-change (inr (inl p)) = refl
@@ -49,6 +53,7 @@ fields-change (inr (inr (inr (inr (inl p))))) = refl
 fields-change (inr (inr (inr (inr (inr (inl p)))))) = refl
 fields-change (inr (inr (inr (inr (inr (inr p)))))) = fields-later p
 
+-- a change is the one with its fields
 change-fields : (c : Change) → change_of (change_fields c) ≡ c
 change-fields (changes.PutFlow moment flow) = refl
 change-fields (changes.SetFlow moment flow part) = refl
@@ -64,6 +69,7 @@ change-fields (changes.SweepStep moment) = refl
 change-fields (changes.PutHook moment hook) = refl
 change-fields (changes.DropHook moment url) = refl
 
+-- A change is read exactly as it is spelled and exactly up to its fault, and written as it is spelled.
 pub change_lawful : Lawful change_format
 unfolding change_format
 change_lawful =

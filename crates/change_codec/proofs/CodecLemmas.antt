@@ -3,15 +3,19 @@ use Rattle.std.proofs.Common.{◌≡◌, ◌-◌, ℕ, List, [], ◌++◌, lengt
 use Rattle.std.proofs.lemmas.List.{append-nil}
 use Rattle.media_rows.specs.declared.change.Change.{Change}
 use Rattle.media_rows.specs.declared.row.Row.{Row}
-use Rattle.field_codec.specs.Format.{Spells, WholeFault}
-use Rattle.field_codec.specs.Laws.{IsBytes}
+use Rattle.field_codec.specs.Format.{Format, Spells, WholeFault}
+use Rattle.field_codec.specs.Laws.{IsBytes, Lawful}
 use Rattle.field_codec.specs.Reading.{Wrote}
-use Rattle.field_codec.proofs.Wholes.{one_front, one_value, one_place, one_whole_place, less_left, fault_within, fault_begins_none, whole_within}
+use Rattle.field_codec.proofs.Wholes.{one_front, one_value, one_place, one_whole_place, left_over, less_left, fault_within, fault_begins_none, whole_within}
 use Rattle.change_codec.specs.Changes.{change_format}
 use Rattle.change_codec.specs.Rows.{row_format}
 use Rattle.change_codec.specs.Codec.{ChangeFaultAt, BeginsWithRow, AppendsRow, RowFaultAt}
 use Rattle.change_codec.proofs.ChangeLaws.{change_lawful}
 use Rattle.change_codec.proofs.RowLaws.{row_lawful}
+
+-- where bytes remain behind a value that was read, the first of them is the place of the fault
+pub bytes_remain : {A : Type 0} (f : Format A) (bytes rest : List ℕ) (x : A) (left : ℕ) → Lawful f → IsBytes bytes → f.read bytes ≡ Ok (x, rest) → left ≡ length rest → (left ≡ 0 → ⊥) → WholeFault f bytes left
+bytes_remain f bytes rest x left law is e size some = rw size (left_over f law bytes rest x is e (λ none. some (size ∙ none)))
 
 -- ---- changes
 

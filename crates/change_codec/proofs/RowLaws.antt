@@ -108,6 +108,7 @@ sized_laws {A = A} f = record {
   writable = λ y fits has. u32_below (length (f.spell y)) fits.0;
 }
 
+-- fields behind their length, where the fields are lawful
 pub sized_lawful : {A : Type 0} (f : Format A) → Lawful f → Lawful (sized f)
 sized_lawful f law =
     narrowed_lawful (measured f.spell) (λ x. (length (f.spell x), x)) (λ x. Unit {0}) (λ x. length (f.spell x) < 2 ^ 32) (pair u32_format f) (sized_laws f)
@@ -115,6 +116,7 @@ sized_lawful f law =
 
 -- ---- rows
 
+-- a row has the fields that it was made of
 fields-row : (p : RowFields) → row_fields (row_of p) ≡ p
 fields-row (inl p) = refl
 fields-row (inr (inl p)) = refl
@@ -126,6 +128,7 @@ fields-row (inr (inr (inr (inr (inr (inr (inl p))))))) = refl
 fields-row (inr (inr (inr (inr (inr (inr (inr (inl p)))))))) = refl
 fields-row (inr (inr (inr (inr (inr (inr (inr (inr x)))))))) = absurd x
 
+-- a row is the one with its fields
 row-fields : (r : Row) → row_of (row_fields r) ≡ r
 row-fields (rows.Source row) = refl
 row-fields (rows.Flow row) = refl
@@ -136,6 +139,7 @@ row-fields (rows.Hook row) = refl
 row-fields (rows.Event row) = refl
 row-fields (rows.Numbers serial) = refl
 
+-- A row is read exactly as it is spelled and exactly up to its fault, and written as it is spelled.
 pub row_lawful : Lawful row_format
 unfolding row_format
 row_lawful =

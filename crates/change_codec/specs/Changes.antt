@@ -12,16 +12,17 @@ use Rattle.field_codec.specs.Format.{Format, pair, via, either, no_kind}
 use Rattle.field_codec.specs.Leaves.{u64_format, u128_format, bool_format, text_format, range_format, listed}
 use Rattle.change_codec.specs.Values.{flow_format, segment_format, flow_part_format, source_part_format, hook_format}
 
--- the moment and the fields of each kind of change, in the order of the kinds: from the seventh on
+-- the moment and the fields of each kind of change from the seventh on, in the order of the kinds
 abbrev pub LaterFields : Type 0
 LaterFields =
     (ℕ × (ℕ × List Segment)) ⊎ ((ℕ × (ℕ × Option Span)) ⊎ ((ℕ × (ℕ × (Option Span × Bool))) ⊎ (ℕ ⊎ (ℕ ⊎ ((ℕ × Hook) ⊎ ((ℕ × List ℕ) ⊎ ⊥))))))
 
--- and all of them
+-- the moment and the fields of each kind of change, in the order of the kinds
 abbrev pub ChangeFields : Type 0
 ChangeFields =
     (ℕ × FlowBody) ⊎ ((ℕ × (ℕ × Part)) ⊎ ((ℕ × (ℕ × Part)) ⊎ ((ℕ × ℕ) ⊎ ((ℕ × (ℕ × List (List ℕ))) ⊎ ((ℕ × (List ℕ × (ℕ × ℕ))) ⊎ LaterFields)))))
 
+-- the change with these fields, of a kind from the seventh on
 abbrev pub later_change : LaterFields → Change
 later_change (inl p) = changes.AddSegments p.0 p.1.0 p.1.1
 later_change (inr (inl p)) = changes.CutSegments p.0 p.1.0 p.1.1
@@ -32,6 +33,7 @@ later_change (inr (inr (inr (inr (inr (inl p)))))) = changes.PutHook p.0 p.1
 later_change (inr (inr (inr (inr (inr (inr (inl p))))))) = changes.DropHook p.0 p.1
 later_change (inr (inr (inr (inr (inr (inr (inr x))))))) = absurd x
 
+-- the change with these fields
 abbrev pub change_of : ChangeFields → Change
 change_of (inl p) = changes.PutFlow p.0 p.1
 change_of (inr (inl p)) = changes.SetFlow p.0 p.1.0 p.1.1
@@ -41,6 +43,7 @@ change_of (inr (inr (inr (inr (inl p))))) = changes.Allocate p.0 p.1.0 p.1.1
 change_of (inr (inr (inr (inr (inr (inl p)))))) = changes.Store p.0 p.1.0 p.1.1.0 p.1.1.1
 change_of (inr (inr (inr (inr (inr (inr p)))))) = later_change p
 
+-- the fields of a change
 abbrev pub change_fields : Change → ChangeFields
 change_fields (changes.PutFlow moment flow) = inl (moment, flow)
 change_fields (changes.SetFlow moment flow part) = inr (inl (moment, (flow, part)))
@@ -60,6 +63,8 @@ change_fields (changes.DropHook moment url) = inr (inr (inr (inr (inr (inr (inr 
 abbrev pub at_moment : {A : Type 0} → Format A → Format (ℕ × A)
 at_moment f = pair u64_format f
 
+-- the kinds from the seventh on: segments added, segments cut, a delete request, a step of deleting, a step of
+-- sweeping, a hook put, a hook dropped
 unfoldable pub later_format : Format LaterFields
 later_format =
     either 7 (at_moment (pair u128_format (listed segment_format)))
@@ -70,6 +75,24 @@ later_format =
     (either 12 (at_moment hook_format)
     (either 13 (at_moment text_format) no_kind))))))
 
+-- the number of a change's kind
+abbrev pub change_kind : Change → ℕ
+change_kind (changes.PutFlow moment flow) = 1
+change_kind (changes.SetFlow moment flow part) = 2
+change_kind (changes.SetSource moment source part) = 3
+change_kind (changes.DropFlow moment flow) = 4
+change_kind (changes.Allocate moment flow objects) = 5
+change_kind (changes.Store moment object start size) = 6
+change_kind (changes.AddSegments moment flow segments) = 7
+change_kind (changes.CutSegments moment flow range) = 8
+change_kind (changes.AskDelete moment flow range delete_flow) = 9
+change_kind (changes.DeleteStep moment) = 10
+change_kind (changes.SweepStep moment) = 11
+change_kind (changes.PutHook moment hook) = 12
+change_kind (changes.DropHook moment url) = 13
+
+-- one byte of kind, the moment, and the fields: a flow put, a part of a flow set, a part of a source set, a
+-- flow dropped, objects allocated, an object stored, and the later kinds
 unfoldable pub change_format : Format Change
 change_format = via change_of change_fields
     (either 1 (at_moment flow_format)

@@ -11,8 +11,8 @@ abbrev pub SpellsChange : List ℕ → Change → Type 0
 SpellsChange bytes change = Spells change_format bytes change
 
 -- The change can be written: its tags rise by name and a single one has one value, the name beside a tag is the
--- tag's, a source's part is one of a source's, and each text has fewer than 2 ^ 32 bytes and each list fewer
--- items than that.
+-- tag's, a part of a source is a tag, a label or a description, and each text has fewer than 2 ^ 32 bytes and
+-- each list fewer items than that.
 abbrev pub CanWriteChange : Change → Type 0
 CanWriteChange change = change_format.asks change
 

@@ -44,11 +44,13 @@ flow_row_format = via
     (λ row. (row.body, (row.created, (row.metadata_updated, row.segments_updated))))
     (pair flow_format (pair u64_format (pair u64_format (optional u64_format))))
 
+-- the state with these values: none where allocated, the first block and the length where stored
 abbrev pub state_of : Unit {0} ⊎ ((ℕ × ℕ) ⊎ ⊥) → ObjectState
 state_of (inl x) = Allocated
 state_of (inr (inl p)) = Stored p.0 p.1
 state_of (inr (inr x)) = absurd x
 
+-- the values of a state
 abbrev pub state_values : ObjectState → Unit {0} ⊎ ((ℕ × ℕ) ⊎ ⊥)
 state_values Allocated = inl tt
 state_values (Stored start size) = inr (inl (start, size))
@@ -71,9 +73,11 @@ segment_row_format = via
     (λ row. (row.flow, (row.serial, row.segment)))
     (pair u128_format (pair u64_format segment_format))
 
+-- each status of a delete request
 abbrev pub all_statuses : List DeleteStatus
 all_statuses = Created ∷ Started ∷ Done ∷ []
 
+-- a status as its number
 unfoldable pub status_format : Format DeleteStatus
 status_format = one_of status_number all_statuses
 
@@ -115,6 +119,7 @@ sized f = narrowed (measured f.spell) (λ x. (length (f.spell x), x)) (λ x. Uni
 abbrev pub RowFields : Type 0
 RowFields = SourceRow ⊎ (FlowRow ⊎ (ObjectRow ⊎ (SegmentRow ⊎ (DeleteRow ⊎ (HookRow ⊎ (EventRow ⊎ (ℕ ⊎ ⊥)))))))
 
+-- the row with these fields
 abbrev pub row_of : RowFields → Row
 row_of (inl row) = rows.Source row
 row_of (inr (inl row)) = rows.Flow row
@@ -126,6 +131,7 @@ row_of (inr (inr (inr (inr (inr (inr (inl row))))))) = rows.Event row
 row_of (inr (inr (inr (inr (inr (inr (inr (inl serial)))))))) = rows.Numbers serial
 row_of (inr (inr (inr (inr (inr (inr (inr (inr x)))))))) = absurd x
 
+-- the fields of a row
 abbrev pub row_fields : Row → RowFields
 row_fields (rows.Source row) = inl row
 row_fields (rows.Flow row) = inr (inl row)
@@ -136,6 +142,7 @@ row_fields (rows.Hook row) = inr (inr (inr (inr (inr (inl row)))))
 row_fields (rows.Event row) = inr (inr (inr (inr (inr (inr (inl row))))))
 row_fields (rows.Numbers serial) = inr (inr (inr (inr (inr (inr (inr (inl serial)))))))
 
+-- one byte of kind, and the fields of that kind behind their length
 unfoldable pub row_format : Format Row
 row_format = via row_of row_fields
     (either 1 (sized source_row_format)

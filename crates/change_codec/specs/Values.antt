@@ -20,17 +20,21 @@ use Rattle.field_codec.specs.Leaves.{u64_format, u128_format, bool_format, ts_fo
 
 -- ---- formats and events
 
+-- each format of an essence
 abbrev pub all_formats : List FormatKind
 all_formats = formats.Video ∷ formats.Audio ∷ formats.DataEssence ∷ formats.Multi ∷ formats.Image ∷ []
 
+-- a format as its number
 unfoldable pub kind_format : Format FormatKind
 kind_format = one_of format_number all_formats
 
+-- each kind of event
 abbrev pub all_events : List EventKind
 all_events =
     events.FlowCreated ∷ events.FlowUpdated ∷ events.FlowDeleted ∷ events.SegmentsAdded ∷ events.SegmentsDeleted
     ∷ events.SourceCreated ∷ events.SourceUpdated ∷ events.SourceDeleted ∷ []
 
+-- a kind of event as its number
 unfoldable pub event_format : Format EventKind
 event_format = one_of event_number all_events
 
@@ -70,6 +74,7 @@ member_format = via
 unfoldable pub flow_head_format : Format (ℕ × (ℕ × (FormatKind × Bool)))
 flow_head_format = pair u128_format (pair u128_format (pair kind_format bool_format))
 
+-- a text that may be absent
 abbrev pub TextOption : Type 0
 TextOption = Option (List ℕ)
 
@@ -81,6 +86,7 @@ flow_texts_format = pair (optional text_format) (pair (optional text_format) (pa
 unfoldable pub flow_rest_format : Format (Option ℕ × (Option ℕ × (List Tag × (List Member × TextOption))))
 flow_rest_format = pair (optional u64_format) (pair (optional u64_format) (pair tags_format (pair (listed member_format) (optional text_format))))
 
+-- the head, the texts and the rest of a flow
 unfoldable pub flow_format : Format FlowBody
 flow_format = via
     (λ p. record {
@@ -149,6 +155,7 @@ tag_part_format = followed text_format (λ name. optional (named_tag name))
 abbrev pub PartValues : Type 0
 PartValues = (List ℕ × Option Tag) ⊎ (TextOption ⊎ (TextOption ⊎ (Bool ⊎ (List Member ⊎ (Option ℕ ⊎ (Option ℕ ⊎ ⊥))))))
 
+-- the part with these values
 abbrev pub part_of : PartValues → Part
 part_of (inl p) = parts.Tag p.0 p.1
 part_of (inr (inl text)) = parts.Label text
@@ -159,6 +166,7 @@ part_of (inr (inr (inr (inr (inr (inl rate)))))) = parts.MaxBitRate rate
 part_of (inr (inr (inr (inr (inr (inr (inl rate))))))) = parts.AvgBitRate rate
 part_of (inr (inr (inr (inr (inr (inr (inr x))))))) = absurd x
 
+-- the values of a part
 abbrev pub part_values : Part → PartValues
 part_values (parts.Tag name tag) = inl (name, tag)
 part_values (parts.Label text) = inr (inl text)

@@ -1,8 +1,9 @@
 //! The fields of each kind of change.
-ghost use Rattle.std.specs.Prelude.{◌≡◌, ◌∷◌, ◌++◌, [], OnOk};
-ghost use Rattle.field_codec.specs.Leaves.{u64_format};
+ghost use Rattle.std.specs.Prelude.{◌≡◌, ◌∷◌, OnOk};
+ghost use Rattle.media_rows.specs.Changes.{moment_of};
+ghost use Rattle.field_codec.specs.Format.{pair};
 ghost use Rattle.field_codec.specs.Reading.{Gives, Wrote};
-ghost use Rattle.change_codec.specs.Changes.{change_format};
+ghost use Rattle.change_codec.specs.Changes.{change_kind, change_format};
 
 use crate::field::Field;
 use crate::parts::{read_source_part, write_source_part};
@@ -18,181 +19,239 @@ impl Field for Change {
     fn read_from(alloc: Global, input: &mut Cursor) -> Result<Change, ReadFault> {
         let left = input.left();
         match input.first() {
-            Some(1) => {
-                let (moment, flow) = Field::read_from(alloc, input)?;
-                Ok(Change::PutFlow { moment, flow })
-            }
-            Some(2) => {
-                let (moment, (flow, part)) = Field::read_from(alloc, input)?;
-                Ok(Change::SetFlow { moment, flow, part })
-            }
-            Some(3) => {
-                let (moment, source) = Field::read_from(alloc, input)?;
-                let part = read_source_part(alloc, input)?;
-                Ok(Change::SetSource {
-                    moment,
-                    source,
-                    part,
-                })
-            }
-            Some(4) => {
-                let (moment, flow) = Field::read_from(alloc, input)?;
-                Ok(Change::DropFlow { moment, flow })
-            }
-            Some(5) => {
-                let (moment, (flow, objects)) = Field::read_from(alloc, input)?;
-                Ok(Change::Allocate {
-                    moment,
-                    flow,
-                    objects,
-                })
-            }
-            Some(6) => {
-                let (moment, (object, (start_block, length))) = Field::read_from(alloc, input)?;
-                Ok(Change::Store {
-                    moment,
-                    object,
-                    start_block,
-                    length,
-                })
-            }
-            Some(7) => {
-                let (moment, (flow, segments)) = Field::read_from(alloc, input)?;
-                Ok(Change::AddSegments {
-                    moment,
-                    flow,
-                    segments,
-                })
-            }
-            Some(8) => {
-                let (moment, (flow, range)) = Field::read_from(alloc, input)?;
-                Ok(Change::CutSegments {
-                    moment,
-                    flow,
-                    range,
-                })
-            }
-            Some(9) => {
-                let (moment, (flow, (range, delete_flow))) = Field::read_from(alloc, input)?;
-                Ok(Change::AskDelete {
-                    moment,
-                    flow,
-                    range,
-                    delete_flow,
-                })
-            }
-            Some(10) => Ok(Change::DeleteStep {
-                moment: Field::read_from(alloc, input)?,
-            }),
-            Some(11) => Ok(Change::SweepStep {
-                moment: Field::read_from(alloc, input)?,
-            }),
-            Some(12) => {
-                let (moment, hook) = Field::read_from(alloc, input)?;
-                Ok(Change::PutHook { moment, hook })
-            }
-            Some(13) => {
-                let (moment, url) = Field::read_from(alloc, input)?;
-                Ok(Change::DropHook { moment, url })
-            }
+            Some(1) => read_put_flow(alloc, input),
+            Some(2) => read_set_flow(alloc, input),
+            Some(3) => read_set_source(alloc, input),
+            Some(4) => read_drop_flow(alloc, input),
+            Some(5) => read_allocate(alloc, input),
+            Some(6) => read_store(alloc, input),
+            Some(7) => read_add_segments(alloc, input),
+            Some(8) => read_cut_segments(alloc, input),
+            Some(9) => read_ask_delete(alloc, input),
+            Some(10) => read_delete_step(alloc, input),
+            Some(11) => read_sweep_step(alloc, input),
+            Some(12) => read_put_hook(alloc, input),
+            Some(13) => read_drop_hook(alloc, input),
             _ => Err(BadField { left })?,
         }
     }
 
     #[tactic(auto, unfolding(crate::specs::Changes::change_format, crate::specs::Changes::later_format))]
     fn write_to(&self, out: &mut Text) -> Result<(), Memory> {
+        out.push(kind_of(self))?;
+        write_u64(out, moment_of(self))?;
         match self {
-            Change::PutFlow { moment, flow } => {
-                start(1, *moment, out)?;
-                flow.write_to(out)?;
-            }
-            Change::SetFlow { moment, flow, part } => {
-                start(2, *moment, out)?;
-                flow.write_to(out)?;
-                part.write_to(out)?;
-            }
-            Change::SetSource {
-                moment,
-                source,
-                part,
-            } => {
-                start(3, *moment, out)?;
+            Change::PutFlow { flow, .. } => flow.write_to(out),
+            Change::SetFlow { flow, part, .. } => write_both(flow, part, out),
+            Change::SetSource { source, part, .. } => {
                 source.write_to(out)?;
-                write_source_part(part, out)?;
+                write_source_part(part, out)
             }
-            Change::DropFlow { moment, flow } => {
-                start(4, *moment, out)?;
-                flow.write_to(out)?;
-            }
-            Change::Allocate {
-                moment,
-                flow,
-                objects,
-            } => {
-                start(5, *moment, out)?;
-                flow.write_to(out)?;
-                objects.write_to(out)?;
-            }
+            Change::DropFlow { flow, .. } => flow.write_to(out),
+            Change::Allocate { flow, objects, .. } => write_both(flow, objects, out),
             Change::Store {
-                moment,
                 object,
                 start_block,
                 length,
+                ..
             } => {
-                start(6, *moment, out)?;
                 object.write_to(out)?;
-                start_block.write_to(out)?;
-                length.write_to(out)?;
+                write_both(start_block, length, out)
             }
-            Change::AddSegments {
-                moment,
-                flow,
-                segments,
-            } => {
-                start(7, *moment, out)?;
-                flow.write_to(out)?;
-                segments.write_to(out)?;
-            }
-            Change::CutSegments {
-                moment,
-                flow,
-                range,
-            } => {
-                start(8, *moment, out)?;
-                flow.write_to(out)?;
-                range.write_to(out)?;
-            }
+            Change::AddSegments { flow, segments, .. } => write_both(flow, segments, out),
+            Change::CutSegments { flow, range, .. } => write_both(flow, range, out),
             Change::AskDelete {
-                moment,
                 flow,
                 range,
                 delete_flow,
+                ..
             } => {
-                start(9, *moment, out)?;
                 flow.write_to(out)?;
-                range.write_to(out)?;
-                delete_flow.write_to(out)?;
+                write_both(range, delete_flow, out)
             }
-            Change::DeleteStep { moment } => start(10, *moment, out)?,
-            Change::SweepStep { moment } => start(11, *moment, out)?,
-            Change::PutHook { moment, hook } => {
-                start(12, *moment, out)?;
-                hook.write_to(out)?;
-            }
-            Change::DropHook { moment, url } => {
-                start(13, *moment, out)?;
-                url.write_to(out)?;
-            }
+            Change::DeleteStep { .. } | Change::SweepStep { .. } => Ok(()),
+            Change::PutHook { hook, .. } => hook.write_to(out),
+            Change::DropHook { url, .. } => url.write_to(out),
         }
-        Ok(())
     }
 }
 
-/// Writes a change's kind and moment.
-fn start(kind: u8, moment: u64, out: &mut Text) -> Result<(), Memory>
-    ensures { OnOk result (Wrote u64_format (out.old ++ kind ∷ []) moment out.new) }
+// ---- reading: the moment and the fields of each kind, which stand behind it
+
+#[tactic(auto, unfolding(crate::specs::Changes::change_format))]
+fn read_put_flow(alloc: Global, input: &mut Cursor) -> Result<Change, ReadFault>
+    ensures { Gives change_format (1 ∷ input.old) input.new result }
 {
-    out.push(kind)?;
-    write_u64(out, moment)?;
+    let (moment, flow) = Field::read_from(alloc, input)?;
+    Ok(Change::PutFlow { moment, flow })
+}
+
+#[tactic(auto, unfolding(crate::specs::Changes::change_format))]
+fn read_set_flow(alloc: Global, input: &mut Cursor) -> Result<Change, ReadFault>
+    ensures { Gives change_format (2 ∷ input.old) input.new result }
+{
+    let (moment, (flow, part)) = Field::read_from(alloc, input)?;
+    Ok(Change::SetFlow { moment, flow, part })
+}
+
+#[tactic(auto, unfolding(crate::specs::Changes::change_format))]
+fn read_set_source(alloc: Global, input: &mut Cursor) -> Result<Change, ReadFault>
+    ensures { Gives change_format (3 ∷ input.old) input.new result }
+{
+    Ok(Change::SetSource {
+        moment: Field::read_from(alloc, input)?,
+        source: Field::read_from(alloc, input)?,
+        part: read_source_part(alloc, input)?,
+    })
+}
+
+#[tactic(auto, unfolding(crate::specs::Changes::change_format))]
+fn read_drop_flow(alloc: Global, input: &mut Cursor) -> Result<Change, ReadFault>
+    ensures { Gives change_format (4 ∷ input.old) input.new result }
+{
+    let (moment, flow) = Field::read_from(alloc, input)?;
+    Ok(Change::DropFlow { moment, flow })
+}
+
+#[tactic(auto, unfolding(crate::specs::Changes::change_format))]
+fn read_allocate(alloc: Global, input: &mut Cursor) -> Result<Change, ReadFault>
+    ensures { Gives change_format (5 ∷ input.old) input.new result }
+{
+    Ok(Change::Allocate {
+        moment: Field::read_from(alloc, input)?,
+        flow: Field::read_from(alloc, input)?,
+        objects: Field::read_from(alloc, input)?,
+    })
+}
+
+#[tactic(auto, unfolding(crate::specs::Changes::change_format))]
+fn read_store(alloc: Global, input: &mut Cursor) -> Result<Change, ReadFault>
+    ensures { Gives change_format (6 ∷ input.old) input.new result }
+{
+    Ok(Change::Store {
+        moment: Field::read_from(alloc, input)?,
+        object: Field::read_from(alloc, input)?,
+        start_block: Field::read_from(alloc, input)?,
+        length: Field::read_from(alloc, input)?,
+    })
+}
+
+#[tactic(auto, unfolding(crate::specs::Changes::change_format, crate::specs::Changes::later_format))]
+fn read_add_segments(alloc: Global, input: &mut Cursor) -> Result<Change, ReadFault>
+    ensures { Gives change_format (7 ∷ input.old) input.new result }
+{
+    Ok(Change::AddSegments {
+        moment: Field::read_from(alloc, input)?,
+        flow: Field::read_from(alloc, input)?,
+        segments: Field::read_from(alloc, input)?,
+    })
+}
+
+#[tactic(auto, unfolding(crate::specs::Changes::change_format, crate::specs::Changes::later_format))]
+fn read_cut_segments(alloc: Global, input: &mut Cursor) -> Result<Change, ReadFault>
+    ensures { Gives change_format (8 ∷ input.old) input.new result }
+{
+    Ok(Change::CutSegments {
+        moment: Field::read_from(alloc, input)?,
+        flow: Field::read_from(alloc, input)?,
+        range: Field::read_from(alloc, input)?,
+    })
+}
+
+#[tactic(auto, unfolding(crate::specs::Changes::change_format, crate::specs::Changes::later_format))]
+fn read_ask_delete(alloc: Global, input: &mut Cursor) -> Result<Change, ReadFault>
+    ensures { Gives change_format (9 ∷ input.old) input.new result }
+{
+    Ok(Change::AskDelete {
+        moment: Field::read_from(alloc, input)?,
+        flow: Field::read_from(alloc, input)?,
+        range: Field::read_from(alloc, input)?,
+        delete_flow: Field::read_from(alloc, input)?,
+    })
+}
+
+#[tactic(auto, unfolding(crate::specs::Changes::change_format, crate::specs::Changes::later_format))]
+fn read_delete_step(alloc: Global, input: &mut Cursor) -> Result<Change, ReadFault>
+    ensures { Gives change_format (10 ∷ input.old) input.new result }
+{
+    let moment = Field::read_from(alloc, input)?;
+    Ok(Change::DeleteStep { moment })
+}
+
+#[tactic(auto, unfolding(crate::specs::Changes::change_format, crate::specs::Changes::later_format))]
+fn read_sweep_step(alloc: Global, input: &mut Cursor) -> Result<Change, ReadFault>
+    ensures { Gives change_format (11 ∷ input.old) input.new result }
+{
+    let moment = Field::read_from(alloc, input)?;
+    Ok(Change::SweepStep { moment })
+}
+
+#[tactic(auto, unfolding(crate::specs::Changes::change_format, crate::specs::Changes::later_format))]
+fn read_put_hook(alloc: Global, input: &mut Cursor) -> Result<Change, ReadFault>
+    ensures { Gives change_format (12 ∷ input.old) input.new result }
+{
+    let (moment, hook) = Field::read_from(alloc, input)?;
+    Ok(Change::PutHook { moment, hook })
+}
+
+#[tactic(auto, unfolding(crate::specs::Changes::change_format, crate::specs::Changes::later_format))]
+fn read_drop_hook(alloc: Global, input: &mut Cursor) -> Result<Change, ReadFault>
+    ensures { Gives change_format (13 ∷ input.old) input.new result }
+{
+    let (moment, url) = Field::read_from(alloc, input)?;
+    Ok(Change::DropHook { moment, url })
+}
+
+// ---- writing
+
+/// The number of a change's kind.
+fn kind_of(change: &Change) -> u8
+    ensures { result ≡ change_kind change.now }
+{
+    match change {
+        Change::PutFlow { .. } => 1,
+        Change::SetFlow { .. } => 2,
+        Change::SetSource { .. } => 3,
+        Change::DropFlow { .. } => 4,
+        Change::Allocate { .. } => 5,
+        Change::Store { .. } => 6,
+        Change::AddSegments { .. } => 7,
+        Change::CutSegments { .. } => 8,
+        Change::AskDelete { .. } => 9,
+        Change::DeleteStep { .. } => 10,
+        Change::SweepStep { .. } => 11,
+        Change::PutHook { .. } => 12,
+        Change::DropHook { .. } => 13,
+    }
+}
+
+/// A change's moment.
+fn moment_of(change: &Change) -> u64
+    ensures { result ≡ moment_of change.now }
+{
+    match change {
+        Change::PutFlow { moment, .. }
+        | Change::SetFlow { moment, .. }
+        | Change::SetSource { moment, .. }
+        | Change::DropFlow { moment, .. }
+        | Change::Allocate { moment, .. }
+        | Change::Store { moment, .. }
+        | Change::AddSegments { moment, .. }
+        | Change::CutSegments { moment, .. }
+        | Change::AskDelete { moment, .. }
+        | Change::DeleteStep { moment }
+        | Change::SweepStep { moment }
+        | Change::PutHook { moment, .. }
+        | Change::DropHook { moment, .. } => *moment,
+    }
+}
+
+/// Writes two fields, one after the other.
+fn write_both<A: Field, B: Field>(first: &A, second: &B, out: &mut Text) -> Result<(), Memory>
+    requires { (pair A.format B.format).asks (first.now, second.now) }
+    ensures { OnOk result (Wrote (pair A.format B.format) out.old (first.now, second.now) out.new) }
+{
+    first.write_to(out)?;
+    second.write_to(out)?;
     Ok(())
 }

@@ -1,5 +1,5 @@
 //! Rows: a kind, the length of the fields in 4 bytes, and the fields.
-ghost use Rattle.std.specs.Prelude.{◌≡◌, ◌<◌, ◌^◌, ◌∷◌, ◌++◌, [], length, OnOk};
+ghost use Rattle.std.specs.Prelude.{◌≡◌, ◌∷◌, ◌++◌, [], OnOk};
 ghost use Rattle.field_codec.specs.Laws.{Lawful};
 ghost use Rattle.field_codec.specs.Reading.{Gives, Wrote};
 ghost use Rattle.change_codec.specs.Rows.{sized, row_format};

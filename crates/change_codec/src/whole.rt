@@ -42,6 +42,7 @@ pub fn decode_change(alloc: Global, bytes: &[u8]) -> Result<Change, CodecFault>
 }
 
 /// Reads a value that takes all of the bytes.
+#[tactic(auto, using(crate::proofs::CodecLemmas::bytes_remain))]
 fn read_all<T: Field>(alloc: Global, bytes: &[u8]) -> Result<T, ReadFault>
     requires { Lawful T.format }
     ensures { ReadsWhole T.format bytes.now result }

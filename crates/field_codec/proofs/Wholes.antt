@@ -44,33 +44,40 @@ one_whole_place f law bytes left other is (inr a) (inl b) = absurd (not_faulty f
 one_whole_place f law bytes left other is (inr a) (inr b) =
     a.keeps.1 ∙ ap length (one_front f law bytes a.value b.value a.rest b.rest a.begins b.begins).1 ∙ sym b.keeps.1
 
+-- the place of the fault of the whole is in the bytes
 pub whole_within : {A : Type 0} (f : Format A) → Lawful f → (bytes : List ℕ) (left : ℕ) → IsBytes bytes → WholeFault f bytes left → left ≤ length bytes
 whole_within f law bytes left is (inl h) = law.within bytes left is h
 whole_within f law bytes left is (inr b) = omega (arith, b.keeps.1, ap length b.begins.parts, length-append (f.spell b.value) b.rest)
 
 -- ---- what reading gave of the whole
 
+-- what was read, and left nothing, is spelled by the whole
 pub decoded : {A : Type 0} (f : Format A) → Lawful f → (bytes rest : List ℕ) (x : A) → IsBytes bytes → f.read bytes ≡ Ok (x, rest) → length rest ≡ 0 → Spells f bytes x
 decoded f law bytes rest x is e none =
     let b = law.takes bytes x rest is e in
     let empty : rest ≡ [] = nil_from_length rest none in
     record { fits = b.fits; whole = b.parts ∙ ap (λ (t : List ℕ). f.spell x ++ t) empty ∙ append-nil (f.spell x) }
 
+-- what was read, and left bytes, has its fault at the first of them
 pub left_over : {A : Type 0} (f : Format A) → Lawful f → (bytes rest : List ℕ) (x : A) → IsBytes bytes → f.read bytes ≡ Ok (x, rest) → (length rest ≡ 0 → ⊥) → WholeFault f bytes (length rest)
 left_over f law bytes rest x is e some =
     inr (record { value = x; rest = rest; begins = law.takes bytes x rest is e; keeps = (λ none. some (ap length none), refl) })
 
+-- reading's fault is the fault of the whole
 pub read_fault : {A : Type 0} (f : Format A) → Lawful f → (bytes : List ℕ) (e : ReadFault) → IsBytes bytes → Fails e (f.read bytes) → ReadsWhole f bytes (Err e)
 read_fault f law bytes faults.Memory is h = tt
 read_fault f law bytes (faults.Bad field) is h = inl (law.faults bytes field.left is h)
 
+-- reading leaves no more bytes than there were
 pub less_left : {A : Type 0} (f : Format A) → Lawful f → (bytes rest : List ℕ) (x : A) → IsBytes bytes → f.read bytes ≡ Ok (x, rest) → length rest ≤ length bytes
 less_left f law bytes rest x is e =
     let b = law.takes bytes x rest is e in
     omega (arith, ap length b.parts, length-append (f.spell x) rest)
 
+-- the place of a fault that was read is in the bytes
 pub fault_within : {A : Type 0} (f : Format A) → Lawful f → (bytes : List ℕ) (left : ℕ) → IsBytes bytes → f.read bytes ≡ Err left → left ≤ length bytes
 fault_within f law bytes left is e = law.within bytes left is (law.faults bytes left is e)
 
+-- bytes whose reading met a fault begin with no spelling
 pub fault_begins_none : {A : Type 0} (f : Format A) → Lawful f → (bytes rest : List ℕ) (left : ℕ) (x : A) → f.read bytes ≡ Err left → Begins f bytes x rest → ⊥
 fault_begins_none f law bytes rest left x e b = not_both (f.read bytes) (x, rest) left (read_behind f law bytes x rest b) e

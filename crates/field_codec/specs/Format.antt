@@ -85,6 +85,7 @@ followed f g = record {
   read = λ bytes. f.read bytes >>= λ x. (g x.0).read x.1 >>= λ y. Ok ((x.0, y.0), y.1);
 }
 
+-- two values, one after the other
 abbrev pub pair : {A B : Type 0} → Format A → Format B → Format (A × B)
 pair f g = followed f (λ x. g)
 
@@ -165,11 +166,13 @@ no_kind = record {
   read = λ bytes. Err (length bytes);
 }
 
+-- an option by its two kinds: none, or some value
 abbrev pub option_of : {A : Type 0} → Unit {0} ⊎ (A ⊎ ⊥) → Option A
 option_of (inl x) = None
 option_of (inr (inl x)) = Some x
 option_of (inr (inr x)) = None
 
+-- the kind of an option, and its value
 abbrev pub option_parts : {A : Type 0} → Option A → Unit {0} ⊎ (A ⊎ ⊥)
 option_parts None = inl tt
 option_parts (Some x) = inr (inl x)
@@ -180,10 +183,12 @@ optional f = via option_of option_parts (either 0 nothing (either 1 f no_kind))
 
 -- ---- so many values
 
+-- how so many values are read
 abbrev pub items_at : {A : Type 0} → (List ℕ → Result (A × List ℕ) ℕ) → ℕ → List ℕ → Result (List A × List ℕ) ℕ
 items_at read zero bytes = Ok ([], bytes)
 items_at read (suc n) bytes = read bytes >>= λ x. items_at read n x.1 >>= λ xs. Ok (x.0 ∷ xs.0, xs.1)
 
+-- how values are written behind some bytes
 abbrev pub items_onto : {A : Type 0} → (List ℕ → A → List ℕ) → List ℕ → List A → List ℕ
 items_onto onto front [] = front
 items_onto onto front (x ∷ xs) = items_onto onto (onto front x) xs

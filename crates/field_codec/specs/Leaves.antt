@@ -22,15 +22,19 @@ number_at size number_of bytes = if nat_lt (length bytes) size then None else So
 abbrev pub number : ℕ → ℕ → (ℕ → List ℕ) → (List ℕ → ℕ) → Format ℕ
 number size limit bytes_of number_of = leaf bytes_of (λ n. n < limit) (λ n. Unit {0}) (number_at size number_of)
 
+-- a number as one byte
 abbrev pub u8_bytes : ℕ → List ℕ
 u8_bytes n = n ∷ []
 
+-- the number in one byte
 abbrev pub u8_of : List ℕ → ℕ
 u8_of bytes = get_or bytes 0 0
 
+-- the number in 4 bytes
 unfoldable pub u32_of : List ℕ → ℕ
 u32_of bytes = from_be_bytes w32 bytes
 
+-- the number in 8 bytes
 unfoldable pub u64_of : List ℕ → ℕ
 u64_of bytes = from_be_bytes w64 bytes
 
@@ -38,12 +42,15 @@ u64_of bytes = from_be_bytes w64 bytes
 unfoldable pub u128_of : List ℕ → ℕ
 u128_of bytes = u64_of (take 8 bytes) * 2 ^ 64 + u64_of (drop 8 bytes)
 
+-- a number of 1 byte, as a kind or a mark
 unfoldable pub u8_format : Format ℕ
 u8_format = number 1 (2 ^ 8) u8_bytes u8_of
 
+-- a number of 4 bytes, as a length or a count
 unfoldable pub u32_format : Format ℕ
 u32_format = number 4 (2 ^ 32) u32_bytes u32_of
 
+-- a number of 8 bytes
 unfoldable pub u64_format : Format ℕ
 u64_format = number 8 (2 ^ 64) u64_bytes u64_of
 
@@ -62,11 +69,13 @@ one_of number_of values = narrowed (numbered number_of values) number_of (λ x. 
 
 -- ---- marks and timestamps
 
+-- the mark with this number, if there is one
 abbrev pub mark_of : ℕ → Option Bool
 mark_of zero = Some false
 mark_of (suc zero) = Some true
 mark_of (suc (suc n)) = None
 
+-- a mark's number
 abbrev pub mark_number : Bool → ℕ
 mark_number false = 0
 mark_number true = 1
@@ -89,6 +98,7 @@ ts_format = narrowed nanos_of (cast_unsigned w128) IsNanos (λ n. Unit {0}) u128
 
 -- ---- texts and lists
 
+-- the text of so many bytes that stands behind their number, where there are enough
 abbrev pub text_at : Option (ℕ × List ℕ) → Option (List ℕ × List ℕ)
 text_at None = None
 text_at (Some n) = if nat_lt (length n.1) n.0 then None else Some (take n.0 n.1, drop n.0 n.1)
@@ -97,12 +107,15 @@ text_at (Some n) = if nat_lt (length n.1) n.0 then None else Some (take n.0 n.1,
 abbrev pub text_spelling : List ℕ → List ℕ
 text_spelling text = u32_bytes (length text) ++ text
 
+-- the text has fewer bytes than 4 bytes can count
 abbrev pub IsShort : List ℕ → Type 0
 IsShort text = length text < 2 ^ 32
 
+-- A text. Where bytes are missing, the whole text is faulty, at the beginning of its length.
 unfoldable pub text_format : Format (List ℕ)
 text_format = leaf text_spelling IsShort IsShort (λ bytes. text_at (number_at 4 u32_of bytes))
 
+-- the list has fewer items than 4 bytes can count
 abbrev pub HasFew : {A : Type 0} → List A → Type 0
 HasFew xs = length xs < 2 ^ 32
 
@@ -112,12 +125,14 @@ listed f = narrowed (λ x. Some x.1) (λ xs. (length xs, xs)) (λ xs. Unit {0}) 
 
 -- ---- ranges
 
+-- an end of a range by its three kinds: open, a timestamp that is in the range, one that is not
 abbrev pub end_of : Unit {0} ⊎ (ℤ ⊎ (ℤ ⊎ ⊥)) → End
 end_of (inl x) = Unbounded
 end_of (inr (inl t)) = Including t
 end_of (inr (inr (inl t))) = Excluding t
 end_of (inr (inr (inr x))) = Unbounded
 
+-- the kind of an end, and its timestamp
 abbrev pub end_parts : End → Unit {0} ⊎ (ℤ ⊎ (ℤ ⊎ ⊥))
 end_parts Unbounded = inl tt
 end_parts (Including t) = inr (inl t)
@@ -127,12 +142,14 @@ end_parts (Excluding t) = inr (inr (inl t))
 unfoldable pub end_format : Format End
 end_format = via end_of end_parts (either 0 nothing (either 1 ts_format (either 2 ts_format no_kind)))
 
+-- the range between two ends, where it has a point; never, where there are no ends
 abbrev pub span_of : Option (End × End) → Option (Option Span)
 span_of None = Some None
 span_of (Some ends) =
     if in_order (low_point ends.0) (high_point ends.1)
     then Some (Some (record { low = low_point ends.0; high = high_point ends.1 })) else None
 
+-- the two ends of a range; none for never
 abbrev pub ends_of : Option Span → Option (End × End)
 ends_of None = None
 ends_of (Some s) = Some (low_end s.low, high_end s.high)

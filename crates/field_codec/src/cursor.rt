@@ -24,6 +24,7 @@ impl<'a> Model for Cursor<'a> {
 }
 
 impl<'a> Cursor<'a> {
+    /// Begins at the first byte.
     pub fn new(bytes: &'a [u8]) -> Cursor<'a>
         ensures { result ≡ bytes.now }
     {
@@ -57,6 +58,7 @@ impl<'a> Cursor<'a> {
         }
     }
 
+    /// A number of 1 byte.
     #[tactic(auto, unfolding(crate::specs::Leaves::u8_format))]
     pub fn u8_field(&mut self) -> Result<u8, BadField>
         ensures { Finds u8_format self.old self.new result }
@@ -64,6 +66,7 @@ impl<'a> Cursor<'a> {
         self.first().ok_or(BadField { left: 0 })
     }
 
+    /// A number of 4 bytes, as a length or a count.
     #[tactic(auto, using(crate::proofs::ReadingLaws::u32_found), unfolding(crate::specs::Leaves::u32_format))]
     pub fn u32_field(&mut self) -> Result<u32, BadField>
         ensures { Finds u32_format self.old self.new result }
@@ -78,6 +81,7 @@ impl<'a> Cursor<'a> {
         Ok(numbers::read_u32(front))
     }
 
+    /// A number of 8 bytes.
     #[tactic(auto, using(crate::proofs::ReadingLaws::u64_found), unfolding(crate::specs::Leaves::u64_format))]
     pub fn u64_field(&mut self) -> Result<u64, BadField>
         ensures { Finds u64_format self.old self.new result }
@@ -92,6 +96,7 @@ impl<'a> Cursor<'a> {
         Ok(numbers::read_u64(front))
     }
 
+    /// An id, or the bits of a timestamp, of 16 bytes.
     #[tactic(auto, using(crate::proofs::ReadingLaws::u128_found), unfolding(crate::specs::Leaves::u128_format))]
     pub fn u128_field(&mut self) -> Result<u128, BadField>
         ensures { Finds u128_format self.old self.new result }
@@ -106,6 +111,7 @@ impl<'a> Cursor<'a> {
         Ok(numbers::read_u128(front))
     }
 
+    /// A mark: 0 or 1.
     #[tactic(auto, unfolding(crate::specs::Leaves::u8_format, crate::specs::Leaves::bool_format))]
     pub fn bool_field(&mut self) -> Result<bool, BadField>
         ensures { Finds bool_format self.old self.new result }
@@ -118,6 +124,7 @@ impl<'a> Cursor<'a> {
         }
     }
 
+    /// A timestamp: its nanoseconds in 16 bytes, two's complement.
     #[tactic(auto, unfolding(crate::specs::Leaves::ts_format))]
     pub fn ts_field(&mut self) -> Result<Ts, BadField>
         ensures { Finds ts_format self.old self.new result }
@@ -127,6 +134,7 @@ impl<'a> Cursor<'a> {
         Ts::from_nanos(bits.cast_signed()).ok_or(BadField { left })
     }
 
+    /// A text: the number of its bytes in 4 bytes, and these.
     #[tactic(auto, using(crate::proofs::ReadingLaws::text_found, crate::proofs::ReadingLaws::text_short), unfolding(crate::specs::Leaves::text_format))]
     pub fn text_field(&mut self, alloc: Global) -> Result<Text, ReadFault>
         ensures { Gives text_format self.old self.new result }
@@ -145,6 +153,7 @@ impl<'a> Cursor<'a> {
         Ok(Text::from_bytes(alloc, text)?)
     }
 
+    /// An end of a range: 0 open, 1 and a timestamp that is in the range, 2 and one that is not.
     #[tactic(auto, unfolding(crate::specs::Leaves::end_format))]
     pub fn end_field(&mut self) -> Result<End, BadField>
         ensures { Finds end_format self.old self.new result }
@@ -158,6 +167,7 @@ impl<'a> Cursor<'a> {
         }
     }
 
+    /// A range: 0 for never, or 1 and two ends that hold a point.
     #[tactic(auto, unfolding(crate::specs::Leaves::range_format))]
     pub fn range_field(&mut self) -> Result<TimeRange, BadField>
         ensures { Finds range_format self.old self.new result }

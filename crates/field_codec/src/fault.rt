@@ -9,6 +9,7 @@ pub enum CodecFault {
     /// The bytes are no spelling. The offset is where the first faulty field begins that holds no
     /// other faulty field.
     Bad(usize),
+    /// There is no memory for the value.
     Memory,
 }
 
@@ -22,7 +23,9 @@ pub struct BadField {
 /// Why a value could not be read.
 #[derive(Clone, Copy, Debug, PartialEq, Eq)]
 pub enum ReadFault {
+    /// The bytes are no spelling.
     Bad(BadField),
+    /// There is no memory for the value.
     Memory,
 }
 

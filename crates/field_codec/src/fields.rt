@@ -30,6 +30,7 @@ impl<'a> Model for Fields<'a> {
 }
 
 impl<'a> Fields<'a> {
+    /// Begins at the first byte, with all of them unread.
     pub fn new(bytes: &'a [u8]) -> Fields<'a>
         ensures bytes { result.bytes ≡ bytes.now }
         ensures unread { result.rest ≡ bytes.now }

@@ -10,6 +10,7 @@ use disk_trait::numbers::{u32_bytes, u64_bytes, u128_bytes};
 use disk_trait::{Memory, Text};
 use time_range::{End, TimeRange, Ts};
 
+/// A number of 1 byte.
 #[tactic(auto, unfolding(crate::specs::Leaves::u8_format))]
 pub fn write_u8(out: &mut Text, number: u8) -> Result<(), Memory>
     ensures { OnOk result (Wrote u8_format out.old number out.new) }
@@ -17,6 +18,7 @@ pub fn write_u8(out: &mut Text, number: u8) -> Result<(), Memory>
     out.push(number)
 }
 
+/// A number of 4 bytes.
 #[tactic(auto, unfolding(crate::specs::Leaves::u32_format))]
 pub fn write_u32(out: &mut Text, number: u32) -> Result<(), Memory>
     ensures { OnOk result (Wrote u32_format out.old number out.new) }
@@ -24,6 +26,7 @@ pub fn write_u32(out: &mut Text, number: u32) -> Result<(), Memory>
     out.append(&u32_bytes(number))
 }
 
+/// A number of 8 bytes.
 #[tactic(auto, unfolding(crate::specs::Leaves::u64_format))]
 pub fn write_u64(out: &mut Text, number: u64) -> Result<(), Memory>
     ensures { OnOk result (Wrote u64_format out.old number out.new) }
@@ -31,6 +34,7 @@ pub fn write_u64(out: &mut Text, number: u64) -> Result<(), Memory>
     out.append(&u64_bytes(number))
 }
 
+/// A number of 16 bytes.
 #[tactic(auto, unfolding(crate::specs::Leaves::u128_format))]
 pub fn write_u128(out: &mut Text, number: u128) -> Result<(), Memory>
     ensures { OnOk result (Wrote u128_format out.old number out.new) }
@@ -38,6 +42,7 @@ pub fn write_u128(out: &mut Text, number: u128) -> Result<(), Memory>
     out.append(&u128_bytes(number))
 }
 
+/// A mark: 0 or 1.
 #[tactic(auto, unfolding(crate::specs::Leaves::u8_format, crate::specs::Leaves::bool_format))]
 pub fn write_bool(out: &mut Text, mark: bool) -> Result<(), Memory>
     ensures { OnOk result (Wrote bool_format out.old mark out.new) }
@@ -52,6 +57,7 @@ fn bits_of(ts: Ts) -> u128
     ts.nanos().cast_unsigned()
 }
 
+/// A timestamp: its nanoseconds in 16 bytes, two's complement.
 pub fn write_ts(out: &mut Text, ts: Ts) -> Result<(), Memory>
     ensures { OnOk result (Wrote ts_format out.old ts out.new) }
 {
@@ -60,6 +66,7 @@ pub fn write_ts(out: &mut Text, ts: Ts) -> Result<(), Memory>
     Ok(())
 }
 
+/// A text: the number of its bytes in 4 bytes, and these.
 pub fn write_text(out: &mut Text, text: &Text) -> Result<(), Memory>
     requires { IsShort text.now }
     ensures { OnOk result (Wrote text_format out.old text.now out.new) }
@@ -70,6 +77,7 @@ pub fn write_text(out: &mut Text, text: &Text) -> Result<(), Memory>
     Ok(())
 }
 
+/// An end of a range: 0 open, 1 and a timestamp that is in the range, 2 and one that is not.
 #[tactic(auto, unfolding(crate::specs::Leaves::end_format))]
 pub fn write_end(out: &mut Text, end: End) -> Result<(), Memory>
     requires { IsEndWithin end }
@@ -88,6 +96,7 @@ pub fn write_end(out: &mut Text, end: End) -> Result<(), Memory>
     }
 }
 
+/// A range: 0 for never, or 1 and its two ends.
 pub fn write_range(out: &mut Text, range: &TimeRange) -> Result<(), Memory>
     ensures { OnOk result (Wrote range_format out.old range.now out.new) }
 {

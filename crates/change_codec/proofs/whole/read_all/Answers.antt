@@ -1,6 +1,6 @@
-use Rattle.std.proofs.Common.{arith, sym, ◌∙◌}
+use Rattle.std.proofs.Common.{arith, rules, sym, ◌∙◌}
 use Rattle.std.proofs.lemmas.Result.{err_from_is_err_and}
-use Rattle.field_codec.proofs.Wholes.{decoded, left_over, read_fault}
+use Rattle.field_codec.proofs.Wholes.{decoded, read_fault}
 use Rattle.change_codec.proofs.whole.read_all.Goals as goal
 
 pub returns-in_err-value : goal.returns-in_err-value
@@ -8,12 +8,8 @@ returns-in_err-value g c =
     let p = err_from_is_err_and c.from_residual.result c.from_residual.ensures.1 in
     rw (p.1, p.2) (read_fault g.T.Field.format c.requires c.args.bytes.now c.in_err-value.field-0.0 (λ i. omega (arith, c.type_inv.bytes i)) (rw c.new-input.ensures at c.in_err-value.ensures))
 
-pub returns-then-left-ne0 : goal.returns-then-left-ne0
-returns-then-left-ne0 g c =
-    rw c.left-left.ensures (left_over g.T.Field.format c.requires c.args.bytes.now c.read_from.new.input c.in_ok-value.value (λ i. omega (arith, c.type_inv.bytes i))
-    (rw c.new-input.ensures at c.in_ok-value.ensures) (λ e. c.if-left-ne0.true (c.left-left.ensures ∙ e)))
-
+-- `search` finds that no byte is left
 pub returns : goal.returns
 returns g c =
     decoded g.T.Field.format c.requires c.args.bytes.now c.read_from.new.input c.in_ok-value.value (λ i. omega (arith, c.type_inv.bytes i))
-    (rw c.new-input.ensures at c.in_ok-value.ensures) (sym c.left-left.ensures ∙ c.if-left-ne0.false)
+    (rw c.new-input.ensures at c.in_ok-value.ensures) (sym c.left-left.ensures ∙ search rules)
