@@ -141,12 +141,12 @@ module _ (header half seen closed : List ℕ) (same_length : length closed ≡ l
       (λ q p could left then. gate_ends ok q p then)
 
 -- reads leave a device at rest
-pub rests_after_reads : (old new : Device) → IsAtRest old → DiskReads true old new → Elapses Unchanged Unchanged old new → IsAtRest new
-rests_after_reads old new rest reads time = record {
+pub rests_after_reads : (old new : Device) → IsAtRest old → DiskReads true old new → IsAtRest new
+rests_after_reads old new rest reads = record {
   honest = reads.calls.same.honest ∙ rest.honest;
   shows = reads.calls.same.shows ∙ rest.shows;
   settled = λ p left.
-      let from = time.now p left in
+      let from = reads.time.now p left in
       ap (λ (l : Left). l.image) from.2 ∙ rest.settled from.0 from.1 ∙ sym reads.seen;
 }
 
@@ -157,10 +157,6 @@ module _ (old : Device) (rest : IsAtRest old) (none : ¬ (HasOpenHeader old.seen
     told = ap (λ (l : Left). l.told) same;
     image = inl (subst (λ (image : List ℕ). ¬ (HasOpenHeader image)) (sym (rest.settled q could) ∙ ap (λ (l : Left). l.image) (sym same)) none);
   }
-
-  pub reads_none : (new : Device) → Elapses Unchanged Unchanged old new → Elapses (NoneOrNew h rows) Unchanged old new
-  reads_none new time =
-      elapses_weaker Unchanged Unchanged (NoneOrNew h rows) Unchanged old new time still_none (λ q p could left same. same)
 
   pub reads_failed : (new : Device) → Elapses Unchanged Unchanged old new → Elapses (NoneOrNew h rows) (NoneOrNew h rows) old new
   reads_failed new time =
@@ -185,11 +181,11 @@ module _ (old : Device) (rest : IsAtRest old) (none : ¬ (HasOpenHeader old.seen
     store_ends false q m p same steps = new_store q m p same steps
 
     -- the gate is read, and then the store is made of these bytes
-    pub formats : (ok : Bool) (gate : Gate) (header half : List ℕ) (mid new : Device) → header ≡ header_text h → half ≡ half_text rows → DiskReads true old mid → Elapses Unchanged Unchanged old mid → GateIs old.seen gate → (IsAtRest mid → GateIs mid.seen gate → ¬ (HasOpenHeader mid.seen) → Elapses (NoneOrFormatted header half mid.seen) (StoreEnds ok header half mid.seen) mid new) → Elapses (NoneOrNew h rows) (MakesOrNot ok) old new
-    formats ok gate header half mid new header_is half_is reads first is makes =
-        let second = makes (rests_after_reads old mid rest reads first) (rw reads.seen is) (rw reads.seen none) in
+    pub formats : (ok : Bool) (gate : Gate) (header half : List ℕ) (mid new : Device) → header ≡ header_text h → half ≡ half_text rows → DiskReads true old mid → GateIs old.seen gate → (IsAtRest mid → GateIs mid.seen gate → ¬ (HasOpenHeader mid.seen) → Elapses (NoneOrFormatted header half mid.seen) (StoreEnds ok header half mid.seen) mid new) → Elapses (NoneOrNew h rows) (MakesOrNot ok) old new
+    formats ok gate header half mid new header_is half_is reads is makes =
+        let second = makes (rests_after_reads old mid rest reads) (rw reads.seen is) (rw reads.seen none) in
         let writes = subst (λ (image : List ℕ). Elapses (NoneOrFormatted header half image) (StoreEnds ok header half image) mid new) reads.seen second in
-        let both = elapses_twice Unchanged Unchanged (NoneOrFormatted header half old.seen) (StoreEnds ok header half old.seen) old mid new first writes in
+        let both = elapses_twice Unchanged Unchanged (NoneOrFormatted header half old.seen) (StoreEnds ok header half old.seen) old mid new reads.time writes in
         elapses_weaker (WithinTwo Unchanged Unchanged (NoneOrFormatted header half old.seen)) (Then Unchanged (StoreEnds ok header half old.seen)) (NoneOrNew h rows) (MakesOrNot ok) old new both
         (λ q p could steps. elim steps [ inl same ↦ still_none q p could same | inr then ↦ new_store q then.0 p then.1 (rw (header_is, half_is) at then.2) ])
         (λ q p could left then. store_ends ok q then.0 p then.1 (rw (header_is, half_is) at then.2))

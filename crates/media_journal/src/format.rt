@@ -1,7 +1,7 @@
 //! Formatting a device: a header, a selector and half A with its rows. At each moment the file is no
 //! store, or the new one.
 ghost use Rattle.std.specs.Prelude.{◌≡◌, ◌≤◌, ◌<◌, ◌+◌, ◌*◌, ◌∷◌, [], true, ◌↔◌, length, is_ok, IfOk, IsTrue, OnOk};
-ghost use Rattle.disk_trait.specs.Calls.{DiskCalls, DiskReads, Elapses, LeavesOnly, Unchanged, overwritten};
+ghost use Rattle.disk_trait.specs.Calls.{DiskCalls, DiskReads, Elapses, LeavesOnly, overwritten};
 ghost use Rattle.media_journal.specs.File.{HasOpenHeader, IsClosedGate, header_text};
 ghost use Rattle.media_journal.specs.Formatting.{FitsStore, FormatAnswer, GateIs, IsFormatted, OnRefusal, format_ok, half_text};
 ghost use Rattle.media_journal.specs.Moments.{FormatEnds, IsAtRest, NoneOrNew};
@@ -48,8 +48,6 @@ pub fn format_device<D: Disk>(
 
     // What is refused is left as it was, and so is a device for which there is no memory.
     ensures refused { OnRefusal result (DiskReads true (D.device disk.old) (D.device disk.new)) }
-    ensures untouched { OnRefusal result
-        (Elapses Unchanged Unchanged (D.device disk.old) (D.device disk.new)) }
 
     // At each moment of the call a crash leaves no store, or the new one; after Ok it leaves just what
     // is read.
@@ -106,7 +104,6 @@ fn make_store<D: Disk>(disk: &mut D, gate: Gate, header: &[u8], half: &[u8]) -> 
 /// What stands at the header's gate.
 fn read_gate<D: Disk>(disk: &mut D) -> Result<Gate, Failed>
     ensures reads { DiskReads (is_ok result) (D.device disk.old) (D.device disk.new) }
-    ensures moments { Elapses Unchanged Unchanged (D.device disk.old) (D.device disk.new) }
     ensures gate { (D.device disk.old).shows ≡ true
         → IfOk result (GateIs (D.device disk.old).seen) }
 {

@@ -36,8 +36,8 @@ fn prints_back(alloc: Global, value: &Value, text: &[u8]) -> Result<bool, Memory
     Ok(same_bytes(printed.as_bytes(), text))
 }
 
-#[cycle(holds_float)]
 /// Whether a number within a value is not held as a whole number of 64 bits.
+#[cycle(holds_float)]
 pub fn holds_float(value: &Value) -> bool
     ensures { result ≡ has_float (view value.now) }
 {

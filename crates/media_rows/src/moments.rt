@@ -42,8 +42,8 @@ fn date_of(day: i32) -> Date
     }
 }
 
-#[tactic(auto, unfolding(crate::specs::Moments::clock_text))]
 /// The time of a day, behind its date.
+#[tactic(auto, unfolding(crate::specs::Moments::clock_text))]
 fn clock_bytes(seconds: u32) -> [u8; 10]
     requires { seconds < 86400 }
     ensures { result ≡ clock_text seconds }

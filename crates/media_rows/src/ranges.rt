@@ -11,8 +11,8 @@ pub fn range_overlaps(left: &TimeRange, right: &TimeRange) -> bool
     ensures test { result ≡ overlaps left.now right.now }
     ensures points { IsTrue result ↔ Overlap left.now right.now }
 {
-    let _left = is_known(left);
-    let _right = is_known(right);
+    range_is_sound(left);
+    range_is_sound(right);
     left.overlaps(right)
 }
 
@@ -21,8 +21,8 @@ pub fn range_covers(outer: &TimeRange, inner: &TimeRange) -> bool
     ensures test { result ≡ covers outer.now inner.now }
     ensures points { IsTrue result ↔ Covers outer.now inner.now }
 {
-    let _outer = is_known(outer);
-    let _inner = is_known(inner);
+    range_is_sound(outer);
+    range_is_sound(inner);
     outer.covers(inner)
 }
 
@@ -34,19 +34,18 @@ pub fn range_hull(left: &TimeRange, right: &TimeRange) -> TimeRange
     ensures least { (range : Option Span) → Covers range left.now → Covers range right.now
         → Covers range result }
 {
-    let _left = is_known(left);
-    let _right = is_known(right);
+    range_is_sound(left);
+    range_is_sound(right);
     let both = left.hull(right);
-    let _both = is_known(&both);
+    range_is_sound(&both);
     both
 }
 
 /// What is true of each range, gathered from its calls: its ends are in order and within the limit.
-/// The answer is that it has a point.
-fn is_known(range: &TimeRange) -> bool
+fn range_is_sound(range: &TimeRange)
     ensures { IsRange range.now }
 {
     let _low = range.low();
     let _high = range.high();
-    !range.is_never()
+    let _never = range.is_never();
 }

@@ -234,11 +234,23 @@ fn copies(alloc: Global, zero: Ts) -> Result<u64, Memory> {
     Ok(5)
 }
 
+fn label(alloc: Global) -> Result<Part, Memory> {
+    Ok(Part::Label(text(alloc)?))
+}
+
+fn collection(alloc: Global) -> Result<Part, Memory> {
+    Ok(Part::Collection(members(alloc)?))
+}
+
+fn tag(alloc: Global) -> Result<Part, Memory> {
+    Ok(Part::Tag(Text::from_bytes(alloc, b"n")?, None))
+}
+
 /// Copies of parts that take memory.
 fn part_copies(alloc: Global) -> Result<u64, Memory> {
-    let _label = Part::Label(text(alloc)?).duplicate(alloc)?;
-    let _members = Part::Collection(members(alloc)?).duplicate(alloc)?;
-    let _tag = Part::Tag(Text::from_bytes(alloc, b"n")?, None).duplicate(alloc)?;
+    let _label = label(alloc)?.duplicate(alloc)?;
+    let _collection = collection(alloc)?.duplicate(alloc)?;
+    let _tag = tag(alloc)?.duplicate(alloc)?;
     Ok(3)
 }
 

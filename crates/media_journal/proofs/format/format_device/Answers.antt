@@ -9,7 +9,7 @@ use Rattle.media_journal.proofs.format.format_device.Goals as goal
 pub returns-in_err-gate-clause-moments : goal.returns-in_err-gate-clause-moments
 returns-in_err-gate-clause-moments g c = λ rest none.
     let failed = err_from_is_err_and c.from_residual.result c.from_residual.ensures.1 in
-    rw (failed.1, failed.2) (reads_failed _ rest none _ _ _ c.in_err-gate.ensures.moments)
+    rw (failed.1, failed.2) (reads_failed _ rest none _ _ _ c.in_err-gate.ensures.reads.time)
 
 pub returns-in_err-make_store : goal.returns-in_err-make_store
 returns-in_err-make_store g c =
@@ -19,11 +19,10 @@ returns-in_err-make_store g c =
       calls = search rules;
       answer = λ shows. tt;
       refused = tt;
-      untouched = tt;
       moments = λ rest none.
           let size = (g.met.D.Disk.sound c.args.disk.now).length rest.shows ∙ sym (c.len.ensures ∙ first.reads.calls.same.size) in
           let fits = rw (← size) at (c.if-not-fits_store.ensures.0 refl) in
-          formats _ rest none _ _ fits c.ranges.id.fits false c.in_ok-gate.gate _ _ _ _ c.header_bytes.ensures (c.deref.ensures.value ∙ c.in_ok-half.ensures.text) first.reads first.moments (first.gate rest.shows) c.in_err-make_store.ensures.moments;
+          formats _ rest none _ _ fits c.ranges.id.fits false c.in_ok-gate.gate _ _ _ _ c.header_bytes.ensures (c.deref.ensures.value ∙ c.in_ok-half.ensures.text) first.reads (first.gate rest.shows) c.in_err-make_store.ensures.moments;
       durable = λ honest. tt;
     }
 
@@ -35,7 +34,6 @@ returns g c =
     record {
       calls = search rules;
       refused = tt;
-      untouched = tt;
       answer = λ shows.
           let size = (g.met.D.Disk.sound c.args.disk.now).length shows ∙ sym (c.len.ensures ∙ first.reads.calls.same.size) in
           let fits : FitsStore header (length (g.D.Disk.device c.args.disk.now).seen) c.args.rows.now = rw size (c.if-not-fits_store.ensures.0 refl) in
@@ -47,6 +45,6 @@ returns g c =
       moments = λ rest none.
           let size = (g.met.D.Disk.sound c.args.disk.now).length rest.shows ∙ sym (c.len.ensures ∙ first.reads.calls.same.size) in
           let fits : FitsStore header (length (g.D.Disk.device c.args.disk.now).seen) c.args.rows.now = rw size (c.if-not-fits_store.ensures.0 refl) in
-          formats _ rest none header c.args.rows.now fits c.ranges.id.fits true c.in_ok-gate.gate _ _ _ _ c.header_bytes.ensures (c.deref.ensures.value ∙ c.in_ok-half.ensures.text) first.reads first.moments (first.gate rest.shows) c.in_ok-make_store.ensures.moments;
+          formats _ rest none header c.args.rows.now fits c.ranges.id.fits true c.in_ok-gate.gate _ _ _ _ c.header_bytes.ensures (c.deref.ensures.value ∙ c.in_ok-half.ensures.text) first.reads (first.gate rest.shows) c.in_ok-make_store.ensures.moments;
       durable = λ honest. c.in_ok-make_store.ensures.durable (first.reads.calls.same.honest ∙ honest);
     }

@@ -5,4 +5,4 @@ use Rattle.media_rows.proofs.ranges.range_covers.Goals as goal
 
 pub returns-clause-test : goal.returns-clause-test
 returns-clause-test c =
-    same_from_decides _ _ (c.covers.ensures.0, c.covers.ensures.1) (covers_decides _ _ c.is_known-outer.ensures c.is_known-inner.ensures)
+    same_from_decides _ _ (c.covers.ensures.0, c.covers.ensures.1) (covers_decides _ _ c.range_is_sound.ensures c.range_is_sound-2.ensures)

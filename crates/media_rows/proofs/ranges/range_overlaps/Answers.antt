@@ -5,4 +5,4 @@ use Rattle.media_rows.proofs.ranges.range_overlaps.Goals as goal
 
 pub returns-clause-test : goal.returns-clause-test
 returns-clause-test c =
-    same_from_decides _ _ (c.overlaps.ensures.0, c.overlaps.ensures.1) (overlaps_decides _ _ c.is_known-left.ensures c.is_known-right.ensures)
+    same_from_decides _ _ (c.overlaps.ensures.0, c.overlaps.ensures.1) (overlaps_decides _ _ c.range_is_sound.ensures c.range_is_sound-2.ensures)
