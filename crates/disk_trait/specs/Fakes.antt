@@ -21,6 +21,7 @@ plain_device bytes = record {
   left_since = λ _ _. ⊥;
 }
 
+-- it is a device, of which no crash leaves anything
 pub plain_device_is_sound : (bytes : List ℕ) → IsDevice (plain_device bytes)
 plain_device_is_sound bytes = record {
   length = λ _. refl;

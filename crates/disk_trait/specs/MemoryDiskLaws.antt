@@ -9,10 +9,12 @@ use Rattle.disk_trait.specs.MemoryDisk.{DiskState, LeavesAt, left_after, left_af
 use Rattle.disk_trait.specs.declared.history.Call.{Call}
 use Rattle.disk_trait.specs.declared.history.Call.TheVariants.{Read, Write, Sync}
 
+-- a write keeps no more bytes than it was handed
 pub length-kept_bytes : (passed : Bool) (bytes : List ℕ) → length (kept_bytes passed bytes) ≤ length bytes
 length-kept_bytes true bytes = omega arith
 length-kept_bytes false bytes = omega (arith, length-take (length bytes / 2) bytes)
 
+-- an image keeps its length
 pub length-put_over : (at : ℕ) (bytes image : List ℕ) → length (put_over at bytes image) ≡ length image
 length-put_over at bytes image = simp (length-take, length-append, length-drop) (omega arith)
 
@@ -31,6 +33,7 @@ itself_after_call (Write at bytes passed) seen left now = (seen, now, torn-put_o
 itself_after_call (Sync true) seen left now = refl
 itself_after_call (Sync false) seen left now = now
 
+-- the bytes that a read gives may be left after any calls
 pub itself_after : (calls : List Call) (seen : List ℕ) (left : List ℕ → Type 0) → left seen → left_after calls seen left (seen_after calls seen)
 itself_after [] seen left now = now
 itself_after (call ∷ later) seen left now = itself_after later (seen_after_call call seen) (left_after_call call seen left) (itself_after_call call seen left now)
@@ -48,6 +51,7 @@ leaves_at_more call past moment image within =
 pub itself_at_last : (past : Past) → LeavesAt past (length past.calls) (seen_of past)
 itself_at_last past = subst (λ T. T) (sym (leaves_at_last past (seen_of past))) (itself_after past.calls past.first (λ i. i ≡ past.first) refl)
 
+-- a device in memory is a device
 pub memory_device_is_sound : (disk : DiskState) → IsDevice (memory_device disk)
 memory_device_is_sound disk = record {
   length = λ _. refl;

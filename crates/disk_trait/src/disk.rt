@@ -38,7 +38,8 @@ pub trait Disk {
         ensures call { DiskCall (TornWrite at (length bytes.now)) (is_ok result)
             (device self.old) (device self.new) }
         ensures written { (device self.old).shows ≡ true
-            → OnOk result ((device self.new).seen ≡ overwritten at bytes.now (device self.old).seen) }
+            → OnOk result ((device self.new).seen
+            ≡ overwritten at bytes.now (device self.old).seen) }
         ensures torn { (device self.old).shows ≡ true
             → Torn at (length bytes.now) (device self.old).seen (device self.new).seen }
         ensures handed { (device self.old).tells ≡ true

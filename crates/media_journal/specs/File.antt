@@ -14,10 +14,11 @@ magic = codes "TAMSST01"
 unfoldable pub header_text : Header → List ℕ
 header_text h = magic ++ (u64_bytes h.blocks ++ (u64_bytes h.half ++ u128_bytes h.id))
 
--- A gate is open where its byte is 1, and closed at every other value and past the end.
+-- a gate is open where its byte is 1
 abbrev pub IsOpenGate : List ℕ → ℕ → Type 0
 IsOpenGate image at = slice_index image at ≡ 1
 
+-- and closed at every other value and past the end
 abbrev pub IsClosedGate : List ℕ → ℕ → Type 0
 IsClosedGate image at = slice_index image at ≢ 1
 

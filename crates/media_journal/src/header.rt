@@ -48,7 +48,8 @@ pub(crate) fn magic() -> [u8; 8]
 pub(crate) fn read_header<D: Disk>(disk: &mut D) -> Result<Option<Header>, Failed>
     requires { 41 ≤ (D.device disk.old).size }
     ensures reads { DiskReads (is_ok result) (D.device disk.old) (D.device disk.new) }
-    ensures header { (D.device disk.old).shows ≡ true → IfOk result (HeaderAnswer (D.device disk.old).seen) }
+    ensures header { (D.device disk.old).shows ≡ true
+        → IfOk result (HeaderAnswer (D.device disk.old).seen) }
 {
     let mut bytes = [0u8; 41];
     disk.read_at(0, &mut bytes)?;

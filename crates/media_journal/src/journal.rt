@@ -27,9 +27,19 @@ impl Model for Journal {
 
     ghost Value = { Position };
 
-    ghost view = { λ j. record { blocks = j.blocks; start = j.start; gate = j.gate; room = j.room } };
+    ghost view = { λ j. record {
+      blocks = j.blocks;
+      start = j.start;
+      gate = j.gate;
+      room = j.room;
+    } };
 
-    ghost invariant = { λ j. IsPosition record { blocks = j.blocks; start = j.start; gate = j.gate; room = j.room } };
+    ghost invariant = { λ j. IsPosition record {
+      blocks = j.blocks;
+      start = j.start;
+      gate = j.gate;
+      room = j.room;
+    } };
 }
 
 impl Journal {

@@ -28,7 +28,11 @@ impl Model for Window {
 
     ghost Value = { Piece };
 
-    ghost view = { λ w. record { offset = w.offset; bytes = take w.filled w.buffer.items; end = w.end } };
+    ghost view = { λ w. record {
+      offset = w.offset;
+      bytes = take w.filled w.buffer.items;
+      end = w.end;
+    } };
 
     ghost invariant = { λ w. IsWindow w.buffer.items w.offset w.filled w.end };
 }

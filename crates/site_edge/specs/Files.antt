@@ -46,6 +46,7 @@ file_device s = record {
   left_since = λ _ _. ⊥;
 }
 
+-- it is a device, of which nothing is told that a crash leaves
 pub file_device_is_sound : (s : FileState) → IsDevice (file_device s)
 file_device_is_sound s = record {
   length = λ shows. cc;

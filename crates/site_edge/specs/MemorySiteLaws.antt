@@ -26,6 +26,7 @@ told_now site p (now left told) = told
 told_now site p (earlier n span within at left told) = absurd (omega (arith, within, left.within, left.later))
 told_now site p (ending n span within at left told) = absurd (omega (arith, within, left.within, left.later))
 
+-- a site in memory is a device
 pub site_device_is_sound : (site : SiteState) → IsDevice (site_device site)
 site_device_is_sound site = record {
   length = λ _. refl;

@@ -273,6 +273,7 @@ EndCause words old new clock begun given o =
     ⊎ (((o ≡ BadWords) × IsNoCommand words × Untouched old new)
     ⊎ ((command : Command) × IsCommand words command × CommandEnds old new clock begun given o command))
 
+-- a run: the counts of faults by its end, and the end's cause
 pub record RunEnds (words : List (List ℕ)) (old new : Device) (clock : Bool) (begun given : List ℕ) (o : Outcome) : Type 0 where
   pub counts : FaultCounts old new o
   pub cause : EndCause words old new clock begun given o
