@@ -1,15 +1,19 @@
--- What a run of `replay` has done where nothing failed: by its history.
-use Rattle.std.proofs.Common.{◌≡◌, ℕ, true, false, List, refl, ap, subst, inl, inr}
+-- What a run has done where nothing failed: one of `replay` by its history, one of `format` by its end.
+use Rattle.std.proofs.Common.{◌≡◌, ◌⊎◌, ℕ, Bool, true, false, List, refl, ap, subst, inl, inr}
 use Rattle.disk_trait.specs.Device.{Device, Connection}
+use Rattle.media_journal.specs.declared.header.Header.{Header}
 use Rattle.tams_top.specs.declared.connection.Ending.{Ending}
 use Rattle.tams_top.specs.declared.connection.Ending.TheVariants as endings
 use Rattle.tams_top.specs.declared.outcome.Outcome.{Outcome}
 use Rattle.tams_top.specs.declared.outcome.Outcome.TheVariants.{Formatted, Served, Cut, BadWords, NotStore, AlreadyStore, TooSmall, Damaged, DiskFault, NoMemory, LinkFault}
+use Rattle.tams_top.specs.declared.words.Command.TheVariants.{Format}
+use Rattle.tams_top.specs.Words.{IsCommand}
 use Rattle.tams_top.specs.Completeness.{EndsByInput, IsAnswered, IsServedWhole, NoneRose}
 use Rattle.tams_top.specs.History.{Session, moments_of, requests_of}
-use Rattle.tams_top.specs.Running.{EndsWithoutPeer, FaultCounts, LinkFaults, OutcomeIs, Replayed, beginning, status_of}
+use Rattle.tams_top.specs.Running.{CommandEnds, EndsWithoutPeer, FaultCounts, FormatEnds, LinkFaults, OutcomeIs, Replayed, RunEnds, beginning, status_of}
 use Rattle.tams_top.specs.Serving.{IsServed}
 use Rattle.tams_top.specs.Store.{State}
+use Rattle.tams_top.proofs.WordTheorems.{one_command}
 
 module _ (old new : Device) (o : Outcome) (counts : FaultCounts old new o) (none : NoneRose old new) where
   no_disk : o ≡ DiskFault → ⊥
@@ -66,3 +70,28 @@ served_whole from old new begun given o counts none fed (inl p) =
 served_whole from old new begun given o counts none fed (inr p) =
     let came = no_peer_came old new o counts none fed p.ends in
     inr (p.connections, p.given_is, came.0, came.1)
+
+-- `format` where no call of the disk failed
+formatted : (old new : Device) (h : Header) (o : Outcome) → FormatEnds old new h o → (o ≡ DiskFault → ⊥) → (status_of o ≡ 0) ⊎ ((status_of o ≡ 2) ⊎ (status_of o ≡ 4))
+formatted old new h (Formatted blocks half media) ends held = inl refl
+formatted old new h AlreadyStore ends held = inr (inl refl)
+formatted old new h TooSmall ends held = inr (inl refl)
+formatted old new h NoMemory ends held = inr (inr refl)
+formatted old new h DiskFault ends held = absurd (held refl)
+formatted old new h (Served requests changes) ends held = absurd ends
+formatted old new h Cut ends held = absurd ends
+formatted old new h BadWords ends held = absurd ends
+formatted old new h NotStore ends held = absurd ends
+formatted old new h (Damaged at) ends held = absurd ends
+formatted old new h LinkFault ends held = absurd ends
+
+pub formatted_whole : (words : List (List ℕ)) (old new : Device) (clock : Bool) (begun given : List ℕ) (o : Outcome) → RunEnds words old new clock begun given o → (path : List ℕ) (blocks half id : ℕ) → IsCommand words (Format path blocks half id) → NoneRose old new → (status_of o ≡ 0) ⊎ ((status_of o ≡ 2) ⊎ (status_of o ≡ 4))
+formatted_whole words old new clock begun given o run path blocks half id is none = elim run.cause [
+  | inl starved ↦ inr (inr (ap status_of starved.0))
+  | inr other ↦ elim other [
+    | inl bad ↦ absurd (bad.1 (Format path blocks half id) is)
+    | inr did ↦
+        let ends = subst (CommandEnds old new clock begun given o) (one_command words did.0 (Format path blocks half id) did.1 is) did.2 in
+        formatted old new _ o ends.0 (no_disk old new o run.counts none)
+  ]
+]

@@ -78,12 +78,17 @@ pub fn run<X: Site, C: Clock, N: Sink>(
         (C.given clock.new) outcome }
 
     // Where nothing failed over such a file, each request that was heard whole was answered by the
-    // machine, each answer was said whole, and the status is 0, or 6 by the input alone.
+    // machine, each answer was said whole, and the status is 0, or 6 by the input alone. `format` ends
+    // with 0 then, or as it was refused.
     ensures complete { (from : State)
         → IsReplayFrom from words.now (X.device site.old) (C.tells clock.new)
         → NoneRose (X.device site.old) (X.device site.new) → result ≢ 4
         → IsServedWhole from (X.device site.old) (X.device site.new) (C.given clock.old)
         (C.given clock.new) result }
+    ensures complete_format { (path : List ℕ) (blocks half id : ℕ)
+        → IsCommand words.now (Format path blocks half id)
+        → NoneRose (X.device site.old) (X.device site.new)
+        → (result ≡ 0) ⊎ ((result ≡ 2) ⊎ (result ≡ 4)) }
 
     // Each run has an outcome with its cause, which gives the status and the line of the notes. A fault
     // of the notes changes no status.

@@ -1,5 +1,5 @@
 use Rattle.std.proofs.Common.{sym, ◌∙◌}
-use Rattle.tams_top.proofs.CompletenessLemmas.{served_whole}
+use Rattle.tams_top.proofs.CompletenessLemmas.{formatted_whole, served_whole}
 use Rattle.tams_top.proofs.EndingLemmas.{run_formatted, run_formatting, run_only, run_refused, run_replayed}
 use Rattle.tams_top.proofs.top.run.Goals as goal
 
@@ -26,3 +26,7 @@ returns-clause-complete g c = λ from replay none fed.
     rw c.status.ensures
     (served_whole from _ _ _ _ c.outcome_of-outcome.result c.outcome_of-outcome.ensures.counts none (λ four. fed (c.status.ensures ∙ four))
     (run_replayed _ _ _ _ _ _ _ c.outcome_of-outcome.ensures (g.met.X.Disk.sound c.args.site.now) from replay))
+
+pub returns-clause-complete_format : goal.returns-clause-complete_format
+returns-clause-complete_format g c = λ path blocks half id is none.
+    rw c.status.ensures (formatted_whole _ _ _ _ _ _ _ c.outcome_of-outcome.ensures path blocks half id is none)
