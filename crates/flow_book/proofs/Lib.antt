@@ -1,1 +1,3 @@
 mod Rounds
+mod Orders
+mod CatalogOrder

@@ -1,6 +1,8 @@
 //! The book and its public calls.
-ghost use Rattle.std.specs.Prelude.{◌≡◌, [], IfOk, option_copied};
-ghost use Rattle.media_rows.specs.Catalog.{Catalog, after_drop, after_put, after_set, after_set_source, after_touch, flow_of, no_flow_refusal, put_refusal, set_refusal, set_source_refusal, source_of};
+ghost use Rattle.std.specs.Prelude.{◌≡◌, [], IfOk, IsTrue, option_copied};
+ghost use Rattle.media_rows.specs.Catalog.{Catalog, after_drop, after_put, after_set, after_set_source, after_touch, flow_before, flow_of, no_flow_refusal, put_refusal, set_refusal, set_source_refusal, source_before, source_of};
+ghost use Rattle.media_rows.specs.Good.{is_catalog_in_order};
+ghost use Rattle.media_rows.specs.Lists.{rises};
 ghost use Rattle.media_rows.specs.Refusals.{IsChange, Restores};
 ghost use Rattle.media_rows.specs.Restoring.{can_restore_catalog, catalog_of};
 ghost use Rattle.flow_book.specs.Listing.{cut_count, flows_listed, sources_listed};
@@ -32,10 +34,13 @@ pub struct FlowBook {
 
 impl Model for FlowBook {
     ghost use Rattle.media_rows.specs.Catalog.{Catalog};
+    ghost use Rattle.flow_book.specs.Order.{IsInOrder};
 
     ghost Value = { Catalog };
 
     ghost view = { λ b. record { sources = b.sources; flows = b.flows } };
+
+    ghost invariant = { λ b. IsInOrder b.sources b.flows };
 }
 
 impl FlowBook {
@@ -166,6 +171,7 @@ impl FlowBook {
         find_source(self.sources.items(), source)
     }
 
+    #[tactic(auto, using(crate::proofs::CatalogOrder::listed_rise))]
     /// The flows that pass and whose ids lie behind `after`, where one is given.
     pub fn list_flows(
         &self,
@@ -173,11 +179,13 @@ impl FlowBook {
         wanted: &FlowFilter,
         after: Option<u128>,
     ) -> Result<FlowList, Memory>
-        ensures { IfOk result (λ list. list ≡ flows_listed wanted.now after self.now.flows) }
+        ensures exact { IfOk result (λ list. list ≡ flows_listed wanted.now after self.now.flows) }
+        ensures rising { IfOk result (λ list. IsTrue (rises flow_before list)) }
     {
         flows_listed(alloc, self.flows.items(), wanted, after)
     }
 
+    #[tactic(auto, using(crate::proofs::CatalogOrder::listed_rise))]
     /// The sources that pass and whose ids lie behind `after`, where one is given.
     pub fn list_sources(
         &self,
@@ -185,9 +193,17 @@ impl FlowBook {
         wanted: &SourceFilter,
         after: Option<u128>,
     ) -> Result<SourceList, Memory>
-        ensures { IfOk result (λ list. list ≡ sources_listed wanted.now after self.now.sources) }
+        ensures exact { IfOk result (λ list. list ≡ sources_listed wanted.now after self.now.sources) }
+        ensures rising { IfOk result (λ list. IsTrue (rises source_before list)) }
     {
         sources_listed(alloc, self.sources.items(), wanted, after)
+    }
+
+    /// A law: sources and flows stand by rising id, and so each id once.
+    pub fn is_in_order(&self)
+        ensures { IsTrue (is_catalog_in_order self.now) }
+    {
+        let _flows = &self.flows;
     }
 
     /// The number of flows, cut at the last value of its type.

@@ -1,6 +1,6 @@
 use Rattle.std.proofs.Common.{◌≡◌, ◌∙◌, ◌≤◌, true, length, sym, arith}
 use Rattle.std.specs.List.{list_all}
-use Rattle.media_rows.specs.Collections.{collected_by, member_ids, reached}
+use Rattle.media_rows.specs.Collections.{collected_by}
 use Rattle.media_rows.specs.Lists.{has_number}
 use Rattle.flow_book.proofs.Rounds.{ended_early}
 use Rattle.flow_book.proofs.collections.collects_itself.Goals as goal
