@@ -1,0 +1,6 @@
+use Rattle.std.proofs.Common.{◌≡◌, drop}
+use Rattle.media_rows.specs.Collections.{first_missing}
+use Rattle.flow_book.proofs.collections.first_missing.Given as goal
+
+abbrev pub invariant-loop-member : goal.invariant-loop-member
+invariant-loop-member l = first_missing l.flows l.id (drop l.member-index l.members) ≡ first_missing l.flows l.id l.members

@@ -1,0 +1,19 @@
+//! The book of sources and flows: a value that each change makes anew, as plain lists by rising id.
+//! Each call is its part of the library's definitions in `media_rows`. Which flows are being deleted,
+//! which segments there are and what events a change makes is left to the callers.
+#![tactic(auto)]
+
+mod book;
+mod collections;
+mod drops;
+mod lists;
+mod looks;
+mod ordered;
+mod parts;
+mod puts;
+mod restores;
+mod sets;
+#[cfg(test)]
+mod tests;
+
+pub use crate::book::FlowBook;

@@ -1,0 +1,188 @@
+//! Parts that are set or cleared: which isn't set, and what each makes.
+ghost use Rattle.std.specs.Prelude.{◌≡◌, bytes_eq, filter, is_some, not, option_copied};
+ghost use Rattle.media_rows.specs.declared.refusal.Refusal.TheVariants as refusals;
+ghost use Rattle.media_rows.specs.Catalog.{body_with, clears_nothing, collects_nothing, flow_part_unset, sets_mark, source_part_unset, source_with, tag_of, tags_with};
+ghost use Rattle.media_rows.specs.Refusals.{when};
+ghost use Rattle.flow_book.specs.Answers.{Gives};
+
+use crate::ordered::placed_row;
+use disk_trait::{Duplicate, Memory, Text};
+use media_rows::{FlowBody, Member, Part, Refusal, SourceRow, Tag, TagList};
+use std::alloc::Global;
+
+/// The refusal of a part that a flow hasn't, and that is to be cleared.
+pub(crate) fn flow_part_unset(
+    alloc: Global,
+    body: &FlowBody,
+    part: &Part,
+) -> Result<Option<Refusal>, Memory>
+    ensures { Gives result (flow_part_unset body.now part.now) }
+{
+    match part {
+        Part::Tag(name, new) => not_set(
+            alloc,
+            clears_no_tag(body.tags.items(), name, new),
+            b"tags",
+        ),
+        Part::Label(new) => not_set(alloc, clears_nothing(&body.label, new), b"label"),
+        Part::Description(new) => {
+            not_set(
+                alloc,
+                clears_nothing(&body.description, new),
+                b"description",
+            )
+        }
+        Part::ReadOnly(_) => Ok(None),
+        Part::Collection(new) => not_set(
+            alloc,
+            collects_nothing(body.members.items(), new.items()),
+            b"flow_collection",
+        ),
+        Part::MaxBitRate(new) => {
+            not_set(
+                alloc,
+                clears_nothing(&body.max_bit_rate, new),
+                b"max_bit_rate",
+            )
+        }
+        Part::AvgBitRate(new) => {
+            not_set(
+                alloc,
+                clears_nothing(&body.avg_bit_rate, new),
+                b"avg_bit_rate",
+            )
+        }
+    }
+}
+
+/// The refusal of a part that a source hasn't, and that is to be cleared.
+pub(crate) fn source_part_unset(
+    alloc: Global,
+    row: &SourceRow,
+    part: &Part,
+) -> Result<Option<Refusal>, Memory>
+    ensures { Gives result (source_part_unset row.now part.now) }
+{
+    match part {
+        Part::Tag(name, new) => not_set(alloc, clears_no_tag(row.tags.items(), name, new), b"tags"),
+        Part::Label(new) => not_set(alloc, clears_nothing(&row.label, new), b"label"),
+        Part::Description(new) => {
+            not_set(alloc, clears_nothing(&row.description, new), b"description")
+        }
+        _ => Ok(None),
+    }
+}
+
+/// The refusal that names a part, where the test holds.
+fn not_set(alloc: Global, test: bool, name: &[u8]) -> Result<Option<Refusal>, Memory>
+    ensures { Gives result (when test (refusals.NotSet name.now)) }
+{
+    if test {
+        return Ok(Some(Refusal::NotSet(Text::from_bytes(alloc, name)?)));
+    }
+    Ok(None)
+}
+
+fn clears_nothing<X, Y>(old: &Option<X>, new: &Option<Y>) -> bool
+    ensures { result ≡ clears_nothing old.now new.now }
+{
+    new.is_none() && old.is_none()
+}
+
+fn clears_no_tag(tags: &[Tag], name: &Text, new: &Option<Tag>) -> bool
+    ensures { result ≡ clears_nothing (tag_of name.now tags.now) new.now }
+{
+    new.is_none() && !has_tag(tags, name)
+}
+
+fn collects_nothing(old: &[Member], new: &[Member]) -> bool
+    ensures { result ≡ collects_nothing old.now new.now }
+{
+    new.len() == 0 && old.len() == 0
+}
+
+/// Whether a part is the read-only mark.
+pub(crate) fn sets_mark(part: &Part) -> bool
+    ensures { result ≡ sets_mark part.now }
+{
+    match part {
+        Part::ReadOnly(_) => true,
+        _ => false,
+    }
+}
+
+/// The tag of a name, if it is set.
+pub(crate) fn find_tag<'t>(tags: &'t [Tag], name: &Text) -> Option<&'t Tag>
+    ensures { option_copied result ≡ tag_of name.now tags.now }
+{
+    tags.iter().find(|tag| same_text(&tag.name, name))
+}
+
+/// Whether the tag of a name is set.
+pub(crate) fn has_tag(tags: &[Tag], name: &Text) -> bool
+    ensures { result ≡ is_some (tag_of name.now tags.now) }
+{
+    match find_tag(tags, name) {
+        Some(_) => true,
+        None => false,
+    }
+}
+
+/// Whether two texts are the same.
+pub(crate) fn same_text(left: &Text, right: &Text) -> bool
+    ensures { result ≡ bytes_eq left.now right.now }
+{
+    left.bytes() == right.bytes()
+}
+
+/// What is said of a flow, with one part set or cleared.
+pub(crate) fn body_with(alloc: Global, part: &Part, body: &FlowBody) -> Result<FlowBody, Memory>
+    ensures { Gives result (body_with part.now body.now) }
+{
+    let mut next = body.duplicate(alloc)?;
+    match part {
+        Part::Tag(name, new) => next.tags = tags_with(alloc, name, new, body.tags.items())?,
+        Part::Label(new) => next.label = new.duplicate(alloc)?,
+        Part::Description(new) => next.description = new.duplicate(alloc)?,
+        Part::ReadOnly(mark) => next.read_only = *mark,
+        Part::Collection(members) => next.members = members.duplicate(alloc)?,
+        Part::MaxBitRate(rate) => next.max_bit_rate = *rate,
+        Part::AvgBitRate(rate) => next.avg_bit_rate = *rate,
+    }
+    Ok(next)
+}
+
+/// A source with one part set or cleared. The parts that it hasn't change nothing.
+pub(crate) fn source_with(alloc: Global, part: &Part, row: &SourceRow) -> Result<SourceRow, Memory>
+    ensures { Gives result (source_with part.now row.now) }
+{
+    let mut next = row.duplicate(alloc)?;
+    match part {
+        Part::Tag(name, new) => next.tags = tags_with(alloc, name, new, row.tags.items())?,
+        Part::Label(new) => next.label = new.duplicate(alloc)?,
+        Part::Description(new) => next.description = new.duplicate(alloc)?,
+        _ => {}
+    }
+    Ok(next)
+}
+
+fn tags_with(alloc: Global, name: &Text, new: &Option<Tag>, tags: &[Tag]) -> Result<TagList, Memory>
+    ensures { Gives result (tags_with name.now new.now tags.now) }
+{
+    match new {
+        None => tags_without(alloc, name, tags),
+        Some(tag) => placed_row(alloc, tags, tag),
+    }
+}
+
+fn tags_without(alloc: Global, name: &Text, tags: &[Tag]) -> Result<TagList, Memory>
+    ensures { Gives result (filter (λ tag. not (bytes_eq tag.name name.now)) tags.now) }
+{
+    let mut list = TagList::new(alloc);
+    for tag in tags {
+        if !same_text(&tag.name, name) {
+            list.push(tag.duplicate(alloc)?)?;
+        }
+    }
+    Ok(list)
+}

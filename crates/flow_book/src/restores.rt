@@ -1,0 +1,128 @@
+//! Rows from which a book is made: whether they are good.
+ghost use Rattle.std.specs.Prelude.{◌≡◌, ◌==◌, IfOk, map, not, option_copied};
+ghost use Rattle.std.specs.List.{list_all};
+ghost use Rattle.media_rows.specs.Catalog.{has_flow, source_of};
+ghost use Rattle.media_rows.specs.Collections.{is_kept, member_ids};
+ghost use Rattle.media_rows.specs.Good.{are_collections_good, fits_kept, is_collection_good};
+ghost use Rattle.media_rows.specs.Lists.{are_distinct};
+ghost use Rattle.media_rows.specs.Restoring.{can_restore_catalog};
+ghost use Rattle.flow_book.specs.Answers.{Gives};
+
+use crate::collections::{collects_itself, is_kept};
+use crate::drops::has_flow;
+use crate::looks::find_source;
+use crate::puts::fits_format;
+use disk_trait::Memory;
+use media_rows::{FlowRow, Member, SourceRow};
+use std::alloc::Global;
+
+/// Whether ids are distinct, each flow has its source and each source a flow, and collections are good.
+pub(crate) fn can_restore(
+    alloc: Global,
+    sources: &[SourceRow],
+    flows: &[FlowRow],
+) -> Result<bool, Memory>
+    ensures { Gives result (can_restore_catalog sources.now flows.now) }
+{
+    if !are_distinct(&source_ids(alloc, sources)?) {
+        return Ok(false);
+    }
+    if !are_distinct(&flow_ids(alloc, flows)?) {
+        return Ok(false);
+    }
+    if !are_flows_under_sources(sources, flows) || !have_flows(sources, flows) {
+        return Ok(false);
+    }
+    are_collections_good(alloc, flows)
+}
+
+fn source_ids(alloc: Global, sources: &[SourceRow]) -> Result<Vec<u128>, Memory>
+    ensures { IfOk result (λ ids. ids.items ≡ map (λ row. row.id) sources.now) }
+{
+    let mut ids = Vec::new(alloc);
+    for row in sources {
+        ids.push(row.id)?;
+    }
+    Ok(ids)
+}
+
+fn flow_ids(alloc: Global, flows: &[FlowRow]) -> Result<Vec<u128>, Memory>
+    ensures { IfOk result (λ ids. ids.items ≡ map (λ row. row.body.id) flows.now) }
+{
+    let mut ids = Vec::new(alloc);
+    for row in flows {
+        ids.push(row.body.id)?;
+    }
+    Ok(ids)
+}
+
+fn are_distinct(numbers: &[u128]) -> bool
+    ensures { result ≡ are_distinct numbers.now }
+{
+    for (i, number) in numbers.iter().enumerate() {
+        let (_, later) = numbers.split_at(i + 1);
+        if !differs(*number, later) {
+            return false;
+        }
+    }
+    true
+}
+
+fn differs(number: u128, others: &[u128]) -> bool
+    ensures { result ≡ list_all (λ other. not (number == other)) others.now }
+{
+    others.iter().all(|other| number != *other)
+}
+
+fn are_flows_under_sources(sources: &[SourceRow], flows: &[FlowRow]) -> bool
+    ensures { result ≡ list_all (λ row. fits_kept (source_of row.body.source sources.now) row) flows.now }
+{
+    flows.iter().all(|row| fits_kept(find_source(sources, row.body.source), row))
+}
+
+fn fits_kept(source: Option<&SourceRow>, row: &FlowRow) -> bool
+    ensures { result ≡ fits_kept (option_copied source.entry) row.now }
+{
+    match source {
+        None => false,
+        Some(kept) => fits_format(kept.format, row.body.format),
+    }
+}
+
+fn have_flows(sources: &[SourceRow], flows: &[FlowRow]) -> bool
+    ensures { result ≡ list_all (has_flow flows.now) sources.now }
+{
+    sources.iter().all(|source| has_flow(flows, source))
+}
+
+fn are_collections_good(alloc: Global, flows: &[FlowRow]) -> Result<bool, Memory>
+    ensures { Gives result (are_collections_good flows.now) }
+{
+    for row in flows {
+        if !is_collection_good(alloc, flows, row)? {
+            return Ok(false);
+        }
+    }
+    Ok(true)
+}
+
+fn is_collection_good(alloc: Global, flows: &[FlowRow], row: &FlowRow) -> Result<bool, Memory>
+    ensures { Gives result (is_collection_good flows.now row.now) }
+{
+    let members = row.body.members.items();
+    if !are_kept(flows, members) {
+        return Ok(false);
+    }
+    Ok(!collects_itself(alloc, flows, row.body.id, members)?)
+}
+
+fn are_kept(flows: &[FlowRow], members: &[Member]) -> bool
+    ensures { result ≡ list_all (is_kept flows.now) (member_ids members.now) }
+{
+    for member in members {
+        if !is_kept(flows, member.flow) {
+            return false;
+        }
+    }
+    true
+}
