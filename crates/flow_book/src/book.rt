@@ -63,7 +63,8 @@ impl FlowBook {
         sources: &SourceList,
         flows: &FlowList,
     ) -> Result<FlowBook, ApplyFault>
-        ensures { Restores (can_restore_catalog sources.now flows.now) (catalog_of sources.now flows.now) result }
+        ensures { Restores (can_restore_catalog sources.now flows.now)
+            (catalog_of sources.now flows.now) result }
     {
         if !can_restore(alloc, sources.items(), flows.items())? {
             return Err(ApplyFault::Refused);
@@ -77,7 +78,8 @@ impl FlowBook {
     /// Puts a flow, and makes its source where that is new. It is refused as `ReadOnly`, `FlowChanged`,
     /// `SourceFormat`, `CollectedMissing` or `CollectsItself`.
     pub fn put_flow(&self, alloc: Global, body: &FlowBody, now: u64) -> Result<FlowBook, BookFault>
-        ensures { IsChange (put_refusal self.now body.now) (after_put body.now now self.now) result }
+        ensures { IsChange (put_refusal self.now body.now)
+            (after_put body.now now self.now) result }
     {
         let refusal = put_refusal(alloc, self.sources.items(), self.flows.items(), body)?;
         if let Some(why) = refusal {
@@ -98,7 +100,8 @@ impl FlowBook {
         part: &Part,
         now: u64,
     ) -> Result<FlowBook, BookFault>
-        ensures { IsChange (set_refusal self.now flow part.now) (after_set flow part.now now self.now) result }
+        ensures { IsChange (set_refusal self.now flow part.now)
+            (after_set flow part.now now self.now) result }
     {
         if let Some(why) = set_refusal(alloc, self.flows.items(), flow, part)? {
             return Err(BookFault::Refused(why));
@@ -118,7 +121,8 @@ impl FlowBook {
         part: &Part,
         now: u64,
     ) -> Result<FlowBook, BookFault>
-        ensures { IsChange (set_source_refusal self.now source part.now) (after_set_source source part.now now self.now) result }
+        ensures { IsChange (set_source_refusal self.now source part.now)
+            (after_set_source source part.now now self.now) result }
     {
         if let Some(why) = source_refusal(alloc, self.sources.items(), source, part)? {
             return Err(BookFault::Refused(why));
@@ -171,8 +175,8 @@ impl FlowBook {
         find_source(self.sources.items(), source)
     }
 
-    #[tactic(auto, using(crate::proofs::CatalogOrder::listed_rise))]
     /// The flows that pass and whose ids lie behind `after`, where one is given.
+    #[tactic(auto, using(crate::proofs::CatalogOrder::listed_rise))]
     pub fn list_flows(
         &self,
         alloc: Global,
@@ -185,15 +189,16 @@ impl FlowBook {
         flows_listed(alloc, self.flows.items(), wanted, after)
     }
 
-    #[tactic(auto, using(crate::proofs::CatalogOrder::listed_rise))]
     /// The sources that pass and whose ids lie behind `after`, where one is given.
+    #[tactic(auto, using(crate::proofs::CatalogOrder::listed_rise))]
     pub fn list_sources(
         &self,
         alloc: Global,
         wanted: &SourceFilter,
         after: Option<u128>,
     ) -> Result<SourceList, Memory>
-        ensures exact { IfOk result (λ list. list ≡ sources_listed wanted.now after self.now.sources) }
+        ensures exact { IfOk result
+            (λ list. list ≡ sources_listed wanted.now after self.now.sources) }
         ensures rising { IfOk result (λ list. IsTrue (rises source_before list)) }
     {
         sources_listed(alloc, self.sources.items(), wanted, after)

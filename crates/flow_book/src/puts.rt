@@ -35,7 +35,8 @@ fn new_flow_refusal(
     flows: &[FlowRow],
     body: &FlowBody,
 ) -> Result<Option<Refusal>, Memory>
-    ensures { Gives result (first_refusal (put_refusals None (catalog_with sources.now flows.now) body.now)) }
+    ensures { Gives result
+        (first_refusal (put_refusals None (catalog_with sources.now flows.now) body.now)) }
 {
     if !fits_source(find_source(sources, body.source), body) {
         return Ok(Some(Refusal::SourceFormat));
@@ -49,7 +50,8 @@ fn kept_flow_refusal(
     old: &FlowRow,
     body: &FlowBody,
 ) -> Result<Option<Refusal>, Memory>
-    ensures { Gives result (first_refusal (put_refusals (Some old.now) (catalog_with [] flows.now) body.now)) }
+    ensures { Gives result
+        (first_refusal (put_refusals (Some old.now) (catalog_with [] flows.now) body.now)) }
 {
     if old.body.read_only {
         return Ok(Some(Refusal::ReadOnly));
@@ -96,7 +98,8 @@ pub(crate) fn flows_after_put(
     body: &FlowBody,
     now: u64,
 ) -> Result<FlowList, Memory>
-    ensures { Gives result (placed flow_before (put_row (flow_of body.now.id flows.now) body.now now) flows.now) }
+    ensures { Gives result
+        (placed flow_before (put_row (flow_of body.now.id flows.now) body.now now) flows.now) }
 {
     let row = put_row(alloc, find_flow(flows, body.id), body, now)?;
     placed_row(alloc, flows, &row)
@@ -134,7 +137,8 @@ pub(crate) fn sources_after_put(
     body: &FlowBody,
     now: u64,
 ) -> Result<SourceList, Memory>
-    ensures { Gives result (sources_after_put (source_of body.now.source sources.now) sources.now body.now now) }
+    ensures { Gives result
+        (sources_after_put (source_of body.now.source sources.now) sources.now body.now now) }
 {
     match find_source(sources.items(), body.source) {
         None => placed_row(alloc, sources.items(), &new_source(alloc, body, now)),

@@ -75,7 +75,8 @@ fn differs(number: u128, others: &[u128]) -> bool
 }
 
 fn are_flows_under_sources(sources: &[SourceRow], flows: &[FlowRow]) -> bool
-    ensures { result ≡ list_all (λ row. fits_kept (source_of row.body.source sources.now) row) flows.now }
+    ensures { result
+        ≡ list_all (λ row. fits_kept (source_of row.body.source sources.now) row) flows.now }
 {
     flows.iter().all(|row| fits_kept(find_source(sources, row.body.source), row))
 }

@@ -18,7 +18,8 @@ pub(crate) fn set_refusal(
     id: u128,
     part: &Part,
 ) -> Result<Option<Refusal>, Memory>
-    ensures { Gives result (first_refusal (set_refusals (flow_of id flows.now) flows.now id part.now)) }
+    ensures { Gives result
+        (first_refusal (set_refusals (flow_of id flows.now) flows.now id part.now)) }
 {
     match find_flow(flows, id) {
         None => Ok(Some(Refusal::NoFlow)),
@@ -82,7 +83,8 @@ fn flow_after_set(
     part: &Part,
     now: u64,
 ) -> Result<FlowRow, Memory>
-    ensures { Gives result (if row.now.body.id == id then set_row part.now now row.now else row.now) }
+    ensures { Gives result
+        (if row.now.body.id == id then set_row part.now now row.now else row.now) }
 {
     if row.body.id != id {
         return row.duplicate(alloc);
@@ -134,7 +136,8 @@ fn source_after_set(
     part: &Part,
     now: u64,
 ) -> Result<SourceRow, Memory>
-    ensures { Gives result (if row.now.id == id then set_source_row part.now now row.now else row.now) }
+    ensures { Gives result
+        (if row.now.id == id then set_source_row part.now now row.now else row.now) }
 {
     if row.id != id {
         return row.duplicate(alloc);
