@@ -1,12 +1,17 @@
 -- Where a command is answered with a change, the change applies.
-use Rattle.library_laws.specs.Laws.{TurnsApply, HasGoodValues, HasPlace, IsAllowedAt, IsGoodWant, IsGoodCommand, AnswersApply}
+use Rattle.library_laws.proofs.PlaceLemmas.{places_are_least}
+use Rattle.library_laws.specs.Laws.{IsLeastPlace, TurnsApply, HasPlace, IsAllowedAt, AnswersApply}
+use Rattle.media_rows.specs.Sound.{has_good_values, is_good_command, is_want_good, is_place, is_least_place, may_keep, may_take}
+use Rattle.media_rows.specs.declared.object.ObjectRow.{ObjectRow}
+use Rattle.media_rows.specs.declared.object.ObjectState.{ObjectState}
+use Rattle.media_rows.specs.declared.object.ObjectState.TheVariants.{Allocated, Stored}
 use Rattle.media_rows.specs.Apply.{is_allowed, applied, passes_serials}
 use Rattle.media_rows.specs.Requests.{first_unfinished}
-use Rattle.media_rows.specs.Objects.{swept_objects}
-use Rattle.std.proofs.Common.{Option, Some, None, cond, nat_lt, refl, ap, ◌∙◌, ◌≡◌, inl, inr, ℕ, zero, suc, ◌+◌, ◌<◌, ◌≤◌, ◌^◌, ◌%◌, Bool, true, false, List, [], ◌∷◌, map, length, codes, length-append, arith}
-use Rattle.std.proofs.lemmas.Bool.{cond_both, ltb-false, and_from, le-leb}
+use Rattle.media_rows.specs.Objects.{swept_objects, is_free, blocks_of, free_place, object_of}
+use Rattle.std.proofs.Common.{subst, sym, Option, Some, None, cond, nat_lt, refl, ap, ◌∙◌, ◌≡◌, inl, inr, ℕ, zero, suc, ◌+◌, ◌<◌, ◌≤◌, ◌^◌, ◌%◌, Bool, true, false, List, [], ◌∷◌, map, length, codes, length-append, arith}
+use Rattle.std.proofs.lemmas.Bool.{cond_both, ltb-false, and_from, le-leb, eq-eqb, eqb-true, false≢true, or_left, lt-ltb}
 use Rattle.media_rows.specs.Changes.{moment_of, after}
-use Rattle.std.specs.Prelude.{IfSome, IsFalse, is_some, nat_le, ◌==◌, decimal}
+use Rattle.std.specs.Prelude.{IfSome, IsTrue, MatchOption, ◌||◌, IsFalse, is_some, nat_le, ◌==◌, decimal}
 use Rattle.std.specs.List.{list_all}
 use Rattle.std.proofs.lemmas.Bool.Decides.{nat_tests}
 use Rattle.std.proofs.lemmas.Fmt.{decimal_by_steps, length-decimal-le}
@@ -21,7 +26,7 @@ use Rattle.media_rows.specs.declared.command.Want.{Want}
 use Rattle.media_rows.specs.declared.command.Want.TheVariants.{Count, Named}
 use Rattle.media_rows.specs.declared.reply.Reply.TheVariants as replies
 use Rattle.time_range.specs.declared.ranges.Span.{Span}
-use Rattle.media_rows.specs.Answer.{Outcome, changed, unchanged, answer, accepted, refusal_of, changing_answer, accepted_drop, accepted_cut, wanted_ids, made_id, made_prefix}
+use Rattle.media_rows.specs.Answer.{keep_refusal, keep_state, Outcome, changed, unchanged, answer, accepted, refusal_of, changing_answer, accepted_drop, accepted_cut, wanted_ids, made_id, made_prefix}
 use Rattle.media_rows.specs.Good.{Good}
 use Rattle.media_rows.specs.Ids.{id_text, is_id_byte, is_object_id}
 use Rattle.media_rows.specs.Library.{Library, last_serial}
@@ -83,28 +88,65 @@ length-map_made : (store next : ℕ) (is : List ℕ) → length (map (λ i. made
 length-map_made store next [] = refl
 length-map_made store next (i ∷ is) = ap suc (length-map_made store next is)
 
-wanted_are_ids : (library : Library) (want : Want) → IsGoodWant want → library.next_serial + length (wanted_ids library want) ≤ last_serial → list_all is_object_id (wanted_ids library want) ≡ true
+wanted_are_ids : (library : Library) (want : Want) → is_want_good want ≡ true → library.next_serial + length (wanted_ids library want) ≤ last_serial → list_all is_object_id (wanted_ids library want) ≡ true
 wanted_are_ids library (Count n) good most =
     list_all-mapped is_object_id (λ i. made_id library.id (library.next_serial + i)) (numbers_below n) (λ i here.
     let b = below n i here in
     made_is_id library.id (library.next_serial + i) (omega (arith, length-map_made library.id library.next_serial (numbers_below n), length-below n)))
 wanted_are_ids library (Named ids) good most = good
 
+-- ---- the place of an object that is stored
+
+-- a place that is found is free, and is block 0 for no bytes
+abbrev pub IsFound : Library → ℕ → ℕ → Type 0
+IsFound library size start = IsTrue (is_free library.objects library.blocks (blocks_of size) start) × IsTrue (nat_lt 0 size || (start == 0))
+
+by_state : (state : ObjectState) (test : Bool) → may_take state test ≡ true → keep_state state ≡ None → test ≡ true
+by_state Allocated test good none = good
+by_state (Stored at length) test good none = absurd (cc)
+
+-- an allocated object's bytes come to the place that was found
+at_place : (o : Option ObjectRow) (test : Bool) → may_keep o test ≡ true → keep_refusal o ≡ None → test ≡ true
+at_place None test good none = absurd (cc)
+at_place (Some row) test good none = by_state row.state test good none
+
+zero_or_more : (size start : ℕ) → (blocks_of size ≡ 0 → start ≡ 0) → (nat_lt 0 size || (start == 0)) ≡ true
+zero_or_more zero start h = eq-eqb start 0 (h refl)
+zero_or_more (suc n) start h = or_left (nat_lt 0 (suc n)) (start == 0) (lt-ltb 0 (suc n) (omega arith))
+
+is_found : (library : Library) (size start : ℕ) (o : Option ℕ)
+    → MatchOption o ((place : ℕ) → place < library.blocks → IsFalse (is_free library.objects library.blocks (blocks_of size) place))
+    (IsLeastPlace library.objects library.blocks (blocks_of size))
+    → is_place start o ≡ true → IsFound library size start
+is_found library size start None least same = absurd (false≢true same)
+is_found library size start (Some place) least same =
+    let e = eqb-true start place same in
+    subst (λ at. IsTrue (is_free library.objects library.blocks (blocks_of size) at) × IsTrue (nat_lt 0 size || (at == 0))) (sym e)
+    (least.free, zero_or_more size place least.zero)
+
+found_place : (library : Library) (object : List ℕ) (start size : ℕ)
+    → is_good_command library (commands.Keep object start size) ≡ true → keep_refusal (object_of object library.objects) ≡ None
+    → IsFound library size start
+found_place library object start size good none =
+    is_found library size start (free_place library.objects library.blocks (blocks_of size))
+    (places_are_least library.objects library.blocks (blocks_of size))
+    (at_place (object_of object library.objects) (is_least_place library start size) good none)
+
 -- ---- what a change of an answer brings
 
 -- the values of a change are good, where the serials don't end
 Brings : Library → Change → Type 0
-Brings library change = (after change library).next_serial ≤ last_serial → HasGoodValues change
+Brings library change = (after change library).next_serial ≤ last_serial → has_good_values change ≡ true
 
 drop_brings : (library : Library) (flow moment : ℕ) → IfSome (accepted_drop library flow moment).change (Brings library)
 unfolding Brings
-drop_brings library flow moment = cond_both (nat_le (length (segments_of flow library.segments)) 32) _ _ (λ (o : Outcome). IfSome o.change (Brings library)) (λ e m. tt) (λ e m. refl)
+drop_brings library flow moment = cond_both (nat_le (length (segments_of flow library.segments)) 32) _ _ (λ (o : Outcome). IfSome o.change (Brings library)) (λ e m. refl) (λ e m. refl)
 
 cut_brings : (library : Library) (flow : ℕ) (range : Option Span) (moment : ℕ) → IfSome (accepted_cut library flow range moment).change (Brings library)
 unfolding Brings
 cut_brings library flow range moment =
     cond_both (length (covered library.segments flow range) == 0) _ _ (λ (o : Outcome). IfSome o.change (Brings library)) (λ e. tt)
-    (λ some. cond_both (nat_le (length (covered library.segments flow range)) 32) _ _ (λ (o : Outcome). IfSome o.change (Brings library)) (λ e m. tt) (λ e m. refl))
+    (λ some. cond_both (nat_le (length (covered library.segments flow range)) 32) _ _ (λ (o : Outcome). IfSome o.change (Brings library)) (λ e m. refl) (λ e m. refl))
 
 brings_by : (library : Library) (command : Command) (moment : ℕ) → IfSome (accepted library command moment).change (Brings library)
     → IfSome (changing_answer (refusal_of library command) (accepted library command moment)).change (Brings library)
@@ -112,17 +154,19 @@ brings_by library command moment h = by_refusal (Brings library) (refusal_of lib
 
 hook_brings : (library : Library) (url : List ℕ) (moment : ℕ) (kept : Bool) → IfSome (cond kept (changed replies.Done (changes.DropHook moment url)) (unchanged replies.Done)).change (Brings library)
 unfolding Brings
-hook_brings library url moment true = λ m. tt
+hook_brings library url moment true = λ m. refl
 hook_brings library url moment false = tt
 
-answers_bring : (library : Library) (command : Command) (moment : ℕ) → IsGoodCommand library command → IfSome (answer library command moment).change (Brings library)
+answers_bring : (library : Library) (command : Command) (moment : ℕ) → is_good_command library command ≡ true → IfSome (answer library command moment).change (Brings library)
 unfolding Brings
 answers_bring library (commands.PutFlow body) moment good = brings_by library (commands.PutFlow body) moment (λ m. good)
 answers_bring library (commands.SetFlow flow part) moment good = brings_by library (commands.SetFlow flow part) moment (λ m. good)
 answers_bring library (commands.SetSource source part) moment good = brings_by library (commands.SetSource source part) moment (λ m. good)
 answers_bring library (commands.DropFlow flow) moment good = brings_by library (commands.DropFlow flow) moment (drop_brings library flow moment)
 answers_bring library (commands.Allocate flow want) moment good = brings_by library (commands.Allocate flow want) moment (λ m. wanted_are_ids library want good m)
-answers_bring library (commands.Keep object start size) moment good = brings_by library (commands.Keep object start size) moment (λ m. good.zero)
+answers_bring library (commands.Keep object start size) moment good =
+    by_refusal (Brings library) (keep_refusal (object_of object library.objects)) (accepted library (commands.Keep object start size) moment)
+    (λ none m. (found_place library object start size good none).1)
 answers_bring library (commands.AddSegments flow posts) moment good = brings_by library (commands.AddSegments flow posts) moment (λ m. good)
 answers_bring library (commands.CutSegments flow range) moment good = brings_by library (commands.CutSegments flow range) moment (cut_brings library flow range moment)
 answers_bring library (commands.PutHook hook) moment good = λ m. good
@@ -143,13 +187,13 @@ answers_bring library (commands.Request serial) moment good = tt
 
 -- ---- the law
 
-good_place : (library : Library) (command : Command) → IsGoodCommand library command → HasPlace library command
+good_place : (library : Library) (command : Command) → is_good_command library command ≡ true → HasPlace library command
 good_place library (commands.PutFlow body) good = tt
 good_place library (commands.SetFlow flow part) good = tt
 good_place library (commands.SetSource source part) good = tt
 good_place library (commands.DropFlow flow) good = tt
 good_place library (commands.Allocate flow want) good = tt
-good_place library (commands.Keep object start size) good = good.free
+good_place library (commands.Keep object start size) good = λ none. (found_place library object start size good none).0
 good_place library (commands.AddSegments flow posts) good = tt
 good_place library (commands.CutSegments flow range) good = tt
 good_place library (commands.PutHook hook) good = tt
@@ -182,7 +226,7 @@ answers_apply library command moment good command_good at =
 
 -- ---- turns
 
-turn_by : (library : Library) (moment : ℕ) → Good library → is_moment moment ≡ true → (change : Change) → is_allowed library change ≡ true → moment_of change ≡ moment → HasGoodValues change
+turn_by : (library : Library) (moment : ℕ) → Good library → is_moment moment ≡ true → (change : Change) → is_allowed library change ≡ true → moment_of change ≡ moment → has_good_values change ≡ true
     → IsFalse (passes_serials change library) → applied change library ≡ Some (after change library)
 turn_by library moment good at change allowed same values room =
     changes_apply library change good allowed (record { at = ap is_moment same ∙ at; values = values; serials = ltb-false last_serial (after change library).next_serial room })
@@ -191,7 +235,7 @@ pub turns_apply : TurnsApply
 turns_apply library moment good at =
     cond_both (is_some (first_unfinished library.requests)) (Some (changes.DeleteStep moment)) (cond (nat_lt 0 (length (swept_objects library.segments library.objects moment))) (Some (changes.SweepStep moment)) None)
     (λ (o : Option Change). IfSome o (λ change. IsFalse (passes_serials change library) → applied change library ≡ Some (after change library)))
-    (λ due. turn_by library moment good at (changes.DeleteStep moment) due refl tt)
+    (λ due. turn_by library moment good at (changes.DeleteStep moment) due refl refl)
     (λ none. cond_both (nat_lt 0 (length (swept_objects library.segments library.objects moment))) (Some (changes.SweepStep moment)) None
     (λ (o : Option Change). IfSome o (λ change. IsFalse (passes_serials change library) → applied change library ≡ Some (after change library)))
-    (λ due. turn_by library moment good at (changes.SweepStep moment) due refl tt) (λ nothing. tt))
+    (λ due. turn_by library moment good at (changes.SweepStep moment) due refl refl) (λ nothing. tt))

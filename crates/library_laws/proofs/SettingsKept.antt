@@ -18,7 +18,7 @@ use Rattle.media_rows.specs.Library.{Library}
 use Rattle.media_rows.specs.Lists.{rises, placed}
 use Rattle.media_rows.specs.Moments.{is_moment}
 use Rattle.media_rows.specs.Refusals.{when, first_refusal}
-use Rattle.library_laws.specs.Laws.{is_part_good}
+use Rattle.media_rows.specs.Sound.{is_part_good}
 use Rattle.library_laws.proofs.ListLemmas.{find-In, find-map, list_all-In, list_all-from_In, list_all-filter}
 use Rattle.library_laws.proofs.KeptLemmas.{placed-In, rises-mapped, list_all-mapped, same_by_key}
 use Rattle.library_laws.proofs.FlowsKept.{changed-Replaces, FlowChange, with_catalog, flow_change_keeps_good}

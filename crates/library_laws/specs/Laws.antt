@@ -1,5 +1,5 @@
 -- Laws over the definitions of the library.
-use Rattle.std.specs.Prelude.{◌≡◌, ◌↔◌, ◌≤◌, ◌<◌, ◌+◌, ◌==◌, ℤ, ◌||◌, not, nat_lt, ℕ, Bool, true, IsTrue, IsFalse, List, Contains, Option, Some, None, IfSome, MatchOption, length, [], ◌∷◌, ◌++◌, filter}
+use Rattle.std.specs.Prelude.{◌≡◌, ◌↔◌, ◌≤◌, ◌<◌, ◌+◌, ◌==◌, ℤ, not, ℕ, Bool, IsTrue, IsFalse, List, Contains, Option, Some, None, IfSome, MatchOption, length, [], ◌∷◌, ◌++◌, filter}
 use Rattle.time_range.specs.Points.{IsRange, Overlap}
 use Rattle.time_range.specs.declared.ranges.Span.{Span}
 use Rattle.media_rows.specs.Lists.{rises, items_past, page_items, next_key}
@@ -9,25 +9,17 @@ use Rattle.media_rows.specs.declared.segment.SegmentRow.{SegmentRow}
 use Rattle.media_rows.specs.declared.change.Change.{Change}
 use Rattle.media_rows.specs.declared.command.Command.{Command}
 use Rattle.media_rows.specs.declared.command.Command.TheVariants as commands
-use Rattle.media_rows.specs.declared.command.Want.{Want}
-use Rattle.media_rows.specs.declared.command.Want.TheVariants.{Count, Named}
 use Rattle.media_rows.specs.declared.flow.FlowRow.{FlowRow}
 use Rattle.media_rows.specs.declared.flow.Member.{Member}
-use Rattle.media_rows.specs.Answer.{answer}
+use Rattle.media_rows.specs.Answer.{answer, keep_refusal}
+use Rattle.media_rows.specs.Sound.{is_good_command, has_good_values}
 use Rattle.media_rows.specs.Apply.{is_allowed, applied, passes_serials, turn}
 use Rattle.media_rows.specs.Changes.{moment_of, after}
 use Rattle.media_rows.specs.Collections.{collects_itself, AnyReaches}
-use Rattle.media_rows.specs.Good.{Good, is_good, if_there, is_tag_text, is_member_text, is_body_text, is_hook_text}
-use Rattle.media_rows.specs.Ids.{is_object_id}
+use Rattle.media_rows.specs.Good.{Good, is_good}
 use Rattle.media_rows.specs.Moments.{is_moment}
-use Rattle.media_rows.specs.Outbox.{hook_row}
-use Rattle.media_rows.specs.Ranges.{has_both_ends, is_eternity}
 use Rattle.media_rows.specs.declared.object.ObjectRow.{ObjectRow}
 use Rattle.media_rows.specs.declared.change.Change.TheVariants as changes
-use Rattle.media_rows.specs.declared.part.Part.{Part}
-use Rattle.media_rows.specs.declared.part.Part.TheVariants as parts
-use Rattle.std.specs.List.{list_all}
-use Rattle.std.specs.Str.{is_utf8}
 use Rattle.media_rows.specs.Library.{Library, last_serial}
 use Rattle.media_rows.specs.declared.event.EventRow.{EventRow}
 use Rattle.media_rows.specs.declared.hook.HookRow.{HookRow}
@@ -35,18 +27,19 @@ use Rattle.media_rows.specs.declared.request.DeleteRow.{DeleteRow}
 use Rattle.media_rows.specs.declared.source.SourceRow.{SourceRow}
 use Rattle.media_rows.specs.Views.{source_key, flow_key}
 use Rattle.media_rows.specs.Restoring.{catalog_of, objects_of, requests_of, outbox_of, can_restore_catalog, can_restore_objects, can_restore_requests, can_restore_outbox}
-use Rattle.media_rows.specs.Objects.{free_place, is_free, is_stored, blocks_of}
+use Rattle.media_rows.specs.Objects.{object_of, free_place, is_free, is_stored, blocks_of}
 
 -- ---- answers and changes
 
--- the storing of an object names a free place; nothing is asked of other commands
+-- the storing of an object that isn't refused names a free place; nothing is asked of other commands
 abbrev pub HasPlace : Library → Command → Type 0
 HasPlace library (commands.PutFlow body) = Unit {0}
 HasPlace library (commands.SetFlow flow part) = Unit {0}
 HasPlace library (commands.SetSource source part) = Unit {0}
 HasPlace library (commands.DropFlow flow) = Unit {0}
 HasPlace library (commands.Allocate flow want) = Unit {0}
-HasPlace library (commands.Keep object start size) = IsTrue (is_free library.objects library.blocks (blocks_of size) start)
+HasPlace library (commands.Keep object start size) =
+    keep_refusal (object_of object library.objects) ≡ None → IsTrue (is_free library.objects library.blocks (blocks_of size) start)
 HasPlace library (commands.AddSegments flow posts) = Unit {0}
 HasPlace library (commands.CutSegments flow range) = Unit {0}
 HasPlace library (commands.PutHook hook) = Unit {0}
@@ -83,37 +76,10 @@ CirclesAreFound = (flows : List FlowRow) (id : ℕ) (members : List Member) → 
 
 -- ---- changes and good libraries
 
--- the texts of a part are good
-abbrev pub is_part_good : Part → Bool
-is_part_good (parts.Tag name new) = if_there is_tag_text new
-is_part_good (parts.Label new) = if_there is_utf8 new
-is_part_good (parts.Description new) = if_there is_utf8 new
-is_part_good (parts.ReadOnly new) = true
-is_part_good (parts.Collection new) = list_all is_member_text new
-is_part_good (parts.MaxBitRate new) = true
-is_part_good (parts.AvgBitRate new) = true
-
--- what a change itself brings is good: its texts, the ends of its ranges, and the place of an object without
--- bytes
-abbrev pub HasGoodValues : Change → Type 0
-HasGoodValues (changes.PutFlow moment flow) = IsTrue (is_body_text flow)
-HasGoodValues (changes.SetFlow moment flow part) = IsTrue (is_part_good part)
-HasGoodValues (changes.SetSource moment source part) = IsTrue (is_part_good part)
-HasGoodValues (changes.DropFlow moment flow) = Unit {0}
-HasGoodValues (changes.Allocate moment flow ids) = IsTrue (list_all is_object_id ids)
-HasGoodValues (changes.Store moment object start size) = IsTrue (nat_lt 0 size || (start == 0))
-HasGoodValues (changes.AddSegments moment flow posts) = IsTrue (list_all (λ post. has_both_ends post.range) posts)
-HasGoodValues (changes.CutSegments moment flow range) = Unit {0}
-HasGoodValues (changes.AskDelete moment flow range delete_flow) = IsTrue (not delete_flow || is_eternity range)
-HasGoodValues (changes.DeleteStep moment) = Unit {0}
-HasGoodValues (changes.SweepStep moment) = Unit {0}
-HasGoodValues (changes.PutHook moment hook) = IsTrue (is_hook_text (hook_row hook 0))
-HasGoodValues (changes.DropHook moment url) = Unit {0}
-
 -- a change at a moment whose values are good, and after which the serials haven't ended
 pub record IsSound (library : Library) (change : Change) : Type 0 where
   pub at : IsTrue (is_moment (moment_of change))
-  pub values : HasGoodValues change
+  pub values : IsTrue (has_good_values change)
   pub serials : (after change library).next_serial ≤ last_serial
 
 -- a sound change that a good library allows leaves a good library
@@ -124,45 +90,9 @@ ChangesKeepGood = (library : Library) (change : Change) → Good library → IsT
 abbrev pub ChangesApply : Type 0
 ChangesApply = (library : Library) (change : Change) → Good library → IsTrue (is_allowed library change) → IsSound library change → applied change library ≡ Some (after change library)
 
--- the ids that a client names for an allocation have their form
-abbrev pub IsGoodWant : Want → Type 0
-IsGoodWant (Count n) = Unit {0}
-IsGoodWant (Named ids) = IsTrue (list_all is_object_id ids)
-
--- a place for so many bytes is free, and is block 0 for none
-pub record IsGoodPlace (library : Library) (start size : ℕ) : Type 0 where
-  pub free : IsTrue (is_free library.objects library.blocks (blocks_of size) start)
-  pub zero : IsTrue (nat_lt 0 size || (start == 0))
-
--- what a command itself brings is good, and an object that is stored has a free place
-abbrev pub IsGoodCommand : Library → Command → Type 0
-IsGoodCommand library (commands.PutFlow body) = IsTrue (is_body_text body)
-IsGoodCommand library (commands.SetFlow flow part) = IsTrue (is_part_good part)
-IsGoodCommand library (commands.SetSource source part) = IsTrue (is_part_good part)
-IsGoodCommand library (commands.DropFlow flow) = Unit {0}
-IsGoodCommand library (commands.Allocate flow want) = IsGoodWant want
-IsGoodCommand library (commands.Keep object start size) = IsGoodPlace library start size
-IsGoodCommand library (commands.AddSegments flow posts) = IsTrue (list_all (λ post. has_both_ends post.range) posts)
-IsGoodCommand library (commands.CutSegments flow range) = Unit {0}
-IsGoodCommand library (commands.PutHook hook) = IsTrue (is_hook_text (hook_row hook 0))
-IsGoodCommand library (commands.DropHook url) = Unit {0}
-IsGoodCommand library commands.Root = Unit {0}
-IsGoodCommand library commands.Service = Unit {0}
-IsGoodCommand library commands.Hooks = Unit {0}
-IsGoodCommand library (commands.Sources wanted page) = Unit {0}
-IsGoodCommand library (commands.Source id) = Unit {0}
-IsGoodCommand library (commands.SourcePart id name) = Unit {0}
-IsGoodCommand library (commands.Flows wanted range page) = Unit {0}
-IsGoodCommand library (commands.Flow id) = Unit {0}
-IsGoodCommand library (commands.FlowPart id name) = Unit {0}
-IsGoodCommand library (commands.Segments id wanted page) = Unit {0}
-IsGoodCommand library (commands.Object id) = Unit {0}
-IsGoodCommand library commands.Requests = Unit {0}
-IsGoodCommand library (commands.Request serial) = Unit {0}
-
 -- where a command is answered with a change, the change applies, unless the serials would end
 abbrev pub AnswersApply : Type 0
-AnswersApply = (library : Library) (command : Command) (moment : ℕ) → Good library → IsGoodCommand library command → IsTrue (is_moment moment)
+AnswersApply = (library : Library) (command : Command) (moment : ℕ) → Good library → IsTrue (is_good_command library command) → IsTrue (is_moment moment)
     → IfSome (answer library command moment).change (λ change. IsFalse (passes_serials change library) → applied change library ≡ Some (after change library))
 
 -- the change of a turn applies, unless the serials would end

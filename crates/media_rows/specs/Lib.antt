@@ -18,5 +18,6 @@ pub mod Views
 pub mod Answer
 pub mod Good
 pub mod Apply
+pub mod Sound
 pub mod Snapshot
 pub mod Restoring
