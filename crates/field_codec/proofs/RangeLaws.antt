@@ -1,40 +1,26 @@
 -- The laws of timestamps, ends and ranges.
-use Rattle.std.proofs.Common.{◌≡◌, ◌<◌, ◌^◌, ℕ, ℤ, pos, negsuc, ◌+ℤ◌, ◌-ℤ◌, ◌≤ℤ◌, Option, Some, None, refl, sym, ap, ap₂, subst, ◌∙◌, arith, inl, inr, ◌⊎◌, IfSome}
-use Rattle.std.specs.Prelude.{FitsSigned, int_le, Bool, true, false, if◌then◌else◌, neg_ℤ}
+use Rattle.std.proofs.Common.{◌≡◌, ◌<◌, ◌^◌, ℕ, ℤ, pos, negsuc, ◌+ℤ◌, ◌-ℤ◌, ◌≤ℤ◌, Option, Some, None, refl, sym, ap, ap₂, subst, ◌∙◌, arith, inl, inr, ◌⊎◌}
+use Rattle.std.specs.Prelude.{FitsSigned, Bool, true, false, if◌then◌else◌}
 use Rattle.std.specs.Ordering.{int_eq}
 use Rattle.std.specs.Int.{w128, cast_signed, cast_unsigned}
-use Rattle.std.proofs.lemmas.Bool.{and_parts, and_from}
 use Rattle.std.proofs.lemmas.Bool.Decides.{Decides-int_eq}
 use Rattle.std.proofs.lemmas.Int.{ints, to_z-of_z, of_z-to_z}
-use Rattle.time_range.specs.Points.{limit, instant, IsNanos, IsLow, IsHigh, IsRange}
-use Rattle.time_range.specs.Ends.{low_point, high_point, in_order, IsEndWithin}
+use Rattle.time_range.specs.Points.{instant, IsNanos, is_nanos, IsRange}
+use Rattle.time_range.specs.Ends.{low_point, high_point, are_ordered, IsEndWithin}
 use Rattle.time_range.specs.Spelling.{half, low_end, high_end}
+use Rattle.time_range.proofs.EndTests.{nanos_from_test, test_from_nanos, ordered_from_test, test_from_order, low_within, high_within}
 use Rattle.time_range.proofs.Theorems.{low_end-low_point, high_end-high_point}
 use Rattle.time_range.specs.declared.ranges.Span.{Span}
 use Rattle.time_range.specs.declared.ends.End.{End}
 use Rattle.time_range.specs.declared.ends.End.TheVariants.{Unbounded, Including, Excluding}
 use Rattle.field_codec.specs.Format.{nothing, pair, either, no_kind, optional}
-use Rattle.field_codec.specs.Leaves.{u128_format, is_nanos, nanos_of, ts_format, end_of, end_parts, end_format, span_of, ends_of, range_format}
+use Rattle.field_codec.specs.Leaves.{u128_format, nanos_of, ts_format, end_of, end_parts, end_format, span_of, ends_of, range_format}
 use Rattle.field_codec.specs.Laws.{Lawful}
 use Rattle.field_codec.proofs.Combined.{narrowed_lawful, pair_lawful, via_lawful, nothing_lawful}
 use Rattle.field_codec.proofs.KindLaws.{no_kinds, one_kind, optional_lawful}
 use Rattle.field_codec.proofs.Numbers.{u128_lawful}
 
 -- ---- timestamps
-
-int_le-order : (a b : ℤ) → int_le a b ≡ true → a ≤ℤ b
-int_le-order a b e = grind (arith, ints)
-
-order-int_le : (a b : ℤ) → a ≤ℤ b → int_le a b ≡ true
-order-int_le a b h = grind (arith, ints)
-
-pub nanos_from_test : (z : ℤ) → is_nanos z ≡ true → IsNanos z
-nanos_from_test z e =
-    let p = and_parts (int_le (neg_ℤ limit) z) (int_le z limit) e in
-    record { least = int_le-order _ _ p.0; most = int_le-order _ _ p.1 }
-
-pub test_from_nanos : (z : ℤ) → IsNanos z → is_nanos z ≡ true
-test_from_nanos z h = and_from (int_le (neg_ℤ limit) z) (int_le z limit) (order-int_le _ _ h.least) (order-int_le _ _ h.most)
 
 -- a timestamp fits 128 bits
 pub fits_bits : (z : ℤ) → IsNanos z → FitsSigned w128 z
@@ -109,26 +95,6 @@ end_fits (Excluding t) h = ts_fits t h
 -- ---- ranges
 
 -- the ends of a range that holds a point
-low_within : (e : End) → IsEndWithin e → IfSome (low_point e) IsLow
-low_within Unbounded h = tt
-low_within (Including t) h = record { least = omega (arith, ints, h.least); most = omega (arith, ints, h.most) }
-low_within (Excluding t) h = record { least = omega (arith, ints, h.least); most = omega (arith, ints, h.most) }
-
-high_within : (e : End) → IsEndWithin e → IfSome (high_point e) IsHigh
-high_within Unbounded h = tt
-high_within (Including t) h = record { least = omega (arith, ints, h.least); most = omega (arith, ints, h.most) }
-high_within (Excluding t) h = record { least = omega (arith, ints, h.least); most = omega (arith, ints, h.most) }
-
-ordered : (low high : Option ℤ) → in_order low high ≡ true → IfSome low (λ a. IfSome high (λ b. a ≤ℤ b))
-ordered None high e = tt
-ordered (Some a) None e = tt
-ordered (Some a) (Some b) e = int_le-order a b e
-
-orders : (low high : Option ℤ) → IfSome low (λ a. IfSome high (λ b. a ≤ℤ b)) → in_order low high ≡ true
-orders None high h = refl
-orders (Some a) None h = refl
-orders (Some a) (Some b) h = order-int_le a b h
-
 half_bounds : (p : ℤ) → (instant (half p) ≤ℤ p) × (p ≤ℤ (instant (half p) +ℤ pos 1))
 half_bounds (pos a) = (omega (arith, ints), omega (arith, ints))
 half_bounds (negsuc a) = (omega (arith, ints), omega (arith, ints))
@@ -173,16 +139,16 @@ range_is None (Some s) fits e = absurd cc
 range_is (Some ends) r fits e =
     let low = low_point ends.0 in
     let high = high_point ends.1 in
-    let k = kept_some (in_order low high) (Some (span low high)) r e in
+    let k = kept_some (are_ordered low high) (Some (span low high)) r e in
     let is : ends_of (Some (span low high)) ≡ Some ends = ap₂ (λ (a b : End). Some (a, b)) (low_end-low_point ends.0) (high_end-high_point ends.1) in
-    let good : IsRange (Some (span low high)) = record { ordered = ordered low high k.1; low = low_within ends.0 (end_within ends.0 fits.0); high = high_within ends.1 (end_within ends.1 fits.1) } in
+    let good : IsRange (Some (span low high)) = record { ordered = ordered_from_test low high k.1; low = low_within ends.0 (end_within ends.0 fits.0); high = high_within ends.1 (end_within ends.1 fits.1) } in
     subst (λ (x : Option Span). (ends_of x ≡ Some ends) × IsRange x) k.0 (is, good)
 
 range_again : (r : Option Span) → IsRange r → span_of (ends_of r) ≡ Some r
 range_again None h = refl
 range_again (Some s) h =
-    ap₂ (λ (a b : Option ℤ). if in_order a b then Some (Some (span a b)) else None) (low_point-low_end s.low) (high_point-high_end s.high)
-    ∙ rw (orders s.low s.high h.ordered) refl
+    ap₂ (λ (a b : Option ℤ). if are_ordered a b then Some (Some (span a b)) else None) (low_point-low_end s.low) (high_point-high_end s.high)
+    ∙ rw (test_from_order s.low s.high h.ordered) refl
 
 pub range_lawful : Lawful range_format
 unfolding range_format

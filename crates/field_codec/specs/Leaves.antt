@@ -1,11 +1,11 @@
 -- The fields of the file: numbers, ids, timestamps, marks, texts, options, lists, ends and ranges. Numbers
 -- stand with the highest byte first. Our own rules.
 use Rattle.std.proofs.Common.{inl, inr}
-use Rattle.std.specs.Prelude.{◌==◌, ◌<◌, ◌+◌, ◌*◌, ◌^◌, ◌&&◌, ℕ, zero, suc, ℤ, neg_ℤ, nat_lt, int_le, Bool, true, false, if◌then◌else◌, List, [], ◌∷◌, ◌++◌, length, take, drop, get_or, Option, Some, None, ◌⊎◌}
+use Rattle.std.specs.Prelude.{◌==◌, ◌<◌, ◌+◌, ◌*◌, ◌^◌, ℕ, zero, suc, ℤ, nat_lt, Bool, true, false, if◌then◌else◌, List, [], ◌∷◌, ◌++◌, length, take, drop, get_or, Option, Some, None, ◌⊎◌}
 use Rattle.std.specs.Int.{w32, w64, w128, from_be_bytes, cast_signed, cast_unsigned}
 use Rattle.disk_trait.specs.Numbers.{u32_bytes, u64_bytes, u128_bytes}
-use Rattle.time_range.specs.Points.{limit, IsNanos, IsRange}
-use Rattle.time_range.specs.Ends.{low_point, high_point, in_order}
+use Rattle.time_range.specs.Points.{IsNanos, is_nanos, IsRange}
+use Rattle.time_range.specs.Ends.{low_point, high_point, are_ordered}
 use Rattle.time_range.specs.Spelling.{low_end, high_end}
 use Rattle.time_range.specs.declared.ranges.Span.{Span}
 use Rattle.time_range.specs.declared.ends.End.{End}
@@ -84,10 +84,6 @@ mark_number true = 1
 unfoldable pub bool_format : Format Bool
 bool_format = narrowed mark_of mark_number (λ b. Unit {0}) (λ b. Unit {0}) u8_format
 
--- whether this many nanoseconds are a timestamp
-abbrev pub is_nanos : ℤ → Bool
-is_nanos n = int_le (neg_ℤ limit) n && int_le n limit
-
 -- the timestamp with these bits, if there is one
 abbrev pub nanos_of : ℕ → Option ℤ
 nanos_of bits = if is_nanos (cast_signed w128 bits) then Some (cast_signed w128 bits) else None
@@ -146,7 +142,7 @@ end_format = via end_of end_parts (either 0 nothing (either 1 ts_format (either 
 abbrev pub span_of : Option (End × End) → Option (Option Span)
 span_of None = Some None
 span_of (Some ends) =
-    if in_order (low_point ends.0) (high_point ends.1)
+    if are_ordered (low_point ends.0) (high_point ends.1)
     then Some (Some (record { low = low_point ends.0; high = high_point ends.1 })) else None
 
 -- the two ends of a range; none for never

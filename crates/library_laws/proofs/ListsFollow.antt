@@ -68,7 +68,7 @@ overlaps_swapped : (r q : Option Span) → overlaps r q ≡ false → overlaps q
 overlaps_swapped None None e = refl
 overlaps_swapped None (Some t) e = refl
 overlaps_swapped (Some s) None e = refl
-overlaps_swapped (Some s) (Some t) e = swap_and (ends.in_order s.low t.high) (ends.in_order t.low s.high) e
+overlaps_swapped (Some s) (Some t) e = swap_and (ends.are_ordered s.low t.high) (ends.are_ordered t.low s.high) e
 
 same_swapped : (a b : ℕ) → (a == b) ≡ false → (b == a) ≡ false
 same_swapped a b e = grind (arith, nat_tests)
@@ -83,13 +83,13 @@ compatible_swapped a b e =
 
 by_ends : (a b c d : Option ℤ) → IfSome a (λ p. IfSome b (λ q. p ≤ℤ q)) → IfSome c (λ p. IfSome d (λ q. p ≤ℤ q))
     → is_some a ≡ true → is_some b ≡ true → is_some c ≡ true → is_some d ≡ true
-    → (ends.in_order a d && ends.in_order c b) ≡ false → low_before c a ≡ false → int_lt (unwrap_or a (pos 0)) (unwrap_or c (pos 0)) ≡ true
+    → (ends.are_ordered a d && ends.are_ordered c b) ≡ false → low_before c a ≡ false → int_lt (unwrap_or a (pos 0)) (unwrap_or c (pos 0)) ≡ true
 by_ends None b c d h k i j l m e f = absurd (false≢true i)
 by_ends (Some a) None c d h k i j l m e f = absurd (false≢true j)
 by_ends (Some a) (Some b) None d h k i j l m e f = absurd (false≢true l)
 by_ends (Some a) (Some b) (Some c) None h k i j l m e f = absurd (false≢true m)
 by_ends (Some a) (Some b) (Some c) (Some d) h k i j l m e f =
-    elim (and_cases (ends.in_order (Some a) (Some d)) (ends.in_order (Some c) (Some b)) e) [ inl x ↦ grind (arith, ints) | inr x ↦ grind (arith, ints) ]
+    elim (and_cases (ends.are_ordered (Some a) (Some d)) (ends.are_ordered (Some c) (Some b)) e) [ inl x ↦ grind (arith, ints) | inr x ↦ grind (arith, ints) ]
 
 apart_points : (r q : Option Span) → IsRange r → IsRange q → has_both_ends r ≡ true → has_both_ends q ≡ true → overlaps r q ≡ false → low_before (low_of q) (low_of r) ≡ false
     → int_lt (unwrap_or (low_of r) (pos 0)) (unwrap_or (low_of q) (pos 0)) ≡ true

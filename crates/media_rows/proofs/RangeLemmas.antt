@@ -6,7 +6,7 @@ use Rattle.std.specs.Int.{int_min, int_max}
 use Rattle.std.proofs.lemmas.Bool.{and_parts, and_from, false≢true}
 use Rattle.std.proofs.lemmas.Int.{ints, clamps}
 use Rattle.time_range.specs.Points.{From, UpTo, Has, IsLow, IsHigh, IsSpan, IsRange, Overlap, Covers, low_of, high_of}
-use Rattle.time_range.specs.Ends.{in_order, ReachesDown, ReachesUp}
+use Rattle.time_range.specs.Ends.{are_ordered, ReachesDown, ReachesUp}
 use Rattle.time_range.specs.declared.ranges.Span.{Span}
 use Rattle.time_range.proofs.SpanPoints.{point_between, covers_from_reach, reach_from_covers, not_covered_by_never, hull_least}
 use Rattle.time_range.proofs.Theorems.{same_range}
@@ -21,7 +21,7 @@ true_le a b h = grind (arith, ints)
 -- ---- ends in order
 
 -- ends that have a point between them are in order
-order_from_point : (low high : Option ℤ) (p : ℤ) → From low p → UpTo high p → in_order low high ≡ true
+order_from_point : (low high : Option ℤ) (p : ℤ) → From low p → UpTo high p → are_ordered low high ≡ true
 order_from_point None high p from up = refl
 order_from_point (Some a) None p from up = refl
 order_from_point (Some a) (Some b) p from up = grind (arith, ints)
@@ -53,7 +53,7 @@ UpTo-earlier (Some a) (Some b) p h = (omega (arith, ints, clamps), omega (arith,
 AreOrdered : Option ℤ → Option ℤ → Type 0
 AreOrdered low high = IfSome low (λ a. IfSome high (λ b. a ≤ℤ b))
 
-ordered_from_test : (low high : Option ℤ) → in_order low high ≡ true → AreOrdered low high
+ordered_from_test : (low high : Option ℤ) → are_ordered low high ≡ true → AreOrdered low high
 unfolding AreOrdered
 ordered_from_test None None e = tt
 ordered_from_test None (Some b) e = tt
@@ -75,7 +75,7 @@ earlier_ordered None (Some a) (Some b) h k = tt
 earlier_ordered (Some c) (Some a) (Some b) h k = omega (arith, ints, clamps)
 
 -- two spans whose ends are in order crosswise have a point in common
-common_point : (s t : Span) → IsSpan s → IsSpan t → in_order s.low t.high ≡ true → in_order t.low s.high ≡ true → Overlap (Some s) (Some t)
+common_point : (s t : Span) → IsSpan s → IsSpan t → are_ordered s.low t.high ≡ true → are_ordered t.low s.high ≡ true → Overlap (Some s) (Some t)
 unfolding AreOrdered
 common_point s t fine_s fine_t across back =
     let upper = earlier_ordered (later s.low t.low) s.high t.high (later_ordered s.low t.low s.high fine_s.ordered (ordered_from_test t.low s.high back)) (later_ordered s.low t.low t.high (ordered_from_test s.low t.high across) fine_t.ordered) in
@@ -88,8 +88,8 @@ pub overlaps_decides : (a b : Option Span) → IsRange a → IsRange b → Decid
 overlaps_decides None b fine_a fine_b = (λ e. absurd (false≢true e), λ o. absurd o.1)
 overlaps_decides (Some s) None fine_a fine_b = (λ e. absurd (false≢true e), λ o. absurd o.2)
 overlaps_decides (Some s) (Some t) fine_a fine_b = (
-  λ e. let parts = and_parts (in_order s.low t.high) (in_order t.low s.high) e in common_point s t fine_a fine_b parts.0 parts.1,
-  λ o. and_from (in_order s.low t.high) (in_order t.low s.high) (order_from_point s.low t.high o.0 o.1.0 o.2.1) (order_from_point t.low s.high o.0 o.2.0 o.1.1),
+  λ e. let parts = and_parts (are_ordered s.low t.high) (are_ordered t.low s.high) e in common_point s t fine_a fine_b parts.0 parts.1,
+  λ o. and_from (are_ordered s.low t.high) (are_ordered t.low s.high) (order_from_point s.low t.high o.0 o.1.0 o.2.1) (order_from_point t.low s.high o.0 o.2.0 o.1.1),
 )
 
 -- ---- ends that reach

@@ -3,7 +3,8 @@
 use Rattle.std.specs.Prelude.{ℤ, int_le, List, [], ◌∷◌, Bool, true, false, ◌&&◌, Option, Some, None, is_some, is_none}
 use Rattle.std.specs.Int.{int_min, int_max}
 use Rattle.time_range.specs.declared.ranges.Span.{Span}
-use Rattle.time_range.specs.Ends.{in_order}
+pub use Rattle.time_range.specs.Points.{eternity}
+use Rattle.time_range.specs.Ends.{are_ordered}
 
 -- whether a low end stands at no later point than another
 abbrev pub reaches_down : Option ℤ → Option ℤ → Bool
@@ -21,7 +22,7 @@ reaches_up (Some a) (Some b) = int_le b a
 abbrev pub overlaps : Option Span → Option Span → Bool
 overlaps None b = false
 overlaps (Some a) None = false
-overlaps (Some a) (Some b) = in_order a.low b.high && in_order b.low a.high
+overlaps (Some a) (Some b) = are_ordered a.low b.high && are_ordered b.low a.high
 
 -- a range covers another: that one is never, or no end of it stands outside
 abbrev pub covers : Option Span → Option Span → Bool
@@ -61,7 +62,3 @@ has_both_ends (Some s) = is_some s.low && is_some s.high
 abbrev pub is_eternity : Option Span → Bool
 is_eternity None = false
 is_eternity (Some s) = is_none s.low && is_none s.high
-
--- the range that is open at both ends, and so holds every point
-abbrev pub eternity : Option Span
-eternity = Some (record { low = None; high = None })

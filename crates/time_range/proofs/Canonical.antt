@@ -4,7 +4,7 @@ use Rattle.std.specs.Ordering.{int_eq}
 use Rattle.std.proofs.lemmas.Bool.Decides.{nat_tests, Decides-int_eq}
 use Rattle.time_range.specs.Points.{IsNanos}
 use Rattle.time_range.specs.Ends.{Between, IsEndWithin}
-use Rattle.time_range.specs.Spelling.{IsStamp, IsStampWithin, ts_value, range_text, end_of, SpellsRange, canonical_ts, bracket_of, stamp_of, middle_of, canonical_range}
+use Rattle.time_range.specs.Spelling.{IsStamp, IsStampWithin, ts_value, range_text, meant_end, SpellsRange, canonical_ts, bracket_of, stamp_of, middle_of, canonical_range}
 use Rattle.time_range.specs.declared.ranges.Span.{Span}
 use Rattle.time_range.specs.declared.ends.End.{End}
 use Rattle.time_range.specs.declared.ends.End.TheVariants.{Unbounded, Including, Excluding}
@@ -42,10 +42,10 @@ stamp_within (Including t) h = canonical_within t h
 stamp_within (Excluding t) h = canonical_within t h
 
 -- what is printed for an end means it
-end_of-printed : (e : End) → end_of (bracket_of e) (stamp_of e) ≡ e
-end_of-printed Unbounded = refl
-end_of-printed (Including t) = ap Including (ts_value-canonical_ts t)
-end_of-printed (Excluding t) = ap Excluding (ts_value-canonical_ts t)
+meant_end-printed : (e : End) → meant_end (bracket_of e) (stamp_of e) ≡ e
+meant_end-printed Unbounded = refl
+meant_end-printed (Including t) = ap Including (ts_value-canonical_ts t)
+meant_end-printed (Excluding t) = ap Excluding (ts_value-canonical_ts t)
 
 -- the text that two ends and what stands between them are printed as spells the range
 abbrev Spells : End → Middle → End → Option Span → Type 0
@@ -58,7 +58,7 @@ split_spells low high range within_low within_high between = (
   record { left = bracket_of low; middle = Split (stamp_of low) (stamp_of high); right = bracket_of high },
   ((stamp_fine low, stamp_fine high), refl),
   (stamp_within low within_low, stamp_within high within_high),
-  subst (λ e. Between e (end_of (bracket_of high) (stamp_of high)) range) (sym (end_of-printed low)) (subst (λ e. Between low e range) (sym (end_of-printed high)) between),
+  subst (λ e. Between e (meant_end (bracket_of high) (stamp_of high)) range) (sym (meant_end-printed low)) (subst (λ e. Between low e range) (sym (meant_end-printed high)) between),
 )
 
 -- one timestamp spells the range of one instant

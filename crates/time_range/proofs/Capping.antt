@@ -1,8 +1,8 @@
 -- The readers with seconds up to the largest `u64` read what the readers with all seconds read.
 use Rattle.std.proofs.Common.{◌≡◌, ℕ, ◌+◌, ◌*◌, ◌<◌, ◌==◌, nat_lt, ◌&&◌, Bool, true, false, if◌then◌else◌, Option, Some, None, is_some, ◌∙◌, ap, refl, arith}
-use Rattle.std.specs.Option.{option_map, option_and_then}
+use Rattle.std.specs.Option.{option_map, option_and_then, option_or}
 use Rattle.std.proofs.lemmas.Bool.Decides.{nat_tests}
-use Rattle.time_range.specs.Scanning.{capped, digit_of, ts_next, stamp_read, or_else, left_bracket, right_bracket, begun, longer, closed, range_read, range_next}
+use Rattle.time_range.specs.Within.Scanning.{capped, digit_of, ts_next, stamp_read, left_bracket, right_bracket, begun, longer, closed, range_read, range_next}
 use Rattle.time_range.specs.declared.spelling.TsParts.{TsParts}
 use Rattle.time_range.specs.declared.spelling.Bracket.{Bracket}
 use Rattle.time_range.specs.declared.spelling.Middle.{Middle}
@@ -110,10 +110,10 @@ begun_capped left c =
     (ap (option_map (First left)) (ts_capped Start c) ∙ map_map (First left) cap_ts cap_range (First left) (λ x. refl) (next_ts Start c))
 
 -- the first of two values on both sides
-or_else_capped : (a b x y : Option RangeScan) → a ≡ option_map cap_range x → b ≡ option_map cap_range y →
-    or_else a b ≡ option_map cap_range (or_else x y)
-or_else_capped a b None y e f = ap (λ o. or_else o b) e ∙ f
-or_else_capped a b (Some s) y e f = ap (λ o. or_else o b) e
+option_or_capped : (a b x y : Option RangeScan) → a ≡ option_map cap_range x → b ≡ option_map cap_range y →
+    option_or a b ≡ option_map cap_range (option_or x y)
+option_or_capped a b None y e f = ap (λ o. option_or o b) e ∙ f
+option_or_capped a b (Some s) y e f = ap (λ o. option_or o b) e
 
 -- a left bracket has nothing to cap
 bracket_capped : (o : Option Bracket) → option_map (λ b. Left (Some b)) o ≡ option_map cap_range (option_map (λ b. Left (Some b)) o)
@@ -123,7 +123,7 @@ bracket_capped (Some b) = refl
 -- one more byte that is no right bracket
 longer_capped : (s : RangeScan) (c : ℕ) → longer capped (cap_range s) c ≡ option_map cap_range (longer (λ n. n) s c)
 longer_capped (Left None) c =
-    or_else_capped _ _ (option_map (λ b. Left (Some b)) (left_bracket c)) (begun (λ n. n) None c) (bracket_capped (left_bracket c)) (begun_capped None c)
+    option_or_capped _ _ (option_map (λ b. Left (Some b)) (left_bracket c)) (begun (λ n. n) None c) (bracket_capped (left_bracket c)) (begun_capped None c)
 longer_capped (Left (Some b)) c = begun_capped (Some b) c
 longer_capped (First left first) c =
     both cap_range (c == 95) _ _ (option_map (λ p. Mark left (Some p)) (stamp_read first)) (option_map (First left) (next_ts first c))
@@ -164,5 +164,5 @@ closed_capped c (Some p) = both cap_range (is_some p.right) None _ None _ refl (
 -- one more byte of a range
 pub range_capped : (s : RangeScan) (c : ℕ) → range_next capped (cap_range s) c ≡ option_map cap_range (range_next (λ n. n) s c)
 range_capped s c =
-    or_else_capped _ _ (longer (λ n. n) s c) (option_and_then (λ p. closed p c) (range_read s)) (longer_capped s c)
+    option_or_capped _ _ (longer (λ n. n) s c) (option_and_then (λ p. closed p c) (range_read s)) (longer_capped s c)
     (ap (option_and_then (λ p. closed p c)) (range_read_capped s) ∙ closed_capped c (range_read s))

@@ -1,4 +1,5 @@
 pub mod SpanPoints
+pub mod EndTests
 pub mod Machines
 pub mod Numerals
 pub mod TsMachine
@@ -8,3 +9,4 @@ pub mod Readings
 pub mod Appending
 pub mod Canonical
 pub mod Theorems
+pub mod SpelledValues

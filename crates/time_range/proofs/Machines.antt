@@ -3,8 +3,8 @@
 use Rattle.std.proofs.Common.{◌≡◌, ℕ, ◌+◌, ◌<◌, ◌≤◌, List, [], ◌∷◌, ◌++◌, length, take, drop, get_or, Option, Some, None, sym, ◌∙◌, ap, refl, subst, arith}
 use Rattle.std.specs.Option.{option_map, option_and_then}
 use Rattle.std.proofs.lemmas.List.{append_assoc, append-nil, take_more, take-append-drop, take-take, take_all}
-use Rattle.time_range.specs.Scanning.{run, StopsAt}
-use Rattle.time_range.specs.Prefixes.{IsFront, FailsAt}
+use Rattle.time_range.specs.Within.Scanning.{run, StopsAt}
+use Rattle.time_range.specs.Prefixes.{BeginsSome, FailsAt}
 
 -- a run over two texts is two runs
 pub run-append : {S : Type 0} (next : S → ℕ → Option S) (s : S) (xs ys : List ℕ) →
@@ -32,7 +32,7 @@ module _ {S P : Type 0} (next : S → ℕ → Option S) (start : S) (parts : S �
   -- a reader reads each text to its parts, and what it has read can be ended to a text
   pub record IsReader : Type 0 where
     pub reads : (p : P) → Valid p → (s : S) × (run next start (text_of p) ≡ Some s) × (parts s ≡ Some p)
-    pub completes : (text : List ℕ) (s : S) → run next start text ≡ Some s → IsFront IsText text
+    pub completes : (text : List ℕ) (s : S) → run next start text ≡ Some s → BeginsSome IsText text
 
   -- no text goes on where the reader refuses a byte
   refused : IsReader → (front rest : List ℕ) → run next start front ≡ None → IsText (front ++ rest) → ⊥
@@ -46,7 +46,7 @@ module _ {S P : Type 0} (next : S → ℕ → Option S) (start : S) (parts : S �
   fails_within reader text at (s, within, read, none) =
       let more = ap (run next start) (take_more text at 0 within) ∙ run_on next start s (take at text) (get_or text at 0 ∷ []) read in
       let stuck : run next start (take (at + 1) text) ≡ None = more ∙ ap (option_and_then (λ v. Some v)) none in
-      let longest : (k : ℕ) → at < k → k ≤ length text → IsFront IsText (take k text) → ⊥ =
+      let longest : (k : ℕ) → at < k → k ≤ length text → BeginsSome IsText (take k text) → ⊥ =
       λ k above end front.
       let cut = take-append-drop (at + 1) (take k text) in
       let same = take-take (at + 1) k text (omega arith) in

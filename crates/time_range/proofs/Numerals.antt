@@ -6,7 +6,7 @@ use Rattle.std.proofs.lemmas.Int.Digits.{digits_of_step}
 use Rattle.std.proofs.lemmas.List.{map-append}
 use Rattle.std.proofs.lemmas.Bool.{cases_lt}
 use Rattle.time_range.specs.Spelling.{numeral}
-use Rattle.time_range.specs.Scanning.{run}
+use Rattle.time_range.specs.Within.Scanning.{run}
 use Rattle.time_range.proofs.Machines.{run_on}
 
 -- the digits of a number above 0

@@ -1,11 +1,11 @@
 -- The reader of ranges, with all seconds: it reads exactly the texts of ranges.
 use Rattle.std.proofs.Common.{◌≡◌, ℕ, ◌+◌, ◌*◌, ◌==◌, nat_lt, ◌&&◌, Bool, true, false, if◌then◌else◌, List, [], ◌∷◌, ◌++◌, Option, Some, None, IfSome, ◌⊎◌, inl, inr, sym, ◌∙◌, ap, refl, subst}
-use Rattle.std.specs.Option.{option_map, option_and_then}
+use Rattle.std.specs.Option.{option_map, option_and_then, option_or}
 use Rattle.std.proofs.lemmas.Bool.Decides.{Decides-eqb}
 use Rattle.std.proofs.lemmas.List.{append_assoc, append-nil}
 use Rattle.time_range.specs.Spelling.{ts_text, IsStamp, left_text, right_text, stamp_text, middle_text, range_text, HasStamps}
-use Rattle.time_range.specs.Scanning.{run, digit_of, stamp_read, or_else, left_bracket, right_bracket, begun, longer, closed, range_read, range_next}
-use Rattle.time_range.specs.Prefixes.{IsFront}
+use Rattle.time_range.specs.Within.Scanning.{run, digit_of, stamp_read, left_bracket, right_bracket, begun, longer, closed, range_read, range_next}
+use Rattle.time_range.specs.Prefixes.{BeginsSome}
 use Rattle.time_range.specs.declared.spelling.TsParts.{TsParts}
 use Rattle.time_range.specs.declared.spelling.Bracket.{Bracket}
 use Rattle.time_range.specs.declared.spelling.Bracket.TheVariants.{Square, Round}
@@ -48,9 +48,9 @@ GoodRange front scan = (front ≡ said_of scan) × FineRange scan
 -- ---- what follows from an answer
 
 -- one of two values is the answer
-or_else_inv : (a b : Option RangeScan) (t : RangeScan) → or_else a b ≡ Some t → (a ≡ Some t) ⊎ (b ≡ Some t)
-or_else_inv None b t e = inr e
-or_else_inv (Some x) b t e = inl e
+option_or_inv : (a b : Option RangeScan) (t : RangeScan) → option_or a b ≡ Some t → (a ≡ Some t) ⊎ (b ≡ Some t)
+option_or_inv None b t e = inr e
+option_or_inv (Some x) b t e = inl e
 
 -- a byte that is taken as a left bracket is its text
 left_inv : (c : ℕ) (b : Bracket) (p q : Bool) → (p ≡ true → c ≡ 91) → (q ≡ true → c ≡ 40) →
@@ -112,7 +112,7 @@ second_step left first s c t stamp fine e =
 -- each byte that is no right bracket makes the next text
 longer_step : (s t : RangeScan) (c : ℕ) → FineRange s → longer (λ n. n) s c ≡ Some t → GoodRange (said_of s ++ c ∷ []) t
 longer_step (Left None) t c fine e =
-    elim (or_else_inv (option_map (λ b. Left (Some b)) (left_bracket c)) (begun (λ n. n) None c) t e) [
+    elim (option_or_inv (option_map (λ b. Left (Some b)) (left_bracket c)) (begun (λ n. n) None c) t e) [
       | inl bracket ↦
           let (b, is, same) = map_some (λ b. Left (Some b)) (left_bracket c) t bracket in
           subst (GoodRange (c ∷ [])) same (left_inv c b (c == 91) (c == 40) ((Decides-eqb c 91).0) ((Decides-eqb c 40).0) is, tt)
@@ -164,7 +164,7 @@ close_step left middle None c t fine e =
     )
 
 -- where two steps in a row come from
-and_then_inv : {A B : Type 0} (f : A → Option B) (o : Option A) (t : B) → option_and_then f o ≡ Some t → (p : A) × (o ≡ Some p) × (f p ≡ Some t)
+pub and_then_inv : {A B : Type 0} (f : A → Option B) (o : Option A) (t : B) → option_and_then f o ≡ Some t → (p : A) × (o ≡ Some p) × (f p ≡ Some t)
 and_then_inv f None t e = cc
 and_then_inv f (Some p) t e = (p, refl, e)
 
@@ -172,7 +172,7 @@ and_then_inv f (Some p) t e = (p, refl, e)
 range_step : (front : List ℕ) (s t : RangeScan) (c : ℕ) → GoodRange front s → next_range s c ≡ Some t → GoodRange (front ++ c ∷ []) t
 range_step front s t c good e =
     subst (λ l. GoodRange (l ++ c ∷ []) t) (sym good.0)
-    (elim (or_else_inv (longer (λ n. n) s c) (option_and_then (λ p. closed p c) (range_read s)) t e) [
+    (elim (option_or_inv (longer (λ n. n) s c) (option_and_then (λ p. closed p c) (range_read s)) t e) [
       | inl longer_is ↦ longer_step s t c good.1 longer_is
       | inr closing ↦
           let (p, read, end) = and_then_inv (λ p. closed p c) (range_read s) t closing in
@@ -195,11 +195,11 @@ abbrev IsRange : List ℕ → Type 0
 IsRange = IsText next_range (Left None) range_read range_text HasFineStamps
 
 -- a state that is a whole range is ended
-ended : (s : RangeScan) (p : RangeParts) → FineRange s → range_read s ≡ Some p → IsFront IsRange (said_of s)
+ended : (s : RangeScan) (p : RangeParts) → FineRange s → range_read s ≡ Some p → BeginsSome IsRange (said_of s)
 ended s p fine e = let whole = read_text s p fine e in ([], (p, whole.0, append-nil (said_of s) ∙ whole.1))
 
 -- what has been read can be ended to a range's text
-range_ending : (s : RangeScan) → FineRange s → IsFront IsRange (said_of s)
+range_ending : (s : RangeScan) → FineRange s → BeginsSome IsRange (said_of s)
 range_ending (Left left) fine = ended (Left left) _ fine refl
 range_ending (First left s) fine =
     let (rest, (p, stamp, text)) = ts_ending s fine in (
@@ -264,32 +264,32 @@ begun_takes left u c e =
 
 -- also where a left bracket could still stand
 left_takes : (left : Option Bracket) (u : TsScan) (c : ℕ) → next_ts Start c ≡ Some u → next_range (Left left) c ≡ Some (First left u)
-left_takes (Some b) u c e = ap (λ o. or_else o (option_and_then (λ p. closed p c) (range_read (Left (Some b))))) (begun_takes (Some b) u c e)
+left_takes (Some b) u c e = ap (λ o. option_or o (option_and_then (λ p. closed p c) (range_read (Left (Some b))))) (begun_takes (Some b) u c e)
 left_takes None u c e =
     let square = other_byte 91 (no_stamp 91 refl refl refl) Start u c e in
     let round = other_byte 40 (no_stamp 40 refl refl refl) Start u c e in
     let bracket : left_bracket c ≡ None = ap (λ b. if b then Some Square else (if c == 40 then Some Round else None)) square ∙ ap (λ b. if b then Some Round else None) round in
-    let taken : longer (λ n. n) (Left None) c ≡ Some (First None u) = ap (λ o. or_else (option_map (λ b. Left (Some b)) o) (begun (λ n. n) None c)) bracket ∙ begun_takes None u c e in
-    ap (λ o. or_else o (option_and_then (λ p. closed p c) (range_read (Left None)))) taken
+    let taken : longer (λ n. n) (Left None) c ≡ Some (First None u) = ap (λ o. option_or (option_map (λ b. Left (Some b)) o) (begun (λ n. n) None c)) bracket ∙ begun_takes None u c e in
+    ap (λ o. option_or o (option_and_then (λ p. closed p c) (range_read (Left None)))) taken
 
 -- a byte of the first timestamp is taken
 first_takes : (left : Option Bracket) (s u : TsScan) (c : ℕ) → next_ts s c ≡ Some u → next_range (First left s) c ≡ Some (First left u)
 first_takes left s u c e =
     let rest = option_and_then (λ p. closed p c) (range_read (First left s)) in
-    ap (λ b. or_else (if b then option_map (λ p. Mark left (Some p)) (stamp_read s) else option_map (First left) (next_ts s c)) rest) (other_byte 95 no_mark s u c e)
-    ∙ ap (λ o. or_else (option_map (First left) o) rest) e
+    ap (λ b. option_or (if b then option_map (λ p. Mark left (Some p)) (stamp_read s) else option_map (First left) (next_ts s c)) rest) (other_byte 95 no_mark s u c e)
+    ∙ ap (λ o. option_or (option_map (First left) o) rest) e
 
 -- a byte of the second timestamp is taken
 second_takes : (left : Option Bracket) (first : Option TsParts) (s u : TsScan) (c : ℕ) → next_ts s c ≡ Some u →
     next_range (Second left first s) c ≡ Some (Second left first u)
 second_takes left first s u c e =
-    ap (λ o. or_else (option_map (Second left first) o) (option_and_then (λ p. closed p c) (range_read (Second left first s)))) e
+    ap (λ o. option_or (option_map (Second left first) o) (option_and_then (λ p. closed p c) (range_read (Second left first s)))) e
 
 -- a byte that begins a timestamp begins the second one behind `_`
 mark_takes : (left : Option Bracket) (first : Option TsParts) (u : TsScan) (c : ℕ) → next_ts Start c ≡ Some u →
     next_range (Mark left first) c ≡ Some (Second left first u)
 mark_takes left first u c e =
-    ap (λ o. or_else (option_map (Second left first) o) (option_and_then (λ p. closed p c) (range_read (Mark left first)))) e
+    ap (λ o. option_or (option_map (Second left first) o) (option_and_then (λ p. closed p c) (range_read (Mark left first)))) e
 
 -- a range's reader follows a timestamp's
 module _ (inside : TsScan → RangeScan) (takes : (s u : TsScan) (c : ℕ) → next_ts s c ≡ Some u → next_range (inside s) c ≡ Some (inside u)) where
@@ -365,7 +365,7 @@ begun_none c mark never left =
 -- a right bracket is no part of what goes on
 longer_none : (c : ℕ) → (c == 95) ≡ false → left_bracket c ≡ None → ((s : TsScan) → next_ts s c ≡ None) → (s : RangeScan) → longer (λ n. n) s c ≡ None
 longer_none c mark bracket never (Left None) =
-    ap (λ o. or_else (option_map (λ b. Left (Some b)) o) (begun (λ n. n) None c)) bracket ∙ begun_none c mark never None
+    ap (λ o. option_or (option_map (λ b. Left (Some b)) o) (begun (λ n. n) None c)) bracket ∙ begun_none c mark never None
 longer_none c mark bracket never (Left (Some b)) = begun_none c mark never (Some b)
 longer_none c mark bracket never (First left s) =
     ap (λ b. if b then option_map (λ p. Mark left (Some p)) (stamp_read s) else option_map (First left) (next_ts s c)) mark ∙ ap (option_map (First left)) (never s)
@@ -378,7 +378,7 @@ closes : (left : Option Bracket) (middle : Middle) (c : ℕ) (b : Bracket) → r
     longer (λ n. n) (state_of left middle) c ≡ None →
     next_range (state_of left middle) c ≡ Some (Right (record { left = left; middle = middle; right = Some b }))
 closes left middle c b is none =
-    ap (λ o. or_else o (option_and_then (λ p. closed p c) (range_read (state_of left middle)))) none
+    ap (λ o. option_or o (option_and_then (λ p. closed p c) (range_read (state_of left middle)))) none
     ∙ ap (option_and_then (λ p. closed p c)) (read_state left middle)
     ∙ ap (option_map (λ k. Right (record { left = left; middle = middle; right = Some k }))) is
 
@@ -408,5 +408,5 @@ read_parts left middle (Some b) fine =
 pub range_reader : IsReader next_range (Left None) range_read range_text HasFineStamps
 range_reader = record {
   reads = λ p fine. read_parts p.left p.middle p.right fine;
-  completes = λ text s e. let good = range_good text s e in subst (IsFront IsRange) (sym good.0) (range_ending s good.1);
+  completes = λ text s e. let good = range_good text s e in subst (BeginsSome IsRange) (sym good.0) (range_ending s good.1);
 }

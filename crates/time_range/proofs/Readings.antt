@@ -3,8 +3,8 @@ use Rattle.std.proofs.Common.{◌≡◌, ℕ, ℤ, pos, neg_ℤ, ◌+◌, ◌*�
 use Rattle.std.specs.Option.{option_map, ok_or}
 use Rattle.std.proofs.lemmas.Int.{ints}
 use Rattle.time_range.specs.Points.{IsNanos, Has}
-use Rattle.time_range.specs.Spelling.{ts_text, ts_value, IsStamp, IsStampWithin, SpellsTs, range_text, IsWithin, HasParts, MeansBetween, Means, SpellsRange}
-use Rattle.time_range.specs.Scanning.{run, StopsAt, capped, ts_next, stamp_read, range_next, range_read}
+use Rattle.time_range.specs.Spelling.{ts_text, ts_value, IsStamp, IsStampWithin, SpellsTs, range_text, IsWithin, SpellsParts, MeansBetween, Means, SpellsRange}
+use Rattle.time_range.specs.Within.Scanning.{run, StopsAt, capped, ts_next, stamp_read, range_next, range_read}
 use Rattle.time_range.specs.Prefixes.{FailsAt}
 use Rattle.time_range.specs.Answers.{OnTooLarge, IsTsText, SpellsTsPast, IsRangeText, SpellsRangePast, HasSamePoints}
 use Rattle.time_range.specs.declared.ranges.Span.{Span}
@@ -115,7 +115,7 @@ range_unfinished text k e none =
 
 -- the text has the parts p, of which k is what was kept
 abbrev pub ReadsRangeParts : List ℕ → RangeParts → Type 0
-ReadsRangeParts text k = (p : RangeParts) × HasParts text p × (cap_range_parts p ≡ k)
+ReadsRangeParts text k = (p : RangeParts) × SpellsParts text p × (cap_range_parts p ≡ k)
 
 -- a whole range is the text of its parts
 pub range_reading : (text : List ℕ) (scan : RangeScan) (k : RangeParts) →
@@ -156,10 +156,15 @@ means_once left Empty right a b is_a is_b p = let same : a ≡ b = cc in (λ h. 
 means_once left (Single at) right a b is_a is_b p = (λ h. (is_b p).1 ((is_a p).0 h), λ h. (is_a p).1 ((is_b p).0 h))
 means_once left (Split first second) right a b is_a is_b p = (λ h. (is_b p).1 ((is_a p).0 h), λ h. (is_a p).1 ((is_b p).0 h))
 
+-- a text has one list of parts
+pub one_parts : (text : List ℕ) (p q : RangeParts) → SpellsParts text p → SpellsParts text q → p ≡ q
+one_parts text p q parts_p parts_q =
+    one_reading next_range (Left None) range_read range_text HasFineStamps range_reader p q parts_p.0 parts_q.0 (sym parts_p.1 ∙ parts_q.1)
+
 -- a text spells one range
 pub range_once : (text : List ℕ) (a b : Option Span) → SpellsRange text a → SpellsRange text b → HasSamePoints a b
 range_once text a b (p, parts_p, within_p, means_p) (q, parts_q, within_q, means_q) =
-    let same = one_reading next_range (Left None) range_read range_text HasFineStamps range_reader p q parts_p.0 parts_q.0 (sym parts_p.1 ∙ parts_q.1) in
+    let same = one_parts text p q parts_p parts_q in
     means_once q.left q.middle q.right a b (subst (λ x. Means x a) same means_p) means_q
 
 -- parts within the limit mean the range that the text spells

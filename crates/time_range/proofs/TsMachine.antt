@@ -4,8 +4,8 @@ use Rattle.std.specs.Option.{option_map}
 use Rattle.std.proofs.lemmas.Bool.Decides.{nat_tests, Decides-eqb}
 use Rattle.std.proofs.lemmas.List.{append_assoc, append-nil}
 use Rattle.time_range.specs.Spelling.{numeral, sign_text, ts_text, IsStamp}
-use Rattle.time_range.specs.Scanning.{run, digit_of, ts_next, stamp_read}
-use Rattle.time_range.specs.Prefixes.{IsFront}
+use Rattle.time_range.specs.Within.Scanning.{run, digit_of, ts_next, stamp_read}
+use Rattle.time_range.specs.Prefixes.{BeginsSome}
 use Rattle.time_range.specs.declared.spelling.TsParts.{TsParts}
 use Rattle.time_range.specs.declared.scanning.TsScan.{TsScan}
 use Rattle.time_range.specs.declared.scanning.TsScan.TheVariants.{Start, Signed, Seconds, Colon, Nanos}
@@ -143,7 +143,7 @@ stamp_inv (Nanos q) p e = cc
 abbrev IsTs : List ℕ → Type 0
 IsTs = IsText next_ts Start stamp_read ts_text IsStamp
 
-pub ts_ending : (s : TsScan) → Fine s → IsFront IsTs (said s)
+pub ts_ending : (s : TsScan) → Fine s → BeginsSome IsTs (said s)
 unfolding numeral
 ts_ending Start fine = (numeral 0 ++ 58 ∷ numeral 0, (record { negative = false; seconds = 0; nanos = 0 }, omega arith, refl))
 ts_ending Signed fine = (numeral 0 ++ 58 ∷ numeral 0, (record { negative = true; seconds = 0; nanos = 0 }, omega arith, refl))
@@ -205,5 +205,5 @@ ts_reads p fine =
 pub ts_reader : IsReader next_ts Start stamp_read ts_text IsStamp
 ts_reader = record {
   reads = λ p fine. (Nanos p, ts_reads p fine, refl);
-  completes = λ text s e. let good = ts_good text s e in subst (IsFront IsTs) (sym good.0) (ts_ending s good.1);
+  completes = λ text s e. let good = ts_good text s e in subst (BeginsSome IsTs) (sym good.0) (ts_ending s good.1);
 }

@@ -1,7 +1,7 @@
 -- What the answers of the readers mean.
 use Rattle.std.specs.Prelude.{◌≡◌, ℕ, ℤ, ◌↔◌, List, Option, Result, Ok, Err}
 use Rattle.time_range.specs.Points.{IsNanos, Has}
-use Rattle.time_range.specs.Spelling.{ts_text, IsStamp, SpellsTs, range_text, HasStamps, HasParts, IsWithin}
+use Rattle.time_range.specs.Spelling.{ts_text, IsStamp, SpellsTs, range_text, HasStamps, SpellsParts, IsWithin}
 use Rattle.time_range.specs.declared.ranges.Span.{Span}
 use Rattle.time_range.specs.declared.spelling.TsParts.{TsParts}
 use Rattle.time_range.specs.declared.spelling.RangeParts.{RangeParts}
@@ -34,7 +34,7 @@ IsRangeText text = (p : RangeParts) × HasStamps p.middle × (text ≡ range_tex
 
 -- the text is made like a range's, with a timestamp past the limit
 abbrev pub SpellsRangePast : List ℕ → Type 0
-SpellsRangePast text = (p : RangeParts) × HasParts text p × (IsWithin p.middle → ⊥)
+SpellsRangePast text = (p : RangeParts) × SpellsParts text p × (IsWithin p.middle → ⊥)
 
 -- two ranges have the same points
 abbrev pub HasSamePoints : Option Span → Option Span → Type 0

@@ -52,10 +52,10 @@ high_point (Including t) = Some (instant t)
 high_point (Excluding t) = Some (instant t -ℤ pos 1)
 
 -- some point lies from the low end to the high end
-abbrev pub in_order : Option ℤ → Option ℤ → Bool
-in_order (Some a) (Some b) = int_le a b
-in_order low high = true
+abbrev pub are_ordered : Option ℤ → Option ℤ → Bool
+are_ordered (Some a) (Some b) = int_le a b
+are_ordered low high = true
 
 -- the range of the points from a low end to a high end: never where they are not in order
 abbrev pub span_between : Option ℤ → Option ℤ → Option Span
-span_between low high = if in_order low high then Some (record { low = low; high = high }) else None
+span_between low high = if are_ordered low high then Some (record { low = low; high = high }) else None

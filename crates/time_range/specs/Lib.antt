@@ -2,6 +2,7 @@ pub mod Points
 pub mod Ends
 pub mod Spelling
 pub mod Prefixes
-pub mod Scanning
+pub mod Within
+pub mod Spelled
 pub mod Answers
 pub mod Printing

@@ -1,6 +1,6 @@
 -- Points of the time line, and timeranges as sets of points. A point is a whole number of half
 -- nanoseconds: the instant n is the point 2 n, and the open gap after it is the point 2 n + 1.
-use Rattle.std.specs.Prelude.{ℤ, pos, neg_ℤ, ◌+ℤ◌, ◌-ℤ◌, ◌≤ℤ◌, Option, Some, None, IfSome, MatchOption}
+use Rattle.std.specs.Prelude.{ℤ, pos, neg_ℤ, ◌+ℤ◌, ◌-ℤ◌, ◌≤ℤ◌, int_le, Bool, ◌&&◌, Option, Some, None, IfSome, MatchOption}
 use Rattle.time_range.specs.declared.ranges.Span.{Span}
 
 -- the largest magnitude of a timestamp, in nanoseconds
@@ -11,6 +11,10 @@ limit = pos 281_474_976_710_655_999_999_999
 pub record IsNanos (nanos : ℤ) : Type 0 where
   pub least : neg_ℤ limit ≤ℤ nanos
   pub most : nanos ≤ℤ limit
+
+-- the same as a test
+abbrev pub is_nanos : ℤ → Bool
+is_nanos nanos = int_le (neg_ℤ limit) nanos && int_le nanos limit
 
 -- the point of the instant that is this many nanoseconds from zero
 abbrev pub instant : ℤ → ℤ
@@ -48,6 +52,10 @@ pub record IsSpan (s : Span) : Type 0 where
 -- the range contains the point; `None` is never
 abbrev pub Has : Option Span → ℤ → Type 0
 Has range p = MatchOption range ⊥ (λ s. From s.low p × UpTo s.high p)
+
+-- the range of all points
+abbrev pub eternity : Option Span
+eternity = Some (record { low = None; high = None })
 
 -- what is true of each range: its ends are in order and within the limit
 abbrev pub IsRange : Option Span → Type 0

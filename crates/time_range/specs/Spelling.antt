@@ -90,30 +90,30 @@ IsWithin (Split first second) = IsStampWithin first × IsStampWithin second
 
 -- the end that a timestamp and the bracket beside it mean: a round bracket excludes the timestamp,
 -- a square or missing one includes it, and one beside an open end is ignored
-abbrev pub end_of : Option Bracket → Option TsParts → End
-end_of bracket None = Unbounded
-end_of (Some Round) (Some p) = Excluding (ts_value p)
-end_of (Some Square) (Some p) = Including (ts_value p)
-end_of None (Some p) = Including (ts_value p)
+abbrev pub meant_end : Option Bracket → Option TsParts → End
+meant_end bracket None = Unbounded
+meant_end (Some Round) (Some p) = Excluding (ts_value p)
+meant_end (Some Square) (Some p) = Including (ts_value p)
+meant_end None (Some p) = Including (ts_value p)
 
 -- what two brackets and what stands between them mean: nothing is never, one timestamp is both
 -- ends, and where `_` stands a missing timestamp is an open end
 abbrev pub MeansBetween : Option Bracket → Middle → Option Bracket → Option Span → Type 0
 MeansBetween left Empty right range = range ≡ None
-MeansBetween left (Single at) right range = Between (end_of left (Some at)) (end_of right (Some at)) range
-MeansBetween left (Split first second) right range = Between (end_of left first) (end_of right second) range
+MeansBetween left (Single at) right range = Between (meant_end left (Some at)) (meant_end right (Some at)) range
+MeansBetween left (Split first second) right range = Between (meant_end left first) (meant_end right second) range
 
 -- the range that a text's parts mean
 abbrev pub Means : RangeParts → Option Span → Type 0
 Means p range = MeansBetween p.left p.middle p.right range
 
 -- the text has these parts
-abbrev pub HasParts : List ℕ → RangeParts → Type 0
-HasParts text p = HasStamps p.middle × (text ≡ range_text p)
+abbrev pub SpellsParts : List ℕ → RangeParts → Type 0
+SpellsParts text p = HasStamps p.middle × (text ≡ range_text p)
 
 -- the text spells the range, each timestamp in it within the limit
 abbrev pub SpellsRange : List ℕ → Option Span → Type 0
-SpellsRange text range = (p : RangeParts) × HasParts text p × IsWithin p.middle × Means p range
+SpellsRange text range = (p : RangeParts) × SpellsParts text p × IsWithin p.middle × Means p range
 
 -- ---- canonical texts
 

@@ -3,7 +3,7 @@ ghost use Rattle.std.specs.Prelude.{◌≡◌, ℤ, pos, ◌+ℤ◌, ◌-ℤ◌,
 ghost use Rattle.std.specs.Option.{option_map};
 ghost use Rattle.time_range.specs.Points.{instant, From, UpTo, IsLow, IsHigh, IsEnd};
 ghost use Rattle.time_range.specs.Spelling.{low_end, high_end};
-ghost use Rattle.time_range.specs.Ends.{low_point, high_point, in_order, Above, Below, IsEndWithin, ReachesDown, ReachesUp};
+ghost use Rattle.time_range.specs.Ends.{low_point, high_point, are_ordered, Above, Below, IsEndWithin, ReachesDown, ReachesUp};
 
 use crate::stamp::{LIMIT, Ts};
 
@@ -55,7 +55,7 @@ pub(crate) fn instant_of(t: Ts) -> i128
 
 /// Whether some point lies from the low end to the high end.
 pub(crate) fn is_ordered(low: Option<i128>, high: Option<i128>) -> bool
-    ensures value { result ≡ in_order low high }
+    ensures value { result ≡ are_ordered low high }
     ensures ordered { IsTrue result ↔ IfSome low (λ a. IfSome high (λ b. a ≤ℤ b)) }
 {
     match (low, high) {

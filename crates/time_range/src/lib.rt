@@ -16,5 +16,5 @@ pub use ends::End;
 pub use fault::{Memory, RangeFault};
 pub use printing::{print_range, print_ts};
 pub use ranges::TimeRange;
-pub use reading::{read_range, read_ts};
+pub use reading::{read_range, read_ts, values_are_spelled};
 pub use stamp::Ts;

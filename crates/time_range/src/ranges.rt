@@ -1,6 +1,6 @@
 //! Timeranges: sets of points between two ends, or no point at all.
 ghost use Rattle.std.specs.Prelude.{◌≡◌, ℤ, pos, ◌+ℤ◌, ◌≤ℤ◌, ◌↔◌, Option, IsTrue, IsFalse, IsSome, IsNone, IfSome};
-ghost use Rattle.time_range.specs.Points.{instant, From, UpTo, IsLow, IsHigh, Has, Overlap, Covers, IsFirst, IsLast, IsBounded, low_of, high_of, StaysWithin};
+ghost use Rattle.time_range.specs.Points.{instant, From, UpTo, IsLow, IsHigh, Has, Overlap, Covers, IsFirst, IsLast, IsBounded, low_of, high_of, StaysWithin, eternity};
 ghost use Rattle.time_range.specs.Ends.{low_point, high_point, span_between, Above, Below, Between, IsEndWithin, ReachesDown, ReachesUp};
 ghost use Rattle.time_range.specs.Spelling.{low_end, high_end};
 ghost use Rattle.time_range.specs.declared.ranges.Span.{Span};
@@ -93,6 +93,7 @@ impl TimeRange {
     /// The range of all points.
     pub fn eternity() -> TimeRange
         ensures points { (p : ℤ) → Has result p }
+        ensures value { result ≡ eternity }
     {
         TimeRange::spanning(None, None)
     }

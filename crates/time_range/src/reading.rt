@@ -1,6 +1,8 @@
 //! Reading the text of timestamps and ranges.
 ghost use Rattle.std.specs.Prelude.{◌≡◌, ℤ, Option, IfOk};
 ghost use Rattle.time_range.specs.Spelling.{SpellsTs, SpellsRange};
+ghost use Rattle.std.specs.Result.{result_ok};
+ghost use Rattle.time_range.specs.Spelled.{ts_in, TsInIsSpelled, range_in, RangeInIsSpelled};
 ghost use Rattle.time_range.specs.Prefixes.{FailsAt};
 ghost use Rattle.time_range.specs.Answers.{IfSpelling, OnTooLarge, IsTsText, SpellsTsPast, IsRangeText, SpellsRangePast, HasSamePoints};
 ghost use Rattle.time_range.specs.declared.ranges.Span.{Span};
@@ -13,6 +15,7 @@ use crate::stamp::Ts;
 /// Reads a timestamp: an optional `-`, whole seconds, `:` and nanoseconds, without leading zeros.
 pub fn read_ts(text: &[u8]) -> Result<Ts, RangeFault>
     ensures ok { IfOk result (SpellsTs text.now) }
+    ensures value { result_ok result ≡ ts_in text.now }
     ensures only { IfOk result (λ t. (nanos : ℤ) → SpellsTs text.now nanos → nanos ≡ t) }
 
     // The text is no timestamp's; the place is how much of it some timestamp's text begins with.
@@ -33,6 +36,7 @@ pub fn read_ts(text: &[u8]) -> Result<Ts, RangeFault>
 /// may be missing.
 pub fn read_range(text: &[u8]) -> Result<TimeRange, RangeFault>
     ensures ok { IfOk result (SpellsRange text.now) }
+    ensures value { result_ok result ≡ range_in text.now }
     ensures only { IfOk result
         (λ r. (other : Option Span) → SpellsRange text.now other → HasSamePoints other r) }
 
@@ -49,3 +53,10 @@ pub fn read_range(text: &[u8]) -> Result<TimeRange, RangeFault>
     };
     parts.range().ok_or(RangeFault::TooLarge)
 }
+
+/// A law: the functions that stand for the readers in clauses of other crates give exactly what a
+/// text spells within the limit.
+pub fn values_are_spelled()
+    ensures ts { TsInIsSpelled }
+    ensures range { RangeInIsSpelled }
+{}

@@ -1,6 +1,6 @@
 //! Reading a text byte by byte: what has been read so far, and which byte may follow.
 ghost use Rattle.std.specs.Prelude.{◌≡◌, Option, ℕ, IfOk, IfErr, Some, None};
-ghost use Rattle.time_range.specs.Scanning.{run, StopsAt, capped, digit_of, stamp_read, left_bracket, right_bracket, begun, longer, closed, range_read};
+ghost use Rattle.time_range.specs.Within.Scanning.{run, StopsAt, capped, digit_of, stamp_read, left_bracket, right_bracket, begun, longer, closed, range_read};
 ghost use Rattle.std.specs.Option.{option_map};
 
 use crate::spelling::{Bracket, Middle, RangeParts, TsParts};
@@ -50,7 +50,7 @@ pub(crate) enum TsScan {
 }
 
 impl Scan for TsScan {
-    ghost use Rattle.time_range.specs.Scanning.{ts_next, capped};
+    ghost use Rattle.time_range.specs.Within.Scanning.{ts_next, capped};
 
     ghost next = { ts_next capped };
 
@@ -145,7 +145,7 @@ fn right_bracket(byte: u8) -> Option<Bracket>
 }
 
 impl Scan for RangeScan {
-    ghost use Rattle.time_range.specs.Scanning.{range_next, capped};
+    ghost use Rattle.time_range.specs.Within.Scanning.{range_next, capped};
 
     ghost next = { range_next capped };
 

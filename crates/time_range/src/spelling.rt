@@ -1,7 +1,7 @@
 //! The parts of a timestamp's and a range's text, what they mean, and the parts that are printed.
 ghost use Rattle.std.specs.Prelude.{◌≡◌, ◌<◌, ◌^◌, ◌↔◌, IsSome, IfSome};
-ghost use Rattle.time_range.specs.Points.{IsNanos};
-ghost use Rattle.time_range.specs.Spelling.{IsStampWithin, IsWithin, ts_value, end_of, Means, range_text, SpellsRange, canonical_ts, bracket_of, stamp_of, middle_of, canonical_range};
+ghost use Rattle.time_range.specs.Points.{IsNanos, IsRange};
+ghost use Rattle.time_range.specs.Spelling.{IsStampWithin, IsWithin, ts_value, meant_end, Means, range_text, SpellsRange, canonical_ts, bracket_of, stamp_of, middle_of, canonical_range};
 ghost use Rattle.time_range.specs.Ends.{Between};
 
 use crate::ends::End;
@@ -67,9 +67,9 @@ impl TsParts {
 }
 
 /// The end that a timestamp and the bracket beside it mean; `None` past the limit.
-fn end_of(bracket: Option<Bracket>, stamp: Option<TsParts>) -> Option<End>
+fn meant_end(bracket: Option<Bracket>, stamp: Option<TsParts>) -> Option<End>
     ensures within { IsSome result ↔ IsStampWithin stamp }
-    ensures value { IfSome result (λ end. end ≡ end_of bracket stamp) }
+    ensures value { IfSome result (λ end. end ≡ meant_end bracket stamp) }
 {
     let Some(parts) = stamp else {
         return Some(End::Unbounded);
@@ -141,6 +141,7 @@ impl RangeParts {
     pub(crate) fn range(self) -> Option<TimeRange>
         ensures within { IsSome result ↔ IsWithin self.middle }
         ensures meant { IfSome result (Means self) }
+        ensures range { IfSome result IsRange }
     {
         match self.middle {
             Middle::Empty => Some(TimeRange::never()),
@@ -152,10 +153,11 @@ impl RangeParts {
     fn between(self, first: Option<TsParts>, second: Option<TsParts>) -> Option<TimeRange>
         ensures within { IsSome result ↔ (IsStampWithin first × IsStampWithin second) }
         ensures meant { IfSome result
-            (Between (end_of self.left first) (end_of self.right second)) }
+            (Between (meant_end self.left first) (meant_end self.right second)) }
+        ensures range { IfSome result IsRange }
     {
-        let low = end_of(self.left, first)?;
-        let high = end_of(self.right, second)?;
+        let low = meant_end(self.left, first)?;
+        let high = meant_end(self.right, second)?;
         Some(TimeRange::between(low, high))
     }
 }

@@ -1,5 +1,5 @@
 use Rattle.std.proofs.Common.{◌≡◌, Some, take}
-use Rattle.time_range.specs.Scanning.{run}
+use Rattle.time_range.specs.Within.Scanning.{run}
 use Rattle.time_range.proofs.scanning.scan_all.Given as goal
 
 abbrev pub invariant-loop-at : goal.invariant-loop-at

@@ -2,7 +2,7 @@
 -- kept by a function `cap`: the code keeps them up to the largest `u64`, and what is read stands on
 -- all of them.
 use Rattle.std.specs.Prelude.{◌≡◌, ℕ, ◌+◌, ◌-◌, ◌*◌, ◌^◌, ◌<◌, min, ◌==◌, nat_lt, nat_le, ◌&&◌, false, true, if◌then◌else◌, List, [], ◌∷◌, Option, Some, None, is_some, slice_index, length, take}
-use Rattle.std.specs.Option.{option_map, option_and_then}
+use Rattle.std.specs.Option.{option_map, option_and_then, option_or}
 use Rattle.time_range.specs.declared.spelling.TsParts.{TsParts}
 use Rattle.time_range.specs.declared.spelling.Bracket.{Bracket}
 use Rattle.time_range.specs.declared.spelling.Bracket.TheVariants.{Square, Round}
@@ -50,11 +50,6 @@ abbrev pub stamp_read : TsScan → Option TsParts
 stamp_read (Nanos p) = Some p
 stamp_read scan = None
 
--- the first of two values, and where it is not there the second
-abbrev pub or_else : {T : Type 0} → Option T → Option T → Option T
-or_else None other = other
-or_else (Some x) other = Some x
-
 -- the bracket that opens a range
 abbrev pub left_bracket : ℕ → Option Bracket
 left_bracket byte = if byte == 91 then Some Square else (if byte == 40 then Some Round else None)
@@ -69,7 +64,7 @@ begun cap left byte = if byte == 95 then Some (Mark left None) else option_map (
 
 -- one more byte of a range that is no right bracket
 abbrev pub longer : (ℕ → ℕ) → RangeScan → ℕ → Option RangeScan
-longer cap (Left None) byte = or_else (option_map (λ b. Left (Some b)) (left_bracket byte)) (begun cap None byte)
+longer cap (Left None) byte = option_or (option_map (λ b. Left (Some b)) (left_bracket byte)) (begun cap None byte)
 longer cap (Left (Some bracket)) byte = begun cap (Some bracket) byte
 longer cap (First left first) byte =
     if byte == 95 then option_map (λ p. Mark left (Some p)) (stamp_read first)
@@ -96,4 +91,4 @@ closed p byte =
 -- one more byte of a range
 abbrev pub range_next : (ℕ → ℕ) → RangeScan → ℕ → Option RangeScan
 range_next cap scan byte =
-    or_else (longer cap scan byte) (option_and_then (λ p. closed p byte) (range_read scan))
+    option_or (longer cap scan byte) (option_and_then (λ p. closed p byte) (range_read scan))
