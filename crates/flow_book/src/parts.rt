@@ -55,7 +55,8 @@ pub(crate) fn flow_part_unset(
     }
 }
 
-/// The refusal of a part that a source hasn't, and that is to be cleared.
+/// The refusal of a part that a source hasn't, and that is to be cleared, or that no source may
+/// have.
 pub(crate) fn source_part_unset(
     alloc: Global,
     row: &SourceRow,
@@ -69,7 +70,10 @@ pub(crate) fn source_part_unset(
         Part::Description(new) => {
             not_set(alloc, clears_nothing(&row.description, new), b"description")
         }
-        _ => Ok(None),
+        Part::ReadOnly(_) => not_set(alloc, true, b"read_only"),
+        Part::Collection(_) => not_set(alloc, true, b"flow_collection"),
+        Part::MaxBitRate(_) => not_set(alloc, true, b"max_bit_rate"),
+        Part::AvgBitRate(_) => not_set(alloc, true, b"avg_bit_rate"),
     }
 }
 

@@ -2,7 +2,7 @@
 use Rattle.std.proofs.Common.{ℤ, ◌≡◌, ℕ, ◌≤◌, Bool, true, false, not, ◌&&◌, ◌||◌, cond, List, [], ◌∷◌, filter, length, nat_lt, Option, Some, None, refl, sym, ap, subst, ◌∙◌, arith}
 use Rattle.std.specs.Prelude.{◌==◌, nat_le, is_some, is_none}
 use Rattle.std.specs.List.{list_all, list_any}
-use Rattle.std.proofs.lemmas.Bool.{and_parts, and_from, leb-true, eq-eqb, not-true, cond_both, false≢true}
+use Rattle.std.proofs.lemmas.Bool.{and_parts, and_from, eqb-true, eq-eqb, not-true, cond_both, false≢true}
 use Rattle.time_range.specs.declared.ranges.Span.{Span}
 use Rattle.media_rows.specs.declared.change.Change.TheVariants as changes
 use Rattle.media_rows.specs.declared.event.Happened.{Happened}
@@ -14,7 +14,7 @@ use Rattle.media_rows.specs.declared.segment.SegmentRow.{SegmentRow}
 use Rattle.media_rows.specs.Answer.{deleting_refusal, change_refusal, first_taken, is_kept_object, keep_refusal, posts_refusal}
 use Rattle.media_rows.specs.Apply.{is_allowed}
 use Rattle.media_rows.specs.Catalog.{flow_of, after_touch, touched, put_refusal, set_refusal, flow_refusal, flow_refusals}
-use Rattle.media_rows.specs.Changes.{after, moment_of, remove_segments, touch_flow, remove_flow, with_step, is_flow_gone, after_request_step, after_step_of}
+use Rattle.media_rows.specs.Changes.{after, moment_of, remove_segments, touch_flow, remove_flow, with_step, is_flow_gone, after_request_step, after_step_of, request_step_events, step_events}
 use Rattle.media_rows.specs.Collections.{is_kept}
 use Rattle.media_rows.specs.Events.{put_events, set_events, source_event, added_events, removed_events, drop_events}
 use Rattle.media_rows.specs.declared.event.EventKind.TheVariants.{SourceUpdated}
@@ -25,7 +25,7 @@ use Rattle.media_rows.specs.Moments.{is_moment}
 use Rattle.media_rows.specs.Objects.{is_free, blocks_of, object_of}
 use Rattle.media_rows.specs.Ranges.{covers, reaches_down, reaches_up, is_eternity}
 use Rattle.media_rows.specs.Refusals.{first_refusal}
-use Rattle.media_rows.specs.Requests.{step_size, is_unfinished, is_deleting, first_unfinished, requested, removed_by_step, is_finished_by_step, done_count, done_kept}
+use Rattle.media_rows.specs.Requests.{step_size, is_unfinished, is_deleting, first_unfinished, requested, removed_by_step, left_by_step, is_finished_by_step, done_count, done_kept}
 use Rattle.media_rows.specs.Segments.{posted, segments_of, covered, starts_before, without_segments}
 use Rattle.library_laws.specs.Laws.{IsSound, ChangesKeepGood, ChangesApply, GoodIsTested}
 use Rattle.library_laws.proofs.ListLemmas.{In, In-filter, filter-In, in_order-In, find-In, find-some, map-In, list_all-In, list_any-In, list_any-from_In, take-whole}
@@ -104,17 +104,21 @@ whole_covers (Some r) (Some s) e = ends_cover r.low r.high s e
 earlier : (a b : ℕ) (less : Bool) → a ≡ b → (not (a == b) || less) ≡ true → less ≡ true
 earlier a b less same e = ap (λ t. not t || less) (sym (eq-eqb a b same)) ∙ e
 
+none_among : {X : Type 0} (xs : List X) (x : X) → length xs ≡ 0 → In x xs → ⊥
+none_among [] x e here = here
+none_among (y ∷ ys) x e here = absurd (cc)
+
 -- a step that leaves none of a whole flow's segments leaves no segment of the flow
 none_left : (library : Library) (request : DeleteRow) → is_eternity request.range ≡ true → is_after_segments library.segments request ≡ true → is_finished_by_step library.segments request ≡ true
     → (s : SegmentRow) → In s (without_segments (removed_by_step library.segments request) library.segments) → s.flow ≡ request.flow → ⊥
 none_left library request whole later finished s here same =
     let at = In-filter (λ row. not (list_any (λ gone. gone.serial == row.serial) (removed_by_step library.segments request))) library.segments s here in
-    let own = filter-In (λ row. row.flow == request.flow) library.segments s at.0 (eq-eqb s.flow request.flow same) in
-    let all = in_order-In starts_before (filter (λ row. covers request.range row.segment.range) (segments_of request.flow library.segments)) s (filter-In (λ row. covers request.range row.segment.range) (segments_of request.flow library.segments) s own (whole_covers request.range s.segment.range whole)) in
+    let left : List SegmentRow = without_segments (removed_by_step library.segments request) library.segments in
+    let own = filter-In (λ row. row.flow == request.flow) left s here (eq-eqb s.flow request.flow same) in
+    let all = in_order-In starts_before (filter (λ row. covers request.range row.segment.range) (segments_of request.flow left)) s (filter-In (λ row. covers request.range row.segment.range) (segments_of request.flow left) s own (whole_covers request.range s.segment.range whole)) in
     let before : nat_lt s.serial request.serial ≡ true = earlier s.flow request.flow (nat_lt s.serial request.serial) same (list_all-In (λ r. not (r.flow == request.flow) || nat_lt r.serial request.serial) library.segments later s at.0) in
-    let asked = filter-In (λ row. nat_lt row.serial request.serial) (covered library.segments request.flow request.range) s all before in
-    let removed : In s (removed_by_step library.segments request) = subst (In s) (sym (take-whole 32 (requested library.segments request) (leb-true (length (requested library.segments request)) 32 finished))) asked in
-    false≢true (sym (not-true (list_any (λ gone. gone.serial == s.serial) (removed_by_step library.segments request)) at.1) ∙ list_any-from_In (λ gone. gone.serial == s.serial) (removed_by_step library.segments request) s removed (eq-eqb s.serial s.serial refl))
+    none_among (left_by_step library.segments request) s (eqb-true (length (left_by_step library.segments request)) 0 finished)
+    (filter-In (λ row. nat_lt row.serial request.serial) (covered left request.flow request.range) s all before)
 
 unfinished_kept : (library : Library) (request : DeleteRow) → Good library → In request library.requests → is_unfinished request ≡ true
     → (is_kept library.catalog.flows request.flow ≡ true) × (request.delete_flow ≡ true → (is_eternity request.range ≡ true) × (is_after_segments library.segments request ≡ true))
@@ -126,8 +130,9 @@ unfinished_kept library request good here open_one =
 -- the end of a step: the flow goes too, or it stays
 abbrev pub step_end : Bool → Library → DeleteRow → ℕ → Library → Library
 step_end gone library request moment stepped =
-    cond gone (with_happened (drop_events library.catalog request.flow (removed_by_step library.segments request)) moment (remove_flow request.flow moment stepped))
-    (with_happened (removed_events library.catalog request.flow (removed_by_step library.segments request)) moment stepped)
+    with_happened
+    (cond gone (drop_events library.catalog request.flow (removed_by_step library.segments request)) (removed_events library.catalog request.flow (removed_by_step library.segments request)))
+    moment (cond gone (remove_flow request.flow moment stepped) stepped)
 
 -- a touch leaves the segments
 left_in_step : (library : Library) (request : DeleteRow) (moment : ℕ) (removed : List SegmentRow) (s : SegmentRow) → In s (without_segments removed (touch_flow request.flow removed moment (with_step request moment library)).segments)
@@ -144,9 +149,13 @@ step_by true library request moment stepped is good at empty most =
 step_by false library request moment stepped is good at empty most =
     happened_keeps_good (removed_events library.catalog request.flow (removed_by_step library.segments request)) moment stepped good at most
 
--- the library of a step before its events, and with them
+-- the library of a step with its events
+abbrev pub step_after : ℕ → DeleteRow → Library → Library
+step_after moment request library = with_happened (request_step_events request library) moment (after_request_step moment request library)
+
+-- a good one is left
 pub request_step_keeps_good : (library : Library) (request : DeleteRow) (moment : ℕ) → Good library → is_moment moment ≡ true → In request library.requests → is_unfinished request ≡ true
-    → (after_request_step moment request library).next_serial ≤ last_serial → Good (after_request_step moment request library)
+    → (step_after moment request library).next_serial ≤ last_serial → Good (step_after moment request library)
 request_step_keeps_good library request moment good at here open_one most =
     let told = unfinished_kept library request good here open_one in
     let row = list_any-In (λ r. r.body.id == request.flow) library.catalog.flows told.0 in
@@ -160,7 +169,7 @@ request_step_keeps_good library request moment good at here open_one most =
     λ s here same. none_left library request whole.0 whole.1 p.0 s (left_in_step library request moment removed s here) same) most
 
 delete_step_by : (library : Library) (moment : ℕ) → Good library → is_moment moment ≡ true → (o : Option DeleteRow) → first_unfinished library.requests ≡ o → is_some o ≡ true
-    → (after_step_of o moment library).next_serial ≤ last_serial → Good (after_step_of o moment library)
+    → (with_happened (step_events o library) moment (after_step_of o moment library)).next_serial ≤ last_serial → Good (with_happened (step_events o library) moment (after_step_of o moment library))
 delete_step_by library moment good at None is some most = good
 delete_step_by library moment good at (Some request) is some most =
     let found = find-In is_unfinished library.requests request is in request_step_keeps_good library request moment good at found.0 found.1 most

@@ -196,15 +196,26 @@ after_set id part moment catalog = record catalog { flows = with_flow id (set_ro
 
 -- ---- a part of a source
 
--- a part that a source hasn't, and that is to be cleared
+-- a part that a source may have: a tag, the label or the description
+abbrev pub is_source_part : Part → Bool
+is_source_part (parts.Tag name new) = true
+is_source_part (parts.Label new) = true
+is_source_part (parts.Description new) = true
+is_source_part (parts.ReadOnly new) = false
+is_source_part (parts.Collection new) = false
+is_source_part (parts.MaxBitRate new) = false
+is_source_part (parts.AvgBitRate new) = false
+
+-- A part that a source hasn't, and that is to be cleared. The parts that no source may have are never set, and
+-- so are refused too where they bring a value.
 abbrev pub source_part_unset : SourceRow → Part → Option Refusal
 source_part_unset row (parts.Tag name new) = when (clears_nothing (tag_of name row.tags) new) (refusals.NotSet (codes "tags"))
 source_part_unset row (parts.Label new) = when (clears_nothing row.label new) (refusals.NotSet (codes "label"))
 source_part_unset row (parts.Description new) = when (clears_nothing row.description new) (refusals.NotSet (codes "description"))
-source_part_unset row (parts.ReadOnly new) = None
-source_part_unset row (parts.Collection new) = None
-source_part_unset row (parts.MaxBitRate new) = None
-source_part_unset row (parts.AvgBitRate new) = None
+source_part_unset row (parts.ReadOnly new) = Some (refusals.NotSet (codes "read_only"))
+source_part_unset row (parts.Collection new) = Some (refusals.NotSet (codes "flow_collection"))
+source_part_unset row (parts.MaxBitRate new) = Some (refusals.NotSet (codes "max_bit_rate"))
+source_part_unset row (parts.AvgBitRate new) = Some (refusals.NotSet (codes "avg_bit_rate"))
 
 -- the refusals of a part of a source in order: no such source, then the clearing of what isn't set
 abbrev pub source_refusals : Option SourceRow → Part → List (Option Refusal)

@@ -1,9 +1,10 @@
--- What each change makes of a library. First come the changes of rows, with the next serials in list order,
--- and last the events of the change. Our own rules.
+-- What each change makes of a library, and what it makes happen. First come the changes of rows, with the next
+-- serials in list order, and last the events of the change. Our own rules.
 use Rattle.std.specs.Prelude.{ℕ, ◌+◌, ◌==◌, List, [], ◌∷◌, ◌++◌, Bool, ◌&&◌, Option, Some, None, if◌then◌else◌, length}
 use Rattle.time_range.specs.declared.ranges.Span.{Span}
 use Rattle.media_rows.specs.declared.change.Change.{Change}
 use Rattle.media_rows.specs.declared.change.Change.TheVariants as changes
+use Rattle.media_rows.specs.declared.event.Happened.{Happened}
 use Rattle.media_rows.specs.declared.event.EventKind.TheVariants.{SourceUpdated}
 use Rattle.media_rows.specs.declared.flow.FlowBody.{FlowBody}
 use Rattle.media_rows.specs.declared.hook.Hook.{Hook}
@@ -46,32 +47,31 @@ remove_flow flow moment library = record library {
 -- a flow is put: it comes, with its source where that is new too, or its body is replaced
 abbrev pub after_put_flow : ℕ → FlowBody → Library → Library
 after_put_flow moment body library =
-    with_happened (put_events library.catalog body) moment (record library { catalog = after_put body moment library.catalog })
+    record library { catalog = after_put body moment library.catalog }
 
 -- a part of a flow is set or cleared
 abbrev pub after_set_flow : ℕ → ℕ → Part → Library → Library
 after_set_flow moment flow part library =
-    with_happened (set_events library.catalog flow) moment (record library { catalog = after_set flow part moment library.catalog })
+    record library { catalog = after_set flow part moment library.catalog }
 
 -- a part of a source is set or cleared
 abbrev pub after_set_source_part : ℕ → ℕ → Part → Library → Library
 after_set_source_part moment source part library =
-    with_happened (source_event SourceUpdated source ∷ []) moment (record library { catalog = after_set_source source part moment library.catalog })
+    record library { catalog = after_set_source source part moment library.catalog }
 
 -- a flow goes with all its segments
 abbrev pub after_drop_flow : ℕ → ℕ → Library → Library
 after_drop_flow moment flow library =
-    with_happened (drop_events library.catalog flow (segments_of flow library.segments)) moment
-    (remove_flow flow moment (remove_segments (segments_of flow library.segments) moment library))
+    remove_flow flow moment (remove_segments (segments_of flow library.segments) moment library)
 
--- objects without bytes come, with the next serials in list order; no event tells of them
+-- objects without bytes come, with the next serials in list order
 abbrev pub after_allocate : ℕ → List (List ℕ) → Library → Library
 after_allocate moment ids library = record library {
   objects = library.objects ++ allocated_rows library.next_serial moment ids;
   next_serial = library.next_serial + length ids;
 }
 
--- an allocated object has its bytes at a place from now on; no event tells of it
+-- an allocated object has its bytes at a place from now on
 abbrev pub after_store : ℕ → List ℕ → ℕ → ℕ → Library → Library
 after_store moment object start size library = record library { objects = with_bytes object start size moment library.objects }
 
@@ -79,22 +79,21 @@ after_store moment object start size library = record library { objects = with_b
 abbrev pub added_rows : ℕ → List Segment → Library → List SegmentRow
 added_rows flow segments library = posted flow library.next_serial segments
 
--- the segments of a post come to a flow; their event has the serials behind theirs
+-- the segments of a post come to a flow
 abbrev pub after_add : ℕ → ℕ → List Segment → Library → Library
-after_add moment flow segments library =
-    with_happened (added_events library.catalog flow (added_rows flow segments library)) moment (record library {
-      catalog = after_touch flow moment library.catalog;
-      segments = library.segments ++ added_rows flow segments library;
-      next_serial = library.next_serial + length segments;
-    })
+after_add moment flow segments library = record library {
+  catalog = after_touch flow moment library.catalog;
+  segments = library.segments ++ added_rows flow segments library;
+  next_serial = library.next_serial + length segments;
+}
 
 -- the segments that a range covers go
 abbrev pub after_cut : ℕ → ℕ → Option Span → Library → Library
 after_cut moment flow range library =
-    with_happened (removed_events library.catalog flow (covered library.segments flow range)) moment
-    (touch_flow flow (covered library.segments flow range) moment (remove_segments (covered library.segments flow range) moment library))
+    touch_flow flow (covered library.segments flow range) moment
+    (remove_segments (covered library.segments flow range) moment library)
 
--- a delete request comes, with the next serial; no segment goes yet, and no event tells of it
+-- a delete request comes, with the next serial; no segment goes yet
 abbrev pub after_ask : ℕ → ℕ → Option Span → Bool → Library → Library
 after_ask moment flow range delete_flow library = record library {
   requests = library.requests ++ asked_row flow range delete_flow library.next_serial moment ∷ [];
@@ -116,10 +115,9 @@ with_step request moment library =
 abbrev pub after_request_step : ℕ → DeleteRow → Library → Library
 after_request_step moment request library =
     let removed = removed_by_step library.segments request in
-    let stepped : Library = remove_segments removed moment (touch_flow request.flow removed moment (with_step request moment library)) in
-    if is_flow_gone request library
-    then with_happened (drop_events library.catalog request.flow removed) moment (remove_flow request.flow moment stepped)
-    else with_happened (removed_events library.catalog request.flow removed) moment stepped
+    let touched : Library = touch_flow request.flow removed moment (with_step request moment library) in
+    let stepped : Library = remove_segments removed moment touched in
+    if is_flow_gone request library then remove_flow request.flow moment stepped else stepped
 
 -- a step of the request that is due; where none is, all stays
 abbrev pub after_step_of : Option DeleteRow → ℕ → Library → Library
@@ -137,7 +135,7 @@ abbrev pub after_sweep : ℕ → Library → Library
 after_sweep moment library =
     record library { objects = without_objects (swept_objects library.segments library.objects moment) library.objects }
 
--- a hook comes, with the next serial, in place of the one of its address; no event tells of it
+-- a hook comes, with the next serial, in place of the one of its address
 abbrev pub after_hook : Hook → Library → Library
 after_hook hook library = record library {
   outbox = after_put_hook hook library.next_serial library.outbox;
@@ -148,23 +146,57 @@ after_hook hook library = record library {
 abbrev pub without_hook : List ℕ → Library → Library
 without_hook url library = record library { outbox = after_drop_hook url library.outbox }
 
+-- ---- what each change makes happen
+
+-- a step makes happen what the going of its segments does, and where the flow goes, what that does
+abbrev pub request_step_events : DeleteRow → Library → List Happened
+request_step_events request library =
+    if is_flow_gone request library
+    then drop_events library.catalog request.flow (removed_by_step library.segments request)
+    else removed_events library.catalog request.flow (removed_by_step library.segments request)
+
+-- the same of a step of the request that is due, if one is
+abbrev pub step_events : Option DeleteRow → Library → List Happened
+step_events None library = []
+step_events (Some request) library = request_step_events request library
+
+-- What a change makes happen in a library, in order: to flows, to their segments and to sources. Of objects,
+-- of requests that are made and of hooks no event tells.
+abbrev pub happened_in : Change → Library → List Happened
+happened_in (changes.PutFlow moment flow) library = put_events library.catalog flow
+happened_in (changes.SetFlow moment flow part) library = set_events library.catalog flow
+happened_in (changes.SetSource moment source part) library = source_event SourceUpdated source ∷ []
+happened_in (changes.DropFlow moment flow) library =
+    drop_events library.catalog flow (segments_of flow library.segments)
+happened_in (changes.Allocate moment flow objects) library = []
+happened_in (changes.Store moment object start size) library = []
+happened_in (changes.AddSegments moment flow segments) library =
+    added_events library.catalog flow (added_rows flow segments library)
+happened_in (changes.CutSegments moment flow range) library =
+    removed_events library.catalog flow (covered library.segments flow range)
+happened_in (changes.AskDelete moment flow range delete_flow) library = []
+happened_in (changes.DeleteStep moment) library = step_events (first_unfinished library.requests) library
+happened_in (changes.SweepStep moment) library = []
+happened_in (changes.PutHook moment hook) library = []
+happened_in (changes.DropHook moment url) library = []
+
 -- ---- all together
 
--- what a change makes of a library
-abbrev pub after : Change → Library → Library
-after (changes.PutFlow moment flow) library = after_put_flow moment flow library
-after (changes.SetFlow moment flow part) library = after_set_flow moment flow part library
-after (changes.SetSource moment source part) library = after_set_source_part moment source part library
-after (changes.DropFlow moment flow) library = after_drop_flow moment flow library
-after (changes.Allocate moment flow objects) library = after_allocate moment objects library
-after (changes.Store moment object start size) library = after_store moment object start size library
-after (changes.AddSegments moment flow segments) library = after_add moment flow segments library
-after (changes.CutSegments moment flow range) library = after_cut moment flow range library
-after (changes.AskDelete moment flow range delete_flow) library = after_ask moment flow range delete_flow library
-after (changes.DeleteStep moment) library = after_delete_step moment library
-after (changes.SweepStep moment) library = after_sweep moment library
-after (changes.PutHook moment hook) library = after_hook hook library
-after (changes.DropHook moment url) library = without_hook url library
+-- a library once the rows of a change are there, and its events aren't yet
+abbrev pub with_change : Change → Library → Library
+with_change (changes.PutFlow moment flow) library = after_put_flow moment flow library
+with_change (changes.SetFlow moment flow part) library = after_set_flow moment flow part library
+with_change (changes.SetSource moment source part) library = after_set_source_part moment source part library
+with_change (changes.DropFlow moment flow) library = after_drop_flow moment flow library
+with_change (changes.Allocate moment flow objects) library = after_allocate moment objects library
+with_change (changes.Store moment object start size) library = after_store moment object start size library
+with_change (changes.AddSegments moment flow segments) library = after_add moment flow segments library
+with_change (changes.CutSegments moment flow range) library = after_cut moment flow range library
+with_change (changes.AskDelete moment flow range delete_flow) library = after_ask moment flow range delete_flow library
+with_change (changes.DeleteStep moment) library = after_delete_step moment library
+with_change (changes.SweepStep moment) library = after_sweep moment library
+with_change (changes.PutHook moment hook) library = after_hook hook library
+with_change (changes.DropHook moment url) library = without_hook url library
 
 -- the moment of a change
 abbrev pub moment_of : Change → ℕ
@@ -181,3 +213,7 @@ moment_of (changes.DeleteStep moment) = moment
 moment_of (changes.SweepStep moment) = moment
 moment_of (changes.PutHook moment hook) = moment
 moment_of (changes.DropHook moment url) = moment
+
+-- what a change makes of a library: its rows, and then its events with the serials behind theirs
+abbrev pub after : Change → Library → Library
+after change library = with_happened (happened_in change library) (moment_of change) (with_change change library)

@@ -6,7 +6,7 @@ use Rattle.media_rows.specs.declared.request.DeleteRow.{DeleteRow}
 use Rattle.media_rows.specs.declared.request.DeleteStatus.{DeleteStatus}
 use Rattle.media_rows.specs.declared.request.DeleteStatus.TheVariants.{Created, Started, Done}
 use Rattle.media_rows.specs.declared.segment.SegmentRow.{SegmentRow}
-use Rattle.media_rows.specs.Segments.{covered}
+use Rattle.media_rows.specs.Segments.{covered, without_segments}
 
 -- the most segments that go at once, and in one step
 abbrev pub step_size : ℕ
@@ -71,9 +71,13 @@ requested segments request = filter (λ row. nat_lt row.serial request.serial) (
 abbrev pub removed_by_step : List SegmentRow → DeleteRow → List SegmentRow
 removed_by_step segments request = take step_size (requested segments request)
 
--- its next step leaves none
+-- those that its next step leaves
+abbrev pub left_by_step : List SegmentRow → DeleteRow → List SegmentRow
+left_by_step segments request = requested (without_segments (removed_by_step segments request) segments) request
+
+-- nothing is left of what was asked for
 abbrev pub is_finished_by_step : List SegmentRow → DeleteRow → Bool
-is_finished_by_step segments request = nat_le (length (requested segments request)) step_size
+is_finished_by_step segments request = length (left_by_step segments request) == 0
 
 -- the request after the step
 abbrev pub stepped_row : Bool → ℕ → DeleteRow → DeleteRow
