@@ -23,7 +23,7 @@ use Rattle.library_laws.proofs.ListLemmas.{length-in_order, length-filter_passin
 
 -- an answer has a change only where nothing is refused
 pub by_refusal : (P : Change → Type 0) (refusal : Option Refusal) (outcome : Outcome) → (refusal ≡ None → IfSome outcome.change P)
-    → IfSome (changing_answer refusal outcome).change P
+    → IfSome (changing_answer refusal (Some outcome)).change P
 by_refusal P None outcome h = h refl
 by_refusal P (Some why) outcome h = tt
 
@@ -100,24 +100,24 @@ drop_hook_allowed library url moment false e = tt
 
 -- ---- all commands
 
-by_answer : (library : Library) (command : Command) (moment : ℕ)
-    → (refusal_of library command ≡ None → IfSome (accepted library command moment).change (IsAllowedAt library moment))
-    → IfSome (changing_answer (refusal_of library command) (accepted library command moment)).change (IsAllowedAt library moment)
-by_answer library command moment h = by_refusal (IsAllowedAt library moment) (refusal_of library command) (accepted library command moment) h
+by_answer : (library : Library) (command : Command) (moment : ℕ) (outcome : Outcome)
+    → (refusal_of library command ≡ None → IfSome outcome.change (IsAllowedAt library moment))
+    → IfSome (changing_answer (refusal_of library command) (Some outcome)).change (IsAllowedAt library moment)
+by_answer library command moment outcome h = by_refusal (IsAllowedAt library moment) (refusal_of library command) outcome h
 
 pub answers_allowed : AnswersAreAllowed
-answers_allowed library (commands.PutFlow body) moment place = by_answer library (commands.PutFlow body) moment (λ none. record { allowed = none_is _ none; at = refl })
-answers_allowed library (commands.SetFlow flow part) moment place = by_answer library (commands.SetFlow flow part) moment (λ none. record { allowed = none_is _ none; at = refl })
-answers_allowed library (commands.SetSource source part) moment place = by_answer library (commands.SetSource source part) moment (λ none. record { allowed = none_is _ none; at = refl })
-answers_allowed library (commands.DropFlow flow) moment place = by_answer library (commands.DropFlow flow) moment (drop_allowed library flow moment)
-answers_allowed library (commands.Allocate flow want) moment place = by_answer library (commands.Allocate flow want) moment (λ none.
+answers_allowed library (commands.PutFlow body) moment place = by_answer library (commands.PutFlow body) moment _ (λ none. record { allowed = none_is _ none; at = refl })
+answers_allowed library (commands.SetFlow flow part) moment place = by_answer library (commands.SetFlow flow part) moment _ (λ none. record { allowed = none_is _ none; at = refl })
+answers_allowed library (commands.SetSource source part) moment place = by_answer library (commands.SetSource source part) moment _ (λ none. record { allowed = none_is _ none; at = refl })
+answers_allowed library (commands.DropFlow flow) moment place = by_answer library (commands.DropFlow flow) moment _ (drop_allowed library flow moment)
+answers_allowed library (commands.Allocate flow want) moment place = by_answer library (commands.Allocate flow want) moment _ (λ none.
     let parts = neither _ _ none in
     let untaken = first_taken_less (is_taken library want) (is_kept_object library) (kept_is_taken library want) [] (wanted_ids library want) (taken_none _ parts.1) in
     record { allowed = and_from _ _ (none_is _ parts.0) (none_is _ untaken); at = refl })
 answers_allowed library (commands.Keep object start size) moment place =
-    by_answer library (commands.Keep object start size) moment (λ none. record { allowed = and_from _ _ (none_is _ none) (place none); at = refl })
-answers_allowed library (commands.AddSegments flow posts) moment place = by_answer library (commands.AddSegments flow posts) moment (λ none. record { allowed = none_is _ none; at = refl })
-answers_allowed library (commands.CutSegments flow range) moment place = by_answer library (commands.CutSegments flow range) moment (cut_allowed library flow range moment)
+    by_answer library (commands.Keep object start size) moment _ (λ none. record { allowed = and_from _ _ (none_is _ none) (place none); at = refl })
+answers_allowed library (commands.AddSegments flow posts) moment place = by_answer library (commands.AddSegments flow posts) moment _ (λ none. record { allowed = none_is _ none; at = refl })
+answers_allowed library (commands.CutSegments flow range) moment place = by_answer library (commands.CutSegments flow range) moment _ (cut_allowed library flow range moment)
 answers_allowed library (commands.PutHook hook) moment place = record { allowed = refl; at = refl }
 answers_allowed library (commands.DropHook url) moment place = drop_hook_allowed library url moment (is_some (hook_of url library.outbox.hooks)) refl
 answers_allowed library commands.Root moment place = tt

@@ -148,9 +148,9 @@ cut_brings library flow range moment =
     cond_both (length (covered library.segments flow range) == 0) _ _ (λ (o : Outcome). IfSome o.change (Brings library)) (λ e. tt)
     (λ some. cond_both (nat_le (length (covered library.segments flow range)) 32) _ _ (λ (o : Outcome). IfSome o.change (Brings library)) (λ e m. refl) (λ e m. refl))
 
-brings_by : (library : Library) (command : Command) (moment : ℕ) → IfSome (accepted library command moment).change (Brings library)
-    → IfSome (changing_answer (refusal_of library command) (accepted library command moment)).change (Brings library)
-brings_by library command moment h = by_refusal (Brings library) (refusal_of library command) (accepted library command moment) (λ none. h)
+brings_by : (library : Library) (command : Command) (outcome : Outcome) → IfSome outcome.change (Brings library)
+    → IfSome (changing_answer (refusal_of library command) (Some outcome)).change (Brings library)
+brings_by library command outcome h = by_refusal (Brings library) (refusal_of library command) outcome (λ none. h)
 
 hook_brings : (library : Library) (url : List ℕ) (moment : ℕ) (kept : Bool) → IfSome (cond kept (changed replies.Done (changes.DropHook moment url)) (unchanged replies.Done)).change (Brings library)
 unfolding Brings
@@ -159,16 +159,16 @@ hook_brings library url moment false = tt
 
 answers_bring : (library : Library) (command : Command) (moment : ℕ) → is_good_command library command ≡ true → IfSome (answer library command moment).change (Brings library)
 unfolding Brings
-answers_bring library (commands.PutFlow body) moment good = brings_by library (commands.PutFlow body) moment (λ m. good)
-answers_bring library (commands.SetFlow flow part) moment good = brings_by library (commands.SetFlow flow part) moment (λ m. good)
-answers_bring library (commands.SetSource source part) moment good = brings_by library (commands.SetSource source part) moment (λ m. good)
-answers_bring library (commands.DropFlow flow) moment good = brings_by library (commands.DropFlow flow) moment (drop_brings library flow moment)
-answers_bring library (commands.Allocate flow want) moment good = brings_by library (commands.Allocate flow want) moment (λ m. wanted_are_ids library want good m)
+answers_bring library (commands.PutFlow body) moment good = brings_by library (commands.PutFlow body) _ (λ m. good)
+answers_bring library (commands.SetFlow flow part) moment good = brings_by library (commands.SetFlow flow part) _ (λ m. good)
+answers_bring library (commands.SetSource source part) moment good = brings_by library (commands.SetSource source part) _ (λ m. good)
+answers_bring library (commands.DropFlow flow) moment good = brings_by library (commands.DropFlow flow) _ (drop_brings library flow moment)
+answers_bring library (commands.Allocate flow want) moment good = brings_by library (commands.Allocate flow want) _ (λ m. wanted_are_ids library want good m)
 answers_bring library (commands.Keep object start size) moment good =
-    by_refusal (Brings library) (keep_refusal (object_of object library.objects)) (accepted library (commands.Keep object start size) moment)
+    by_refusal (Brings library) (keep_refusal (object_of object library.objects)) (changed replies.Created (changes.Store moment object start size))
     (λ none m. (found_place library object start size good none).1)
-answers_bring library (commands.AddSegments flow posts) moment good = brings_by library (commands.AddSegments flow posts) moment (λ m. good)
-answers_bring library (commands.CutSegments flow range) moment good = brings_by library (commands.CutSegments flow range) moment (cut_brings library flow range moment)
+answers_bring library (commands.AddSegments flow posts) moment good = brings_by library (commands.AddSegments flow posts) _ (λ m. good)
+answers_bring library (commands.CutSegments flow range) moment good = brings_by library (commands.CutSegments flow range) _ (cut_brings library flow range moment)
 answers_bring library (commands.PutHook hook) moment good = λ m. good
 answers_bring library (commands.DropHook url) moment good = hook_brings library url moment (is_some (hook_of url library.outbox.hooks))
 answers_bring library commands.Root moment good = tt

@@ -109,7 +109,7 @@ keep_refusal (Some row) = keep_state row.state
 
 -- The first refusal that stands of a changing command. That the flow is being deleted comes before all that
 -- the catalog refuses, and what the command brings is looked at last. An asking command has its refusals with
--- what it shows.
+-- what it shows, and none here.
 abbrev pub refusal_of : Library → Command → Option Refusal
 refusal_of library (commands.PutFlow body) = or_else (deleting_refusal library body.id) (put_refusal library.catalog body)
 refusal_of library (commands.SetFlow flow part) = or_else (deleting_refusal library flow) (set_refusal library.catalog flow part)
@@ -123,19 +123,7 @@ refusal_of library (commands.AddSegments flow posts) =
 refusal_of library (commands.CutSegments flow range) = change_refusal library flow
 refusal_of library (commands.PutHook hook) = None
 refusal_of library (commands.DropHook url) = None
-refusal_of library commands.Root = None
-refusal_of library commands.Service = None
-refusal_of library commands.Hooks = None
-refusal_of library (commands.Sources wanted page) = None
-refusal_of library (commands.Source id) = None
-refusal_of library (commands.SourcePart id name) = None
-refusal_of library (commands.Flows wanted range page) = None
-refusal_of library (commands.Flow id) = None
-refusal_of library (commands.FlowPart id name) = None
-refusal_of library (commands.Segments id wanted page) = None
-refusal_of library (commands.Object id) = None
-refusal_of library commands.Requests = None
-refusal_of library (commands.Request serial) = None
+refusal_of library asking = None
 
 -- ---- the reply and the change where nothing is refused
 
@@ -176,36 +164,33 @@ accepted_cut library flow range moment =
     then changed replies.Done (changes.CutSegments moment flow range)
     else accepted_request library flow range false moment
 
--- The reply and the change of a changing command that nothing refuses. The lines of asking commands stand for
--- nothing, since these are answered by what they show.
-abbrev pub accepted : Library → Command → ℕ → Outcome
+-- a hook goes, if there is one of this address
+abbrev pub accepted_drop_hook : Library → List ℕ → ℕ → Outcome
+accepted_drop_hook library url moment =
+    if is_some (hook_of url library.outbox.hooks)
+    then changed replies.Done (changes.DropHook moment url)
+    else unchanged replies.Done
+
+-- the reply and the change of a changing command that nothing refuses; none for an asking command, which is
+-- answered by what it shows
+abbrev pub accepted : Library → Command → ℕ → Option Outcome
 accepted library (commands.PutFlow body) moment =
-    changed (created_unless (is_some (flow_of body.id library.catalog.flows))) (changes.PutFlow moment body)
-accepted library (commands.SetFlow flow part) moment = changed replies.Done (changes.SetFlow moment flow part)
-accepted library (commands.SetSource source part) moment = changed replies.Done (changes.SetSource moment source part)
-accepted library (commands.DropFlow flow) moment = accepted_drop library flow moment
+    Some (changed (created_unless (is_some (flow_of body.id library.catalog.flows))) (changes.PutFlow moment body))
+accepted library (commands.SetFlow flow part) moment = Some (changed replies.Done (changes.SetFlow moment flow part))
+accepted library (commands.SetSource source part) moment =
+    Some (changed replies.Done (changes.SetSource moment source part))
+accepted library (commands.DropFlow flow) moment = Some (accepted_drop library flow moment)
 accepted library (commands.Allocate flow want) moment =
-    changed (replies.CreatedObjects (wanted_ids library want)) (changes.Allocate moment flow (wanted_ids library want))
-accepted library (commands.Keep object start size) moment = changed replies.Created (changes.Store moment object start size)
-accepted library (commands.AddSegments flow posts) moment = changed replies.Created (changes.AddSegments moment flow posts)
-accepted library (commands.CutSegments flow range) moment = accepted_cut library flow range moment
+    let ids = wanted_ids library want in Some (changed (replies.CreatedObjects ids) (changes.Allocate moment flow ids))
+accepted library (commands.Keep object start size) moment =
+    Some (changed replies.Created (changes.Store moment object start size))
+accepted library (commands.AddSegments flow posts) moment =
+    Some (changed replies.Created (changes.AddSegments moment flow posts))
+accepted library (commands.CutSegments flow range) moment = Some (accepted_cut library flow range moment)
 accepted library (commands.PutHook hook) moment =
-    changed (created_unless (is_some (hook_of hook.url library.outbox.hooks))) (changes.PutHook moment hook)
-accepted library (commands.DropHook url) moment =
-    if is_some (hook_of url library.outbox.hooks) then changed replies.Done (changes.DropHook moment url) else unchanged replies.Done
-accepted library commands.Root moment = unchanged replies.Done
-accepted library commands.Service moment = unchanged replies.Done
-accepted library commands.Hooks moment = unchanged replies.Done
-accepted library (commands.Sources wanted page) moment = unchanged replies.Done
-accepted library (commands.Source id) moment = unchanged replies.Done
-accepted library (commands.SourcePart id name) moment = unchanged replies.Done
-accepted library (commands.Flows wanted range page) moment = unchanged replies.Done
-accepted library (commands.Flow id) moment = unchanged replies.Done
-accepted library (commands.FlowPart id name) moment = unchanged replies.Done
-accepted library (commands.Segments id wanted page) moment = unchanged replies.Done
-accepted library (commands.Object id) moment = unchanged replies.Done
-accepted library commands.Requests moment = unchanged replies.Done
-accepted library (commands.Request serial) moment = unchanged replies.Done
+    Some (changed (created_unless (is_some (hook_of hook.url library.outbox.hooks))) (changes.PutHook moment hook))
+accepted library (commands.DropHook url) moment = Some (accepted_drop_hook library url moment)
+accepted library asking moment = None
 
 -- ---- the answer
 
@@ -214,15 +199,17 @@ abbrev pub shown_reply : Result View Refusal → Reply
 shown_reply (Ok view) = replies.Shown view
 shown_reply (Err refusal) = replies.Refused refusal
 
--- the answer to a changing command: its refusal, which changes nothing, or what it makes
-abbrev pub changing_answer : Option Refusal → Outcome → Outcome
-changing_answer None outcome = outcome
-changing_answer (Some refusal) outcome = unchanged (replies.Refused refusal)
+-- The answer to a changing command: its refusal, which changes nothing, or what it makes. Each command that
+-- shows nothing makes something, so the last line answers none.
+abbrev pub changing_answer : Option Refusal → Option Outcome → Outcome
+changing_answer (Some refusal) made = unchanged (replies.Refused refusal)
+changing_answer None (Some outcome) = outcome
+changing_answer None None = unchanged replies.Done
 
 -- an asking command is answered by what it shows, and a changing one by its refusal or by what it makes
-abbrev pub answer_by : Option (Result View Refusal) → Option Refusal → Outcome → Outcome
-answer_by None refusal outcome = changing_answer refusal outcome
-answer_by (Some shown) refusal outcome = unchanged (shown_reply shown)
+abbrev pub answer_by : Option (Result View Refusal) → Option Refusal → Option Outcome → Outcome
+answer_by None refusal made = changing_answer refusal made
+answer_by (Some shown) refusal made = unchanged (shown_reply shown)
 
 -- the answer to a command at a moment
 abbrev pub answer : Library → Command → ℕ → Outcome
@@ -239,23 +226,22 @@ placed_put (Some start) object size moment = changed replies.Created (changes.St
 abbrev pub stored_put : Bool → Outcome
 stored_put same = unchanged (if same then replies.Done else replies.Refused refusals.OtherBytes)
 
--- an allocated object takes the bytes if there is a place, and a stored one only compares them
-abbrev pub put_by_state : ObjectState → Option ℕ → Bool → List ℕ → ℕ → ℕ → Outcome
-put_by_state Allocated place same object size moment = placed_put place object size moment
-put_by_state (Stored start kept) place same object size moment = stored_put same
+-- the answer by the state of the object: what an allocated one makes of the bytes, or what a stored one does
+abbrev pub put_by_state : ObjectState → Outcome → Outcome → Outcome
+put_by_state Allocated first again = first
+put_by_state (Stored start size) first again = again
 
--- bytes for an object that isn't kept are refused, and others go by its state
-abbrev pub put_answer_by : Option ObjectRow → Option ℕ → Bool → List ℕ → ℕ → ℕ → Outcome
-put_answer_by None place same object size moment = unchanged (replies.Refused refusals.UnknownObject)
-put_answer_by (Some row) place same object size moment = put_by_state row.state place same object size moment
+-- the same of an object that may be missing, whose bytes are refused
+abbrev pub put_answer_by : Option ObjectRow → Outcome → Outcome → Outcome
+put_answer_by None first again = unchanged (replies.Refused refusals.UnknownObject)
+put_answer_by (Some row) first again = put_by_state row.state first again
 
 -- the answer to a PUT of an object's bytes, where these are the bytes of the library's objects
 abbrev pub put_media_answer : Library → List (List ℕ) → List ℕ → List ℕ → ℕ → Outcome
 put_media_answer library held object bytes moment =
     put_answer_by (object_of object library.objects)
-    (free_place library.objects library.blocks (blocks_of (length bytes)))
-    (bytes_eq (bytes_of object library.objects held) bytes)
-    object (length bytes) moment
+    (placed_put (free_place library.objects library.blocks (blocks_of (length bytes))) object (length bytes) moment)
+    (stored_put (bytes_eq (bytes_of object library.objects held) bytes))
 
 -- the length of an object's bytes, where they are stored; an allocated object has none to give
 abbrev pub media_of : ObjectState → Reply

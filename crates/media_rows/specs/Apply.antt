@@ -49,7 +49,8 @@ abbrev pub passes_serials : Change → Library → Bool
 passes_serials change library = nat_lt last_serial (after change library).next_serial
 
 -- the change of a turn: a delete step if a request is unfinished, otherwise a sweep if an object is due,
--- otherwise nothing
+-- otherwise nothing. That a step doesn't fit the journal is added by the state above the library, as it is for a
+-- command.
 abbrev pub turn : Library → ℕ → Option Change
 turn library moment =
     if is_some (first_unfinished library.requests) then Some (changes.DeleteStep moment)

@@ -1,6 +1,7 @@
--- Formats, events and states of a request by number: two are equal exactly where their numbers are. The
--- numbers are those of the file; our own rule.
-use Rattle.std.specs.Prelude.{ℕ}
+-- Formats, events and states of a request by number and by name: two are equal exactly where their numbers are.
+-- The numbers are those of the file, which is our own rule. The names are those of bodies, queries and answers:
+-- URNs of formats are NMOS's and TAMS's, and the names of events are our own profile's.
+use Rattle.std.specs.Prelude.{ℕ, Bool, true, false, List, codes}
 use Rattle.media_rows.specs.declared.flow.FormatKind.{FormatKind}
 use Rattle.media_rows.specs.declared.flow.FormatKind.TheVariants.{Video, Audio, DataEssence, Multi, Image}
 use Rattle.media_rows.specs.declared.event.EventKind.{EventKind}
@@ -32,3 +33,35 @@ abbrev pub status_number : DeleteStatus → ℕ
 status_number Created = 1
 status_number Started = 2
 status_number Done = 3
+
+-- ---- names
+
+-- a format's name in bodies and queries
+abbrev pub format_name : FormatKind → List ℕ
+format_name Video = codes "urn:x-nmos:format:video"
+format_name Audio = codes "urn:x-nmos:format:audio"
+format_name DataEssence = codes "urn:x-nmos:format:data"
+format_name Multi = codes "urn:x-nmos:format:multi"
+format_name Image = codes "urn:x-tam:format:image"
+
+-- an event's name in a hook's list
+abbrev pub event_name : EventKind → List ℕ
+event_name FlowCreated = codes "flows/created"
+event_name FlowUpdated = codes "flows/updated"
+event_name FlowDeleted = codes "flows/deleted"
+event_name SegmentsAdded = codes "flows/segments_added"
+event_name SegmentsDeleted = codes "flows/segments_deleted"
+event_name SourceCreated = codes "sources/created"
+event_name SourceUpdated = codes "sources/updated"
+event_name SourceDeleted = codes "sources/deleted"
+
+-- the name of a delete request's state
+abbrev pub status_name : DeleteStatus → List ℕ
+status_name Created = codes "created"
+status_name Started = codes "started"
+status_name Done = codes "done"
+
+-- the name of a hook's state: whether it has failed
+abbrev pub hook_status_name : Bool → List ℕ
+hook_status_name false = codes "started"
+hook_status_name true = codes "error"

@@ -20,7 +20,7 @@ use Rattle.media_rows.specs.Collections.{is_kept, member_ids, collects_itself}
 use Rattle.media_rows.specs.Essence.{is_essence}
 use Rattle.media_rows.specs.Ids.{is_object_id}
 use Rattle.media_rows.specs.Library.{Library, last_serial, serials_of}
-use Rattle.media_rows.specs.Lists.{rises, are_distinct, are_distinct_texts}
+use Rattle.media_rows.specs.Lists.{each_pair, rises, are_distinct, are_distinct_texts}
 use Rattle.media_rows.specs.Moments.{is_moment}
 use Rattle.media_rows.specs.Objects.{is_stored_object, blocks_of, are_apart}
 use Rattle.media_rows.specs.Outbox.{Outbox, most_waiting, waiting_count}
@@ -39,7 +39,7 @@ is_segment_good flows row = has_both_ends row.segment.range && is_kept flows row
 
 -- segments of one flow never overlap; each is bounded, isn't never, and belongs to a kept flow
 abbrev pub are_segments_good : List FlowRow → List SegmentRow → Bool
-are_segments_good flows segments = rises are_compatible segments && list_all (is_segment_good flows) segments
+are_segments_good flows segments = each_pair are_compatible segments && list_all (is_segment_good flows) segments
 
 -- ---- 2. references
 
@@ -63,7 +63,7 @@ are_states_apart (Stored start size) (Stored other_start other_size) = are_apart
 -- extents of stored objects are disjoint and lie within the media blocks
 abbrev pub are_extents_good : ℕ → List ObjectRow → Bool
 are_extents_good blocks objects =
-    rises (λ a b. are_states_apart a.state b.state) objects && list_all (λ row. is_extent_good blocks row.state) objects
+    each_pair (λ a b. are_states_apart a.state b.state) objects && list_all (λ row. is_extent_good blocks row.state) objects
 
 -- ---- 4. names, serials and order
 

@@ -5,6 +5,7 @@ pub mod Essence
 pub mod Lists
 pub mod Ranges
 pub mod Refusals
+pub mod RefusalTable
 pub mod Collections
 pub mod Catalog
 pub mod Segments

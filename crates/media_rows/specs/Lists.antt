@@ -1,5 +1,5 @@
 -- Lists in order, tests on all pairs of a list, and pages of a list. Our own words.
-use Rattle.std.specs.Prelude.{ℕ, zero, suc, ◌==◌, nat_lt, ℤ, int_lt, List, [], ◌∷◌, ◌++◌, Bool, true, not, ◌&&◌, Option, Some, None, if◌then◌else◌, filter, take, length, reverse, bytes_eq}
+use Rattle.std.specs.Prelude.{ℕ, zero, suc, ◌==◌, nat_lt, nat_le, ℤ, int_lt, List, [], ◌∷◌, ◌++◌, Bool, true, not, ◌&&◌, Option, Some, None, if◌then◌else◌, filter, take, length, reverse, bytes_eq}
 use Rattle.std.specs.List.{list_all, list_any}
 use Rattle.std.specs.Ordering.{is_lt, nat_cmp}
 use Rattle.std.specs.declared.cmp.Ordering.{Ordering}
@@ -48,17 +48,21 @@ in_order before [] = []
 in_order before (x ∷ xs) = inserted before x (in_order before xs)
 
 -- each item passes the test with each later one
+abbrev pub each_pair : {X : Type 0} → (X → X → Bool) → List X → Bool
+each_pair test [] = true
+each_pair test (x ∷ xs) = list_all (test x) xs && each_pair test xs
+
+-- each item stands before each later one
 abbrev pub rises : {X : Type 0} → (X → X → Bool) → List X → Bool
-rises test [] = true
-rises test (x ∷ xs) = list_all (test x) xs && rises test xs
+rises before xs = each_pair before xs
 
 -- no number stands twice
 abbrev pub are_distinct : List ℕ → Bool
-are_distinct numbers = rises (λ a b. not (a == b)) numbers
+are_distinct numbers = each_pair (λ a b. not (a == b)) numbers
 
 -- no text stands twice
 abbrev pub are_distinct_texts : List (List ℕ) → Bool
-are_distinct_texts texts = rises (λ a b. not (bytes_eq a b)) texts
+are_distinct_texts texts = each_pair (λ a b. not (bytes_eq a b)) texts
 
 -- the numbers below this one, rising
 unfoldable pub numbers_below : ℕ → List ℕ
@@ -71,6 +75,10 @@ or_else None other = other
 or_else (Some x) other = Some x
 
 -- ---- pages
+
+-- a page that may be asked for: it has at least one item
+abbrev pub is_page : Page → Bool
+is_page page = nat_le 1 page.limit
 
 -- whether a key lies behind the one after which a page begins
 abbrev pub is_past : Option ℤ → Bool → ℤ → Bool

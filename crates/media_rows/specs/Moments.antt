@@ -1,6 +1,6 @@
 -- Moments: whole seconds since 1970-01-01T00:00:00Z, and their text in the form of RFC 3339 with `Z`. The
 -- calendar is the proleptic Gregorian one, and no day has a leap second.
-use Rattle.std.specs.Prelude.{ℕ, zero, suc, ◌+◌, ◌/◌, ◌%◌, ◌≤◌, List, [], ◌∷◌, ◌++◌, Bool, nat_lt, nat_le, if◌then◌else◌, pos}
+use Rattle.std.specs.Prelude.{ℕ, zero, suc, ◌+◌, ◌/◌, ◌%◌, List, [], ◌∷◌, ◌++◌, Bool, nat_lt, nat_le, if◌then◌else◌, pos}
 use Rattle.jiff_core.specs.Calendar.{days_in_month}
 
 -- the last moment: 9999-12-31T23:59:59Z
@@ -8,10 +8,6 @@ abbrev pub last_moment : ℕ
 last_moment = 253402300799
 
 -- a number that is a moment
-abbrev pub IsMoment : ℕ → Type 0
-IsMoment n = n ≤ last_moment
-
--- the same as a test
 abbrev pub is_moment : ℕ → Bool
 is_moment n = nat_le n last_moment
 

@@ -1,6 +1,6 @@
 -- What an asking command shows of a library, or why it shows nothing. Our own profile of the
 -- Time-addressable Media Store.
-use Rattle.std.specs.Prelude.{ℕ, ◌==◌, ◌^◌, ℤ, pos, ◌-ℤ◌, List, Bool, true, false, ◌&&◌, Option, Some, None, is_some, option_map, Result, Ok, Err, if◌then◌else◌, filter, map, length, bytes_eq, codes}
+use Rattle.std.specs.Prelude.{ℕ, ◌==◌, ◌^◌, ℤ, pos, ◌+ℤ◌, ◌-ℤ◌, unsigned_abs, List, Bool, true, false, ◌&&◌, Option, Some, None, is_some, option_map, Result, Ok, Err, if◌then◌else◌, filter, map, length, bytes_eq, codes}
 use Rattle.std.specs.Bool.{beq}
 use Rattle.std.specs.List.{list_any, list_all}
 use Rattle.time_range.specs.declared.ranges.Span.{Span}
@@ -93,9 +93,17 @@ passes_range segments (Some range) row = list_any (λ s. overlaps s.segment.rang
 
 -- ---- lists
 
+-- what a key of a page by ids lies below the id
+abbrev pub key_shift : ℕ
+key_shift = 2 ^ 127
+
 -- the key of a page by ids
 abbrev pub id_key : ℕ → ℤ
-id_key id = pos id -ℤ pos (2 ^ 127)
+id_key id = pos id -ℤ pos key_shift
+
+-- the id of a key of a page by ids, as that of the next page is shown
+abbrev pub key_id : ℤ → ℕ
+key_id key = unsigned_abs (key +ℤ pos key_shift)
 
 -- the key by which sources come in pages
 abbrev pub source_key : SourceRow → ℤ
@@ -192,18 +200,22 @@ shown_flows library page rows =
 abbrev pub shown_object : Library → ObjectRow → View
 shown_object library row = views.Object row (flows_naming library.segments row.id)
 
+-- a command that asks, and changes nothing
+abbrev pub is_asking : Command → Bool
+is_asking (commands.PutFlow body) = false
+is_asking (commands.SetFlow flow part) = false
+is_asking (commands.SetSource source part) = false
+is_asking (commands.DropFlow flow) = false
+is_asking (commands.Allocate flow want) = false
+is_asking (commands.Keep object start size) = false
+is_asking (commands.AddSegments flow segments) = false
+is_asking (commands.CutSegments flow range) = false
+is_asking (commands.PutHook hook) = false
+is_asking (commands.DropHook url) = false
+is_asking asking = true
+
 -- what an asking command shows, or its refusal; nothing for a command that changes something
 abbrev pub asked : Library → Command → Option (Result View Refusal)
-asked library (commands.PutFlow body) = None
-asked library (commands.SetFlow flow part) = None
-asked library (commands.SetSource source part) = None
-asked library (commands.DropFlow flow) = None
-asked library (commands.Allocate flow want) = None
-asked library (commands.Keep object start size) = None
-asked library (commands.AddSegments flow segments) = None
-asked library (commands.CutSegments flow range) = None
-asked library (commands.PutHook hook) = None
-asked library (commands.DropHook url) = None
 asked library commands.Root = Some (Ok views.Root)
 asked library commands.Service = Some (Ok views.Service)
 asked library commands.Hooks = Some (Ok (views.Hooks (map (shown_hook library) library.outbox.hooks)))
@@ -217,3 +229,4 @@ asked library (commands.Segments id wanted page) = Some (kept_or refusals.NoFlow
 asked library (commands.Object id) = Some (kept_or refusals.UnknownObject (λ row. Ok (shown_object library row)) (object_of id library.objects))
 asked library commands.Requests = Some (Ok (views.Requests library.requests))
 asked library (commands.Request serial) = Some (kept_or refusals.NoRequest (λ row. Ok (views.Request row)) (request_of serial library.requests))
+asked library changing = None

@@ -1,7 +1,7 @@
 //! Moments in text.
 ghost use Rattle.std.specs.Prelude.{◌≡◌, ◌≤◌, ◌<◌, pos, IfOk};
 ghost use Rattle.jiff.specs.Words.{epoch_day, IsBetween};
-ghost use Rattle.media_rows.specs.Moments.{IsMoment, civil_date, clock_text, date_text, moment_text, two_digits};
+ghost use Rattle.media_rows.specs.Moments.{last_moment, civil_date, clock_text, date_text, moment_text, two_digits};
 
 use disk_trait::{Memory, Text};
 use jiff::ToSpan;
@@ -13,7 +13,7 @@ const DAY: u64 = 86_400;
 
 /// The text `YYYY-MM-DDTHH:MM:SSZ` of a moment, in whole seconds since 1970-01-01T00:00:00Z.
 pub fn moment_text(alloc: Global, moment: u64) -> Result<Text, Memory>
-    requires { IsMoment moment }
+    requires { moment ≤ last_moment }
     ensures { IfOk result (λ text. text ≡ moment_text moment) }
 {
     let mut text = day_text(alloc, (moment / DAY) as i32)?;

@@ -1,5 +1,7 @@
-//! Refusals: why a request isn't done. Each has its number and status in the profile's table.
+//! Refusals: why a request isn't done. Each has a number, a status and a name in the table of
+//! `specs/RefusalTable.antt`.
 ghost use Rattle.std.specs.Prelude.{◌≡◌};
+ghost use Rattle.media_rows.specs.RefusalTable.{refusal_number, refusal_status};
 
 use disk_trait::{Memory, Text};
 use time_range::TimeRange;
@@ -40,6 +42,70 @@ pub enum Refusal {
     Overlap(TimeRange),
     JournalFull,
     MediaFull,
+}
+
+impl Refusal {
+    /// The number of the refusal: 1 to 32.
+    pub fn number(&self) -> u8
+        ensures { result ≡ refusal_number self.now }
+    {
+        match self {
+            Refusal::BadHead => 1,
+            Refusal::BadFraming => 2,
+            Refusal::LengthRequired => 3,
+            Refusal::TooLarge => 4,
+            Refusal::Coding => 5,
+            Refusal::NoRoute => 6,
+            Refusal::NoMethod => 7,
+            Refusal::NotJson => 8,
+            Refusal::Fractional => 9,
+            Refusal::Missing(_) => 10,
+            Refusal::WrongKind(_) => 11,
+            Refusal::TooLong(_) => 12,
+            Refusal::OutOfRange(_) => 13,
+            Refusal::BadTimerange(_) => 14,
+            Refusal::BadQuery(_) => 15,
+            Refusal::NoSource => 16,
+            Refusal::NoFlow => 17,
+            Refusal::UnknownObject => 18,
+            Refusal::NoRequest => 19,
+            Refusal::NotSet(_) => 20,
+            Refusal::Deleting => 21,
+            Refusal::ReadOnly => 22,
+            Refusal::SourceFormat => 23,
+            Refusal::FlowChanged => 24,
+            Refusal::CollectsItself => 25,
+            Refusal::CollectedMissing(_) => 26,
+            Refusal::IdTaken(_) => 27,
+            Refusal::OtherBytes => 28,
+            Refusal::NoObject(_) => 29,
+            Refusal::Overlap(_) => 30,
+            Refusal::JournalFull => 31,
+            Refusal::MediaFull => 32,
+        }
+    }
+
+    /// The status with which the refusal is answered (RFC 9110, section 15).
+    pub fn status(&self) -> u16
+        ensures { result ≡ refusal_status self.now }
+    {
+        match self {
+            Refusal::ReadOnly => 403,
+            Refusal::NoRoute
+            | Refusal::NoSource
+            | Refusal::NoFlow
+            | Refusal::UnknownObject
+            | Refusal::NoRequest
+            | Refusal::NotSet(_) => 404,
+            Refusal::NoMethod => 405,
+            Refusal::Deleting | Refusal::IdTaken(_) | Refusal::OtherBytes => 409,
+            Refusal::LengthRequired => 411,
+            Refusal::TooLarge => 413,
+            Refusal::Coding => 415,
+            Refusal::JournalFull | Refusal::MediaFull => 507,
+            _ => 400,
+        }
+    }
 }
 
 /// Why a book's call gives no new book.
