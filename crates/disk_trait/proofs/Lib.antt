@@ -1,6 +1,6 @@
 pub mod NumberLemmas
 pub mod OverwriteLemmas
-mod TornLemmas
+pub mod TornLemmas
 mod HistoryLemmas
 mod MemoryDiskLemmas
 mod StopLemmas

@@ -6,17 +6,14 @@ use Rattle.std.proofs.lemmas.Bool.Decides.{nat_tests}
 use Rattle.std.proofs.lemmas.List.Sums.{sum_by_push}
 use Rattle.std.specs.Prelude.{Result, Ok, Err, is_ok, OnOk, IsFalse, Contains}
 use Rattle.disk_trait.specs.Device.{Left}
-use Rattle.disk_trait.specs.Calls.{LeavesOnly, SameDevice, Torn, Follows, Elapses, DiskCall, IsCounted, Rose, overwritten}
-use Rattle.disk_trait.specs.History.{IsQuiet, Past, kept_bytes, seen_of, with_call, has_passed, has_failed}
-use Rattle.disk_trait.specs.MemoryDisk.{DiskState, LeavesAt, LeavesSince, left_after, left_after_call, memory_device, Makes, FailsAsListed, DiskCalled, next_number, counted_on, after_make, step_of}
-use Rattle.disk_trait.specs.MemoryDiskLaws.{torn-put_over, length-kept_bytes, itself_after, leaves_at_last, leaves_at_more}
+use Rattle.disk_trait.specs.Calls.{Request, ReadAt, WriteAt, SyncAll, LeavesOnly, SameDevice, Torn, Follows, Elapses, DiskCall, IsCounted, Rose, overwritten}
+use Rattle.disk_trait.specs.History.{IsQuiet, Past, call_of, kept_bytes, seen_of, with_call, has_passed, has_failed}
+use Rattle.disk_trait.specs.MemoryDisk.{DiskState, LeavesAt, LeavesSince, left_after, left_after_call, memory_device, MakesCall, FailsAsListed, DiskCalled, next_number, counted_on, after_make, step_of}
+use Rattle.disk_trait.specs.MemoryDiskLaws.{torn-put_over, length-kept_bytes, length-seen_after_call, itself_after, leaves_at_last, leaves_at_more}
 use Rattle.disk_trait.specs.declared.history.Call.{Call}
 use Rattle.disk_trait.specs.declared.history.Call.TheVariants.{Read, Write, Sync}
-use Rattle.disk_trait.proofs.StopLemmas.{length-seen_after_call}
+use Rattle.disk_trait.proofs.TornLemmas.{torn_itself}
 use Rattle.disk_trait.proofs.HistoryLemmas.{left_after-push, seen_after-push, seen_after-write}
-
-torn_itself : (at n : ℕ) (image : List ℕ) → Torn at n image image
-torn_itself at n image = record { before = refl; after = refl; same_length = refl }
 
 -- an image after a call is one from before it, after the call's step
 image_follows : (call : Call) (seen : List ℕ) (left : List ℕ → Type 0) (told : List (List ℕ)) (image : List ℕ) → left seen → left_after_call call seen left image → (old : List ℕ) × left old × step_of call (record { image = old; told = told }) (record { image = image; told = told })
@@ -120,7 +117,7 @@ counted call false disk = record {
   rises = λ _ room. omega (arith, counted_on_rises disk.starved (omega arith));
 }
 
-pub disk_call : (call : Call) (old new : DiskState) (ok : Bool) → Makes call old new ok → DiskCall (step_of call) ok (memory_device old) (memory_device new)
+pub disk_call : (call : Call) (old new : DiskState) (ok : Bool) → MakesCall call old new ok → DiskCall (step_of call) ok (memory_device old) (memory_device new)
 disk_call call old new ok made = rw (made.after, made.answer) (record {
   same = same_device call made.noted old;
   link = elim made.noted as (λ noted. (memory_device (after_make noted call old)).link ≡ (memory_device old).link) [ true ↦ refl | false ↦ refl ];
@@ -132,12 +129,26 @@ fails_as_listed : (call : Call) (noted : Bool) (disk : DiskState) → (IsFalse (
 fails_as_listed call true disk listed = record { never_falls = omega arith; listed = listed.1; starved = λ rose. absurd (omega arith); only = λ failed. inl (listed.0 failed) }
 fails_as_listed call false disk listed = record { never_falls = counted_on_never_falls disk.starved; listed = λ _. refl; starved = λ _. refl; only = λ _. inr (counted_on_rises disk.starved) }
 
-called : (call : Call) (noted : Bool) (disk : DiskState) → (IsFalse (has_passed call) ↔ Contains disk.fail (next_number disk)) → DiskCalled disk (after_make noted call disk) (noted && has_passed call)
-called call true disk listed = record { fails = fails_as_listed call true disk listed; fail = refl; past = inr (call, refl) }
-called call false disk listed = record { fails = fails_as_listed call false disk listed; fail = refl; past = inl (record { past = refl; rose = counted_on_rises disk.starved }) }
+-- a call passed by what its entry says
+passed_of : (asked : Request) (passed : Bool) → has_passed (call_of asked passed) ≡ passed
+passed_of (ReadAt at n) passed = refl
+passed_of (WriteAt at bytes) passed = refl
+passed_of SyncAll passed = refl
 
-pub disk_called : (call : Call) (old new : DiskState) (ok : Bool) → Makes call old new ok → DiskCalled old new ok
-disk_called call old new ok made = rw (made.after, made.answer) (called call made.noted old made.listed)
+called : (asked : Request) (passed noted : Bool) (disk : DiskState) → (IsFalse (has_passed (call_of asked passed)) ↔ Contains disk.fail (next_number disk)) → DiskCalled asked disk (after_make noted (call_of asked passed) disk) (noted && has_passed (call_of asked passed))
+called asked passed true disk listed = record {
+  fails = fails_as_listed (call_of asked passed) true disk listed;
+  fail = refl;
+  past = inr (rw passed_of refl);
+}
+called asked passed false disk listed = record {
+  fails = fails_as_listed (call_of asked passed) false disk listed;
+  fail = refl;
+  past = inl (record { past = refl; rose = counted_on_rises disk.starved });
+}
+
+pub disk_called : (asked : Request) (passed : Bool) (old new : DiskState) (ok : Bool) → MakesCall (call_of asked passed) old new ok → DiskCalled asked old new ok
+disk_called asked passed old new ok made = rw (made.after, made.answer) (called asked passed made.noted old made.listed)
 
 pub on_ok : {T E P : Type 0} (r : Result T E) → (is_ok r ≡ true → P) → OnOk r P
 on_ok (Ok value) holds = holds refl
@@ -148,7 +159,7 @@ quiet_seen : (call : Call) (noted : Bool) (disk : DiskState) → IsQuiet call �
 quiet_seen call true disk quiet = rw seen_after-push (quiet (seen_of disk.past))
 quiet_seen call false disk quiet = refl
 
-pub same_seen : (call : Call) (old new : DiskState) (ok : Bool) → IsQuiet call → Makes call old new ok → seen_of new.past ≡ seen_of old.past
+pub same_seen : (call : Call) (old new : DiskState) (ok : Bool) → IsQuiet call → MakesCall call old new ok → seen_of new.past ≡ seen_of old.past
 same_seen call old new ok quiet made = rw made.after (quiet_seen call made.noted old quiet)
 
 -- after a sync that passed, a crash leaves what a read gives
@@ -160,7 +171,7 @@ synced true true disk ok = λ p left.
 synced true false disk wrong = cc
 synced false passed disk wrong = cc
 
-pub durable : (passed : Bool) (old new : DiskState) (ok : Bool) → Makes (Sync passed) old new ok → ok ≡ true → LeavesOnly (seen_of new.past) (memory_device new)
+pub durable : (passed : Bool) (old new : DiskState) (ok : Bool) → MakesCall (Sync passed) old new ok → ok ≡ true → LeavesOnly (seen_of new.past) (memory_device new)
 durable passed old new ok made passes =
     rw (same_seen (Sync passed) old new ok (λ _. refl) made, made.after) (synced made.noted passed old (cc))
 
@@ -170,7 +181,7 @@ wrote at bytes true true disk fits ok = seen_after-write disk.past.calls at byte
 wrote at bytes true false disk fits wrong = cc
 wrote at bytes false passed disk fits wrong = cc
 
-pub written : (at : ℕ) (bytes : List ℕ) (passed : Bool) (old new : DiskState) (ok : Bool) → at + length bytes ≤ length (seen_of old.past) → Makes (Write at bytes passed) old new ok → ok ≡ true → seen_of new.past ≡ overwritten at bytes (seen_of old.past)
+pub written : (at : ℕ) (bytes : List ℕ) (passed : Bool) (old new : DiskState) (ok : Bool) → at + length bytes ≤ length (seen_of old.past) → MakesCall (Write at bytes passed) old new ok → ok ≡ true → seen_of new.past ≡ overwritten at bytes (seen_of old.past)
 written at bytes passed old new ok fits made passes = rw made.after (wrote at bytes made.noted passed old fits (cc))
 
 -- in any case it wrote nothing elsewhere
@@ -178,5 +189,5 @@ wrote_within : (at : ℕ) (bytes : List ℕ) (noted passed : Bool) (disk : DiskS
 wrote_within at bytes true passed disk = rw seen_after-push (torn-put_over at (length bytes) (kept_bytes passed bytes) (seen_of disk.past) (length-kept_bytes passed bytes))
 wrote_within at bytes false passed disk = torn_itself at (length bytes) (seen_of disk.past)
 
-pub torn : (at : ℕ) (bytes : List ℕ) (passed : Bool) (old new : DiskState) (ok : Bool) → Makes (Write at bytes passed) old new ok → Torn at (length bytes) (seen_of old.past) (seen_of new.past)
+pub torn : (at : ℕ) (bytes : List ℕ) (passed : Bool) (old new : DiskState) (ok : Bool) → MakesCall (Write at bytes passed) old new ok → Torn at (length bytes) (seen_of old.past) (seen_of new.past)
 torn at bytes passed old new ok made = rw made.after (wrote_within at bytes made.noted passed old)

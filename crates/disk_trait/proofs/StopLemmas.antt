@@ -2,22 +2,12 @@
 use Rattle.std.proofs.Common.{◌≡◌, ◌<◌, ◌≤◌, ◌+◌, ◌++◌, ◌∷◌, [], ◌∙◌, ℕ, zero, suc, true, false, List, Some, Result, Ok, Err, length, take, get_or, refl, sym, ap, subst, arith, add-one, length-take}
 use Rattle.std.specs.Prelude.{IfOk, IsSomeAnd, option_map, slice_get}
 use Rattle.std.proofs.lemmas.List.{get_or_default, take_more}
-use Rattle.disk_trait.specs.History.{IsReplayed, Past, kept_bytes, length_of, range_end, range_length, seen_after, seen_after_call, stopped, stopped_within}
+use Rattle.disk_trait.specs.History.{IsReplayed, Past, length_of, range_end, range_length, seen_after, seen_after_call, stopped, stopped_within}
 use Rattle.disk_trait.specs.MemoryDisk.{LeavesAt, left_after, left_after_call}
-use Rattle.disk_trait.specs.MemoryDiskLaws.{itself_after, length-put_over, torn-put_over}
+use Rattle.disk_trait.specs.MemoryDiskLaws.{itself_after, length-seen_after, torn-put_over}
 use Rattle.disk_trait.specs.declared.history.Call.{Call}
 use Rattle.disk_trait.specs.declared.history.Call.TheVariants.{Read, Write, Sync}
 use Rattle.disk_trait.proofs.HistoryLemmas.{seen_after-push, left_after-push}
-
--- no call changes what a read gives in length
-pub length-seen_after_call : (call : Call) (seen : List ℕ) → length (seen_after_call call seen) ≡ length seen
-length-seen_after_call (Read at n passed) seen = refl
-length-seen_after_call (Write at bytes passed) seen = length-put_over at (kept_bytes passed bytes) seen
-length-seen_after_call (Sync passed) seen = refl
-
-pub length-seen_after : (calls : List Call) (seen : List ℕ) → length (seen_after calls seen) ≡ length seen
-length-seen_after [] seen = refl
-length-seen_after (call ∷ later) seen = length-seen_after later (seen_after_call call seen) ∙ length-seen_after_call call seen
 
 -- so many calls, and one more
 pub seen_after_more : (calls : List Call) (n : ℕ) (call : Call) (image : List ℕ) → n < length calls → call ≡ get_or calls n call → seen_after (take (n + 1) calls) image ≡ seen_after_call call (seen_after (take n calls) image)

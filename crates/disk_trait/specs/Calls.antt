@@ -1,8 +1,15 @@
 -- What the calls of a disk read and leave, whether they succeed or fail. Our own model: between two
 -- syncs each written range may hold any bytes, and after a sync that succeeded a crash leaves what a
 -- read gives.
-use Rattle.std.specs.Prelude.{◌≡◌, ◌<◌, ◌≤◌, ◌+◌, ◌^◌, ◌⊎◌, ℕ, Bool, List, ◌++◌, length, take, drop, IsTrue, IsFalse}
+use Rattle.std.specs.Prelude.{◌≡◌, ◌<◌, ◌≤◌, ◌+◌, ◌^◌, ◌⊎◌, ℕ, Bool, true, List, ◌++◌, length, take, drop, IsTrue, IsFalse}
 use Rattle.disk_trait.specs.Device.{Device, Left, may_leave}
+
+-- What a call of a disk asks for: to read so many bytes at an offset, to write these bytes at one, or to
+-- sync.
+pub data Request : Type 0 where
+  ReadAt : (at n : ℕ) → Request
+  WriteAt : (at : ℕ) (bytes : List ℕ) → Request
+  SyncAll : Request
 
 -- the n bytes at this offset
 abbrev pub bytes_at : List ℕ → ℕ → ℕ → List ℕ
@@ -75,6 +82,15 @@ pub record DiskCalls (ok : Bool) (old new : Device) : Type 0 where
   pub same : SameDevice old new
   pub link : new.link ≡ old.link
   pub counted : IsCounted ok old.faults new.faults
+
+-- What any number of writes in a row leave, and syncs between them: all of their ranges lie within n bytes
+-- from one place on, and they were handed so many bytes, or fewer where the last one failed.
+pub record DiskWrites (at n count : ℕ) (ok : Bool) (old new : Device) : Type 0 where
+  pub calls : DiskCalls ok old new
+  pub torn : old.shows ≡ true → Torn at n old.seen new.seen
+  pub handed : old.tells ≡ true → IsTrue ok → new.handed ≡ old.handed + count
+  pub handed_at_most : old.tells ≡ true → new.handed ≤ old.handed + count
+  pub time : Elapses (TornWrite at n) (TornWrite at n) old new
 
 -- What any number of reads leave, of which all succeeded or the last one failed: nothing changes of what a
 -- crash may leave.

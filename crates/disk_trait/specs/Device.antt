@@ -50,10 +50,11 @@ told_by d = map (λ c. c.told) d.link.connections
 abbrev pub as_read : Device → Left
 as_read d = record { image = d.seen; told = told_by d }
 
--- What holds of every device at every moment: what it shows has its length; what a crash since one
--- moment may leave it may leave since any earlier one; an honest device as it reads may be left; and a
--- crash now leaves told just what was told.
+-- What holds of every device at every moment: each image that a crash may leave of an honest one has its
+-- length, and so has what it shows; what a crash since one moment may leave it may leave since any earlier
+-- one; an honest device as it reads may be left; and a crash now leaves told just what was told.
 pub record IsDevice (d : Device) : Type 0 where
+  pub images : d.honest ≡ true → (t : ℕ) (p : Left) → d.left_since t p → length p.image ≡ d.size
   pub length : d.shows ≡ true → length d.seen ≡ d.size
   pub earlier : (t u : ℕ) (p : Left) → t ≤ u → u ≤ d.moment → d.left_since u p → d.left_since t p
   pub itself : d.honest ≡ true → d.shows ≡ true → d.tells ≡ true → may_leave d (as_read d)

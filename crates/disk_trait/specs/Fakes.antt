@@ -25,6 +25,7 @@ plain_device bytes = record {
 pub plain_device_is_sound : (bytes : List ℕ) → IsDevice (plain_device bytes)
 plain_device_is_sound bytes = record {
   length = λ _. refl;
+  images = λ honest _ _ _. cc;
   earlier = λ t u p _ _ left. left;
   itself = λ honest _ _. cc;
   told = λ honest _ _ _. cc;

@@ -5,4 +5,4 @@ pub mod Numbers
 pub mod History
 pub mod MemoryDisk
 pub mod MemoryDiskLaws
-pub mod Moments
+pub mod DiskMoments

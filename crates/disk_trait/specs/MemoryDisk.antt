@@ -1,9 +1,9 @@
 -- What a disk in memory means. It is honest, and tells all that a disk can tell.
 use Rattle.std.specs.Prelude.{◌≡◌, ◌<◌, ◌≤◌, ◌+◌, ◌^◌, ◌↔◌, ◌⊎◌, ◌&&◌, if◌then◌else◌, nat_lt, ℕ, Bool, true, false, List, [], ◌∷◌, length, take, sum_by, count_by, Contains, IsFalse}
 use Rattle.disk_trait.specs.Device.{Device, Left}
-use Rattle.disk_trait.specs.Calls.{Torn, TornWrite, Unchanged, Rose}
+use Rattle.disk_trait.specs.Calls.{Request, Torn, TornWrite, Unchanged, Rose}
 use Rattle.disk_trait.specs.Fakes.{no_link}
-use Rattle.disk_trait.specs.History.{Past, seen_after_call, seen_of, with_call, has_passed, has_failed, handed_by}
+use Rattle.disk_trait.specs.History.{Past, call_of, seen_after_call, seen_of, with_call, has_passed, has_failed, handed_by}
 use Rattle.disk_trait.specs.declared.history.Call.{Call}
 use Rattle.disk_trait.specs.declared.history.Call.TheVariants.{Read, Write, Sync}
 
@@ -77,7 +77,7 @@ after_make true call disk = record disk { past = with_call call disk.past }
 after_make false call disk = record disk { starved = counted_on disk.starved }
 
 -- A disk made this call: it was noted with whether it passed, or starved.
-pub record Makes (call : Call) (old new : DiskState) (ok : Bool) : Type 0 where
+pub record MakesCall (call : Call) (old new : DiskState) (ok : Bool) : Type 0 where
   pub noted : Bool
   pub after : new ≡ after_make noted call old
   pub answer : ok ≡ (noted && has_passed call)
@@ -95,11 +95,13 @@ pub record IsStarved (old new : DiskState) : Type 0 where
   pub past : new.past ≡ old.past
   pub rose : Rose old.starved new.starved
 
--- What a call leaves of a disk in memory: it was starved, or noted as the last of the calls.
-pub record DiskCalled (old new : DiskState) (ok : Bool) : Type 0 where
+-- What a call leaves of a disk in memory: it was starved, or noted as the last of the calls, with what it
+-- asked for and whether it passed. What a read gives then, and what a crash may leave, follows from the
+-- calls: a write that failed keeps its first half, and a read or sync that failed leaves all as it was.
+pub record DiskCalled (asked : Request) (old new : DiskState) (ok : Bool) : Type 0 where
   pub fails : FailsAsListed (next_number old) old.fail old.starved new.starved ok
   pub fail : new.fail ≡ old.fail
-  pub past : IsStarved old new ⊎ ((call : Call) × (new.past ≡ with_call call old.past))
+  pub past : IsStarved old new ⊎ (new.past ≡ with_call (call_of asked ok) old.past)
 
 -- what a call does to what a crash leaves
 abbrev pub step_of : Call → Left → Left → Type 0

@@ -1,6 +1,6 @@
 -- The laws of a disk in memory: at every moment it means a device, as it reads it may be left, and at
 -- first nothing is pending.
-use Rattle.std.proofs.Common.{◌≡◌, ◌≤◌, ◌/◌, [], ◌∷◌, ℕ, Bool, true, false, List, length, refl, sym, ap, subst, arith, rules, length-append, length-take, length-drop}
+use Rattle.std.proofs.Common.{◌≡◌, ◌∙◌, ◌≤◌, ◌/◌, take, [], ◌∷◌, ℕ, Bool, true, false, List, length, refl, sym, ap, subst, arith, rules, length-append, length-take, length-drop}
 use Rattle.std.proofs.lemmas.List.{places, same_lists, take_all, take-append-le}
 use Rattle.disk_trait.specs.Device.{IsDevice}
 use Rattle.disk_trait.specs.Calls.{Torn}
@@ -25,6 +25,32 @@ torn-put_over at n bytes image short = record {
   after = same_lists _ _ (search (rules, places)) (λ k d h. grind (arith, places));
   same_length = length-put_over at bytes image;
 }
+
+-- no call changes what a read gives in length
+pub length-seen_after_call : (call : Call) (seen : List ℕ) → length (seen_after_call call seen) ≡ length seen
+length-seen_after_call (Read at n passed) seen = refl
+length-seen_after_call (Write at bytes passed) seen = length-put_over at (kept_bytes passed bytes) seen
+length-seen_after_call (Sync passed) seen = refl
+
+pub length-seen_after : (calls : List Call) (seen : List ℕ) → length (seen_after calls seen) ≡ length seen
+length-seen_after [] seen = refl
+length-seen_after (call ∷ later) seen = length-seen_after later (seen_after_call call seen) ∙ length-seen_after_call call seen
+
+-- nor what a crash may leave
+length-left_after_call : (call : Call) (seen : List ℕ) (left : List ℕ → Type 0) → ((i : List ℕ) → left i → length i ≡ length seen) → (image : List ℕ) → left_after_call call seen left image → length image ≡ length seen
+length-left_after_call (Read at n passed) seen left sized image now = sized image now
+length-left_after_call (Write at bytes passed) seen left sized image now = now.2.same_length ∙ sized now.0 now.1
+length-left_after_call (Sync true) seen left sized image now = ap length now
+length-left_after_call (Sync false) seen left sized image now = sized image now
+
+length-left_after : (calls : List Call) (seen : List ℕ) (left : List ℕ → Type 0) → ((i : List ℕ) → left i → length i ≡ length seen) → (image : List ℕ) → left_after calls seen left image → length image ≡ length seen
+length-left_after [] seen left sized image now = sized image now
+length-left_after (call ∷ later) seen left sized image now =
+    length-left_after later (seen_after_call call seen) (left_after_call call seen left) (λ i could. length-left_after_call call seen left sized i could ∙ sym (length-seen_after_call call seen)) image now ∙ length-seen_after_call call seen
+
+pub length-leaves_at : (past : Past) (moment : ℕ) (image : List ℕ) → LeavesAt past moment image → length image ≡ length (seen_of past)
+length-leaves_at past moment image now =
+    length-left_after (take moment past.calls) past.first (λ i. i ≡ past.first) (λ i is. ap length is) image now ∙ sym (length-seen_after past.calls past.first)
 
 -- a disk as it reads may be left, if it could before the call
 itself_after_call : (call : Call) (seen : List ℕ) (left : List ℕ → Type 0) → left seen → left_after_call call seen left (seen_after_call call seen)
@@ -55,6 +81,7 @@ itself_at_last past = subst (λ T. T) (sym (leaves_at_last past (seen_of past)))
 pub memory_device_is_sound : (disk : DiskState) → IsDevice (memory_device disk)
 memory_device_is_sound disk = record {
   length = λ _. refl;
+  images = λ _ t p left. length-leaves_at disk.past left.moment p.image left.image;
   earlier = λ t u p le within left. record { moment = left.moment; later = omega (arith, left.later); within = left.within; image = left.image; told = left.told };
   itself = λ _ _ _. record {
     moment = length disk.past.calls;

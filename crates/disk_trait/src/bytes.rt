@@ -1,9 +1,9 @@
-//! Parts of the bytes of a device in memory.
+//! Parts of a slice of bytes, and slices that have the same ones.
 ghost use Rattle.std.specs.Prelude.{◌≡◌, ◌≤◌, ◌+◌, ◌↔◌, IsTrue, length, vec_len};
 ghost use Rattle.disk_trait.specs.Calls.{bytes_at, overwritten};
 
 /// Copies the bytes at this offset into all of `out`.
-pub(crate) fn copy_out(bytes: &[u8], at: usize, out: &mut [u8])
+pub fn copy_out(bytes: &[u8], at: usize, out: &mut [u8])
     requires { at + length out.old ≤ length bytes.now }
     ensures { out.new ≡ bytes_at bytes.now at (length out.old) }
 {
@@ -13,7 +13,7 @@ pub(crate) fn copy_out(bytes: &[u8], at: usize, out: &mut [u8])
 }
 
 /// Writes these bytes at this offset, over those that are there.
-pub(crate) fn overwrite(bytes: &mut Vec<u8>, at: usize, new: &[u8])
+pub fn overwrite(bytes: &mut Vec<u8>, at: usize, new: &[u8])
     requires { at + length new.now ≤ vec_len bytes.old }
     ensures { bytes.new.items ≡ overwritten at new.now bytes.old.items }
 {

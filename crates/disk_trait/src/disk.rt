@@ -1,7 +1,7 @@
 //! A file of fixed size as the store sees it.
 ghost use Rattle.std.specs.Prelude.{◌≡◌, ◌≤◌, ◌+◌, ℕ, Bool, true, length, is_ok, OnOk};
 ghost use Rattle.disk_trait.specs.Device.{Device, IsDevice};
-ghost use Rattle.disk_trait.specs.Calls.{bytes_at, overwritten, Torn, TornWrite, Unchanged, DiskCall, LeavesOnly};
+ghost use Rattle.disk_trait.specs.Calls.{Request, ReadAt, WriteAt, SyncAll, bytes_at, overwritten, Torn, TornWrite, Unchanged, DiskCall, LeavesOnly};
 
 use crate::Failed;
 
@@ -14,9 +14,9 @@ use crate::Failed;
 pub trait Disk {
     ghost device: { Self → Device };
 
-    /// What more a device says of when its calls fail: the value before, the value after, and whether
-    /// the call succeeded.
-    ghost fails: { Self → Self → Bool → Type 0 };
+    /// What more a device says of when its calls fail and what they leave: what the call asked for, the
+    /// value before, the value after, and whether the call succeeded.
+    ghost fails: { Request → Self → Self → Bool → Type 0 };
 
     /// The length in bytes.
     fn len(&self) -> u64
@@ -30,7 +30,7 @@ pub trait Disk {
             → OnOk result (out.new ≡ bytes_at (device self.old).seen at (length out.old)) }
         ensures seen { (device self.new).seen ≡ (device self.old).seen }
         ensures handed { (device self.new).handed ≡ (device self.old).handed }
-        ensures fails { fails self.old self.new (is_ok result) };
+        ensures fails { fails (ReadAt at (length out.old)) self.old self.new (is_ok result) };
 
     /// Writes these bytes at this offset. Until a sync succeeds, a crash may leave any bytes in the range.
     fn write_at(&mut self, at: u64, bytes: &[u8]) -> Result<(), Failed>
@@ -46,7 +46,7 @@ pub trait Disk {
             → OnOk result ((device self.new).handed ≡ (device self.old).handed + length bytes.now) }
         ensures handed_at_most { (device self.old).tells ≡ true
             → (device self.new).handed ≤ (device self.old).handed + length bytes.now }
-        ensures fails { fails self.old self.new (is_ok result) };
+        ensures fails { fails (WriteAt at bytes.now) self.old self.new (is_ok result) };
 
     /// Waits until all that was written is on the disk: a crash then leaves what a read gives.
     fn sync(&mut self) -> Result<(), Failed>
@@ -55,7 +55,7 @@ pub trait Disk {
         ensures durable { (device self.old).honest ≡ true
             → OnOk result (LeavesOnly (device self.new).seen (device self.new)) }
         ensures handed { (device self.new).handed ≡ (device self.old).handed }
-        ensures fails { fails self.old self.new (is_ok result) };
+        ensures fails { fails SyncAll self.old self.new (is_ok result) };
 
     /// What holds of every device at every moment.
     ghost sound: { (disk : Self) → IsDevice (device disk) };

@@ -16,7 +16,7 @@ mod sure_disk;
 mod tests;
 mod text;
 
-pub use crate::bytes::same_bytes;
+pub use crate::bytes::{copy_out, overwrite, same_bytes};
 pub use crate::disk::Disk;
 pub use crate::duplicate::Duplicate;
 pub use crate::fault::{Failed, Memory};

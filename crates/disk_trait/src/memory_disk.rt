@@ -3,7 +3,7 @@
 ghost use Rattle.std.specs.Prelude.{length as list_length, ◌≡◌, ◌<◌, ◌≤◌, ◌+◌, ◌-◌, ◌^◌, ◌&&◌, ◌↔◌, [], min, Bool, true, false, length, is_ok, IfOk, IsSomeAnd, IsTrue, IsFalse, Contains, replicate, if◌then◌else◌};
 ghost use Rattle.disk_trait.specs.Calls.{LeavesOnly};
 ghost use Rattle.disk_trait.specs.History.{range_length, seen_of, stopped};
-ghost use Rattle.disk_trait.specs.MemoryDisk.{LeavesAt, memory_device, fresh_disk, counted_on, Makes, DiskCalled};
+ghost use Rattle.disk_trait.specs.MemoryDisk.{LeavesAt, memory_device, fresh_disk, counted_on, MakesCall};
 
 use crate::bytes::copy_out;
 use crate::history::{Call, History};
@@ -96,7 +96,7 @@ impl MemoryDisk {
     fn make_read(&mut self, at: u64, length: u64) -> Result<(), Failed>
         requires { at + length ≤ list_length (seen_of self.old.past) }
         ensures { (passed : Bool)
-            × Makes (Call.Read at length passed) self.old self.new (is_ok result) }
+            × MakesCall (Call.Read at length passed) self.old self.new (is_ok result) }
     {
         let passes = !is_listed(&self.fail, self.history.made() + 1);
         let call = Call::Read {
@@ -111,7 +111,7 @@ impl MemoryDisk {
     fn make_write(&mut self, at: u64, bytes: &[u8]) -> Result<(), Failed>
         requires { at + length bytes.now ≤ length (seen_of self.old.past) }
         ensures { (passed : Bool)
-            × Makes (Call.Write at bytes.now passed) self.old self.new (is_ok result) }
+            × MakesCall (Call.Write at bytes.now passed) self.old self.new (is_ok result) }
     {
         let passes = !is_listed(&self.fail, self.history.made() + 1);
         let noted = self.history.write(at, bytes, passes).is_ok();
@@ -119,7 +119,7 @@ impl MemoryDisk {
     }
 
     fn make_sync(&mut self) -> Result<(), Failed>
-        ensures { (passed : Bool) × Makes (Call.Sync passed) self.old self.new (is_ok result) }
+        ensures { (passed : Bool) × MakesCall (Call.Sync passed) self.old self.new (is_ok result) }
     {
         let passes = !is_listed(&self.fail, self.history.made() + 1);
         let call = Call::Sync { passed: passes };

@@ -35,7 +35,7 @@ impl SureDisk {
 impl Disk for SureDisk {
     ghost device = { plain_device };
 
-    ghost fails = { λ _ _ _. Unit {0} };
+    ghost fails = { λ _ _ _ _. Unit {0} };
 
     ghost sound = { plain_device_is_sound };
 

@@ -1,12 +1,13 @@
 -- What the images give that a crash may leave within an append.
 use Rattle.std.proofs.Common.{◌≡◌, ◌<◌, ◌≤◌, ◌+◌, ◌-◌, ◌*◌, ◌%◌, ◌==◌, ◌^◌, ℕ, Bool, true, false, List, [], ◌∷◌, ◌++◌, length, take, drop, get_or, inl, inr, subst, sym, ap, ap₂, ◌∙◌, arith, take-append-drop, zero-add, append_assoc}
-use Rattle.std.proofs.lemmas.List.{drop_more, drop-drop}
+use Rattle.std.proofs.lemmas.List.{drop_more}
 use Rattle.std.proofs.lemmas.Bool.{cases_eq}
 use Rattle.std.specs.Prelude.{if◌then◌else◌}
 use Rattle.disk_trait.specs.Device.{Device, Left, IsDevice, may_leave, as_read}
 use Rattle.disk_trait.specs.Calls.{bytes_at, overwritten, Torn, TornWrite, Elapses}
-use Rattle.disk_trait.proofs.Theorems.{torn_twice}
-use Rattle.disk_trait.proofs.OverwriteLemmas.{length-overwritten, bytes_at-before, bytes_at-bytes_at, get_or-bytes_at}
+use Rattle.disk_trait.proofs.Theorems.{elapses_weaker, torn_twice}
+use Rattle.disk_trait.proofs.TornLemmas.{byte_kept, bytes_kept, torn_wider}
+use Rattle.disk_trait.proofs.OverwriteLemmas.{length-overwritten, bytes_at-before}
 use Rattle.media_journal.specs.declared.record.Record.{Record}
 use Rattle.media_journal.specs.declared.header.Header.{Header}
 use Rattle.media_journal.specs.File.{IsClosedGate, active_start}
@@ -16,17 +17,6 @@ use Rattle.media_journal.specs.Steps.{SyncedWrite, WithinRecord, RecordEnds}
 use Rattle.media_journal.proofs.FrameLemmas.{length-frame_text}
 use Rattle.media_journal.proofs.ChainLemmas.{chain_bounds, chain_kept}
 use Rattle.media_journal.proofs.AppendLemmas.{active_start-least, gives_more, recorded}
-use Rattle.disk_trait.proofs.Theorems.{elapses_weaker}
-
--- images that are the same up to one place
-module _ (image other : List ℕ) (to : ℕ) (same : take to other ≡ take to image) where
-  pub bytes_kept : (i n : ℕ) → i + n ≤ to → bytes_at other i n ≡ bytes_at image i n
-  bytes_kept i n h =
-      rw zero-add at (sym (bytes_at-bytes_at other 0 to i n h) ∙ ap (λ text. bytes_at text i n) same ∙ bytes_at-bytes_at image 0 to i n h)
-
-  pub byte_kept : (i : ℕ) → i < to → get_or other i 0 ≡ get_or image i 0
-  byte_kept i h =
-      rw zero-add at (sym (get_or-bytes_at other 0 to i 0 h) ∙ ap (λ text. get_or text i 0) same ∙ get_or-bytes_at image 0 to i 0 h)
 
 -- an image that is the same before the journal's gate, and whose gate is closed, gives the same
 pub gives_kept : (image other : List ℕ) (p : Position) (h : Header) (rows : List ℕ) (records : List Record) → length other ≡ length image → take p.gate other ≡ take p.gate image → IsClosedGate other p.gate → Gives image p h rows records → Gives other p h rows records
@@ -56,17 +46,6 @@ gives_kept image other p h rows records size same closed g =
       start = g.start ∙ sym start;
       room = g.room ∙ ap (λ (at : ℕ). at + 4096 * h.half) (sym start);
       blocks = g.blocks;
-    }
-
--- what a write may have changed lies in any wider range
-pub torn_wider : (at n from k : ℕ) (old new : List ℕ) → from ≤ at → at + n ≤ from + k → Torn at n old new → Torn from k old new
-torn_wider at n from k old new below above torn =
-    let more = from + k - (at + n) in
-    let past : from + k ≡ at + n + more = omega arith in
-    record {
-      before = bytes_kept old new at torn.before 0 from (omega arith);
-      after = rw past (sym (drop-drop more (at + n) new) ∙ ap (drop more) torn.after ∙ drop-drop more (at + n) old);
-      same_length = torn.same_length;
     }
 
 -- where the write of a byte was cut short, some byte was written
@@ -108,11 +87,11 @@ module _ (old new : Device) (p : Position) (payload : List ℕ) (h : Header) (ro
 
   -- both writes lie within the record and the gate behind it
   frame_within : (q m : Left) → TornWrite (p.gate + 1) (length (frame_text payload)) q m → Torn p.gate (length payload + 6) q.image m.image
-  frame_within q m torn = torn_wider _ _ _ _ q.image m.image (omega arith) (omega (arith, length-frame_text payload)) torn.image
+  frame_within q m torn = torn_wider _ _ q.image m.image torn.image _ _ (omega arith) (omega (arith, length-frame_text payload))
 
   gate_within : (q m l : Left) → TornWrite (p.gate + 1) (length (frame_text payload)) q m → TornWrite p.gate 1 m l → Torn p.gate (length payload + 6) q.image l.image
   gate_within q m l frame gate =
-      torn_twice _ _ q.image m.image l.image (frame_within q m frame) (torn_wider _ _ _ _ m.image l.image (omega arith) (omega arith) gate.image)
+      torn_twice _ _ q.image m.image l.image (frame_within q m frame) (torn_wider _ _ m.image l.image gate.image _ _ (omega arith) (omega arith))
 
   staged : (q m : Left) → may_leave old q → SyncedWrite (p.gate + 1) (frame_text payload) old.seen q m → Gives (overwritten (p.gate + 1) (frame_text payload) old.seen) p h rows records
   staged q m could write = subst (λ (image : List ℕ). Gives image p h rows records) write.whole (framed q m could write.torn)

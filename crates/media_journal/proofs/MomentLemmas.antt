@@ -2,7 +2,7 @@
 use Rattle.std.proofs.Common.{◌≡◌, ◌+◌, ℕ, Bool, true, false, List, [], ◌∷◌, length, Result, Ok, Err, is_ok, OnOk, inl, inr, subst, sym, ◌∙◌}
 use Rattle.disk_trait.specs.Device.{Device, Left, may_leave}
 use Rattle.disk_trait.specs.Calls.{Elapses, LeavesOnly, TornWrite, Unchanged, overwritten}
-use Rattle.disk_trait.specs.Moments.{Then, WithinTwo}
+use Rattle.disk_trait.specs.DiskMoments.{Then, WithinTwo}
 use Rattle.disk_trait.proofs.Theorems.{elapses_twice, elapses_weaker}
 use Rattle.media_journal.specs.Steps.{SyncedWrite, SyncedWriteEnds, WithinRecord, RecordEnds}
 

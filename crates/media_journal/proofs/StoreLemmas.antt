@@ -4,7 +4,7 @@ use Rattle.std.proofs.lemmas.Bool.{cases_eq}
 use Rattle.std.proofs.lemmas.List.{get_or-drop}
 use Rattle.disk_trait.specs.Device.{Device, Left, may_leave}
 use Rattle.disk_trait.specs.Calls.{DiskReads, overwritten, Torn, TornWrite, Elapses, LeavesOnly, Unchanged}
-use Rattle.disk_trait.specs.Moments.{Then, WithinTwo}
+use Rattle.disk_trait.specs.DiskMoments.{Then, WithinTwo}
 use Rattle.disk_trait.proofs.Theorems.{elapses_twice}
 use Rattle.disk_trait.proofs.OverwriteLemmas.{get_or-written}
 use Rattle.media_journal.specs.declared.header.Header.{Header}
@@ -13,7 +13,8 @@ use Rattle.media_journal.specs.File.{HasOpenHeader, IsClosedGate, header_text}
 use Rattle.media_journal.specs.Formatting.{FitsStore, GateIs, IsFormatted, IsStray, half_text}
 use Rattle.media_journal.specs.Moments.{IsAtRest, MakesStore, NoneOrNew}
 use Rattle.media_journal.specs.Steps.{KeepsGate, LeavesNone, NoneOrFormatted, StoreEnds, SyncedWriteEnds}
-use Rattle.media_journal.proofs.CrashLemmas.{bytes_kept, byte_kept, torn_byte}
+use Rattle.disk_trait.proofs.TornLemmas.{bytes_kept, byte_kept}
+use Rattle.media_journal.proofs.CrashLemmas.{torn_byte}
 use Rattle.disk_trait.proofs.Theorems.{elapses_along, elapses_weaker}
 use Rattle.media_journal.proofs.MomentLemmas.{synced_is_torn}
 use Rattle.media_journal.proofs.FormattingLemmas.{is_new_store}

@@ -3,7 +3,7 @@
 use Rattle.std.specs.Prelude.{◌≡◌, ◌+◌, ◌⊎◌, ℕ, Bool, true, false, List, [], ◌∷◌, length, slice_index}
 use Rattle.disk_trait.specs.Device.{Left}
 use Rattle.disk_trait.specs.Calls.{TornWrite, overwritten}
-use Rattle.disk_trait.specs.Moments.{Then, WithinTwo}
+use Rattle.disk_trait.specs.DiskMoments.{Then, WithinTwo}
 use Rattle.media_journal.specs.File.{HasOpenHeader}
 use Rattle.media_journal.specs.Formatting.{IsFormatted}
 

@@ -3,8 +3,8 @@ ghost use Rattle.std.specs.Prelude.{◌≡◌, ◌<◌, ◌≤◌, ◌+◌, ◌^
 ghost use Rattle.disk_trait.specs.Calls.{overwritten};
 ghost use Rattle.media_journal.specs.Journal.{frame_text};
 
-use disk_trait::Memory;
 use disk_trait::numbers::u32_bytes;
+use disk_trait::{Memory, overwrite};
 use std::alloc::Global;
 use std::marker::Model;
 
@@ -42,7 +42,7 @@ impl Frame {
         requires { at + length bytes.now ≤ length self.old }
         ensures { self.new ≡ overwritten at bytes.now self.old }
     {
-        put_over(&mut self.bytes, 4 + at, bytes);
+        overwrite(&mut self.bytes, 4 + at, bytes);
     }
 
     /// The bytes of the one write.
@@ -53,15 +53,6 @@ impl Frame {
     {
         &self.bytes
     }
-}
-
-/// Puts these bytes over others from this place on.
-fn put_over(frame: &mut Vec<u8>, at: usize, bytes: &[u8])
-    requires { at + length bytes.now ≤ vec_len frame.old }
-    ensures { frame.new.items ≡ overwritten at bytes.now frame.old.items }
-{
-    let _size = frame.len();
-    frame[at..at + bytes.len()].copy_from_slice(bytes);
 }
 
 #[tactic(auto, unfolding(crate::specs::Journal::frame_text))]

@@ -3,7 +3,7 @@ ghost use Rattle.std.specs.Prelude.{◌≡◌, ◌≤◌, ◌+◌, ◌-◌, true
 ghost use Rattle.disk_trait.specs.Calls.{DiskReads, bytes_at};
 ghost use Rattle.media_journal.specs.Window.{IsPieceOn, Covers};
 
-use disk_trait::{Disk, Failed, Memory};
+use disk_trait::{Disk, Failed, Memory, copy_out};
 use std::alloc::Global;
 use std::marker::Model;
 
@@ -120,14 +120,4 @@ fn fill<D: Disk>(disk: &mut D, at: u64, buffer: &mut [u8], count: usize) -> Resu
 {
     let (front, _) = buffer.split_at_mut(count);
     disk.read_at(at, front)
-}
-
-/// Copies the bytes of a buffer from this place on into all of `out`.
-fn copy_out(buffer: &[u8], from: usize, out: &mut [u8])
-    requires { from + length out.old ≤ length buffer.now }
-    ensures { out.new ≡ bytes_at buffer.now from (length out.old) }
-{
-    let (_, rest) = buffer.split_at(from);
-    let (part, _) = rest.split_at(out.len());
-    out.copy_from_slice(part);
 }

@@ -3,8 +3,8 @@ use Rattle.std.proofs.Common.{◌≡◌, ◌<◌, ◌≤◌, ◌+◌, ◌++◌, 
 use Rattle.std.proofs.lemmas.Bool.{cases_lt}
 use Rattle.std.proofs.lemmas.List.{length_push, take_all, take-append-le, get_or_append_left, get_or_at}
 use Rattle.disk_trait.specs.Device.{Left}
-use Rattle.disk_trait.specs.Calls.{Follows, Elapses, Unchanged, TornWrite, DiskCall, LeavesOnly}
-use Rattle.disk_trait.specs.History.{Past, with_call}
+use Rattle.disk_trait.specs.Calls.{Request, Follows, Elapses, Unchanged, TornWrite, DiskCall, LeavesOnly}
+use Rattle.disk_trait.specs.History.{call_of, Past, with_call}
 use Rattle.disk_trait.specs.MemoryDisk.{DiskState, DiskCalled, LeavesAt, LeavesSince, memory_device}
 use Rattle.disk_trait.specs.MemoryDiskLaws.{leaves_at_more}
 use Rattle.disk_trait.specs.declared.history.Call.{Call}
@@ -162,19 +162,19 @@ noted_disk_time step site disk call told_stays kept inner is =
     }
 
 -- time over any disk call
-disk_time : (step : Left → Left → Type 0) (ok : Bool) (site : SiteState) (disk : DiskState) → LeavesTold step → IsKept site → DiskCall step ok (memory_device site.disk) (memory_device disk) → DiskCalled site.disk disk ok → Elapses step step (site_device site) (site_device (record site { disk = disk }))
-disk_time step ok site disk told_stays kept made called =
+disk_time : (asked : Request) (step : Left → Left → Type 0) (ok : Bool) (site : SiteState) (disk : DiskState) → LeavesTold step → IsKept site → DiskCall step ok (memory_device site.disk) (memory_device disk) → DiskCalled asked site.disk disk ok → Elapses step step (site_device site) (site_device (record site { disk = disk }))
+disk_time asked step ok site disk told_stays kept made called =
     elim called.past [
       | inl starved ↦ quiet_time step site (record site { disk = disk }) told_stays.itself (record { past = starved.past; spans = refl; since = refl; told = refl })
-      | inr noted ↦ noted_disk_time step site disk noted.0 told_stays kept made.time noted.1
+      | inr noted ↦ noted_disk_time step site disk (call_of asked ok) told_stays kept made.time noted
     ]
 
-pub disk_call : (step : Left → Left → Type 0) (ok : Bool) (site : SiteState) (disk : DiskState) → LeavesTold step → IsKept site → DiskCall step ok (memory_device site.disk) (memory_device disk) → DiskCalled site.disk disk ok → DiskCall step ok (site_device site) (site_device (record site { disk = disk }))
-disk_call step ok site disk told_stays kept made called = record {
+pub disk_call : (asked : Request) (step : Left → Left → Type 0) (ok : Bool) (site : SiteState) (disk : DiskState) → LeavesTold step → IsKept site → DiskCall step ok (memory_device site.disk) (memory_device disk) → DiskCalled asked site.disk disk ok → DiskCall step ok (site_device site) (site_device (record site { disk = disk }))
+disk_call asked step ok site disk told_stays kept made called = record {
   same = record { size = made.same.size; honest = refl; shows = refl; tells = refl };
   link = refl;
   counted = made.counted;
-  time = disk_time step ok site disk told_stays kept made called;
+  time = disk_time asked step ok site disk told_stays kept made called;
 }
 
 pub unchanged_leaves_told : LeavesTold Unchanged

@@ -3,7 +3,7 @@ use Rattle.std.proofs.Common.{◌≡◌, ◌≤◌, ◌++◌, ◌∷◌, [], ◌
 use Rattle.std.proofs.lemmas.List.{append_assoc, append-nil}
 use Rattle.disk_trait.specs.Device.{Device, IsDevice, Left, told_by}
 use Rattle.disk_trait.specs.Calls.{DiskCall, Elapses, TornWrite, Unchanged}
-use Rattle.disk_trait.specs.Moments.{Then, WithinTwo}
+use Rattle.disk_trait.specs.DiskMoments.{Then, WithinTwo}
 use Rattle.disk_trait.proofs.Theorems.{elapses_twice}
 use Rattle.site_edge.specs.Links.{AddsConnection, LinkCall, Sends, Tells, change_last}
 use Rattle.site_edge.specs.Saying.{ArePrefixes, IsPrefix, IsToldToLast, KeepsTold, SaidAtMost, SaidSince, said_also}

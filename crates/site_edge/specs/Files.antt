@@ -50,6 +50,7 @@ file_device s = record {
 pub file_device_is_sound : (s : FileState) → IsDevice (file_device s)
 file_device_is_sound s = record {
   length = λ shows. cc;
+  images = λ honest _ _ _. cc;
   earlier = λ t u p _ _ left. left;
   itself = λ honest _ _. cc;
   told = λ honest _ _ _. cc;

@@ -1,6 +1,7 @@
 -- What a site in memory means. Its disk calls and its said bytes have one order of moments.
 use Rattle.std.specs.Prelude.{if◌then◌else◌, ◌==◌, ◌≡◌, ◌<◌, ◌≤◌, ◌+◌, min, ℕ, Bool, true, false, List, [], ◌∷◌, ◌++◌, length, map, take, slice_index_or, All}
 use Rattle.disk_trait.specs.Device.{Device, Link, Connection, Left}
+use Rattle.disk_trait.specs.Calls.{Request}
 use Rattle.disk_trait.specs.History.{Past, kept_bytes}
 use Rattle.disk_trait.specs.MemoryDisk.{DiskState, DiskCalled, LeavesAt, memory_device}
 use Rattle.site_edge.specs.Links.{Sends, change_last, fresh}
@@ -162,9 +163,9 @@ pub record IsKept (site : SiteState) : Type 0 where
   pub spans : All (λ span. span.to ≤ disk_calls site) site.spans
   pub told : told_after site.spans [] ≡ told_of site
 
--- what a disk call leaves of a site in memory
-pub record SiteDiskCalled (old new : SiteState) (ok : Bool) : Type 0 where
-  pub disk : DiskCalled old.disk new.disk ok
+-- what a disk call that asked for this leaves of a site in memory
+pub record SiteDiskCalled (asked : Request) (old new : SiteState) (ok : Bool) : Type 0 where
+  pub disk : DiskCalled asked old.disk new.disk ok
   pub rest : new ≡ record old { disk = new.disk }
 
 -- the bytes of all its peers, of those that came and of those that are still to come

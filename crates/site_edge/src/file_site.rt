@@ -123,7 +123,7 @@ impl FileSite {
 impl Disk for FileSite {
     ghost device = { file_device };
 
-    ghost fails = { λ _ _ _. Unit {0} };
+    ghost fails = { λ _ _ _ _. Unit {0} };
 
     ghost sound = { file_device_is_sound };
 

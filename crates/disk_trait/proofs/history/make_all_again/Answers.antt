@@ -1,6 +1,7 @@
 use Rattle.std.proofs.Common.{◌∙◌, sym, ap}
 use Rattle.disk_trait.specs.History.{seen_after_call}
-use Rattle.disk_trait.proofs.StopLemmas.{length-seen_after, seen_after_more}
+use Rattle.disk_trait.specs.MemoryDiskLaws.{length-seen_after}
+use Rattle.disk_trait.proofs.StopLemmas.{seen_after_more}
 use Rattle.disk_trait.proofs.history.make_all_again.Goals as goal
 
 pub make_again-requires : goal.make_again-requires

@@ -1,7 +1,7 @@
 use Rattle.std.proofs.Common.{◌∙◌, arith}
 use Rattle.std.proofs.lemmas.Result.{on_ok_weaker}
 use Rattle.disk_trait.proofs.Theorems.{torn_twice}
-use Rattle.media_journal.proofs.CrashLemmas.{torn_wider}
+use Rattle.disk_trait.proofs.TornLemmas.{torn_wider}
 use Rattle.media_journal.proofs.MomentLemmas.{record_written}
 use Rattle.media_journal.proofs.journal.write_record.Goals as goal
 
@@ -18,5 +18,5 @@ pub returns-clause-torn : goal.returns-clause-torn
 returns-clause-torn g c = λ shows.
     let frame = c.in_ok-write_synced.ensures in
     on_ok_weaker c.write_synced-2.result
-    (λ gate. torn_twice _ _ _ _ _ (torn_wider _ _ _ _ _ _ (omega arith) (omega arith) (frame.torn shows)) (torn_wider _ _ _ _ _ _ (omega arith) (omega arith) gate))
+    (λ gate. torn_twice _ _ _ _ _ (torn_wider _ _ _ _ (frame.torn shows) _ _ (omega arith) (omega arith)) (torn_wider _ _ _ _ gate _ _ (omega arith) (omega arith)))
     (c.write_synced-2.ensures.torn (frame.calls.same.shows ∙ shows))

@@ -6,10 +6,10 @@ use Rattle.media_journal.proofs.FrameLemmas.{filled, framed-frame_text, is_frame
 use Rattle.media_journal.proofs.frame.Frame.fill.Goals as goal
 
 -- The bytes are those of the new payload's frame.
-frame_is : (c : goal.After-put_over) → c.put_over.new.frame.items ≡ frame_text (overwritten c.args.at c.args.bytes.now c.args.self.now)
+frame_is : (c : goal.After-overwrite) → c.overwrite.new.bytes.items ≡ frame_text (overwritten c.args.at c.args.bytes.now c.args.self.now)
 frame_is c =
     let was = c.self.invariant.text ∙ ap frame_text c.self.view_is in
-    c.put_over.ensures ∙ ap (overwritten _ c.args.bytes.now) was ∙ filled c.args.at c.args.bytes.now c.args.self.now c.requires
+    c.overwrite.ensures ∙ ap (overwritten _ c.args.bytes.now) was ∙ filled c.args.at c.args.bytes.now c.args.self.now c.requires
 
 pub invariant_of-self : goal.invariant_of-self
 invariant_of-self c =
