@@ -1,4 +1,1 @@
-pub mod Examples
-pub mod WorkedValues
-pub mod WorkedAnswers
 pub mod Laws

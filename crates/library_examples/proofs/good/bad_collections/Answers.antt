@@ -1,0 +1,7 @@
+use Rattle.std.proofs.Common.{refl}
+use Rattle.media_rows.specs.Lists.{numbers_below}
+use Rattle.library_examples.proofs.good.bad_collections.Goals as goal
+
+pub returns : goal.returns
+unfolding numbers_below
+returns c = record { fine = refl; unkept = refl; circle = refl; itself = refl }

@@ -1,0 +1,10 @@
+pub mod Examples
+pub mod Studio
+pub mod WorkedRefusals
+pub mod WorkedReplies
+pub mod WorkedStamps
+pub mod WorkedViews
+pub mod WorkedGood
+pub mod WorkedEvents
+pub mod WorkedTurns
+pub mod WorkedRows

@@ -1,0 +1,193 @@
+-- The replies of commands on the examples, and the change that each has.
+use Rattle.std.specs.Prelude.{◌≡◌, ℕ, List, [], ◌∷◌, Bool, true, false, Option, Some, None, map, codes}
+use Rattle.time_range.specs.declared.ranges.Span.{Span}
+use Rattle.media_rows.specs.declared.change.Change.{Change}
+use Rattle.media_rows.specs.declared.change.Change.TheVariants as changes
+use Rattle.media_rows.specs.declared.command.Command.{Command}
+use Rattle.media_rows.specs.declared.command.Command.TheVariants as commands
+use Rattle.media_rows.specs.declared.command.Want.TheVariants.{Count, Named}
+use Rattle.media_rows.specs.declared.flow.FormatKind.TheVariants.{Multi}
+use Rattle.media_rows.specs.declared.object.ObjectState.TheVariants.{Stored}
+use Rattle.media_rows.specs.declared.part.Part.{Part}
+use Rattle.media_rows.specs.declared.part.Part.TheVariants as parts
+use Rattle.media_rows.specs.declared.refusal.Refusal.TheVariants as refusals
+use Rattle.media_rows.specs.declared.reply.Reply.{Reply}
+use Rattle.media_rows.specs.declared.reply.Reply.TheVariants as replies
+use Rattle.media_rows.specs.declared.request.DeleteRow.{DeleteRow}
+use Rattle.media_rows.specs.declared.request.DeleteStatus.TheVariants as statuses
+use Rattle.media_rows.specs.Answer.{Outcome, answer, refusal_of, made_id, is_taken, put_media_answer, get_media_reply}
+use Rattle.media_rows.specs.Changes.{after}
+use Rattle.media_rows.specs.Library.{Library}
+use Rattle.media_rows.specs.Objects.{free_place}
+use Rattle.media_rows.specs.Ranges.{eternity}
+use Rattle.media_rows.specs.Segments.{covered, overlapping}
+use Rattle.library_examples.specs.Examples.{first_flow, second_flow, body, nothing, seconds, piece, stored, allocate, with_pieces, hook}
+use Rattle.library_examples.specs.Studio.{other_source, main_body, object_a, object_b, one_hook, studio}
+
+-- the answer to a command on the studio at moment 205
+abbrev pub answered : Command → Outcome
+answered command = answer studio command 205
+
+-- a reply with its change
+abbrev pub gives : Reply → Change → Outcome
+gives reply change = record { reply = reply; change = Some change }
+
+-- a reply that changes nothing
+abbrev pub leaves : Reply → Outcome
+leaves reply = record { reply = reply; change = None }
+
+-- the setting of a label
+abbrev pub label : Part
+label = parts.Label (Some (codes "x"))
+
+-- ---- each command
+
+-- A flow, a hook or segments that are new are created, and all else is done. What isn't there isn't
+-- dropped, and a refusal changes nothing.
+pub record RepliesAreGiven : Type 0 where
+  pub kept_flow : answered (commands.PutFlow main_body)
+      ≡ gives replies.Done (changes.PutFlow 205 main_body)
+  pub new_flow : answered (commands.PutFlow (body 244 Multi []))
+      ≡ gives replies.Created (changes.PutFlow 205 (body 244 Multi []))
+  pub flow_part : answered (commands.SetFlow first_flow label)
+      ≡ gives replies.Done (changes.SetFlow 205 first_flow label)
+  pub source_part : answered (commands.SetSource other_source label)
+      ≡ gives replies.Done (changes.SetSource 205 other_source label)
+  pub drop : answered (commands.DropFlow first_flow)
+      ≡ gives replies.Done (changes.DropFlow 205 first_flow)
+  pub named : answered (commands.Allocate first_flow (Named (codes "e" ∷ codes "d" ∷ [])))
+      ≡ gives (replies.CreatedObjects (codes "e" ∷ codes "d" ∷ []))
+      (changes.Allocate 205 first_flow (codes "e" ∷ codes "d" ∷ []))
+  pub bytes : answered (commands.Keep (codes "c") 3 5)
+      ≡ gives replies.Created (changes.Store 205 (codes "c") 3 5)
+  pub posted : answered (commands.AddSegments first_flow (piece 40 50 ∷ []))
+      ≡ gives replies.Created (changes.AddSegments 205 first_flow (piece 40 50 ∷ []))
+  pub cut : answered (commands.CutSegments first_flow (seconds 0 15))
+      ≡ gives replies.Done (changes.CutSegments 205 first_flow (seconds 0 15))
+  pub only_overlapped : answered (commands.CutSegments first_flow (seconds 1 9))
+      ≡ leaves replies.Done
+  pub kept_hook : answered (commands.PutHook one_hook.hook)
+      ≡ gives replies.Done (changes.PutHook 205 one_hook.hook)
+  pub new_hook : answered (commands.PutHook (hook (codes "h") None))
+      ≡ gives replies.Created (changes.PutHook 205 (hook (codes "h") None))
+  pub hook_gone : answered (commands.DropHook (codes "http://two/"))
+      ≡ gives replies.Done (changes.DropHook 205 (codes "http://two/"))
+  pub no_hook : answered (commands.DropHook (codes "http://three/")) ≡ leaves replies.Done
+  pub refused : answered (commands.DropFlow second_flow)
+      ≡ leaves (replies.Refused refusals.ReadOnly)
+
+-- ---- what goes at once, and what is asked for
+
+-- the request that a command on 33 segments makes
+abbrev pub request_of : Option Span → Bool → DeleteRow
+request_of range delete_flow = record {
+  serial = 35;
+  flow = first_flow;
+  range = range;
+  delete_flow = delete_flow;
+  status = statuses.Created;
+  created = 205;
+  updated = 205;
+}
+
+-- 32 segments go at once, and more make a request, which is the reply: of the range, or of all with
+-- the flow.
+pub record ManyAreAskedFor : Type 0 where
+  pub few : answer (with_pieces 32) (commands.DropFlow first_flow) 205
+      ≡ gives replies.Done (changes.DropFlow 205 first_flow)
+  pub many : answer (with_pieces 33) (commands.DropFlow first_flow) 205
+      ≡ gives (replies.Accepted (request_of eternity true))
+      (changes.AskDelete 205 first_flow eternity true)
+  pub cut_few : answer (with_pieces 33) (commands.CutSegments first_flow (seconds 0 32)) 205
+      ≡ gives replies.Done (changes.CutSegments 205 first_flow (seconds 0 32))
+  pub cut_many : answer (with_pieces 33) (commands.CutSegments first_flow (seconds 0 33)) 205
+      ≡ gives (replies.Accepted (request_of (seconds 0 33) false))
+      (changes.AskDelete 205 first_flow (seconds 0 33) false)
+  pub none_covered : answer (with_pieces 33) (commands.CutSegments first_flow (seconds 40 50)) 205
+      ≡ leaves replies.Done
+
+-- the serials of the segments, in their order
+abbrev pub serials : Library → List ℕ
+serials library = map (λ row. row.serial) library.segments
+
+-- A cut removes what its range covers, and leaves what only overlaps it, and the segments of other
+-- flows.
+pub record CutsCover : Type 0 where
+  pub covers : map (λ row. row.serial) (covered studio.segments first_flow (seconds 0 15)) ≡ 5 ∷ []
+  pub meets : map (λ row. row.serial) (overlapping studio.segments first_flow (seconds 0 15) None)
+      ≡ 5 ∷ 4 ∷ []
+  pub left : serials (after (changes.CutSegments 205 first_flow (seconds 0 15)) studio)
+      ≡ 4 ∷ 6 ∷ 7 ∷ []
+  pub whole : serials (after (changes.CutSegments 205 first_flow eternity) studio) ≡ 6 ∷ []
+  pub inner : map (λ row. row.serial) (covered studio.segments first_flow (seconds 1 9)) ≡ []
+
+-- ---- ids that the store makes
+
+-- an allocation of two objects, whose ids the store makes
+abbrev pub two_made : Change
+two_made = changes.Allocate 205 first_flow (codes "00000000-0000-0000-0000-000000000001-15"
+    ∷ codes "00000000-0000-0000-0000-000000000001-16" ∷ [])
+
+-- An id that the store makes is its own id, a hyphen and the serial that the object gets. A client
+-- may name none that begins so, but one that begins with another store's id.
+pub record IdsAreMade : Type 0 where
+  pub first : made_id 1 1 ≡ codes "00000000-0000-0000-0000-000000000001-1"
+  pub like_it : is_taken nothing (Named []) (codes "00000000-0000-0000-0000-000000000001-x") ≡ true
+  pub other : is_taken nothing (Named []) (codes "00000000-0000-0000-0000-000000000002-1") ≡ false
+  pub counted : answered (commands.Allocate first_flow (Count 2))
+      ≡ gives (replies.CreatedObjects (codes "00000000-0000-0000-0000-000000000001-15"
+      ∷ codes "00000000-0000-0000-0000-000000000001-16" ∷ [])) two_made
+  pub serials_are_theirs : map (λ row. row.serial) (after two_made studio).objects
+      ≡ 1 ∷ 2 ∷ 3 ∷ 15 ∷ 16 ∷ []
+  pub refused_name : refusal_of studio (commands.Allocate first_flow
+      (Named (codes "00000000-0000-0000-0000-000000000001-x" ∷ [])))
+      ≡ Some (refusals.IdTaken (codes "00000000-0000-0000-0000-000000000001-x"))
+
+-- ---- media
+
+-- the first flow with the one object stored and another one allocated
+abbrev pub two_objects : Library
+two_objects = after (allocate (codes "b")) stored
+
+-- the same in a store of one media block
+abbrev pub one_block : Library
+one_block = record two_objects { blocks = 1 }
+
+-- the bytes of both
+abbrev pub their_bytes : List (List ℕ)
+their_bytes = codes "xyz" ∷ [] ∷ []
+
+-- The first bytes of an object take the least free place, equal bytes change nothing, and others
+-- are refused. An object without bytes is stored even where no block is free.
+pub record MediaAreKept : Type 0 where
+  pub unknown : put_media_answer nothing [] (codes "a") (codes "xyz") 5
+      ≡ leaves (replies.Refused refusals.UnknownObject)
+  pub first : put_media_answer two_objects their_bytes (codes "b") (codes "q") 5
+      ≡ gives replies.Created (changes.Store 5 (codes "b") 1 1)
+  pub equal : put_media_answer stored (codes "xyz" ∷ []) (codes "a") (codes "xyz") 5
+      ≡ leaves replies.Done
+  pub other : put_media_answer stored (codes "xyz" ∷ []) (codes "a") (codes "xy") 5
+      ≡ leaves (replies.Refused refusals.OtherBytes)
+  pub longer : put_media_answer stored (codes "xyz" ∷ []) (codes "a") (codes "xyzz") 5
+      ≡ leaves (replies.Refused refusals.OtherBytes)
+  pub full : put_media_answer one_block their_bytes (codes "b") (codes "q") 5
+      ≡ leaves (replies.Refused refusals.MediaFull)
+  pub nothing_fits : put_media_answer one_block their_bytes (codes "b") [] 5
+      ≡ gives replies.Created (changes.Store 5 (codes "b") 0 0)
+  pub given : get_media_reply stored (codes "a") ≡ replies.Media 3
+  pub given_other : get_media_reply studio (codes "b") ≡ replies.Media 4097
+  pub not_given : get_media_reply two_objects (codes "b") ≡ replies.Refused refusals.UnknownObject
+  pub not_kept : get_media_reply studio (codes "z") ≡ replies.Refused refusals.UnknownObject
+
+-- ---- places
+
+-- The least place of so many free blocks, also between objects, and none where they don't fit.
+pub record PlacesAreFound : Type 0 where
+  pub behind : free_place studio.objects studio.blocks 1 ≡ Some 3
+  pub whole : free_place studio.objects studio.blocks 43 ≡ Some 3
+  pub too_many : free_place studio.objects studio.blocks 44 ≡ None
+  pub no_blocks : free_place studio.objects studio.blocks 0 ≡ Some 0
+  pub between : free_place (object_b ∷ record object_a { state = Stored 5 4096 } ∷ []) 46 2 ≡ Some 3
+  pub in_front : free_place (object_b ∷ record object_a { state = Stored 5 4096 } ∷ []) 46 1
+      ≡ Some 0
+  pub past : free_place (object_b ∷ record object_a { state = Stored 5 4096 } ∷ []) 46 3 ≡ Some 6

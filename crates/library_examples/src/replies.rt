@@ -1,0 +1,37 @@
+//! Replies, and the change that each has.
+ghost use Rattle.library_examples.specs.WorkedReplies.{CutsCover, IdsAreMade, ManyAreAskedFor, MediaAreKept, PlacesAreFound, RepliesAreGiven};
+
+/// A flow, a hook or segments that are new are created, and all else is done. What isn't there
+/// isn't dropped, and a refusal changes nothing.
+pub fn replies_are_given()
+    ensures { RepliesAreGiven }
+{}
+
+/// 32 segments go at once, and more make a request, which is the reply: of the range, or of all
+/// with the flow.
+pub fn many_are_asked_for()
+    ensures { ManyAreAskedFor }
+{}
+
+/// A cut removes what its range covers, and leaves what only overlaps it, and the segments of other
+/// flows.
+pub fn cuts_cover()
+    ensures { CutsCover }
+{}
+
+/// An id that the store makes is its own id, a hyphen and the serial that the object gets. A client
+/// may name none that begins so, but one that begins with another store's id.
+pub fn ids_are_made()
+    ensures { IdsAreMade }
+{}
+
+/// The first bytes of an object take the least free place, equal bytes change nothing, and others
+/// are refused. An object without bytes is stored even where no block is free.
+pub fn media_are_kept()
+    ensures { MediaAreKept }
+{}
+
+/// The least place of so many free blocks, also between objects, and none where they don't fit.
+pub fn places_are_found()
+    ensures { PlacesAreFound }
+{}

@@ -1,7 +1,0 @@
-use Rattle.std.proofs.Common.{refl}
-use Rattle.media_rows.specs.Lists.{numbers_below}
-use Rattle.library_laws.proofs.answers.media_are_kept.Goals as goal
-
-pub returns : goal.returns
-unfolding numbers_below
-returns c = record { unknown = refl; first = refl; equal = refl; other = refl; full = refl; nothing_fits = refl; given = refl; not_given = refl }

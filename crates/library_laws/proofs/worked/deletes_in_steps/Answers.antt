@@ -1,7 +1,0 @@
-use Rattle.std.proofs.Common.{refl}
-use Rattle.media_rows.specs.Lists.{numbers_below}
-use Rattle.library_laws.proofs.worked.deletes_in_steps.Goals as goal
-
-pub returns : goal.returns
-unfolding numbers_below
-returns c = record { at_once = refl; one_left = refl; request = refl; due = refl; after_first = refl; started = refl; later_post_stays = refl; done = refl; no_more = refl }

@@ -1,7 +1,0 @@
-use Rattle.std.proofs.Common.{refl}
-use Rattle.media_rows.specs.Lists.{numbers_below}
-use Rattle.library_laws.proofs.worked.hooks_fail.Goals as goal
-
-pub returns : goal.returns
-unfolding numbers_below
-returns c = record { below = refl; failed = refl; full = refl; takes_no_more = refl; no_serial_spent = refl }
