@@ -13,6 +13,8 @@ use Rattle.media_rows.specs.declared.refusal.Refusal.{Refusal}
 use Rattle.media_rows.specs.declared.refusal.Refusal.TheVariants as refusals
 use Rattle.media_rows.specs.declared.segment.Segment.{Segment}
 use Rattle.media_rows.specs.Answer.{refusal_of, first_taken, is_kept_object}
+use Rattle.media_rows.specs.Apply.{applied}
+use Rattle.media_rows.specs.Catalog.{is_source_part}
 use Rattle.media_rows.specs.Changes.{after}
 use Rattle.media_rows.specs.Library.{Library}
 use Rattle.media_rows.specs.Ranges.{eternity}
@@ -123,6 +125,28 @@ pub record UnsetPartsAreNamed : Type 0 where
   pub source_tag : cleared_source (parts.Tag (codes "place") None) ≡ not_set (codes "tags")
   pub source_label : cleared_source (parts.Label None) ≡ not_set (codes "label")
   pub source_description : cleared_source (parts.Description None) ≡ not_set (codes "description")
+
+-- a part of a flow alone, set to something on a source
+abbrev pub set_on_source : Part → Option Refusal
+set_on_source part = refused (commands.SetSource one_source part)
+
+-- A source has a tag, a label and a description alone, so that no other part of it is set or
+-- cleared.
+pub record OtherPartsAreOfFlows : Type 0 where
+  pub mark : set_on_source (parts.ReadOnly true) ≡ not_set (codes "read_only")
+  pub collection : set_on_source (parts.Collection (member first_flow ∷ []))
+      ≡ not_set (codes "flow_collection")
+  pub no_collection : set_on_source (parts.Collection []) ≡ not_set (codes "flow_collection")
+  pub max_rate : set_on_source (parts.MaxBitRate (Some 1)) ≡ not_set (codes "max_bit_rate")
+  pub avg_rate : set_on_source (parts.AvgBitRate (Some 1)) ≡ not_set (codes "avg_bit_rate")
+  pub applies_not : applied (changes.SetSource 0 one_source (parts.ReadOnly true)) stored ≡ None
+  pub tag_is : is_source_part (parts.Tag (codes "t") None) ≡ true
+  pub label_is : is_source_part (parts.Label None) ≡ true
+  pub description_is : is_source_part (parts.Description None) ≡ true
+  pub mark_isnt : is_source_part (parts.ReadOnly true) ≡ false
+  pub collection_isnt : is_source_part (parts.Collection []) ≡ false
+  pub max_rate_isnt : is_source_part (parts.MaxBitRate None) ≡ false
+  pub avg_rate_isnt : is_source_part (parts.AvgBitRate None) ≡ false
 
 -- What is set can be cleared, and what isn't set can be set.
 pub record SetPartsAreCleared : Type 0 where

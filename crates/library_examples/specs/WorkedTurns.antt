@@ -12,6 +12,8 @@ use Rattle.media_rows.specs.Library.{Library}
 use Rattle.media_rows.specs.Lists.{numbers_below}
 use Rattle.media_rows.specs.Objects.{free_place, swept_objects}
 use Rattle.media_rows.specs.Ranges.{eternity}
+use Rattle.media_rows.specs.Requests.{asked_row, is_finished_by_step}
+use Rattle.media_rows.specs.declared.request.DeleteRow.{DeleteRow}
 use Rattle.media_rows.specs.Segments.{covered}
 use Rattle.library_examples.specs.Examples.{after_all, first_flow, second_flow, nothing, put, seconds, piece, stored, pieces, post, with_pieces, shared, hook}
 use Rattle.library_examples.specs.Studio.{third_flow, open_request, done_request, event, studio}
@@ -49,6 +51,15 @@ half_done = after (post (piece 0 1 ∷ [])) (after (changes.DeleteStep 7) ask_al
 abbrev pub all_done : Library
 all_done = after (changes.DeleteStep 9) half_done
 
+-- the same request, with as many segments of another flow too
+abbrev pub two_flows : ℕ → Library
+two_flows count = after_all
+    (put 0 second_flow ∷ changes.AddSegments 0 second_flow (pieces count) ∷ []) (with_pieces count)
+
+-- a request to delete all of the first flow's segments, behind all others
+abbrev pub behind_all : DeleteRow
+behind_all = asked_row first_flow eternity false 100 0
+
 -- A range that covers 32 of 33 segments leaves one. A request for all of them takes two steps, of
 -- which the first removes 32, and a segment that was posted after it stays.
 pub record DeletesInSteps : Type 0 where
@@ -62,6 +73,8 @@ pub record DeletesInSteps : Type 0 where
   pub later_post_stays : serials all_done ≡ 36 ∷ []
   pub done : numbers all_done ≡ (35, 3) ∷ []
   pub no_more : turn all_done 10 ≡ None
+  pub last_step : is_finished_by_step (two_flows 32).segments behind_all ≡ true
+  pub not_the_last : is_finished_by_step (two_flows 33).segments behind_all ≡ false
 
 -- ---- posts out of order
 

@@ -20,8 +20,9 @@ pub use crate::good::{
 };
 pub use crate::refusals::{
     bytes_are_kept_once, collections_are_tested, collections_come_last, deleting_stands,
-    flows_are_kept, ids_are_taken, multi_fits, posts_are_tested, read_only_stands,
-    refusals_stand_in_order, set_parts_are_cleared, sources_go, unset_parts_are_named,
+    flows_are_kept, ids_are_taken, multi_fits, other_parts_are_of_flows, posts_are_tested,
+    read_only_stands, refusals_stand_in_order, set_parts_are_cleared, sources_go,
+    unset_parts_are_named,
 };
 pub use crate::replies::{
     cuts_cover, ids_are_made, many_are_asked_for, media_are_kept, places_are_found,

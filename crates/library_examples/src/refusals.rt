@@ -1,5 +1,5 @@
 //! What is refused, and in which order.
-ghost use Rattle.library_examples.specs.WorkedRefusals.{BytesAreKeptOnce, CollectionsAreTested, CollectionsComeLast, DeletingStands, FlowsAreKept, IdsAreTaken, MultiFits, PostsAreTested, ReadOnlyStands, RefusalsStandInOrder, SetPartsAreCleared, SourcesGo, UnsetPartsAreNamed};
+ghost use Rattle.library_examples.specs.WorkedRefusals.{BytesAreKeptOnce, CollectionsAreTested, CollectionsComeLast, DeletingStands, FlowsAreKept, IdsAreTaken, MultiFits, OtherPartsAreOfFlows, PostsAreTested, ReadOnlyStands, RefusalsStandInOrder, SetPartsAreCleared, SourcesGo, UnsetPartsAreNamed};
 
 /// Of several refusals that could stand the first in a command's order is answered: being deleted
 /// before read-only, read-only before another format, another format before a missing member. The
@@ -22,6 +22,12 @@ pub fn read_only_stands()
 /// What isn't set can't be cleared, and the refusal has the part's name.
 pub fn unset_parts_are_named()
     ensures { UnsetPartsAreNamed }
+{}
+
+/// A source has a tag, a label and a description alone, so that no other part of it is set or
+/// cleared.
+pub fn other_parts_are_of_flows()
+    ensures { OtherPartsAreOfFlows }
 {}
 
 /// What is set can be cleared, and what isn't set can be set.

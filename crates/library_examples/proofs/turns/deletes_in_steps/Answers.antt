@@ -14,4 +14,6 @@ returns c = record {
   later_post_stays = refl;
   done = refl;
   no_more = refl;
+  last_step = refl;
+  not_the_last = refl;
 }
