@@ -21,3 +21,5 @@ mod PlaceLemmas
 mod RestoreLemmas
 mod FollowLemmas
 mod ListsFollow
+mod RowOrder
+mod RowLibrary

@@ -39,7 +39,7 @@ inserted_keeps t both before x (y ∷ ys) all rise =
     (inserted_keeps t both before x ys first.1 parts.1))
     (λ e. and_from (list_all (t x) (y ∷ ys)) (rises t (y ∷ ys)) all rise)
 
-in_order_keeps : {X : Type 0} (t : X → X → Bool) → ((a b : X) → t a b ≡ true → t b a ≡ true) → (before : X → X → Bool) (xs : List X)
+pub in_order_keeps : {X : Type 0} (t : X → X → Bool) → ((a b : X) → t a b ≡ true → t b a ≡ true) → (before : X → X → Bool) (xs : List X)
     → rises t xs ≡ true → rises t (in_order before xs) ≡ true
 in_order_keeps t both before [] rise = refl
 in_order_keeps t both before (x ∷ xs) rise =
@@ -49,7 +49,7 @@ in_order_keeps t both before (x ∷ xs) rise =
     (in_order_keeps t both before xs parts.1)
 
 -- two tests on pairs that give a third one
-rises-joined : {X : Type 0} (t u v : X → X → Bool) (xs : List X) → ((a b : X) → In a xs → In b xs → t a b ≡ true → u a b ≡ true → v a b ≡ true)
+pub rises-joined : {X : Type 0} (t u v : X → X → Bool) (xs : List X) → ((a b : X) → In a xs → In b xs → t a b ≡ true → u a b ≡ true → v a b ≡ true)
     → rises t xs ≡ true → rises u xs ≡ true → rises v xs ≡ true
 rises-joined t u v [] h e f = refl
 rises-joined t u v (x ∷ xs) h e f =
@@ -73,7 +73,7 @@ overlaps_swapped (Some s) (Some t) e = swap_and (ends.are_ordered s.low t.high) 
 same_swapped : (a b : ℕ) → (a == b) ≡ false → (b == a) ≡ false
 same_swapped a b e = grind (arith, nat_tests)
 
-compatible_swapped : (a b : SegmentRow) → are_compatible a b ≡ true → are_compatible b a ≡ true
+pub compatible_swapped : (a b : SegmentRow) → are_compatible a b ≡ true → are_compatible b a ≡ true
 compatible_swapped a b e =
     not_from_false ((b.flow == a.flow) && overlaps b.segment.range a.segment.range)
     (elim (and_cases (a.flow == b.flow) (overlaps a.segment.range b.segment.range) (not-true ((a.flow == b.flow) && overlaps a.segment.range b.segment.range) e)) [
@@ -91,7 +91,7 @@ by_ends (Some a) (Some b) (Some c) None h k i j l m e f = absurd (false≢true m
 by_ends (Some a) (Some b) (Some c) (Some d) h k i j l m e f =
     elim (and_cases (ends.are_ordered (Some a) (Some d)) (ends.are_ordered (Some c) (Some b)) e) [ inl x ↦ grind (arith, ints) | inr x ↦ grind (arith, ints) ]
 
-apart_points : (r q : Option Span) → IsRange r → IsRange q → has_both_ends r ≡ true → has_both_ends q ≡ true → overlaps r q ≡ false → low_before (low_of q) (low_of r) ≡ false
+pub apart_points : (r q : Option Span) → IsRange r → IsRange q → has_both_ends r ≡ true → has_both_ends q ≡ true → overlaps r q ≡ false → low_before (low_of q) (low_of r) ≡ false
     → int_lt (unwrap_or (low_of r) (pos 0)) (unwrap_or (low_of q) (pos 0)) ≡ true
 apart_points None q fine fine₂ e f clear order = absurd (false≢true e)
 apart_points (Some s) None fine fine₂ e f clear order = absurd (false≢true f)
@@ -101,7 +101,7 @@ apart_points (Some s) (Some t) fine fine₂ e f clear order =
     by_ends s.low s.high t.low t.high fine.ordered fine₂.ordered x.0 x.1 y.0 y.1 clear order
 
 -- rows of one flow that are compatible don't overlap
-clear_of : (a b : SegmentRow) (flow : ℕ) → a.flow ≡ flow → b.flow ≡ flow → are_compatible a b ≡ true → overlaps a.segment.range b.segment.range ≡ false
+pub clear_of : (a b : SegmentRow) (flow : ℕ) → a.flow ≡ flow → b.flow ≡ flow → are_compatible a b ≡ true → overlaps a.segment.range b.segment.range ≡ false
 clear_of a b flow e f fits =
     elim (and_cases (a.flow == b.flow) (overlaps a.segment.range b.segment.range) (not-true ((a.flow == b.flow) && overlaps a.segment.range b.segment.range) fits)) [
       | inl other ↦ absurd (false≢true (sym other ∙ eq-eqb a.flow b.flow (e ∙ sym f)))

@@ -55,9 +55,9 @@ pages_have_all segments page least = record {
 
 -- a test that orders items: of two at most one stands before the other, and what isn't before one that isn't
 -- before a third isn't before that one
-record IsOrder {X : Type 0} (before : X → X → Bool) : Type 0 where
-  one_way : (a b : X) → before a b ≡ true → before b a ≡ false
-  passes_on : (a b c : X) → before b a ≡ false → before c b ≡ false → before c a ≡ false
+pub record IsOrder {X : Type 0} (before : X → X → Bool) : Type 0 where
+  pub one_way : (a b : X) → before a b ≡ true → before b a ≡ false
+  pub passes_on : (a b c : X) → before b a ≡ false → before c b ≡ false → before c a ≡ false
 
 inserted_case : {X : Type 0} (b : Bool) (before : X → X → Bool) → IsOrder before → (x y : X) (ys : List X) → before y x ≡ b → list_all (λ z. not (before z y)) ys ≡ true → rises (λ a c. not (before c a)) ys ≡ true
     → rises (λ a c. not (before c a)) (inserted before x ys) ≡ true → rises (λ a c. not (before c a)) (cond b (y ∷ inserted before x ys) (x ∷ y ∷ ys)) ≡ true
@@ -79,7 +79,7 @@ inserted_rises before is x (y ∷ ys) e =
     let parts = and_parts (list_all (λ z. not (before z y)) ys) (rises (λ a b. not (before b a)) ys) e in
     inserted_case (before y x) before is x y ys refl parts.0 parts.1 (inserted_rises before is x ys parts.1)
 
-in_order_rises : {X : Type 0} (before : X → X → Bool) → IsOrder before → (xs : List X) → rises (λ a b. not (before b a)) (in_order before xs) ≡ true
+pub in_order_rises : {X : Type 0} (before : X → X → Bool) → IsOrder before → (xs : List X) → rises (λ a b. not (before b a)) (in_order before xs) ≡ true
 in_order_rises before is [] = refl
 in_order_rises before is (x ∷ xs) = inserted_rises before is x (in_order before xs) (in_order_rises before is xs)
 
@@ -104,7 +104,7 @@ passes_on_low (Some a) s None t c u e k = absurd (cc)
 passes_on_low (Some a) s (Some b) t None u e k = absurd (cc)
 passes_on_low (Some a) s (Some b) t (Some c) u e k = grind (arith, ints, nat_tests)
 
-starts_in_order : IsOrder starts_before
+pub starts_in_order : IsOrder starts_before
 unfolding stands_before
 starts_in_order = record {
   one_way = λ a b. one_way_low (low_of a.segment.range) a.serial (low_of b.segment.range) b.serial;

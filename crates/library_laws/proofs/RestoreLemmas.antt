@@ -21,7 +21,7 @@ use Rattle.library_laws.proofs.KeptLemmas.{Sub-append, Sub-behind, Sub-same, ris
 use Rattle.library_laws.proofs.OutboxKept.{Names-from}
 
 -- rows by a number of theirs
-abbrev before : {X : Type 0} → (X → ℕ) → X → X → Bool
+abbrev pub before : {X : Type 0} → (X → ℕ) → X → X → Bool
 before key a b = nat_lt (key a) (key b)
 
 -- ---- one row put in
@@ -62,7 +62,7 @@ swap_below : {X : Type 0} (key : X → ℕ) (x y : X) (zs : List X) → before k
 swap_below key x y [] e = past key x y [] e ∙ sym (here key y x [] (not_both (key y) (key x) e))
 swap_below key x y (z ∷ zs) e = swap_past key x y z zs (before key z x) (before key z y) refl refl e (swap_below key x y zs e)
 
-swap_two : {X : Type 0} (key : X → ℕ) (x y : X) (zs : List X) (b : Bool) → before key y x ≡ b → (key x == key y) ≡ false
+pub swap_two : {X : Type 0} (key : X → ℕ) (x y : X) (zs : List X) (b : Bool) → before key y x ≡ b → (key x == key y) ≡ false
     → inserted (before key) x (inserted (before key) y zs) ≡ inserted (before key) y (inserted (before key) x zs)
 swap_two key x y zs true e apart = swap_below key x y zs e
 swap_two key x y zs false e apart = sym (swap_below key y x zs (one_of_both (key x) (key y) e apart))
@@ -78,7 +78,7 @@ first_stays : {X : Type 0} (key : X → ℕ) (x : X) (xs : List X) → list_all 
 first_stays key x [] e = refl
 first_stays key x (y ∷ ys) e = here key x y ys (not_both (key x) (key y) (and_parts (before key x y) (list_all (before key x) ys) e).0)
 
-stays : {X : Type 0} (key : X → ℕ) (xs : List X) → rises (before key) xs ≡ true → in_order (before key) xs ≡ xs
+pub stays : {X : Type 0} (key : X → ℕ) (xs : List X) → rises (before key) xs ≡ true → in_order (before key) xs ≡ xs
 stays key [] e = refl
 stays key (x ∷ xs) e =
     let parts = and_parts (list_all (before key x) xs) (rises (before key) xs) e in
@@ -88,7 +88,7 @@ stays key (x ∷ xs) e =
 apart_from : (a b : ℕ) → nat_lt a b ≡ true → not (a == b) ≡ true
 apart_from a b e = grind (arith, nat_tests)
 
-apart_keys : {X : Type 0} (key : X → ℕ) (xs : List X) → rises (before key) xs ≡ true → rises (λ a b. not (key a == key b)) xs ≡ true
+pub apart_keys : {X : Type 0} (key : X → ℕ) (xs : List X) → rises (before key) xs ≡ true → rises (λ a b. not (key a == key b)) xs ≡ true
 apart_keys key [] e = refl
 apart_keys key (x ∷ xs) e =
     let parts = and_parts (list_all (before key x) xs) (rises (before key) xs) e in

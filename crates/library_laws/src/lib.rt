@@ -3,10 +3,15 @@
 #![tactic(auto)]
 
 mod laws;
+mod rows;
 
 pub use crate::laws::{
     answers_apply, answers_are_allowed, books_are_restored, changes_apply, changes_keep_good,
     circles_are_found, first_bytes_stay, good_is_tested, pages_follow, pages_have_all,
     places_are_least, range_answer_is_in_order, range_answer_is_on_points, turns_apply,
     turns_are_bounded,
+};
+pub use crate::rows::{
+    asking_is_answered, equal_rows_are_one_library, keys_give_ids, refusals_are_tabled,
+    rows_give_the_library, rows_rise, sources_have_their_parts,
 };

@@ -1,12 +1,19 @@
 -- The rows of a library, in the order in which a snapshot has them: by kind, then sources and flows by id,
--- segments by flow and first point, and all else by serial; the next serial comes last. Our own format.
+-- segments by flow and first point, and all else by serial; the next serial comes last. And the library of such
+-- rows. Our own rules.
 use Rattle.std.specs.Prelude.{ℕ, ℤ, None, ◌==◌, nat_lt, List, [], ◌∷◌, ◌++◌, Bool, ◌&&◌, ◌||◌, Option, map}
 use Rattle.time_range.specs.Points.{low_of}
+use Rattle.media_rows.specs.declared.event.EventRow.{EventRow}
+use Rattle.media_rows.specs.declared.flow.FlowRow.{FlowRow}
+use Rattle.media_rows.specs.declared.hook.HookRow.{HookRow}
 use Rattle.media_rows.specs.declared.row.Row.{Row}
 use Rattle.media_rows.specs.declared.row.Row.TheVariants as rows
 use Rattle.media_rows.specs.declared.segment.SegmentRow.{SegmentRow}
-use Rattle.media_rows.specs.Library.{Library}
-use Rattle.media_rows.specs.Lists.{in_order}
+use Rattle.media_rows.specs.declared.source.SourceRow.{SourceRow}
+use Rattle.media_rows.specs.Catalog.{Catalog}
+use Rattle.media_rows.specs.Library.{Library, empty_library}
+use Rattle.media_rows.specs.Lists.{inserted, in_order}
+use Rattle.media_rows.specs.Outbox.{Outbox}
 use Rattle.media_rows.specs.Segments.{starts_before, low_before}
 
 -- by flow, then by first point
@@ -65,3 +72,42 @@ rows_of library =
     ++ map rows.Hook library.outbox.hooks
     ++ map rows.Event library.outbox.events
     ++ rows.Numbers library.next_serial ∷ []
+
+-- ---- the library of rows
+
+-- segments stand by rising serial in a library
+abbrev pub older : SegmentRow → SegmentRow → Bool
+older a b = nat_lt a.serial b.serial
+
+-- one more source
+abbrev pub with_source_row : SourceRow → Catalog → Catalog
+with_source_row row catalog = record catalog { sources = row ∷ catalog.sources }
+
+-- one more flow
+abbrev pub with_flow_row : FlowRow → Catalog → Catalog
+with_flow_row row catalog = record catalog { flows = row ∷ catalog.flows }
+
+-- one more hook
+abbrev pub with_hook_row : HookRow → Outbox → Outbox
+with_hook_row row outbox = record outbox { hooks = row ∷ outbox.hooks }
+
+-- one more event
+abbrev pub with_event_row : EventRow → Outbox → Outbox
+with_event_row row outbox = record outbox { events = row ∷ outbox.events }
+
+-- A library with one row more, which stands before those of its kind. A segment comes to its place by serial,
+-- since a snapshot has segments in another order.
+abbrev pub with_row : Row → Library → Library
+with_row (rows.Source row) library = record library { catalog = with_source_row row library.catalog }
+with_row (rows.Flow row) library = record library { catalog = with_flow_row row library.catalog }
+with_row (rows.Object row) library = record library { objects = row ∷ library.objects }
+with_row (rows.Segment row) library = record library { segments = inserted older row library.segments }
+with_row (rows.Request row) library = record library { requests = row ∷ library.requests }
+with_row (rows.Hook row) library = record library { outbox = with_hook_row row library.outbox }
+with_row (rows.Event row) library = record library { outbox = with_event_row row library.outbox }
+with_row (rows.Numbers next_serial) library = record library { next_serial = next_serial }
+
+-- the library of an id, of so many media blocks and of these rows
+abbrev pub library_of : ℕ → ℕ → List Row → Library
+library_of id blocks [] = empty_library id blocks
+library_of id blocks (row ∷ later) = with_row row (library_of id blocks later)
