@@ -16,7 +16,9 @@ use Rattle.disk_trait.proofs.TornLemmas.{torn_itself}
 use Rattle.disk_trait.proofs.HistoryLemmas.{left_after-push, seen_after-push, seen_after-write}
 
 -- an image after a call is one from before it, after the call's step
-image_follows : (call : Call) (seen : List ℕ) (left : List ℕ → Type 0) (told : List (List ℕ)) (image : List ℕ) → left seen → left_after_call call seen left image → (old : List ℕ) × left old × step_of call (record { image = old; told = told }) (record { image = image; told = told })
+image_follows : (call : Call) (seen : List ℕ) (left : List ℕ → Type 0) (told : List (List ℕ)) (image : List ℕ) → left seen
+    → left_after_call call seen left image
+    → (old : List ℕ) × left old × step_of call (record { image = old; told = told }) (record { image = image; told = told })
 image_follows (Read at n passed) seen left told image now after = (image, after, refl)
 image_follows (Write at bytes passed) seen left told image now after = (after.0, after.1, record { image = after.2; told = refl })
 image_follows (Sync true) seen left told image now after = (seen, now, ap (λ i. record { image = i; told = told }) after)
@@ -28,13 +30,17 @@ step_itself (Write at bytes passed) p = record { image = torn_itself at (length 
 step_itself (Sync passed) p = refl
 
 -- a crash after the call leaves what one could leave before it, after the call's step
-last_follows : (call : Call) (past : Past) (p : Left) → LeavesAt (with_call call past) (length past.calls + 1) p.image → p.told ≡ [] → Follows (step_of call) (LeavesSince past (length past.calls)) p
+last_follows : (call : Call) (past : Past) (p : Left) → LeavesAt (with_call call past) (length past.calls + 1) p.image → p.told ≡ []
+    → Follows (step_of call) (LeavesSince past (length past.calls)) p
 last_follows call past p at_last told =
     let first : List ℕ → Type 0 = λ i. i ≡ past.first in
     let whole : length (past.calls ++ call ∷ []) ≡ length past.calls + 1 = length_push past.calls call in
-    let all : left_after (past.calls ++ call ∷ []) past.first first p.image = subst (λ T. T) (leaves_at_last (with_call call past) p.image) (subst (λ n. LeavesAt (with_call call past) n p.image) (sym whole) at_last) in
-    let after : left_after_call call (seen_of past) (left_after past.calls past.first first) p.image = subst (λ F. F p.image) (left_after-push past.calls call past.first first) all in
-    let old = image_follows call (seen_of past) (left_after past.calls past.first first) p.told p.image (itself_after past.calls past.first first refl) after in (
+    let all : left_after (past.calls ++ call ∷ []) past.first first p.image =
+    subst (λ T. T) (leaves_at_last (with_call call past) p.image) (subst (λ n. LeavesAt (with_call call past) n p.image) (sym whole) at_last) in
+    let after : left_after_call call (seen_of past) (left_after past.calls past.first first) p.image =
+    subst (λ F. F p.image) (left_after-push past.calls call past.first first) all in
+    let old =
+    image_follows call (seen_of past) (left_after past.calls past.first first) p.told p.image (itself_after past.calls past.first first refl) after in (
       record { image = old.0; told = p.told },
       record {
         moment = length past.calls;
@@ -47,7 +53,8 @@ last_follows call past p at_last told =
     )
 
 -- a moment since another is one of before, or the last one
-since_noted : (call : Call) (past : Past) (t : ℕ) (p : Left) → LeavesSince (with_call call past) t p → LeavesSince past t p ⊎ Follows (step_of call) (LeavesSince past (length past.calls)) p
+since_noted : (call : Call) (past : Past) (t : ℕ) (p : Left) → LeavesSince (with_call call past) t p
+    → LeavesSince past t p ⊎ Follows (step_of call) (LeavesSince past (length past.calls)) p
 since_noted call past t p left =
     elim (cases_lt (length past.calls) left.moment) [
       | inl last ↦ inr (last_follows call past p (subst (λ n. LeavesAt (with_call call past) n p.image) (omega (arith, last, left.within, length_push past.calls call)) left.image) left.told)
@@ -60,7 +67,8 @@ since_noted call past t p left =
       })
     ]
 
-ends_noted : (call : Call) (past : Past) (p : Left) → LeavesSince (with_call call past) (length past.calls + 1) p → Follows (step_of call) (LeavesSince past (length past.calls)) p
+ends_noted : (call : Call) (past : Past) (p : Left) → LeavesSince (with_call call past) (length past.calls + 1) p
+    → Follows (step_of call) (LeavesSince past (length past.calls)) p
 ends_noted call past p left =
     last_follows call past p (subst (λ n. LeavesAt (with_call call past) n p.image) (omega (arith, left.later, left.within, length_push past.calls call)) left.image) left.told
 
@@ -74,7 +82,8 @@ keeps_noted call past t p left = record {
 }
 
 -- time over a call, whether it was noted or starved
-elapses : (call : Call) (noted : Bool) (disk : DiskState) → Elapses (step_of call) (step_of call) (memory_device disk) (memory_device (after_make noted call disk))
+elapses : (call : Call) (noted : Bool) (disk : DiskState)
+    → Elapses (step_of call) (step_of call) (memory_device disk) (memory_device (after_make noted call disk))
 elapses call true disk = record {
   later = omega (arith, length_push disk.past.calls call);
   now = λ p left. ends_noted call disk.past p (rw length_push at left);
@@ -109,7 +118,8 @@ counted_on_rises : (n : ℕ) → Rose n (counted_on n)
 counted_on_rises n = λ room. grind (arith, nat_tests)
 
 -- the count of faults over a call
-counted : (call : Call) (noted : Bool) (disk : DiskState) → IsCounted (noted && has_passed call) (memory_device disk).faults (memory_device (after_make noted call disk)).faults
+counted : (call : Call) (noted : Bool) (disk : DiskState)
+    → IsCounted (noted && has_passed call) (memory_device disk).faults (memory_device (after_make noted call disk)).faults
 counted call true disk = counted_by_answer (has_passed call) _ disk.starved _ (sum_by_push (λ x. cond (has_failed x) 1 0) disk.past.calls call)
 counted call false disk = record {
   never_falls = omega (arith, counted_on_never_falls disk.starved);
@@ -125,9 +135,12 @@ disk_call call old new ok made = rw (made.after, made.answer) (record {
   time = elapses call made.noted old;
 })
 
-fails_as_listed : (call : Call) (noted : Bool) (disk : DiskState) → (IsFalse (has_passed call) ↔ Contains disk.fail (next_number disk)) → FailsAsListed (next_number disk) disk.fail disk.starved (after_make noted call disk).starved (noted && has_passed call)
-fails_as_listed call true disk listed = record { never_falls = omega arith; listed = listed.1; starved = λ rose. absurd (omega arith); only = λ failed. inl (listed.0 failed) }
-fails_as_listed call false disk listed = record { never_falls = counted_on_never_falls disk.starved; listed = λ _. refl; starved = λ _. refl; only = λ _. inr (counted_on_rises disk.starved) }
+fails_as_listed : (call : Call) (noted : Bool) (disk : DiskState) → (IsFalse (has_passed call) ↔ Contains disk.fail (next_number disk))
+    → FailsAsListed (next_number disk) disk.fail disk.starved (after_make noted call disk).starved (noted && has_passed call)
+fails_as_listed call true disk listed =
+    record { never_falls = omega arith; listed = listed.1; starved = λ rose. absurd (omega arith); only = λ failed. inl (listed.0 failed) }
+fails_as_listed call false disk listed =
+    record { never_falls = counted_on_never_falls disk.starved; listed = λ _. refl; starved = λ _. refl; only = λ _. inr (counted_on_rises disk.starved) }
 
 -- a call passed by what its entry says
 passed_of : (asked : Request) (passed : Bool) → has_passed (call_of asked passed) ≡ passed
@@ -135,7 +148,8 @@ passed_of (ReadAt at n) passed = refl
 passed_of (WriteAt at bytes) passed = refl
 passed_of SyncAll passed = refl
 
-called : (asked : Request) (passed noted : Bool) (disk : DiskState) → (IsFalse (has_passed (call_of asked passed)) ↔ Contains disk.fail (next_number disk)) → DiskCalled asked disk (after_make noted (call_of asked passed) disk) (noted && has_passed (call_of asked passed))
+called : (asked : Request) (passed noted : Bool) (disk : DiskState) → (IsFalse (has_passed (call_of asked passed)) ↔ Contains disk.fail (next_number disk))
+    → DiskCalled asked disk (after_make noted (call_of asked passed) disk) (noted && has_passed (call_of asked passed))
 called asked passed true disk listed = record {
   fails = fails_as_listed (call_of asked passed) true disk listed;
   fail = refl;
@@ -147,7 +161,8 @@ called asked passed false disk listed = record {
   past = inl (record { past = refl; rose = counted_on_rises disk.starved });
 }
 
-pub disk_called : (asked : Request) (passed : Bool) (old new : DiskState) (ok : Bool) → MakesCall (call_of asked passed) old new ok → DiskCalled asked old new ok
+pub disk_called : (asked : Request) (passed : Bool) (old new : DiskState) (ok : Bool) → MakesCall (call_of asked passed) old new ok
+    → DiskCalled asked old new ok
 disk_called asked passed old new ok made = rw (made.after, made.answer) (called asked passed made.noted old made.listed)
 
 pub on_ok : {T E P : Type 0} (r : Result T E) → (is_ok r ≡ true → P) → OnOk r P
@@ -163,31 +178,39 @@ pub same_seen : (call : Call) (old new : DiskState) (ok : Bool) → IsQuiet call
 same_seen call old new ok quiet made = rw made.after (quiet_seen call made.noted old quiet)
 
 -- after a sync that passed, a crash leaves what a read gives
-synced : (noted passed : Bool) (disk : DiskState) → (noted && passed) ≡ true → LeavesOnly (seen_of disk.past) (memory_device (after_make noted (Sync passed) disk))
+synced : (noted passed : Bool) (disk : DiskState) → (noted && passed) ≡ true
+    → LeavesOnly (seen_of disk.past) (memory_device (after_make noted (Sync passed) disk))
 synced true true disk ok = λ p left.
     let call = Sync true in
-    let after : LeavesAt (with_call call disk.past) (length (disk.past.calls ++ call ∷ [])) p.image = subst (λ n. LeavesAt (with_call call disk.past) n p.image) (omega (arith, left.later, left.within)) left.image in
+    let after : LeavesAt (with_call call disk.past) (length (disk.past.calls ++ call ∷ [])) p.image =
+    subst (λ n. LeavesAt (with_call call disk.past) n p.image) (omega (arith, left.later, left.within)) left.image in
     subst (λ F. F p.image) (left_after-push disk.past.calls call disk.past.first (λ i. i ≡ disk.past.first)) (subst (λ T. T) (leaves_at_last (with_call call disk.past) p.image) after)
 synced true false disk wrong = cc
 synced false passed disk wrong = cc
 
-pub durable : (passed : Bool) (old new : DiskState) (ok : Bool) → MakesCall (Sync passed) old new ok → ok ≡ true → LeavesOnly (seen_of new.past) (memory_device new)
+pub durable : (passed : Bool) (old new : DiskState) (ok : Bool) → MakesCall (Sync passed) old new ok → ok ≡ true
+    → LeavesOnly (seen_of new.past) (memory_device new)
 durable passed old new ok made passes =
     rw (same_seen (Sync passed) old new ok (λ _. refl) made, made.after) (synced made.noted passed old (cc))
 
 -- a write that passed wrote all its bytes
-wrote : (at : ℕ) (bytes : List ℕ) (noted passed : Bool) (disk : DiskState) → at + length bytes ≤ length (seen_of disk.past) → (noted && passed) ≡ true → seen_of (after_make noted (Write at bytes passed) disk).past ≡ overwritten at bytes (seen_of disk.past)
+wrote : (at : ℕ) (bytes : List ℕ) (noted passed : Bool) (disk : DiskState) → at + length bytes ≤ length (seen_of disk.past) → (noted && passed) ≡ true
+    → seen_of (after_make noted (Write at bytes passed) disk).past ≡ overwritten at bytes (seen_of disk.past)
 wrote at bytes true true disk fits ok = seen_after-write disk.past.calls at bytes true disk.past.first (seen_of disk.past) refl fits
 wrote at bytes true false disk fits wrong = cc
 wrote at bytes false passed disk fits wrong = cc
 
-pub written : (at : ℕ) (bytes : List ℕ) (passed : Bool) (old new : DiskState) (ok : Bool) → at + length bytes ≤ length (seen_of old.past) → MakesCall (Write at bytes passed) old new ok → ok ≡ true → seen_of new.past ≡ overwritten at bytes (seen_of old.past)
+pub written : (at : ℕ) (bytes : List ℕ) (passed : Bool) (old new : DiskState) (ok : Bool) → at + length bytes ≤ length (seen_of old.past)
+    → MakesCall (Write at bytes passed) old new ok → ok ≡ true → seen_of new.past ≡ overwritten at bytes (seen_of old.past)
 written at bytes passed old new ok fits made passes = rw made.after (wrote at bytes made.noted passed old fits (cc))
 
 -- in any case it wrote nothing elsewhere
-wrote_within : (at : ℕ) (bytes : List ℕ) (noted passed : Bool) (disk : DiskState) → Torn at (length bytes) (seen_of disk.past) (seen_of (after_make noted (Write at bytes passed) disk).past)
-wrote_within at bytes true passed disk = rw seen_after-push (torn-put_over at (length bytes) (kept_bytes passed bytes) (seen_of disk.past) (length-kept_bytes passed bytes))
+wrote_within : (at : ℕ) (bytes : List ℕ) (noted passed : Bool) (disk : DiskState)
+    → Torn at (length bytes) (seen_of disk.past) (seen_of (after_make noted (Write at bytes passed) disk).past)
+wrote_within at bytes true passed disk =
+    rw seen_after-push (torn-put_over at (length bytes) (kept_bytes passed bytes) (seen_of disk.past) (length-kept_bytes passed bytes))
 wrote_within at bytes false passed disk = torn_itself at (length bytes) (seen_of disk.past)
 
-pub torn : (at : ℕ) (bytes : List ℕ) (passed : Bool) (old new : DiskState) (ok : Bool) → MakesCall (Write at bytes passed) old new ok → Torn at (length bytes) (seen_of old.past) (seen_of new.past)
+pub torn : (at : ℕ) (bytes : List ℕ) (passed : Bool) (old new : DiskState) (ok : Bool) → MakesCall (Write at bytes passed) old new ok
+    → Torn at (length bytes) (seen_of old.past) (seen_of new.past)
 torn at bytes passed old new ok made = rw made.after (wrote_within at bytes made.noted passed old)

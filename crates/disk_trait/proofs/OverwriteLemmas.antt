@@ -19,7 +19,8 @@ pub bytes_at-bytes_at : (image : List ℕ) (at m i n : ℕ) → i + n ≤ m → 
 bytes_at-bytes_at image at m i n h = same_lists _ _ (search (rules, places)) (λ k d h. grind (arith, places))
 
 -- parts of one length within their images, with the same bytes
-same_parts : (image other : List ℕ) (at from n : ℕ) → at + n ≤ length image → from + n ≤ length other → ((i d : ℕ) → i < n → get_or image (at + i) d ≡ get_or other (from + i) d) → bytes_at image at n ≡ bytes_at other from n
+same_parts : (image other : List ℕ) (at from n : ℕ) → at + n ≤ length image → from + n ≤ length other
+    → ((i d : ℕ) → i < n → get_or image (at + i) d ≡ get_or other (from + i) d) → bytes_at image at n ≡ bytes_at other from n
 same_parts image other at from n f g same =
     let l : length (bytes_at image at n) ≡ n = length-bytes_at image at n f in
     same_lists _ _ (l ∙ sym (length-bytes_at other from n g))

@@ -10,7 +10,8 @@ use Rattle.disk_trait.specs.declared.history.Call.TheVariants.{Read, Write, Sync
 use Rattle.disk_trait.proofs.HistoryLemmas.{seen_after-push, left_after-push}
 
 -- so many calls, and one more
-pub seen_after_more : (calls : List Call) (n : ℕ) (call : Call) (image : List ℕ) → n < length calls → call ≡ get_or calls n call → seen_after (take (n + 1) calls) image ≡ seen_after_call call (seen_after (take n calls) image)
+pub seen_after_more : (calls : List Call) (n : ℕ) (call : Call) (image : List ℕ) → n < length calls → call ≡ get_or calls n call
+    → seen_after (take (n + 1) calls) image ≡ seen_after_call call (seen_after (take n calls) image)
 seen_after_more calls n call image within at =
     ap (λ cs. seen_after cs image) (take_more calls n call within ∙ ap (λ c. take n calls ++ c ∷ []) (sym at)) ∙ seen_after-push (take n calls) call image
 
@@ -29,24 +30,30 @@ pub made_within : (past : Past) (call kept : ℕ) → IsSomeAnd (range_length pa
 made_within past zero kept made = absurd made
 made_within past (suc n) kept made = let within = made_in past.calls n (λ n. kept ≤ n) made in (omega arith, omega (arith, within))
 
-pub stopped_is : (past : Past) (n kept : ℕ) (call : Call) → n < length past.calls → call ≡ get_or past.calls n call → stopped past (n + 1) kept ≡ stopped_within kept call (seen_after (take n past.calls) past.first)
+pub stopped_is : (past : Past) (n kept : ℕ) (call : Call) → n < length past.calls → call ≡ get_or past.calls n call
+    → stopped past (n + 1) kept ≡ stopped_within kept call (seen_after (take n past.calls) past.first)
 stopped_is past n kept call within at = rw (add-one, slice_get_at past.calls n call within at) refl
 
-pub length_is : (past : Past) (n kept : ℕ) (call : Call) → n < length past.calls → call ≡ get_or past.calls n call → IsSomeAnd (range_length past (n + 1)) (λ length. kept ≤ length) → kept ≤ length_of call
+pub length_is : (past : Past) (n kept : ℕ) (call : Call) → n < length past.calls → call ≡ get_or past.calls n call
+    → IsSomeAnd (range_length past (n + 1)) (λ length. kept ≤ length) → kept ≤ length_of call
 length_is past n kept call within at made = rw (add-one, slice_get_at past.calls n call within at) at made
 
 -- a stop within a call leaves one of the images of that call
-stopped_after_call : (call : Call) (kept : ℕ) (seen : List ℕ) (left : List ℕ → Type 0) → kept ≤ length_of call → left seen → left_after_call call seen left (stopped_within kept call seen)
+stopped_after_call : (call : Call) (kept : ℕ) (seen : List ℕ) (left : List ℕ → Type 0) → kept ≤ length_of call → left seen
+    → left_after_call call seen left (stopped_within kept call seen)
 stopped_after_call (Read at n passed) kept seen left short now = now
-stopped_after_call (Write at bytes passed) kept seen left short now = (seen, now, torn-put_over at (length bytes) (take kept bytes) seen (omega (arith, length-take kept bytes)))
+stopped_after_call (Write at bytes passed) kept seen left short now =
+    (seen, now, torn-put_over at (length bytes) (take kept bytes) seen (omega (arith, length-take kept bytes)))
 stopped_after_call (Sync true) kept seen left short now = refl
 stopped_after_call (Sync false) kept seen left short now = now
 
-stopped_leaves_at : (past : Past) (n kept : ℕ) (call : Call) → n < length past.calls → call ≡ get_or past.calls n call → kept ≤ length_of call → LeavesAt past (n + 1) (stopped past (n + 1) kept)
+stopped_leaves_at : (past : Past) (n kept : ℕ) (call : Call) → n < length past.calls → call ≡ get_or past.calls n call → kept ≤ length_of call
+    → LeavesAt past (n + 1) (stopped past (n + 1) kept)
 stopped_leaves_at past n kept call within at short =
     let first : List ℕ → Type 0 = λ image. image ≡ past.first in
     let before = take n past.calls in
-    let here = stopped_after_call call kept (seen_after before past.first) (left_after before past.first first) short (itself_after before past.first first refl) in
+    let here =
+    stopped_after_call call kept (seen_after before past.first) (left_after before past.first first) short (itself_after before past.first first refl) in
     let calls : take (n + 1) past.calls ≡ before ++ call ∷ [] = take_more past.calls n call within ∙ ap (λ c. before ++ c ∷ []) (sym at) in
     rw (stopped_is past n kept call within at, calls, left_after-push) here
 
@@ -69,7 +76,8 @@ pub replayed_length : (past : Past) (bytes : List ℕ) → IsReplayed past bytes
 replayed_length past bytes kept = ap length (sym kept.seen) ∙ length-seen_after past.calls past.first
 
 -- a call lies within what the calls before it made
-pub stop_fits : (past : Past) (bytes image : List ℕ) (n : ℕ) (call : Call) → IsReplayed past bytes → n < length past.calls → call ≡ get_or past.calls n call → image ≡ seen_after (take n past.calls) past.first → range_end call ≤ length image
+pub stop_fits : (past : Past) (bytes image : List ℕ) (n : ℕ) (call : Call) → IsReplayed past bytes → n < length past.calls → call ≡ get_or past.calls n call
+    → image ≡ seen_after (take n past.calls) past.first → range_end call ≤ length image
 stop_fits past bytes image n call kept within at is =
     let ends : range_end call ≤ length bytes = subst (λ c. range_end c ≤ length bytes) (sym at) (kept.within n call within) in
     rw (is, length-seen_after, ← replayed_length past bytes kept) ends

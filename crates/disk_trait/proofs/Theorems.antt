@@ -8,7 +8,8 @@ use Rattle.disk_trait.specs.DiskMoments.{Then, Throughout, WithinTwo}
 use Rattle.disk_trait.proofs.TornLemmas.{torn_itself, torn_wider}
 
 -- time over two calls in a row
-pub elapses_twice : (within1 ended1 within2 ended2 : Left → Left → Type 0) (old mid new : Device) → Elapses within1 ended1 old mid → Elapses within2 ended2 mid new → Elapses (WithinTwo within1 ended1 within2) (Then ended1 ended2) old new
+pub elapses_twice : (within1 ended1 within2 ended2 : Left → Left → Type 0) (old mid new : Device) → Elapses within1 ended1 old mid
+    → Elapses within2 ended2 mid new → Elapses (WithinTwo within1 ended1 within2) (Then ended1 ended2) old new
 elapses_twice within1 ended1 within2 ended2 old mid new first second = record {
   later = omega (arith, first.later, second.later);
   now = λ p left.
@@ -28,7 +29,8 @@ elapses_twice within1 ended1 within2 ended2 old mid new first second = record {
 }
 
 -- a call at each moment of which a crash leaves what has P
-pub throughout_call : (within ended : Left → Left → Type 0) (P : Left → Type 0) (old new : Device) → Elapses within ended old new → ((p : Left) → Follows within (may_leave old) p → P p) → Throughout P old new
+pub throughout_call : (within ended : Left → Left → Type 0) (P : Left → Type 0) (old new : Device) → Elapses within ended old new
+    → ((p : Left) → Follows within (may_leave old) p → P p) → Throughout P old new
 throughout_call within ended P old new time holds = record {
   later = time.later;
   since = λ t p le left. elim (time.since t p le left) [ inl was ↦ inl was | inr so_far ↦ inr (holds p so_far) ];
@@ -43,7 +45,8 @@ throughout_twice P old mid new first second = record {
 }
 
 -- what holds of each crash at a moment since the calls began
-pub throughout_each : (P : Left → Type 0) (old new : Device) → Throughout P old new → ((p : Left) → may_leave old p → P p) → (p : Left) → new.left_since old.moment p → P p
+pub throughout_each : (P : Left → Type 0) (old new : Device) → Throughout P old new → ((p : Left) → may_leave old p → P p) → (p : Left)
+    → new.left_since old.moment p → P p
 throughout_each P old new calls before p left =
     elim (calls.since old.moment p (omega arith) left) [ inl was ↦ before p was | inr holds ↦ holds ]
 
@@ -78,7 +81,9 @@ torn_twice at n old mid new first second = record {
 }
 
 -- time by weaker steps, from what could be left before
-pub elapses_weaker : (within ended other last : Left → Left → Type 0) (old new : Device) → Elapses within ended old new → ((q p : Left) → may_leave old q → within q p → other q p) → ((q p : Left) → may_leave old q → may_leave new p → ended q p → last q p) → Elapses other last old new
+pub elapses_weaker : (within ended other last : Left → Left → Type 0) (old new : Device) → Elapses within ended old new
+    → ((q p : Left) → may_leave old q → within q p → other q p) → ((q p : Left) → may_leave old q → may_leave new p → ended q p → last q p)
+    → Elapses other last old new
 elapses_weaker within ended other last old new time so_far end = record {
   later = time.later;
   now = λ p left. let from = time.now p left in (from.0, from.1, end from.0 p from.1 left from.2);
@@ -87,7 +92,8 @@ elapses_weaker within ended other last old new time so_far end = record {
 }
 
 -- time over two calls in a row that make the same step, which may be made twice
-pub elapses_along : (R : Left → Left → Type 0) (old mid new : Device) → ((q m p : Left) → R q m → R m p → R q p) → Elapses R R old mid → Elapses R R mid new → Elapses R R old new
+pub elapses_along : (R : Left → Left → Type 0) (old mid new : Device) → ((q m p : Left) → R q m → R m p → R q p) → Elapses R R old mid → Elapses R R mid new
+    → Elapses R R old new
 elapses_along R old mid new twice first second =
     let both = elapses_twice R R R R old mid new first second in
     elapses_weaker (WithinTwo R R R) (Then R R) R R old new both
@@ -164,7 +170,9 @@ no_writes at n d = record {
   time = no_time (TornWrite at n) d (write_itself at n);
 }
 
-pub one_write : (at n from k : ℕ) (ok : Bool) (old new : Device) → from ≤ at → at + n ≤ from + k → DiskCall (TornWrite at n) ok old new → (old.shows ≡ true → Torn at n old.seen new.seen) → (old.tells ≡ true → IsTrue ok → new.handed ≡ old.handed + n) → (old.tells ≡ true → new.handed ≤ old.handed + n) → DiskWrites from k n ok old new
+pub one_write : (at n from k : ℕ) (ok : Bool) (old new : Device) → from ≤ at → at + n ≤ from + k → DiskCall (TornWrite at n) ok old new
+    → (old.shows ≡ true → Torn at n old.seen new.seen) → (old.tells ≡ true → IsTrue ok → new.handed ≡ old.handed + n)
+    → (old.tells ≡ true → new.handed ≤ old.handed + n) → DiskWrites from k n ok old new
 one_write at n from k ok old new below above call torn handed at_most = record {
   calls = record { same = call.same; link = call.link; counted = call.counted };
   torn = λ shows. torn_wider at n old.seen new.seen (torn shows) from k below above;
@@ -175,7 +183,8 @@ one_write at n from k ok old new below above call torn handed at_most = record {
       (λ q p could left one. write_wider at n from k q p below above one);
 }
 
-pub writes_twice : (at n first_count count : ℕ) (ok : Bool) (old mid new : Device) → DiskWrites at n first_count true old mid → DiskWrites at n count ok mid new → DiskWrites at n (first_count + count) ok old new
+pub writes_twice : (at n first_count count : ℕ) (ok : Bool) (old mid new : Device) → DiskWrites at n first_count true old mid → DiskWrites at n count ok mid new
+    → DiskWrites at n (first_count + count) ok old new
 writes_twice at n first_count count ok old mid new first second = record {
   calls = calls_twice ok old mid new first.calls second.calls;
   torn = λ shows. torn_twice at n old.seen mid.seen new.seen (first.torn shows) (second.torn (first.calls.same.shows ∙ shows));

@@ -1,11 +1,11 @@
 -- What the calls of a disk read and leave, whether they succeed or fail. Our own model: between two
--- syncs each written range may hold any bytes, and after a sync that succeeded a crash leaves what a
--- read gives.
+-- syncs each written range may hold any bytes, and after a sync that succeeded a crash leaves what
+-- a read gives.
 use Rattle.std.specs.Prelude.{◌≡◌, ◌<◌, ◌≤◌, ◌+◌, ◌^◌, ◌⊎◌, ℕ, Bool, true, List, ◌++◌, length, take, drop, IsTrue, IsFalse}
 use Rattle.disk_trait.specs.Device.{Device, Left, may_leave}
 
--- What a call of a disk asks for: to read so many bytes at an offset, to write these bytes at one, or to
--- sync.
+-- What a call of a disk asks for: to read so many bytes at an offset, to write these bytes at one,
+-- or to sync.
 pub data Request : Type 0 where
   ReadAt : (at n : ℕ) → Request
   WriteAt : (at : ℕ) (bytes : List ℕ) → Request
@@ -47,13 +47,14 @@ pub record SameDevice (old new : Device) : Type 0 where
 abbrev pub Follows : (Left → Left → Type 0) → (Left → Type 0) → Left → Type 0
 Follows step outcomes p = (q : Left) × outcomes q × step q p
 
--- Time goes on over a call. What a crash may leave once the call has ended follows from what one could
--- leave before it, by what the call does; at a moment within the call, by what it does so far; and
--- nothing is lost of what a crash might have left earlier.
+-- Time goes on over a call. What a crash may leave once the call has ended follows from what one
+-- could leave before it, by what the call does; at a moment within the call, by what it does so
+-- far; and nothing is lost of what a crash might have left earlier.
 pub record Elapses (within ended : Left → Left → Type 0) (old new : Device) : Type 0 where
   pub later : old.moment ≤ new.moment
   pub now : (p : Left) → may_leave new p → Follows ended (may_leave old) p
-  pub since : (t : ℕ) (p : Left) → t ≤ old.moment → new.left_since t p → old.left_since t p ⊎ Follows within (may_leave old) p
+  pub since : (t : ℕ) (p : Left) → t ≤ old.moment → new.left_since t p
+      → old.left_since t p ⊎ Follows within (may_leave old) p
   pub keeps : (t : ℕ) (p : Left) → t ≤ old.moment → old.left_since t p → new.left_since t p
 
 -- a step that changes nothing
@@ -65,8 +66,8 @@ pub record TornWrite (at n : ℕ) (old new : Left) : Type 0 where
   pub image : Torn at n old.image new.image
   pub told : new.told ≡ old.told
 
--- What each call of a disk leaves: the links, and the count of its faults unless it fails. The step is
--- what the call may do to what a crash leaves.
+-- What each call of a disk leaves: the links, and the count of its faults unless it fails. The step
+-- is what the call may do to what a crash leaves.
 pub record DiskCall (step : Left → Left → Type 0) (ok : Bool) (old new : Device) : Type 0 where
   pub same : SameDevice old new
   pub link : new.link ≡ old.link
@@ -83,8 +84,9 @@ pub record DiskCalls (ok : Bool) (old new : Device) : Type 0 where
   pub link : new.link ≡ old.link
   pub counted : IsCounted ok old.faults new.faults
 
--- What any number of writes in a row leave, and syncs between them: all of their ranges lie within n bytes
--- from one place on, and they were handed so many bytes, or fewer where the last one failed.
+-- What any number of writes in a row leave, and syncs between them: all of their ranges lie within
+-- n bytes from one place on, and they were handed so many bytes, or fewer where the last one
+-- failed.
 pub record DiskWrites (at n count : ℕ) (ok : Bool) (old new : Device) : Type 0 where
   pub calls : DiskCalls ok old new
   pub torn : old.shows ≡ true → Torn at n old.seen new.seen
@@ -92,8 +94,8 @@ pub record DiskWrites (at n count : ℕ) (ok : Bool) (old new : Device) : Type 0
   pub handed_at_most : old.tells ≡ true → new.handed ≤ old.handed + count
   pub time : Elapses (TornWrite at n) (TornWrite at n) old new
 
--- What any number of reads leave, of which all succeeded or the last one failed: nothing changes of what a
--- crash may leave.
+-- What any number of reads leave, of which all succeeded or the last one failed: nothing changes of
+-- what a crash may leave.
 pub record DiskReads (ok : Bool) (old new : Device) : Type 0 where
   pub calls : DiskCalls ok old new
   pub seen : new.seen ≡ old.seen

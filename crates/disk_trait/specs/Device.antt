@@ -10,7 +10,8 @@ pub record Connection : Type 0 where
   pub told : List ℕ
 
 -- The links to the outside: the counts of their faults, whether a connection is under way, the
--- connections in the order in which they began, and whether `next_peer` said that no more will come.
+-- connections in the order in which they began, and whether `next_peer` said that no more will
+-- come.
 pub record Link : Type 0 where
   pub faults : ℕ
   pub peer_faults : ℕ
@@ -23,9 +24,10 @@ pub record Left : Type 0 where
   pub image : List ℕ
   pub told : List (List ℕ)
 
--- A device: its length in bytes, the count of its faults, whether it is honest, whether it shows its
--- bytes as read and tells all else, these bytes, the number of bytes handed to `write_at`, its links,
--- the moment as a number that doesn't fall, and what a crash at a moment since another may leave.
+-- A device: its length in bytes, the count of its faults, whether it is honest, whether it shows
+-- its bytes as read and tells all else, these bytes, the number of bytes handed to `write_at`, its
+-- links, the moment as a number that doesn't fall, and what a crash at a moment since another may
+-- leave.
 pub record Device : Type 1 where
   pub size : ℕ
   pub faults : ℕ
@@ -50,9 +52,10 @@ told_by d = map (λ c. c.told) d.link.connections
 abbrev pub as_read : Device → Left
 as_read d = record { image = d.seen; told = told_by d }
 
--- What holds of every device at every moment: each image that a crash may leave of an honest one has its
--- length, and so has what it shows; what a crash since one moment may leave it may leave since any earlier
--- one; an honest device as it reads may be left; and a crash now leaves told just what was told.
+-- What holds of every device at every moment: each image that a crash may leave of an honest one
+-- has its length, and so has what it shows; what a crash since one moment may leave it may leave
+-- since any earlier one; an honest device as it reads may be left; and a crash now leaves told just
+-- what was told.
 pub record IsDevice (d : Device) : Type 0 where
   pub images : d.honest ≡ true → (t : ℕ) (p : Left) → d.left_since t p → length p.image ≡ d.size
   pub length : d.shows ≡ true → length d.seen ≡ d.size

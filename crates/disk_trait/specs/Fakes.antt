@@ -4,7 +4,8 @@ use Rattle.disk_trait.specs.Device.{Device, IsDevice, Link}
 
 -- no link, and no fault of one
 abbrev pub no_link : Link
-no_link = record { faults = 0; peer_faults = 0; under_way = false; connections = []; closed = false }
+no_link =
+    record { faults = 0; peer_faults = 0; under_way = false; connections = []; closed = false }
 
 -- A device of these bytes that never fails and isn't honest: of crashes it tells nothing.
 abbrev pub plain_device : List ℕ → Device

@@ -1,4 +1,5 @@
--- What a device in memory has been through. Its calls are kept in order; all else follows from them.
+-- What a device in memory has been through. Its calls are kept in order; all else follows from
+-- them.
 use Rattle.std.specs.Prelude.{◌+◌, zero, suc, ◌≤◌, Option, None, option_map, unwrap_or, slice_get, All, ◌≡◌, ◌/◌, ◌∷◌, ◌++◌, [], ℕ, Bool, true, false, not, List, length, take}
 use Rattle.disk_trait.specs.Calls.{Request, ReadAt, WriteAt, SyncAll, overwritten}
 use Rattle.disk_trait.specs.declared.history.Call.{Call}

@@ -95,9 +95,10 @@ pub record IsStarved (old new : DiskState) : Type 0 where
   pub past : new.past ≡ old.past
   pub rose : Rose old.starved new.starved
 
--- What a call leaves of a disk in memory: it was starved, or noted as the last of the calls, with what it
--- asked for and whether it passed. What a read gives then, and what a crash may leave, follows from the
--- calls: a write that failed keeps its first half, and a read or sync that failed leaves all as it was.
+-- What a call leaves of a disk in memory: it was starved, or noted as the last of the calls, with
+-- what it asked for and whether it passed. What a read gives then, and what a crash may leave,
+-- follows from the calls: a write that failed keeps its first half, and a read or sync that failed
+-- leaves all as it was.
 pub record DiskCalled (asked : Request) (old new : DiskState) (ok : Bool) : Type 0 where
   pub fails : FailsAsListed (next_number old) old.fail old.starved new.starved ok
   pub fail : new.fail ≡ old.fail

@@ -15,7 +15,8 @@ told_after-push [] span told = refl
 told_after-push (first ∷ spans) span told = told_after-push spans span (add_to told first.adds)
 
 -- a call that changed the last connection, but not what it was told
-pub kept_changed : (change : Connection → Connection) (site : SiteState) (tally : Tally) (talks : List Talk) → ((c : Connection) → (change c).told ≡ c.told) → talks ≡ change_last (with_connection change) site.talks → IsKept site → IsKept (record site { tally = tally; talks = talks })
+pub kept_changed : (change : Connection → Connection) (site : SiteState) (tally : Tally) (talks : List Talk) → ((c : Connection) → (change c).told ≡ c.told)
+    → talks ≡ change_last (with_connection change) site.talks → IsKept site → IsKept (record site { tally = tally; talks = talks })
 kept_changed change site tally talks same is kept = record {
   piece = kept.piece;
   under_way = λ way. rw (is, length-change_last) (kept.under_way way);
@@ -25,7 +26,9 @@ kept_changed change site tally talks same is kept = record {
 }
 
 -- a call that ended a span
-pub kept_ended : (adds : Added) (old new : SiteState) → IsKept old → new.piece ≡ old.piece → 0 < length new.talks → disk_calls new ≡ disk_calls old → new.since ≡ disk_calls old → new.spans ≡ old.spans ++ record { from = old.since; to = disk_calls old; adds = adds } ∷ [] → told_of new ≡ add_to (told_of old) adds → IsKept new
+pub kept_ended : (adds : Added) (old new : SiteState) → IsKept old → new.piece ≡ old.piece → 0 < length new.talks → disk_calls new ≡ disk_calls old
+    → new.since ≡ disk_calls old → new.spans ≡ old.spans ++ record { from = old.since; to = disk_calls old; adds = adds } ∷ []
+    → told_of new ≡ add_to (told_of old) adds → IsKept new
 kept_ended adds old new kept piece some calls since spans told =
     let last : Span = record { from = old.since; to = disk_calls old; adds = adds } in
     record {

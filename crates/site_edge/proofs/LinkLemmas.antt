@@ -16,7 +16,8 @@ use Rattle.site_edge.proofs.ConnectionLemmas.{peers_kept, change_last-change_las
 use Rattle.site_edge.proofs.MomentLemmas.{EndsBy, SameLeft, ended_time, quiet_time, same_time, with_span}
 
 -- a link call, by its count of faults and its time
-pub link_call : (so_far ended : Left → Left → Type 0) (ok : Bool) (old new : SiteState) → new.disk ≡ old.disk → IsCounted ok old.tally.faults new.tally.faults → Elapses so_far ended (site_device old) (site_device new) → LinkCall so_far ended ok (site_device old) (site_device new)
+pub link_call : (so_far ended : Left → Left → Type 0) (ok : Bool) (old new : SiteState) → new.disk ≡ old.disk → IsCounted ok old.tally.faults new.tally.faults
+    → Elapses so_far ended (site_device old) (site_device new) → LinkCall so_far ended ok (site_device old) (site_device new)
 link_call so_far ended ok old new disk counted time = record {
   same = record { size = rw disk refl; honest = refl; shows = refl; tells = refl };
   faults = rw disk refl;
@@ -27,14 +28,18 @@ link_call so_far ended ok old new disk counted time = record {
 }
 
 -- a call that told nothing
-pub silent_call : (ok : Bool) (change : Connection → Connection) (site : SiteState) (tally : Tally) (talks : List Talk) → ((c : Connection) → (change c).told ≡ c.told) → talks ≡ change_last (with_connection change) site.talks → IsCounted ok site.tally.faults tally.faults → LinkCall Unchanged Unchanged ok (site_device site) (site_device (record site { tally = tally; talks = talks }))
+pub silent_call : (ok : Bool) (change : Connection → Connection) (site : SiteState) (tally : Tally) (talks : List Talk)
+    → ((c : Connection) → (change c).told ≡ c.told) → talks ≡ change_last (with_connection change) site.talks → IsCounted ok site.tally.faults tally.faults
+    → LinkCall Unchanged Unchanged ok (site_device site) (site_device (record site { tally = tally; talks = talks }))
 silent_call ok change site tally talks same is counted =
     let new = record site { tally = tally; talks = talks } in
-    let left : SameLeft site new = record { past = refl; spans = refl; since = refl; told = ap (λ ts. map (λ c. c.told) (map (λ talk. talk.connection) ts)) is ∙ told_kept change site.talks same } in
+    let left : SameLeft site new =
+    record { past = refl; spans = refl; since = refl; told = ap (λ ts. map (λ c. c.told) (map (λ talk. talk.connection) ts)) is ∙ told_kept change site.talks same } in
     link_call Unchanged Unchanged ok site new refl counted (quiet_time Unchanged site new (λ p. refl) left)
 
 -- the connections after such a call
-pub changed_to : (f h : Connection → Connection) (before talks : List Talk) → ((c : Connection) → f c ≡ h c) → talks ≡ change_last (with_connection f) before → map (λ talk. talk.connection) talks ≡ change_last h (map (λ talk. talk.connection) before)
+pub changed_to : (f h : Connection → Connection) (before talks : List Talk) → ((c : Connection) → f c ≡ h c) → talks ≡ change_last (with_connection f) before
+    → map (λ talk. talk.connection) talks ≡ change_last h (map (λ talk. talk.connection) before)
 changed_to f h before talks same is = ap (map (λ talk. talk.connection)) is ∙ connection_changed f h before same
 
 or_false : (b : Bool) → (b || false) ≡ b
@@ -48,7 +53,9 @@ or_true false = refl
 pub failed_mark : (E : Type 0) (e : E) (out : List ℕ) (c : Connection) → marked false c ≡ after_hear {E = E} (Err e) out c
 failed_mark E e out c = ap (λ failed. record c { failed = failed }) (or_true c.failed)
 
-pub heard_clause : (E : Type 0) (result : Result ℕ E) (out : List ℕ) (site : SiteState) (tally : Tally) (talks : List Talk) → tally.peer_faults ≡ site.tally.peer_faults → map (λ talk. talk.connection) talks ≡ change_last (after_hear result out) (connections_of site) → Heard result out (site_device site) (site_device (record site { tally = tally; talks = talks }))
+pub heard_clause : (E : Type 0) (result : Result ℕ E) (out : List ℕ) (site : SiteState) (tally : Tally) (talks : List Talk)
+    → tally.peer_faults ≡ site.tally.peer_faults → map (λ talk. talk.connection) talks ≡ change_last (after_hear result out) (connections_of site)
+    → Heard result out (site_device site) (site_device (record site { tally = tally; talks = talks }))
 heard_clause E result out site tally talks peer_faults connections = record {
   peers = record { peer_faults = peer_faults; closed = refl };
   under_way = refl;
@@ -71,29 +78,40 @@ sends_part ok bytes sent part all some = record {
 }
 
 -- the last connection, once it was told bytes and marked
-said_changed : (passes : Bool) (sent : List ℕ) (before talks : List Talk) → talks ≡ change_last (with_connection (marked passes)) (change_last (with_connection (told_more sent)) before) → talks ≡ change_last (with_connection (after_say passes sent)) before
-said_changed passes sent before talks is = is ∙ change_last-change_last (with_connection (marked passes)) (with_connection (told_more sent)) (with_connection (after_say passes sent)) before (λ talk. refl)
+said_changed : (passes : Bool) (sent : List ℕ) (before talks : List Talk)
+    → talks ≡ change_last (with_connection (marked passes)) (change_last (with_connection (told_more sent)) before)
+    → talks ≡ change_last (with_connection (after_say passes sent)) before
+said_changed passes sent before talks is =
+    is ∙ change_last-change_last (with_connection (marked passes)) (with_connection (told_more sent)) (with_connection (after_say passes sent)) before (λ talk. refl)
 
 -- what was told, once the last connection was told bytes
-said_told : (passes : Bool) (sent : List ℕ) (before talks : List Talk) → talks ≡ change_last (with_connection (after_say passes sent)) before → map (λ c. c.told) (map (λ talk. talk.connection) talks) ≡ change_last (λ t. t ++ sent) (map (λ c. c.told) (map (λ talk. talk.connection) before))
-said_told passes sent before talks is = ap (λ ts. map (λ c. c.told) (map (λ talk. talk.connection) ts)) is ∙ told_changed (after_say passes sent) (λ t. t ++ sent) before (λ c. refl)
+said_told : (passes : Bool) (sent : List ℕ) (before talks : List Talk) → talks ≡ change_last (with_connection (after_say passes sent)) before
+    → map (λ c. c.told) (map (λ talk. talk.connection) talks) ≡ change_last (λ t. t ++ sent) (map (λ c. c.told) (map (λ talk. talk.connection) before))
+said_told passes sent before talks is =
+    ap (λ ts. map (λ c. c.told) (map (λ talk. talk.connection) ts)) is ∙ told_changed (after_say passes sent) (λ t. t ++ sent) before (λ c. refl)
 
 -- a `say` that was noted
-noted_say : (passes : Bool) (bytes sent : List ℕ) (site : SiteState) (tally : Tally) (talks : List Talk) → IsKept site → Sends passes bytes sent → talks ≡ change_last (with_connection (after_say passes sent)) site.talks → Elapses (Tells false bytes) (Tells passes bytes) (site_device site) (site_device (record (after_tell sent site) { tally = tally; talks = talks }))
+noted_say : (passes : Bool) (bytes sent : List ℕ) (site : SiteState) (tally : Tally) (talks : List Talk) → IsKept site → Sends passes bytes sent
+    → talks ≡ change_last (with_connection (after_say passes sent)) site.talks
+    → Elapses (Tells false bytes) (Tells passes bytes) (site_device site) (site_device (record (after_tell sent site) { tally = tally; talks = talks }))
 noted_say passes bytes sent site tally talks kept sends is =
     let told = said_told passes sent site.talks talks is in
     let steps : EndsBy (Tells false bytes) (Bytes sent) site talks = record {
       whole = λ image. record { image = refl; told = (sent, record { prefix = sends.prefix; whole = λ wrong. cc }, told) };
       part = λ image so_far part. record { image = refl; told = (part.0, sends_part passes bytes sent part.0 sends part.1, part.2) };
     } in
-    let time = ended_time (Tells false bytes) (Tells passes bytes) (Bytes sent) site talks kept steps (λ image. record { image = refl; told = (sent, sends, told) }) in
+    let time =
+    ended_time (Tells false bytes) (Tells passes bytes) (Bytes sent) site talks kept steps (λ image. record { image = refl; told = (sent, sends, told) }) in
     same_time (Tells false bytes) (Tells passes bytes) site (with_span (Bytes sent) site talks) (record (after_tell sent site) { tally = tally; talks = talks }) (record { past = refl; spans = refl; since = refl; told = refl }) time
 
 -- a step that tells nothing
 tells_none : (bytes : List ℕ) (p : Left) → Tells false bytes p p
 tells_none bytes p = record { image = refl; told = ([], sends_none bytes, sym (change_last_same (λ t. t ++ []) p.told append-nil)) }
 
-pub say_call : (noted passes : Bool) (bytes : List ℕ) (site mid : SiteState) (tally : Tally) (talks : List Talk) → IsKept site → mid ≡ (if noted then after_tell (kept_bytes passes bytes) site else site) → talks ≡ change_last (with_connection (marked (noted && passes))) mid.talks → IsCounted (noted && passes) mid.tally.faults tally.faults → LinkCall (Tells false bytes) (Tells (noted && passes) bytes) (noted && passes) (site_device site) (site_device (record mid { tally = tally; talks = talks }))
+pub say_call : (noted passes : Bool) (bytes : List ℕ) (site mid : SiteState) (tally : Tally) (talks : List Talk) → IsKept site
+    → mid ≡ (if noted then after_tell (kept_bytes passes bytes) site else site) → talks ≡ change_last (with_connection (marked (noted && passes))) mid.talks
+    → IsCounted (noted && passes) mid.tally.faults tally.faults
+    → LinkCall (Tells false bytes) (Tells (noted && passes) bytes) (noted && passes) (site_device site) (site_device (record mid { tally = tally; talks = talks }))
 say_call true passes bytes site mid tally talks kept mid_is is counted =
     let sent = kept_bytes passes bytes in
     let changed = said_changed passes sent site.talks talks (is ∙ ap (λ m. change_last (with_connection (marked passes)) m.talks) mid_is) in
@@ -101,10 +119,13 @@ say_call true passes bytes site mid tally talks kept mid_is is counted =
 say_call false passes bytes site mid tally talks kept mid_is is counted =
     let new = record site { tally = tally; talks = talks } in
     let marks : talks ≡ change_last (with_connection (marked false)) site.talks = is ∙ ap (λ m. change_last (with_connection (marked false)) m.talks) mid_is in
-    let left : SameLeft site new = record { past = refl; spans = refl; since = refl; told = ap (λ ts. map (λ c. c.told) (map (λ talk. talk.connection) ts)) marks ∙ told_kept (marked false) site.talks (λ c. refl) } in
+    let left : SameLeft site new =
+    record { past = refl; spans = refl; since = refl; told = ap (λ ts. map (λ c. c.told) (map (λ talk. talk.connection) ts)) marks ∙ told_kept (marked false) site.talks (λ c. refl) } in
     rw mid_is (link_call _ _ false site new refl (rw mid_is at counted) (quiet_time (Tells false bytes) site new (tells_none bytes) left))
 
-pub said_clause : (noted passes : Bool) (bytes : List ℕ) (site mid : SiteState) (tally : Tally) (talks : List Talk) → mid ≡ (if noted then after_tell (kept_bytes passes bytes) site else site) → talks ≡ change_last (with_connection (marked (noted && passes))) mid.talks → tally.peer_faults ≡ mid.tally.peer_faults → Said (noted && passes) bytes (site_device site) (site_device (record mid { tally = tally; talks = talks }))
+pub said_clause : (noted passes : Bool) (bytes : List ℕ) (site mid : SiteState) (tally : Tally) (talks : List Talk)
+    → mid ≡ (if noted then after_tell (kept_bytes passes bytes) site else site) → talks ≡ change_last (with_connection (marked (noted && passes))) mid.talks
+    → tally.peer_faults ≡ mid.tally.peer_faults → Said (noted && passes) bytes (site_device site) (site_device (record mid { tally = tally; talks = talks }))
 said_clause true passes bytes site mid tally talks mid_is is peer_faults =
     let sent = kept_bytes passes bytes in
     let changed = said_changed passes sent site.talks talks (is ∙ ap (λ m. change_last (with_connection (marked passes)) m.talks) mid_is) in
@@ -118,42 +139,50 @@ said_clause false passes bytes site mid tally talks mid_is is peer_faults =
     rw mid_is (record {
       peers = record { peer_faults = rw mid_is at peer_faults; closed = refl };
       under_way = refl;
-      connections = λ _. ([], sends_none bytes, changed_to (marked false) (after_say false []) site.talks talks (λ c. ap (λ t. record c { told = t; failed = c.failed || true }) (sym (append-nil c.told))) marks);
+      connections =
+          λ _. ([], sends_none bytes, changed_to (marked false) (after_say false []) site.talks talks (λ c. ap (λ t. record c { told = t; failed = c.failed || true }) (sym (append-nil c.told))) marks);
     })
 
 -- A call that waited for a peer and failed left the site, but for its counts.
-pub failed_next : (passes : Bool) (came : Option Bool) (old mid : SiteState) → MatchOption came (mid ≡ old) (λ _. mid ≡ (if passes then after_next old else old)) → (is_some came && passes) ≡ false → mid ≡ old
+pub failed_next : (passes : Bool) (came : Option Bool) (old mid : SiteState)
+    → MatchOption came (mid ≡ old) (λ _. mid ≡ (if passes then after_next old else old)) → (is_some came && passes) ≡ false → mid ≡ old
 failed_next passes None old mid next failed = next
 failed_next true (Some came) old mid next failed = cc
 failed_next false (Some came) old mid next failed = next
 
-pub passed_next : (passes : Bool) (came : Option Bool) (old mid : SiteState) → MatchOption came (mid ≡ old) (λ _. mid ≡ (if passes then after_next old else old)) → (is_some came && passes) ≡ true → mid ≡ after_next old
+pub passed_next : (passes : Bool) (came : Option Bool) (old mid : SiteState)
+    → MatchOption came (mid ≡ old) (λ _. mid ≡ (if passes then after_next old else old)) → (is_some came && passes) ≡ true → mid ≡ after_next old
 passed_next passes None old mid next passed = cc
 passed_next true (Some came) old mid next passed = next
 passed_next false (Some came) old mid next passed = cc
 
-pub passed_came : (passes : Bool) (came : Option Bool) (left : Bool) → IfSome came (λ b. b ≡ (passes && left)) → (is_some came && passes) ≡ true → unwrap_or came false ≡ left
+pub passed_came : (passes : Bool) (came : Option Bool) (left : Bool) → IfSome came (λ b. b ≡ (passes && left)) → (is_some came && passes) ≡ true
+    → unwrap_or came false ≡ left
 passed_came passes None left is passed = cc
 passed_came true (Some came) left is passed = is
 passed_came false (Some came) left is passed = cc
 
 -- a connection that begins adds to what was told, and nothing is told within the call
-begun_time : (E : Type 0) (sends : List ℕ) (later : List (List ℕ)) (site : SiteState) (tally : Tally) → IsKept site → Elapses AddsConnection AddsConnection (site_device site) (site_device (record (next_of (sends ∷ later) site) { tally = tally }))
+begun_time : (E : Type 0) (sends : List ℕ) (later : List (List ℕ)) (site : SiteState) (tally : Tally) → IsKept site
+    → Elapses AddsConnection AddsConnection (site_device site) (site_device (record (next_of (sends ∷ later) site) { tally = tally }))
 begun_time E sends later site tally kept =
     let talk : Talk = record { sends = sends; connection = fresh } in
     let talks = site.talks ++ talk ∷ [] in
     let told : map (λ c. c.told) (map (λ talk. talk.connection) talks) ≡ told_of site ++ [] ∷ [] = simp map-append in
-    let adds : (image : List ℕ) → AddsConnection (record { image = image; told = told_of site }) (record { image = image; told = map (λ c. c.told) (map (λ talk. talk.connection) talks) }) = λ image. record { image = refl; told = told } in
+    let adds : (image : List ℕ) → AddsConnection (record { image = image; told = told_of site }) (record { image = image; told = map (λ c. c.told) (map (λ talk. talk.connection) talks) }) =
+    λ image. record { image = refl; told = told } in
     let steps : EndsBy AddsConnection Peer site talks = record { whole = adds; part = λ image so_far none. absurd none } in
     same_time AddsConnection AddsConnection site (with_span Peer site talks) (record (next_of (sends ∷ later) site) { tally = tally }) (record { past = refl; spans = refl; since = refl; told = refl }) (ended_time AddsConnection AddsConnection Peer site talks kept steps adds)
 
-pub next_call : (E : Type 0) (waiting : List (List ℕ)) (site : SiteState) (tally : Tally) → IsKept site → IsCounted true site.tally.faults tally.faults → LinkCall (Begins {E = E} (Ok (is_one_left waiting))) (Begins {E = E} (Ok (is_one_left waiting))) true (site_device site) (site_device (record (next_of waiting site) { tally = tally }))
+pub next_call : (E : Type 0) (waiting : List (List ℕ)) (site : SiteState) (tally : Tally) → IsKept site → IsCounted true site.tally.faults tally.faults
+    → LinkCall (Begins {E = E} (Ok (is_one_left waiting))) (Begins {E = E} (Ok (is_one_left waiting))) true (site_device site) (site_device (record (next_of waiting site) { tally = tally }))
 next_call E [] site tally kept counted =
     link_call Unchanged Unchanged true site (record (next_of [] site) { tally = tally }) refl counted (quiet_time Unchanged site (record (next_of [] site) { tally = tally }) (λ p. refl) (record { past = refl; spans = refl; since = refl; told = refl }))
 next_call E (sends ∷ later) site tally kept counted =
     link_call AddsConnection AddsConnection true site (record (next_of (sends ∷ later) site) { tally = tally }) refl counted (begun_time E sends later site tally kept)
 
-pub next_clause : (E : Type 0) (waiting : List (List ℕ)) (site : SiteState) (tally : Tally) → NextPeer {E = E} (Ok (is_one_left waiting)) (site_device site) (site_device (record (next_of waiting site) { tally = tally }))
+pub next_clause : (E : Type 0) (waiting : List (List ℕ)) (site : SiteState) (tally : Tally)
+    → NextPeer {E = E} (Ok (is_one_left waiting)) (site_device site) (site_device (record (next_of waiting site) { tally = tally }))
 next_clause E [] site tally = record { under_way = refl; connections = λ _. refl; closed = λ _. sym (or_true site.closed) }
 next_clause E (sends ∷ later) site tally = record { under_way = refl; connections = λ _. simp map-append; closed = λ _. sym (or_false site.closed) }
 
@@ -164,17 +193,21 @@ pub record WaitsForPeer {E : Type 0} (result : Result Bool E) (old new : SiteSta
   pub next : NextPeer result (site_device old) (site_device new)
   pub fails : SiteCalled old new (is_ok result)
 
-failed_at : (E : Type 0) (e : E) (site : SiteState) (tally : Tally) → CountsCall site.tally tally false → IsCounted false site.tally.peer_faults tally.peer_faults → WaitsForPeer {E = E} (Err e) site (record site { tally = tally })
+failed_at : (E : Type 0) (e : E) (site : SiteState) (tally : Tally) → CountsCall site.tally tally false
+    → IsCounted false site.tally.peer_faults tally.peer_faults → WaitsForPeer {E = E} (Err e) site (record site { tally = tally })
 failed_at E e site tally counts peers =
     let new = record site { tally = tally } in
     record {
-      call = link_call Unchanged Unchanged false site new refl counts.counted (quiet_time Unchanged site new (λ p. refl) (record { past = refl; spans = refl; since = refl; told = refl }));
+      call =
+          link_call Unchanged Unchanged false site new refl counts.counted (quiet_time Unchanged site new (λ p. refl) (record { past = refl; spans = refl; since = refl; told = refl }));
       peers = peers;
       next = record { under_way = refl; connections = λ _. refl; closed = λ _. refl };
       fails = record { counts = counts; disk = refl; piece = refl; peers = refl };
     }
 
-pub peer_failed : (E : Type 0) (e : E) (passes : Bool) (came : Option Bool) (old mid : SiteState) (tally : Tally) → MatchOption came (mid ≡ old) (λ _. mid ≡ (if passes then after_next old else old)) → (is_some came && passes) ≡ false → CountsCall mid.tally tally false → IsCounted false mid.tally.peer_faults tally.peer_faults → WaitsForPeer {E = E} (Err e) old (record mid { tally = tally })
+pub peer_failed : (E : Type 0) (e : E) (passes : Bool) (came : Option Bool) (old mid : SiteState) (tally : Tally)
+    → MatchOption came (mid ≡ old) (λ _. mid ≡ (if passes then after_next old else old)) → (is_some came && passes) ≡ false → CountsCall mid.tally tally false
+    → IsCounted false mid.tally.peer_faults tally.peer_faults → WaitsForPeer {E = E} (Err e) old (record mid { tally = tally })
 peer_failed E e passes came old mid tally next failed counts peers =
     let same = failed_next passes came old mid next failed in
     rw same (failed_at E e old tally (rw same at counts) (rw same at peers))
@@ -195,7 +228,9 @@ same_peers : (waiting : List (List ℕ)) (site : SiteState) → site.waiting ≡
 same_peers [] site is = refl
 same_peers (sends ∷ later) site is = rw is (simp (map-append, append_assoc))
 
-came_at : (E : Type 0) (site : SiteState) (tally : Tally) → IsKept site → CountsCall site.tally tally true → IsCounted true site.tally.peer_faults tally.peer_faults → WaitsForPeer {E = E} (Ok (is_one_left site.waiting)) site (record (after_next site) { tally = tally })
+came_at : (E : Type 0) (site : SiteState) (tally : Tally) → IsKept site → CountsCall site.tally tally true
+    → IsCounted true site.tally.peer_faults tally.peer_faults
+    → WaitsForPeer {E = E} (Ok (is_one_left site.waiting)) site (record (after_next site) { tally = tally })
 came_at E site tally kept counts peers = record {
   call = next_call E site.waiting site tally kept counts.counted;
   peers = peers;
@@ -203,14 +238,19 @@ came_at E site tally kept counts peers = record {
   fails = record { counts = counts; disk = same_disk site.waiting site; piece = same_piece site.waiting site; peers = same_peers site.waiting site refl };
 }
 
-pub peer_came : (E : Type 0) (passes : Bool) (came : Option Bool) (old mid : SiteState) (tally : Tally) → IsKept old → MatchOption came (mid ≡ old) (λ _. mid ≡ (if passes then after_next old else old)) → IfSome came (λ b. b ≡ (passes && is_one_left old.waiting)) → (is_some came && passes) ≡ true → CountsCall mid.tally tally true → IsCounted true mid.tally.peer_faults tally.peer_faults → WaitsForPeer {E = E} (Ok (unwrap_or came false)) old (record mid { tally = tally })
+pub peer_came : (E : Type 0) (passes : Bool) (came : Option Bool) (old mid : SiteState) (tally : Tally) → IsKept old
+    → MatchOption came (mid ≡ old) (λ _. mid ≡ (if passes then after_next old else old)) → IfSome came (λ b. b ≡ (passes && is_one_left old.waiting))
+    → (is_some came && passes) ≡ true → CountsCall mid.tally tally true → IsCounted true mid.tally.peer_faults tally.peer_faults
+    → WaitsForPeer {E = E} (Ok (unwrap_or came false)) old (record mid { tally = tally })
 peer_came E passes came old mid tally kept next is_left passed counts peers =
     let after = passed_next passes came old mid next passed in
     let tallies = ap (λ site. site.tally) after ∙ same_tally old.waiting old in
     rw (after, passed_came passes came (is_one_left old.waiting) is_left passed) (came_at E old tally kept (rw tallies at counts) (rw tallies at peers))
 
 -- what a call on the last connection leaves that isn't seen in the device
-pub changed_fails : (ok : Bool) (change : Connection → Connection) (site : SiteState) (tally : Tally) (talks : List Talk) → talks ≡ change_last (with_connection change) site.talks → CountsCall site.tally tally ok → SiteCalled site (record site { tally = tally; talks = talks }) ok
+pub changed_fails : (ok : Bool) (change : Connection → Connection) (site : SiteState) (tally : Tally) (talks : List Talk)
+    → talks ≡ change_last (with_connection change) site.talks → CountsCall site.tally tally ok
+    → SiteCalled site (record site { tally = tally; talks = talks }) ok
 changed_fails ok change site tally talks is counts = record {
   counts = counts;
   disk = refl;
@@ -218,9 +258,12 @@ changed_fails ok change site tally talks is counts = record {
   peers = ap (λ sends. sends ++ site.waiting) (ap (map (λ talk. talk.sends)) is ∙ peers_kept change site.talks);
 }
 
-pub said_fails : (noted passes : Bool) (bytes : List ℕ) (site mid : SiteState) (tally : Tally) (talks : List Talk) → mid ≡ (if noted then after_tell (kept_bytes passes bytes) site else site) → talks ≡ change_last (with_connection (marked (noted && passes))) mid.talks → CountsCall mid.tally tally (noted && passes) → SiteCalled site (record mid { tally = tally; talks = talks }) (noted && passes)
+pub said_fails : (noted passes : Bool) (bytes : List ℕ) (site mid : SiteState) (tally : Tally) (talks : List Talk)
+    → mid ≡ (if noted then after_tell (kept_bytes passes bytes) site else site) → talks ≡ change_last (with_connection (marked (noted && passes))) mid.talks
+    → CountsCall mid.tally tally (noted && passes) → SiteCalled site (record mid { tally = tally; talks = talks }) (noted && passes)
 said_fails true passes bytes site mid tally talks mid_is is counts =
-    let changed = said_changed passes (kept_bytes passes bytes) site.talks talks (is ∙ ap (λ m. change_last (with_connection (marked passes)) m.talks) mid_is) in
+    let changed =
+    said_changed passes (kept_bytes passes bytes) site.talks talks (is ∙ ap (λ m. change_last (with_connection (marked passes)) m.talks) mid_is) in
     rw mid_is (record {
       counts = rw mid_is at counts;
       disk = refl;
@@ -235,12 +278,18 @@ sent_if : (noted : Bool) (n m : ℕ) (bytes : List ℕ) → m ≡ (if noted then
 sent_if true n m bytes is = rw is (grind (arith, nat_tests))
 sent_if false n m bytes is = rw is (grind (arith, nat_tests))
 
-pub said_sent : (noted passes : Bool) (bytes : List ℕ) (site mid : SiteState) (tally : Tally) (talks : List Talk) → mid ≡ (if noted then after_tell (kept_bytes passes bytes) site else site) → talks ≡ change_last (with_connection (marked (noted && passes))) mid.talks → tally.made ≡ (if noted then mid.tally.made + 1 else mid.tally.made) → told_of (record mid { tally = tally; talks = talks }) ≡ change_last (λ t. t ++ sent_by site (record mid { tally = tally; talks = talks }) (noted && passes) bytes) (told_of site)
+pub said_sent : (noted passes : Bool) (bytes : List ℕ) (site mid : SiteState) (tally : Tally) (talks : List Talk)
+    → mid ≡ (if noted then after_tell (kept_bytes passes bytes) site else site) → talks ≡ change_last (with_connection (marked (noted && passes))) mid.talks
+    → tally.made ≡ (if noted then mid.tally.made + 1 else mid.tally.made)
+    → told_of (record mid { tally = tally; talks = talks }) ≡ change_last (λ t. t ++ sent_by site (record mid { tally = tally; talks = talks }) (noted && passes) bytes) (told_of site)
 said_sent true passes bytes site mid tally talks mid_is is number =
-    let changed = said_changed passes (kept_bytes passes bytes) site.talks talks (is ∙ ap (λ m. change_last (with_connection (marked passes)) m.talks) mid_is) in
-    let sent : kept_bytes passes bytes ≡ (if tally.made == site.tally.made then [] else kept_bytes passes bytes) = sent_if true site.tally.made tally.made (kept_bytes passes bytes) (rw mid_is at number) in
+    let changed =
+    said_changed passes (kept_bytes passes bytes) site.talks talks (is ∙ ap (λ m. change_last (with_connection (marked passes)) m.talks) mid_is) in
+    let sent : kept_bytes passes bytes ≡ (if tally.made == site.tally.made then [] else kept_bytes passes bytes) =
+    sent_if true site.tally.made tally.made (kept_bytes passes bytes) (rw mid_is at number) in
     said_told passes (kept_bytes passes bytes) site.talks talks changed ∙ ap (λ bytes. change_last (λ t. t ++ bytes) (told_of site)) sent
 said_sent false passes bytes site mid tally talks mid_is is number =
     let marks : talks ≡ change_last (with_connection (marked false)) site.talks = is ∙ ap (λ m. change_last (with_connection (marked false)) m.talks) mid_is in
-    let sent : [] ≡ (if tally.made == site.tally.made then [] else kept_bytes false bytes) = sent_if false site.tally.made tally.made (kept_bytes false bytes) (rw mid_is at number) in
+    let sent : [] ≡ (if tally.made == site.tally.made then [] else kept_bytes false bytes) =
+    sent_if false site.tally.made tally.made (kept_bytes false bytes) (rw mid_is at number) in
     ap (λ ts. map (λ c. c.told) (map (λ talk. talk.connection) ts)) marks ∙ (told_kept (marked false) site.talks (λ c. refl) ∙ (sym (change_last_same (λ t. t ++ []) (told_of site) append-nil) ∙ ap (λ bytes. change_last (λ t. t ++ bytes) (told_of site)) sent))

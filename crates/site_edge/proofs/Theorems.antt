@@ -10,12 +10,15 @@ use Rattle.site_edge.specs.Saying.{ArePrefixes, IsPrefix, IsToldToLast, KeepsTol
 
 -- How pairs grow by a disk call and a `say` behind it: the disk call changes images, the `say` adds each
 -- prefix of its bytes to what was told.
-pub elapses_call_and_say : (step : Left → Left → Type 0) (done ok : Bool) (bytes : List ℕ) (old mid new : Device) → DiskCall step done old mid → LinkCall (Tells false bytes) (Tells ok bytes) ok mid new → Elapses (WithinTwo step step (Tells false bytes)) (Then step (Tells ok bytes)) old new
+pub elapses_call_and_say : (step : Left → Left → Type 0) (done ok : Bool) (bytes : List ℕ) (old mid new : Device) → DiskCall step done old mid
+    → LinkCall (Tells false bytes) (Tells ok bytes) ok mid new → Elapses (WithinTwo step step (Tells false bytes)) (Then step (Tells ok bytes)) old new
 elapses_call_and_say step done ok bytes old mid new call say =
     elapses_twice step step (Tells false bytes) (Tells ok bytes) old mid new call.time say.time
 
 -- and by a `say` and a disk call behind it
-pub elapses_say_and_call : (step : Left → Left → Type 0) (done ok : Bool) (bytes : List ℕ) (old mid new : Device) → LinkCall (Tells false bytes) (Tells ok bytes) ok old mid → DiskCall step done mid new → Elapses (WithinTwo (Tells false bytes) (Tells ok bytes) step) (Then (Tells ok bytes) step) old new
+pub elapses_say_and_call : (step : Left → Left → Type 0) (done ok : Bool) (bytes : List ℕ) (old mid new : Device)
+    → LinkCall (Tells false bytes) (Tells ok bytes) ok old mid → DiskCall step done mid new
+    → Elapses (WithinTwo (Tells false bytes) (Tells ok bytes) step) (Then (Tells ok bytes) step) old new
 elapses_say_and_call step done ok bytes old mid new say call =
     elapses_twice (Tells false bytes) (Tells ok bytes) step step old mid new say.time call.time
 
@@ -37,7 +40,8 @@ prefixes_longer (t ∷ u ∷ told) (s ∷ []) more are = absurd are.1
 prefixes_longer (t ∷ told) (s ∷ r ∷ said) more are = (are.0, prefixes_longer told (r ∷ said) more are.1)
 
 -- prefixes, and one more connection behind them
-prefixes_push : (told said : List (List ℕ)) (t s : List ℕ) → length told ≡ length said → ArePrefixes told said → IsPrefix t s → ArePrefixes (told ++ t ∷ []) (said ++ s ∷ [])
+prefixes_push : (told said : List (List ℕ)) (t s : List ℕ) → length told ≡ length said → ArePrefixes told said → IsPrefix t s
+    → ArePrefixes (told ++ t ∷ []) (said ++ s ∷ [])
 prefixes_push [] [] t s same are is = (is, tt)
 prefixes_push [] (r ∷ said) t s same are is = absurd (omega (arith, same))
 prefixes_push (u ∷ told) [] t s same are is = absurd are
@@ -49,7 +53,8 @@ change_last_push f (y ∷ []) x = refl
 change_last_push f (y ∷ z ∷ xs) x = ap (λ ys. y ∷ ys) (change_last_push f (z ∷ xs) x)
 
 -- the last connection was told a prefix of the bytes more
-prefixes_told : (told said : List (List ℕ)) (bytes sent : List ℕ) → Sends false bytes sent → IsToldToLast told said → ArePrefixes (change_last (λ t. t ++ sent) told) (said_also bytes said)
+prefixes_told : (told said : List (List ℕ)) (bytes sent : List ℕ) → Sends false bytes sent → IsToldToLast told said
+    → ArePrefixes (change_last (λ t. t ++ sent) told) (said_also bytes said)
 prefixes_told told said bytes sent sends is =
     let more : IsPrefix (is.last ++ sent) (is.last ++ bytes) =
     (sends.prefix.0, ap (λ b. is.last ++ b) sends.prefix.1 ∙ sym (append_assoc is.last sent sends.prefix.0)) in
@@ -75,7 +80,8 @@ prefixes_of_whole told said is =
     rw (is.told_is, is.said_is) (prefixes_push is.told_before is.said_before is.last is.last is.same_length is.prefixes ([], sym (append-nil is.last)))
 
 -- a disk call leaves told what was told
-pub said_over_disk_call : (step : Left → Left → Type 0) (done : Bool) (t : ℕ) (said : List (List ℕ)) (old new : Device) → KeepsTold step → t ≤ old.moment → DiskCall step done old new → SaidSince t said old → SaidSince t said new
+pub said_over_disk_call : (step : Left → Left → Type 0) (done : Bool) (t : ℕ) (said : List (List ℕ)) (old new : Device) → KeepsTold step → t ≤ old.moment
+    → DiskCall step done old new → SaidSince t said old → SaidSince t said new
 said_over_disk_call step done t said old new keeps le call is = record {
   since = λ p left. elim (call.time.since t p le left) [
     | inl was ↦ is.since p was
@@ -88,7 +94,9 @@ said_over_disk_call step done t said old new keeps le call is = record {
 
 -- Each pair since the moment has prefixes of what was said, with the bytes of a `say` added to the last
 -- connection, whether it succeeds or fails.
-pub prefixes_over_say : (ok : Bool) (bytes : List ℕ) (t : ℕ) (said : List (List ℕ)) (old new : Device) → t ≤ old.moment → LinkCall (Tells false bytes) (Tells ok bytes) ok old new → SaidSince t said old → (p : Left) → new.left_since t p → ArePrefixes p.told (said_also bytes said)
+pub prefixes_over_say : (ok : Bool) (bytes : List ℕ) (t : ℕ) (said : List (List ℕ)) (old new : Device) → t ≤ old.moment
+    → LinkCall (Tells false bytes) (Tells ok bytes) ok old new → SaidSince t said old → (p : Left) → new.left_since t p
+    → ArePrefixes p.told (said_also bytes said)
 prefixes_over_say ok bytes t said old new le call is p left = elim (call.time.since t p le left) [
   | inl was ↦ prefixes_longer p.told said bytes (is.since p was)
   | inr so_far ↦
@@ -97,7 +105,8 @@ prefixes_over_say ok bytes t said old new le call is p left = elim (call.time.si
 ]
 
 -- a `say` that succeeds has told all its bytes
-pub said_over_say : (bytes : List ℕ) (t : ℕ) (said : List (List ℕ)) (old new : Device) → t ≤ old.moment → LinkCall (Tells false bytes) (Tells true bytes) true old new → SaidSince t said old → SaidSince t (said_also bytes said) new
+pub said_over_say : (bytes : List ℕ) (t : ℕ) (said : List (List ℕ)) (old new : Device) → t ≤ old.moment
+    → LinkCall (Tells false bytes) (Tells true bytes) true old new → SaidSince t said old → SaidSince t (said_also bytes said) new
 said_over_say bytes t said old new le call is = record {
   since = prefixes_over_say true bytes t said old new le call is;
   now = λ p left.
@@ -108,7 +117,10 @@ said_over_say bytes t said old new le call is = record {
 }
 
 -- two calls of `say` with a disk call in between
-pub prefixes_over_says : (step : Left → Left → Type 0) (done ok : Bool) (first second : List ℕ) (t : ℕ) (said : List (List ℕ)) (old told written new : Device) → KeepsTold step → t ≤ old.moment → LinkCall (Tells false first) (Tells true first) true old told → DiskCall step done told written → LinkCall (Tells false second) (Tells ok second) ok written new → SaidSince t said old → (p : Left) → new.left_since t p → ArePrefixes p.told (said_also second (said_also first said))
+pub prefixes_over_says : (step : Left → Left → Type 0) (done ok : Bool) (first second : List ℕ) (t : ℕ) (said : List (List ℕ)) (old told written new : Device)
+    → KeepsTold step → t ≤ old.moment → LinkCall (Tells false first) (Tells true first) true old told → DiskCall step done told written
+    → LinkCall (Tells false second) (Tells ok second) ok written new → SaidSince t said old → (p : Left) → new.left_since t p
+    → ArePrefixes p.told (said_also second (said_also first said))
 prefixes_over_says step done ok first second t said old told written new keeps le one call two is =
     let after_one = said_over_say first t said old told le one is in
     let le_told : t ≤ told.moment = omega (arith, le, one.time.later) in
@@ -135,7 +147,8 @@ told_length : (told said : List (List ℕ)) → IsToldToLast told said → lengt
 told_length told said is = rw (is.told_is, is.said_is) (push_length is.told_before is.said_before is.last is.last is.same_length)
 
 -- and so where the last one was told only a part
-part_length : (told said : List (List ℕ)) (bytes sent : List ℕ) → IsToldToLast told said → length (change_last (λ t. t ++ sent) told) ≡ length (said_also bytes said)
+part_length : (told said : List (List ℕ)) (bytes sent : List ℕ) → IsToldToLast told said
+    → length (change_last (λ t. t ++ sent) told) ≡ length (said_also bytes said)
 part_length told said bytes sent is =
     let told_now = ap (change_last (λ t. t ++ sent)) is.told_is ∙ change_last_push (λ t. t ++ sent) is.told_before is.last in
     let said_now = ap (said_also bytes) is.said_is ∙ change_last_push (λ s. s ++ bytes) is.said_before is.last in
@@ -149,7 +162,8 @@ said_at_most t said d is = record {
 }
 
 -- a `say` that fails may have told a part of its bytes
-pub said_over_failed_say : (bytes : List ℕ) (t : ℕ) (said : List (List ℕ)) (old new : Device) → t ≤ old.moment → LinkCall (Tells false bytes) (Tells false bytes) false old new → SaidSince t said old → SaidAtMost t (said_also bytes said) new
+pub said_over_failed_say : (bytes : List ℕ) (t : ℕ) (said : List (List ℕ)) (old new : Device) → t ≤ old.moment
+    → LinkCall (Tells false bytes) (Tells false bytes) false old new → SaidSince t said old → SaidAtMost t (said_also bytes said) new
 said_over_failed_say bytes t said old new le call is = record {
   since = prefixes_over_say false bytes t said old new le call is;
   now = λ p left.
@@ -160,7 +174,8 @@ said_over_failed_say bytes t said old new le call is = record {
 }
 
 -- a peer that comes was told nothing yet, whatever became of the connection before it
-pub said_over_next_peer : (t : ℕ) (said : List (List ℕ)) (old new : Device) → t ≤ old.moment → LinkCall AddsConnection AddsConnection true old new → SaidAtMost t said old → SaidSince t (said ++ [] ∷ []) new
+pub said_over_next_peer : (t : ℕ) (said : List (List ℕ)) (old new : Device) → t ≤ old.moment → LinkCall AddsConnection AddsConnection true old new
+    → SaidAtMost t said old → SaidSince t (said ++ [] ∷ []) new
 said_over_next_peer t said old new le call is = record {
   since = λ p left. elim (call.time.since t p le left) [
     | inl was ↦ prefixes_more p.told said [] (is.since p was)
@@ -194,7 +209,8 @@ said_from_now d law honest tells = record {
 }
 
 -- a call that tells nothing, as a disk call, a `hear` or the end of a connection, leaves it so
-pub said_over_quiet_call : (within ended : Left → Left → Type 0) (t : ℕ) (said : List (List ℕ)) (old new : Device) → KeepsTold within → KeepsTold ended → t ≤ old.moment → Elapses within ended old new → SaidAtMost t said old → SaidAtMost t said new
+pub said_over_quiet_call : (within ended : Left → Left → Type 0) (t : ℕ) (said : List (List ℕ)) (old new : Device) → KeepsTold within → KeepsTold ended
+    → t ≤ old.moment → Elapses within ended old new → SaidAtMost t said old → SaidAtMost t said new
 said_over_quiet_call within ended t said old new so_far_keeps keeps le time is = record {
   since = λ p left. elim (time.since t p le left) [
     | inl was ↦ is.since p was

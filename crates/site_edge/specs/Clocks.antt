@@ -14,8 +14,8 @@ pub record Listing : Type 0 where
 abbrev pub not_begun : List ℕ → Listing
 not_begun moments = record { moments = moments; count = Some 0 }
 
--- The moment that comes after n others: the one at its place in the list, the last one again and again
--- behind its end, and 0 where the list is empty.
+-- The moment that comes after n others: the one at its place in the list, the last one again and
+-- again behind its end, and 0 where the list is empty.
 abbrev pub moment_after : List ℕ → ℕ → ℕ
 moment_after moments n = slice_index moments (min n (length moments - 1))
 

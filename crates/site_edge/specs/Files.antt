@@ -1,6 +1,8 @@
--- What a site over a real file means. It tells nothing of what the file and its peer hold or take.
+-- What a real file means, and a site over one. They tell nothing of what the file and its peer hold
+-- or take.
 use Rattle.std.specs.Prelude.{ℕ, ℤ, pos, ◌≤ℤ◌, ◌<ℤ◌, Bool, true, false, []}
 use Rattle.disk_trait.specs.Device.{Device, IsDevice}
+use Rattle.disk_trait.specs.Fakes.{no_link}
 use Rattle.site_edge.specs.declared.file_site.Peer.{Peer}
 use Rattle.site_edge.specs.declared.file_site.Peer.TheVariants.{Awaited, UnderWay, Gone}
 
@@ -18,39 +20,59 @@ is_under_way Awaited = false
 is_under_way UnderWay = true
 is_under_way Gone = false
 
--- A site over a file: the file's descriptor and its length in bytes, the counts of the faults of the file
--- and of the peer, and whether a connection is under way.
+-- A file: its descriptor, its length in bytes, and the count of its faults.
 pub record FileState : Type 0 where
   pub descriptor : ℤ
   pub size : ℕ
   pub faults : ℕ
-  pub link_faults : ℕ
-  pub under_way : Bool
 
--- a site over such a file that was asked nothing yet
-abbrev pub unused : ℤ → ℕ → FileState
-unused descriptor size = record { descriptor = descriptor; size = size; faults = 0; link_faults = 0; under_way = false }
+-- such a file that was asked nothing yet
+abbrev pub untouched : ℤ → ℕ → FileState
+untouched descriptor size = record { descriptor = descriptor; size = size; faults = 0 }
 
--- The device that such a site is. It isn't honest and shows no bytes. Waiting for the peer never fails.
+-- The device that a file is. It isn't honest and shows no bytes.
 abbrev pub file_device : FileState → Device
-file_device s = record {
-  size = s.size;
-  faults = s.faults;
+file_device f = record {
+  size = f.size;
+  faults = f.faults;
   honest = false;
   shows = false;
   tells = false;
   seen = [];
   handed = 0;
-  link = record { faults = s.link_faults; peer_faults = 0; under_way = s.under_way; connections = []; closed = false };
+  link = no_link;
   moment = 0;
   left_since = λ _ _. ⊥;
 }
 
--- it is a device, of which nothing is told that a crash leaves
-pub file_device_is_sound : (s : FileState) → IsDevice (file_device s)
-file_device_is_sound s = record {
-  length = λ shows. cc;
+-- A site over a file: the file, the count of the faults of its peer, and whether a connection is
+-- under way.
+pub record FileSiteState : Type 0 where
+  pub file : FileState
+  pub link_faults : ℕ
+  pub under_way : Bool
+
+-- The device that such a site is: its file, and its link. Waiting for the peer never fails.
+abbrev pub file_site_device : FileSiteState → Device
+file_site_device s = record (file_device s.file) {
+  link =
+      record { faults = s.link_faults; peer_faults = 0; under_way = s.under_way; connections = []; closed = false };
+}
+
+-- both are devices, of which nothing is told that a crash leaves
+pub file_device_is_sound : (f : FileState) → IsDevice (file_device f)
+file_device_is_sound f = record {
   images = λ honest _ _ _. cc;
+  length = λ shows. cc;
+  earlier = λ t u p _ _ left. left;
+  itself = λ honest _ _. cc;
+  told = λ honest _ _ _. cc;
+}
+
+pub file_site_device_is_sound : (s : FileSiteState) → IsDevice (file_site_device s)
+file_site_device_is_sound s = record {
+  images = λ honest _ _ _. cc;
+  length = λ shows. cc;
   earlier = λ t u p _ _ left. left;
   itself = λ honest _ _. cc;
   told = λ honest _ _ _. cc;

@@ -1,6 +1,6 @@
 -- What the calls to a peer leave of a site, whether they succeed or fail. Our own model: file calls
--- and said bytes have one order of moments, and saying bytes adds each prefix of them to what a crash
--- leaves told.
+-- and said bytes have one order of moments, and saying bytes adds each prefix of them to what a
+-- crash leaves told.
 use Rattle.std.specs.Prelude.{◌≡◌, ℕ, zero, suc, Bool, true, false, ◌||◌, not, List, [], ◌∷◌, ◌++◌, take, Result, Ok, Err, IsTrue}
 use Rattle.disk_trait.specs.Device.{Device, Left, Connection}
 use Rattle.disk_trait.specs.Calls.{SameDevice, IsCounted, Elapses, Unchanged}
@@ -16,9 +16,9 @@ change_last f [] = []
 change_last f (x ∷ []) = f x ∷ []
 change_last f (x ∷ y ∷ xs) = x ∷ change_last f (y ∷ xs)
 
--- What each call to a peer leaves: the disk's count of faults, its bytes and what was handed to it, and
--- the count of link faults unless it fails. The steps are what it may do to what a crash leaves, so far
--- at a moment within it, and once it has ended.
+-- What each call to a peer leaves: the disk's count of faults, its bytes and what was handed to it,
+-- and the count of link faults unless it fails. The steps are what it may do to what a crash
+-- leaves, so far at a moment within it, and once it has ended.
 pub record LinkCall (within ended : Left → Left → Type 0) (ok : Bool) (old new : Device) : Type 0 where
   pub same : SameDevice old new
   pub faults : new.faults ≡ old.faults
@@ -27,8 +27,8 @@ pub record LinkCall (within ended : Left → Left → Type 0) (ok : Bool) (old n
   pub counted : IsCounted ok old.link.faults new.link.faults
   pub time : Elapses within ended old new
 
--- A step that tells the last connection these bytes, or a prefix of them where the call failed. So far
--- it may have told any prefix.
+-- A step that tells the last connection these bytes, or a prefix of them where the call failed. So
+-- far it may have told any prefix.
 pub record Tells (ok : Bool) (bytes : List ℕ) (old new : Left) : Type 0 where
   pub image : new.image ≡ old.image
   pub told : (sent : List ℕ) × Sends ok bytes sent × (new.told ≡ change_last (λ t. t ++ sent) old.told)
@@ -85,7 +85,8 @@ after_hear (Err _) out c = record c { failed = true }
 pub record Heard {E : Type 0} (result : Result ℕ E) (out : List ℕ) (old new : Device) : Type 0 where
   pub peers : SamePeers old new
   pub under_way : new.link.under_way ≡ old.link.under_way
-  pub connections : old.tells ≡ true → new.link.connections ≡ change_last (after_hear result out) old.link.connections
+  pub connections : old.tells ≡ true
+      → new.link.connections ≡ change_last (after_hear result out) old.link.connections
 
 -- a connection that was told these bytes more, by a call that succeeded or failed
 abbrev pub after_say : Bool → List ℕ → Connection → Connection
@@ -95,7 +96,8 @@ after_say ok sent c = record c { told = c.told ++ sent; failed = c.failed || not
 pub record Said (ok : Bool) (bytes : List ℕ) (old new : Device) : Type 0 where
   pub peers : SamePeers old new
   pub under_way : new.link.under_way ≡ old.link.under_way
-  pub connections : old.tells ≡ true → (sent : List ℕ) × Sends ok bytes sent × (new.link.connections ≡ change_last (after_say ok sent) old.link.connections)
+  pub connections : old.tells ≡ true
+      → (sent : List ℕ) × Sends ok bytes sent × (new.link.connections ≡ change_last (after_say ok sent) old.link.connections)
 
 -- the site after its connection was ended
 pub record Closed (old new : Device) : Type 0 where

@@ -63,8 +63,8 @@ told_of site = map (λ connection. connection.told) (connections_of site)
 abbrev pub disk_calls : SiteState → ℕ
 disk_calls site = length site.disk.past.calls
 
--- A crash may leave this image at a moment since t, within the stretch from one number of disk calls
--- to another; so many moments more came from the spans before it.
+-- A crash may leave this image at a moment since t, within the stretch from one number of disk
+-- calls to another; so many moments more came from the spans before it.
 pub record LeavesIn (past : Past) (from to before t : ℕ) (image : List ℕ) : Type 0 where
   pub moment : ℕ
   pub begun : from ≤ moment
@@ -88,8 +88,8 @@ LeavesNow site t =
 abbrev pub told_before : SiteState → ℕ → List (List ℕ)
 told_before site n = told_after (take n site.spans) []
 
--- A crash at a moment since t may leave this: in the stretch that goes on, in one that has ended, or
--- within the call that ended it.
+-- A crash at a moment since t may leave this: in the stretch that goes on, in one that has ended,
+-- or within the call that ended it.
 pub data SiteLeaves (site : SiteState) (t : ℕ) (p : Left) : Type 0 where
   now : LeavesNow site t p.image → p.told ≡ told_of site → SiteLeaves site t p
   earlier : (n : ℕ) (span : Span)

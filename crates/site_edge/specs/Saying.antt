@@ -7,8 +7,8 @@ use Rattle.site_edge.specs.Links.{change_last}
 abbrev pub IsPrefix : List ℕ → List ℕ → Type 0
 IsPrefix front text = (rest : List ℕ) × (text ≡ front ++ rest)
 
--- What was told is, connection by connection, a prefix of what was said. The later connections need not
--- have begun.
+-- What was told is, connection by connection, a prefix of what was said. The later connections need
+-- not have begun.
 abbrev pub ArePrefixes : List (List ℕ) → List (List ℕ) → Type 0
 ArePrefixes [] said = Unit {0}
 ArePrefixes (t ∷ told) [] = ⊥

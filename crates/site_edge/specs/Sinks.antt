@@ -7,8 +7,8 @@ use Rattle.site_edge.specs.Links.{Sends}
 abbrev pub Puts : Bool → List ℕ → List ℕ → List ℕ → Type 0
 Puts ok bytes old new = (sent : List ℕ) × Sends ok bytes sent × (new ≡ old ++ sent)
 
--- a sink in memory: the bytes that it took, whether it is broken, and the counts of its faults and of
--- its starved calls, which found no memory
+-- a sink in memory: the bytes that it took, whether it is broken, and the counts of its faults and
+-- of its starved calls, which found no memory
 pub record SinkState : Type 0 where
   pub taken : List ℕ
   pub broken : Bool
@@ -19,8 +19,8 @@ pub record SinkState : Type 0 where
 abbrev pub empty_sink : Bool → SinkState
 empty_sink broken = record { taken = []; broken = broken; faults = 0; starved = 0 }
 
--- How a put to a sink in memory ends. It fails wherever the sink is broken or the count of starved calls
--- rose, and nowhere else while that count can rise. A put that fails takes nothing.
+-- How a put to a sink in memory ends. It fails wherever the sink is broken or the count of starved
+-- calls rose, and nowhere else while that count can rise. A put that fails takes nothing.
 pub record PutEnds (old new : SinkState) (ok : Bool) : Type 0 where
   pub same : new.broken ≡ old.broken
   pub never_falls : old.starved ≤ new.starved

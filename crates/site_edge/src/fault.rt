@@ -13,7 +13,7 @@ pub struct LinkFailed;
 #[derive(Clone, Copy, Debug, PartialEq, Eq)]
 pub struct SinkFailed;
 
-/// A file could not be opened, made, lengthened or synced, or got a standard stream's descriptor.
+/// A file could not be opened, made, lengthened, locked or synced, or it is that of a standard stream.
 #[derive(Clone, Copy, Debug, PartialEq, Eq)]
 pub struct FileFailed;
 

@@ -1,8 +1,10 @@
 //! The standard streams as sinks.
-ghost use Rattle.std.specs.Prelude.{◌≡◌, [], false};
+ghost use Rattle.std.specs.Prelude.{◌≡◌, [], false, is_ok};
+ghost use Rattle.disk_trait.specs.Calls.{IsCounted};
 
 use crate::fault::counted;
 use crate::{Sink, SinkFailed};
+use std::io;
 use std::io::{Stderr, Stdout};
 use std::marker::Model;
 
@@ -12,20 +14,28 @@ enum Stream {
     Error(Stderr),
 }
 
-/// Hands each text to the system at once. It doesn't tell what the system took. Contracts see the count
-/// of its faults.
+/// The bytes of a line that are kept back until its end.
+const LINE: usize = 256;
+
+/// Hands each line to the system in one call, once its end was put, and a longer text at once. It doesn't tell
+/// what the system took. Contracts see the count of its faults.
 #[derive(Drop)]
 pub struct HostSink {
     stream: Stream,
+    line: [u8; LINE],
+    kept: usize,
     faults: u64,
 }
 
 impl Model for HostSink {
-    ghost use Rattle.std.specs.Prelude.{ℕ};
+    ghost use Rattle.std.specs.Prelude.{◌≤◌, ℕ};
+    ghost use Rattle.site_edge.specs.declared.host_sink.TheConstants.{LINE};
 
     ghost Value = { ℕ };
 
     ghost view = { λ s. s.faults };
+
+    ghost invariant = { λ s. s.kept ≤ LINE };
 }
 
 impl HostSink {
@@ -33,20 +43,35 @@ impl HostSink {
     pub fn output(stream: Stdout) -> HostSink
         ensures { result ≡ 0 }
     {
-        HostSink {
-            stream: Stream::Output(stream),
-            faults: 0,
-        }
+        HostSink::over(Stream::Output(stream))
     }
 
     /// The standard error as a sink.
     pub fn error(stream: Stderr) -> HostSink
         ensures { result ≡ 0 }
     {
+        HostSink::over(Stream::Error(stream))
+    }
+
+    fn over(stream: Stream) -> HostSink
+        ensures { result ≡ 0 }
+    {
         HostSink {
-            stream: Stream::Error(stream),
+            stream,
+            line: [0; LINE],
+            kept: 0,
             faults: 0,
         }
+    }
+
+    /// Hands on what was kept of a line, and then these bytes.
+    fn hand_on(&mut self, bytes: &[u8]) -> Result<(), SinkFailed>
+        ensures { IsCounted (is_ok result) self.old self.new }
+    {
+        let (line, _) = self.line.split_at(self.kept);
+        let answer = write(self.stream, line).and_then(|()| write(self.stream, bytes));
+        self.kept = 0;
+        counted(answer, &mut self.faults, SinkFailed)
     }
 }
 
@@ -60,11 +85,25 @@ impl Sink for HostSink {
     ghost fails = { λ _ _ _. Unit {0} };
 
     fn put(&mut self, bytes: &[u8]) -> Result<(), SinkFailed> {
-        let answer = match self.stream {
-            Stream::Output(stream) => stream.write_all(bytes),
-            Stream::Error(stream) => stream.write_all(bytes),
-        };
-        counted(answer, &mut self.faults, SinkFailed)
+        if bytes.len() > LINE - self.kept {
+            return self.hand_on(bytes);
+        }
+        let end = self.kept + bytes.len();
+        self.line[self.kept..end].copy_from_slice(bytes);
+        self.kept = end;
+        if bytes.last() == Some(&b'\n') {
+            self.hand_on(&[])
+        } else {
+            Ok(())
+        }
+    }
+}
+
+/// Hands these bytes to the system, if there are any.
+fn write(stream: Stream, bytes: &[u8]) -> io::Result<()> {
+    match stream {
+        Stream::Output(stream) => stream.write_all(bytes),
+        Stream::Error(stream) => stream.write_all(bytes),
     }
 }
 

@@ -16,6 +16,7 @@ mod peer_list;
 mod sink;
 mod site;
 mod span;
+mod store_file;
 mod tally;
 #[cfg(test)]
 mod tests;
@@ -31,3 +32,4 @@ pub use crate::memory_site::MemorySite;
 pub use crate::peer_list::PeerList;
 pub use crate::sink::Sink;
 pub use crate::site::Site;
+pub use crate::store_file::StoreFile;

@@ -1,5 +1,5 @@
 //! A clock over a list of moments.
-ghost use Rattle.std.specs.Prelude.{◌≡◌, All};
+ghost use Rattle.std.specs.Prelude.{◌≡◌, ◌∷◌, ◌++◌, [], true, All};
 ghost use Rattle.site_edge.specs.Clocks.{IsMoment, not_begun, moment_after, listing_tells, listing_given};
 
 use crate::Clock;
@@ -43,7 +43,15 @@ impl Clock for ListClock {
 
     ghost given = { listing_given };
 
-    fn now(&mut self) -> u64 {
+    fn now(&mut self) -> u64
+        ensures moment { IsMoment result }
+        ensures told_before { listing_tells self.new ≡ true → listing_tells self.old ≡ true }
+        ensures given { listing_tells self.new ≡ true
+            → listing_given self.new ≡ listing_given self.old ++ result ∷ [] }
+
+        // The list stays, so that its last moment comes again and again.
+        ensures list { self.new.moments ≡ self.old.moments }
+    {
         let count = self.count.unwrap_or(u64::MAX);
         self.count = count.checked_add(1);
         moment_at(self.moments.numbers(), count)

@@ -5,7 +5,7 @@
 ghost use Rattle.std.specs.Prelude.{◌≡◌};
 
 use disk_trait::{Memory, MemoryDisk, NumberList, Text, TextList};
-use site_edge::{FileFailed, FileSite, HostClock, HostSink, MemorySite, PeerList, Sink};
+use site_edge::{FileFailed, FileSite, HostClock, HostSink, MemorySite, PeerList, Sink, StoreFile};
 use std::alloc::Global;
 use std::env;
 use std::fs::File;
@@ -14,7 +14,7 @@ use std::process::ExitCode;
 use std::rt::{Clock, Env, Files};
 use tams_top::Wanted;
 
-/// The status where the file can't be opened, made, lengthened or synced.
+/// The status where the file can't be opened, made, lengthened, locked or synced.
 const DISK_FAULT: u8 = 3;
 
 /// The status where there is no memory for the words, what they name, or the site.
@@ -59,13 +59,14 @@ fn status_of<R: Files<File = File> + Env + Clock + AllocGlobal>(
             let mut site = empty_site(rt.alloc());
             return Ok(tams_top::run(rt.alloc(), &words, &mut site, &mut clock, &mut notes));
         }
-        Wanted::Plain(path) => FileSite::open(rt, path, streams.input, streams.output),
-        Wanted::Fresh(path, length) => {
-            FileSite::make(rt, path, *length, streams.input, streams.output)
-        }
+        Wanted::Plain(path) => StoreFile::open(rt, path),
+        Wanted::Fresh(path, length) => StoreFile::make(rt, path, *length),
     };
     Ok(match opened {
-        Ok(mut site) => tams_top::run(rt.alloc(), &words, &mut site, &mut clock, &mut notes),
+        Ok(file) => {
+            let mut site = FileSite::new(file, streams.input, streams.output);
+            tams_top::run(rt.alloc(), &words, &mut site, &mut clock, &mut notes)
+        }
         Err(FileFailed) => report(&mut notes, b"disk fault\n", DISK_FAULT),
     })
 }

@@ -5,7 +5,8 @@ use Rattle.disk_trait.proofs.StopLemmas.{seen_after_more}
 use Rattle.disk_trait.proofs.history.make_all_again.Goals as goal
 
 pub make_again-requires : goal.make_again-requires
-make_again-requires c = rw (c.loop-call.invariant, length-seen_after) (rw (← c.call-item.is) at (c.requires c.loop-call.call-index c.call-item.result c.loop-call-test.true))
+make_again-requires c =
+    rw (c.loop-call.invariant, length-seen_after) (rw (← c.call-item.is) at (c.requires c.loop-call.call-index c.call-item.result c.loop-call-test.true))
 
 pub loop-call-preserved : goal.loop-call-preserved
 loop-call-preserved c =

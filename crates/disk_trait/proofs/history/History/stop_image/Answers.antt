@@ -22,7 +22,8 @@ stop_within-requires-clause-within c =
     let bounds = made_within past c.args.call c.args.kept made in
     let within : n < length past.calls = omega (arith, bounds.0, bounds.1) in
     let starts : c.in_ok-image.image.items ≡ past.first = c.in_ok-image.ensures.items ∙ (c.first.ensures ∙ sym (ap (λ past. past.first) c.self.view_is)) in
-    let again : c.make_all_again.new.image.items ≡ seen_after (take n past.calls) past.first = rw (← c.deref.ensures.value, ← starts) c.make_all_again.ensures in
+    let again : c.make_all_again.new.image.items ≡ seen_after (take n past.calls) past.first =
+    rw (← c.deref.ensures.value, ← starts) c.make_all_again.ensures in
     stop_fits past h.bytes.items c.make_all_again.new.image.items n c.index.result.now c.self.invariant within c.index.ensures again
 
 pub stop_within-requires-clause-kept : goal.stop_within-requires-clause-kept
@@ -45,7 +46,9 @@ returns c =
     let bounds = made_within past c.args.call c.args.kept made in
     let within : n < length past.calls = omega (arith, bounds.0, bounds.1) in
     let starts : c.in_ok-image.image.items ≡ past.first = c.in_ok-image.ensures.items ∙ (c.first.ensures ∙ sym (ap (λ past. past.first) c.self.view_is)) in
-    let again : c.make_all_again.new.image.items ≡ seen_after (take n past.calls) past.first = rw (← c.deref.ensures.value, ← starts) c.make_all_again.ensures in
+    let again : c.make_all_again.new.image.items ≡ seen_after (take n past.calls) past.first =
+    rw (← c.deref.ensures.value, ← starts) c.make_all_again.ensures in
     let same : c.args.call ≡ n + 1 = omega (arith, bounds.0) in
-    let stops : stopped past c.args.call c.args.kept ≡ stopped_within c.args.kept c.index.result.now (seen_after (take n past.calls) past.first) = ap (λ call. stopped past call c.args.kept) same ∙ stopped_is past n c.args.kept c.index.result.now within c.index.ensures in
+    let stops : stopped past c.args.call c.args.kept ≡ stopped_within c.args.kept c.index.result.now (seen_after (take n past.calls) past.first) =
+    ap (λ call. stopped past call c.args.kept) same ∙ stopped_is past n c.args.kept c.index.result.now within c.index.ensures in
     rw (c.from_vec.ensures, c.stop_within.ensures, ← c.self.view_is) (ap (stopped_within c.args.kept c.index.result.now) again ∙ sym stops)

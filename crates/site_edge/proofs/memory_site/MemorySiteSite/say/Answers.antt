@@ -6,7 +6,8 @@ use Rattle.site_edge.proofs.LinkLemmas.{said_fails, said_sent, say_call, said_cl
 use Rattle.site_edge.proofs.memory_site.MemorySiteSite.say.Goals as goal
 
 pub invariant_of-self : goal.invariant_of-self
-invariant_of-self c = kept_changed (marked c.is_ok.result) _ c.count-answer.new.tally c.mark_last.new.lines.items (λ k. refl) c.mark_last.ensures c.self-2.invariant
+invariant_of-self c =
+    kept_changed (marked c.is_ok.result) _ c.count-answer.new.tally c.mark_last.new.lines.items (λ k. refl) c.mark_last.ensures c.self-2.invariant
 
 -- What was sent is told to the last connection, which is marked where the call fails.
 pub returns : goal.returns

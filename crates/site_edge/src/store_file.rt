@@ -1,0 +1,258 @@
+//! The file of a store. It tells nothing of content.
+ghost use Rattle.std.specs.Prelude.{◌≡◌, ◌≤◌, ◌↔◌, IfOk, IsErr, IsTrue};
+ghost use Rattle.std.specs.Fd.{file_raw_fd};
+ghost use Rattle.site_edge.specs.Files.{IsStandard, IsOwn, untouched, file_device, file_device_is_sound};
+
+use crate::FileFailed;
+use crate::fault::counted;
+use disk_trait::{Disk, Failed, Text};
+use std::fs::{File, Metadata, OpenOptions};
+use std::io::ErrorKind;
+use std::marker::Model;
+use std::os::fd::AsRawFd;
+use std::os::unix::fs::{FileExt, MetadataExt};
+use std::path::Path;
+use std::rt::Files;
+use std::{io, str};
+
+/// Where the system shows the files that are open as standard input, output and error.
+const STREAMS: [&str; 3] = ["/proc/self/fd/0", "/proc/self/fd/1", "/proc/self/fd/2"];
+
+/// A file of fixed size that this process holds the lock of while it is open.
+///
+/// A sync that failed may have left bytes in the system's copies of the file's pages that the disk doesn't
+/// have. So opening syncs the file and drops those copies, and what is read then comes from the disk.
+#[derive(Drop)]
+pub struct StoreFile {
+    file: File,
+    size: u64,
+    faults: u64,
+}
+
+impl Model for StoreFile {
+    ghost use Rattle.std.specs.Fd.{file_raw_fd};
+    ghost use Rattle.site_edge.specs.Files.{FileState, IsOwn};
+
+    ghost Value = { FileState };
+
+    ghost view = { λ f. record { descriptor = file_raw_fd f.file; size = f.size; faults = f.faults } };
+
+    ghost invariant = { λ f. IsOwn (file_raw_fd f.file) };
+}
+
+impl StoreFile {
+    /// Opens the file at this path. It fails where none is there, where the path isn't UTF-8, where another
+    /// open of the file holds its lock, where a call of the system fails, where the file got a standard
+    /// stream's descriptor, and where a standard stream leads to the same file.
+    pub fn open<R: Files<File = File>>(rt: &R, path: &Text) -> Result<StoreFile, FileFailed>
+        ensures untouched { IfOk result (λ file. file ≡ untouched file.descriptor file.size) }
+        ensures own { IfOk result (λ file. IsOwn file.descriptor) }
+    {
+        let mut options = OpenOptions::new();
+        options.read(true).write(true);
+        let file = locked(rt, own(options.open(rt, path_text(path)?)?)?)?;
+        let size = file.metadata()?.len();
+        StoreFile::settled(file, size)
+    }
+
+    /// Opens the file at this path, or makes it where none is there, lengthens it to this length in
+    /// bytes where it is shorter, and syncs it and its folder. No byte that is there changes. It fails as
+    /// `open` does.
+    pub fn make<R: Files<File = File>>(
+        rt: &R,
+        path: &Text,
+        length: u64,
+    ) -> Result<StoreFile, FileFailed>
+        ensures untouched { IfOk result (λ file. file ≡ untouched file.descriptor file.size) }
+        ensures own { IfOk result (λ file. IsOwn file.descriptor) }
+        ensures long_enough { IfOk result (λ file. length ≤ file.size) }
+    {
+        let text = path_text(path)?;
+        let mut options = OpenOptions::new();
+        options.read(true).write(true).create(true);
+        let file = locked(rt, own(options.open(rt, text)?)?)?;
+        let size = file.metadata()?.len();
+        if size < length {
+            file.set_len(length)?;
+        }
+        sync_folder(rt, text)?;
+        StoreFile::settled(file, size.max(length))
+    }
+
+    /// The file of this length, once it is synced and the system's copies of its pages are dropped.
+    fn settled(file: File, size: u64) -> Result<StoreFile, FileFailed>
+        requires { IsOwn (file_raw_fd file) }
+        ensures { IfOk result (λ made. made ≡ untouched (file_raw_fd file) size) }
+    {
+        file.sync_all()?;
+        if libc::posix_fadvise(file.as_raw_fd(), 0, 0, libc::POSIX_FADV_DONTNEED) != 0 {
+            return Err(FileFailed);
+        }
+        Ok(StoreFile {
+            file,
+            size,
+            faults: 0,
+        })
+    }
+}
+
+impl Disk for StoreFile {
+    ghost device = { file_device };
+
+    ghost fails = { λ _ _ _ _. Unit {0} };
+
+    ghost sound = { file_device_is_sound };
+
+    fn len(&self) -> u64 {
+        self.size
+    }
+
+    fn read_at(&mut self, at: u64, out: &mut [u8]) -> Result<(), Failed> {
+        let answer = self.file.read_exact_at(out, at);
+        counted(answer, &mut self.faults, Failed)
+    }
+
+    fn write_at(&mut self, at: u64, bytes: &[u8]) -> Result<(), Failed> {
+        let answer = self.file.write_all_at(bytes, at);
+        counted(answer, &mut self.faults, Failed)
+    }
+
+    fn sync(&mut self) -> Result<(), Failed> {
+        let answer = self.file.sync_data();
+        counted(answer, &mut self.faults, Failed)
+    }
+}
+
+/// The text of a path, where it is UTF-8.
+fn path_text(path: &Text) -> Result<&str, FileFailed> {
+    match str::from_utf8(path.bytes()) {
+        Ok(text) => Ok(text),
+        Err(_) => Err(FileFailed),
+    }
+}
+
+/// Refuses a file that was opened as a standard stream, which was closed before: what is said there would
+/// land in the file.
+fn own(file: File) -> Result<File, FileFailed>
+    ensures same { IfOk result (λ opened. opened ≡ file) }
+    ensures refused { IsErr result ↔ IsStandard (file_raw_fd file) }
+    ensures own { IfOk result (λ opened. IsOwn (file_raw_fd opened)) }
+{
+    if is_standard(file.as_raw_fd()) {
+        Err(FileFailed)
+    } else {
+        Ok(file)
+    }
+}
+
+/// Whether the descriptor is a standard stream's.
+fn is_standard(descriptor: i32) -> bool
+    ensures { IsTrue result ↔ IsStandard descriptor }
+{
+    descriptor <= 2
+}
+
+/// Takes the file's lock, unless another open of it holds it, and refuses a file to which a standard
+/// stream leads: what is said there would land in it.
+fn locked<R: Files<File = File>>(rt: &R, file: File) -> Result<File, FileFailed>
+    ensures { IfOk result (λ opened. opened ≡ file) }
+{
+    if file.try_lock().is_err() {
+        return Err(FileFailed);
+    }
+    let found = file.metadata()?;
+    for stream in &STREAMS {
+        if leads_to(rt, stream, &found)? {
+            return Err(FileFailed);
+        }
+    }
+    Ok(file)
+}
+
+/// Whether a stream leads to this file. One that is closed leads nowhere.
+fn leads_to<R: Files<File = File>>(rt: &R, stream: &str, file: &Metadata) -> io::Result<bool> {
+    match rt.metadata(stream) {
+        Ok(other) => Ok(other.dev() == file.dev() && other.ino() == file.ino()),
+        Err(error) if error.kind() == ErrorKind::NotFound => Ok(false),
+        Err(error) => Err(error),
+    }
+}
+
+/// Syncs the folder in which the file of this path lies, so that its name is on the disk too.
+fn sync_folder<R: Files<File = File>>(rt: &R, path: &str) -> Result<(), FileFailed> {
+    let folder = match Path::new(path).parent() {
+        Some(folder) => folder.as_str(),
+        None => return Err(FileFailed),
+    };
+    let folder = if folder.is_empty() { "." } else { folder };
+    File::open(rt, folder)?.sync_all()?;
+    Ok(())
+}
+
+#[cfg(test)]
+mod tests {
+    use super::*;
+    use std::fs;
+    use std::test::Fail;
+
+    #[test]
+    fn a_file_keeps_what_was_written(rt: HostRuntime) -> Result<(), Fail> {
+        let path = Text::from_bytes(rt.alloc(), b"kept")?;
+        assert!(rt;
+            StoreFile::open(&rt, &path).is_err(),
+            "no file is there yet"
+        );
+
+        let mut made = StoreFile::make(&rt, &path, 4096)?;
+        assert_eq!(rt; made.len(), 4096);
+        made.write_at(4090, b"flow")?;
+        made.sync()?;
+        assert!(rt; StoreFile::open(&rt, &path).is_err(), "it is open already");
+        drop(made);
+
+        let mut longer = StoreFile::make(&rt, &path, 8192)?;
+        assert_eq!(rt; longer.len(), 8192);
+        let mut bytes = [1; 8];
+        longer.read_at(4088, &mut bytes)?;
+        assert_eq!(rt; bytes.as_slice(), b"\0\0flow\0\0".as_slice());
+        drop(longer);
+
+        assert_eq!(rt;
+            StoreFile::make(&rt, &path, 4096)?.len(),
+            8192,
+            "no file is shortened"
+        );
+        let mut opened = StoreFile::open(&rt, &path)?;
+        assert_eq!(rt; opened.len(), 8192);
+        opened.read_at(4088, &mut bytes)?;
+        assert_eq!(rt; bytes.as_slice(), b"\0\0flow\0\0".as_slice());
+        fs::remove_file(&rt, "kept")?;
+        Ok(())
+    }
+
+    #[test]
+    fn opening_and_sync_reach_the_disk(rt: HostRuntime) -> Result<(), Fail> {
+        let null = Text::from_bytes(rt.alloc(), b"/dev/null")?;
+        assert!(rt; StoreFile::open(&rt, &null).is_err(), "it can't be synced");
+
+        let path = Text::from_bytes(rt.alloc(), b"closed")?;
+        let mut file = StoreFile::make(&rt, &path, 4096)?;
+        assert_eq!(rt; file.sync(), Ok(()));
+        libc::close(file.file.as_raw_fd());
+        assert_eq!(rt; file.sync(), Err(Failed), "its descriptor is closed");
+        Ok(())
+    }
+
+    #[test]
+    fn a_file_in_place_of_standard_input_is_refused(rt: HostRuntime) -> Result<(), Fail> {
+        let path = Text::from_bytes(rt.alloc(), b"store")?;
+        StoreFile::make(&rt, &path, 4096)?;
+        libc::close(libc::STDIN_FILENO);
+        assert!(rt; StoreFile::open(&rt, &path).is_err());
+        assert!(rt; StoreFile::make(&rt, &path, 8192).is_err());
+        // The next file that opens is standard input: the store, under a descriptor of its own, leads there too.
+        let _input = File::open(&rt, "store")?;
+        assert!(rt; StoreFile::open(&rt, &path).is_err());
+        Ok(())
+    }
+}
