@@ -13,7 +13,7 @@ use Rattle.media_rows.specs.declared.segment.SegmentRow.{SegmentRow}
 use Rattle.media_rows.specs.declared.change.Change.TheVariants as changes
 use Rattle.media_rows.specs.declared.reply.Reply.TheVariants as replies
 use Rattle.media_rows.specs.Outbox.{hook_of}
-use Rattle.media_rows.specs.Answer.{Outcome, changed, unchanged, refusal_of, accepted, changing_answer, accepted_drop, accepted_cut, change_refusal, first_taken, is_taken, is_kept_object, taken_refusal, wanted_ids}
+use Rattle.media_rows.specs.Answer.{Outcome, changed, unchanged, refusal_of, changing_answer, accepted_drop, accepted_cut, change_refusal, first_taken, is_taken, is_kept_object, taken_refusal, wanted_ids}
 use Rattle.media_rows.specs.Library.{Library}
 use Rattle.media_rows.specs.Lists.{has_text, or_else}
 use Rattle.media_rows.specs.Ranges.{covers, eternity}

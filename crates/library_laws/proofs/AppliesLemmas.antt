@@ -26,7 +26,7 @@ use Rattle.media_rows.specs.declared.command.Want.{Want}
 use Rattle.media_rows.specs.declared.command.Want.TheVariants.{Count, Named}
 use Rattle.media_rows.specs.declared.reply.Reply.TheVariants as replies
 use Rattle.time_range.specs.declared.ranges.Span.{Span}
-use Rattle.media_rows.specs.Answer.{keep_refusal, keep_state, Outcome, changed, unchanged, answer, accepted, refusal_of, changing_answer, accepted_drop, accepted_cut, wanted_ids, made_id, made_prefix}
+use Rattle.media_rows.specs.Answer.{keep_refusal, keep_state, Outcome, changed, unchanged, answer, refusal_of, changing_answer, accepted_drop, accepted_cut, wanted_ids, made_id, made_prefix}
 use Rattle.media_rows.specs.Good.{Good}
 use Rattle.media_rows.specs.Ids.{id_text, is_id_byte, is_object_id}
 use Rattle.media_rows.specs.Library.{Library, last_serial}
@@ -110,7 +110,7 @@ at_place : (o : Option ObjectRow) (test : Bool) → may_keep o test ≡ true →
 at_place None test good none = absurd (cc)
 at_place (Some row) test good none = by_state row.state test good none
 
-zero_or_more : (size start : ℕ) → (blocks_of size ≡ 0 → start ≡ 0) → (nat_lt 0 size || (start == 0)) ≡ true
+pub zero_or_more : (size start : ℕ) → (blocks_of size ≡ 0 → start ≡ 0) → (nat_lt 0 size || (start == 0)) ≡ true
 zero_or_more zero start h = eq-eqb start 0 (h refl)
 zero_or_more (suc n) start h = or_left (nat_lt 0 (suc n)) (start == 0) (lt-ltb 0 (suc n) (omega arith))
 

@@ -25,10 +25,10 @@ use Rattle.media_rows.specs.Moments.{is_moment}
 use Rattle.media_rows.specs.Objects.{is_free, blocks_of, object_of}
 use Rattle.media_rows.specs.Ranges.{covers, reaches_down, reaches_up, is_eternity}
 use Rattle.media_rows.specs.Refusals.{first_refusal}
-use Rattle.media_rows.specs.Requests.{step_size, is_unfinished, is_deleting, first_unfinished, requested, removed_by_step, left_by_step, is_finished_by_step, done_count, done_kept}
+use Rattle.media_rows.specs.Requests.{step_size, is_unfinished, is_deleting, first_unfinished, removed_by_step, left_by_step, is_finished_by_step, done_count, done_kept}
 use Rattle.media_rows.specs.Segments.{posted, segments_of, covered, starts_before, without_segments}
 use Rattle.library_laws.specs.Laws.{IsSound, ChangesKeepGood, ChangesApply, GoodIsTested}
-use Rattle.library_laws.proofs.ListLemmas.{In, In-filter, filter-In, in_order-In, find-In, find-some, map-In, list_all-In, list_any-In, list_any-from_In, take-whole}
+use Rattle.library_laws.proofs.ListLemmas.{In, In-filter, filter-In, in_order-In, find-In, find-some, map-In, list_all-In, list_any-In, list_any-from_In}
 use Rattle.library_laws.proofs.AnswerLemmas.{neither}
 use Rattle.library_laws.proofs.CatalogKept.{not_when, put_keeps_catalog}
 use Rattle.library_laws.proofs.SettingsKept.{touch_keeps_good, set_keeps_catalog, set_source_keeps_catalog}

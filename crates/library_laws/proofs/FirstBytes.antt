@@ -67,7 +67,7 @@ more_objects library good moment ids = record {
 }
 
 -- two objects of one id are one
-same_id : (objects : List ObjectRow) → are_distinct_texts (map (λ row. row.id) objects) ≡ true → (a b : ObjectRow) → In a objects → In b objects → a.id ≡ b.id → a ≡ b
+pub same_id : (objects : List ObjectRow) → are_distinct_texts (map (λ row. row.id) objects) ≡ true → (a b : ObjectRow) → In a objects → In b objects → a.id ≡ b.id → a ≡ b
 same_id objects distinct a b here there same =
     elim (rises-In (λ x y. not (bytes_eq x.id y.id)) objects (sym (rises-keys (λ x y. not (bytes_eq x y)) (λ (r : ObjectRow). r.id) objects) ∙ distinct) a b here there) [
       | inl e ↦ e
@@ -80,7 +80,7 @@ allocated_state Allocated e = refl
 allocated_state (Stored start size) e = absurd (false≢true e)
 
 -- an object that may be stored is allocated
-allocated_one : (o : Option ObjectRow) → is_none (keep_refusal o) ≡ true → (row : ObjectRow) × (o ≡ Some row) × (is_stored row.state ≡ false)
+pub allocated_one : (o : Option ObjectRow) → is_none (keep_refusal o) ≡ true → (row : ObjectRow) × (o ≡ Some row) × (is_stored row.state ≡ false)
 allocated_one None e = absurd (false≢true e)
 allocated_one (Some row) e = (row, refl, allocated_state row.state e)
 
@@ -112,7 +112,7 @@ end_objects : (gone : Bool) (one other : Library) (objects : List ObjectRow) →
 end_objects true one other objects e k = e
 end_objects false one other objects e k = k
 
-step_objects : (library : Library) (request : DeleteRow) (moment : ℕ) → (after_request_step moment request library).objects ≡ idled library.segments (without_segments (removed_by_step library.segments request) library.segments) moment library.objects
+pub step_objects : (library : Library) (request : DeleteRow) (moment : ℕ) → (after_request_step moment request library).objects ≡ idled library.segments (without_segments (removed_by_step library.segments request) library.segments) moment library.objects
 step_objects library request moment =
     let removed : List SegmentRow = removed_by_step library.segments request in
     let before : Library = touch_flow request.flow removed moment (with_step request moment library) in
@@ -126,7 +126,7 @@ stay_by_step library good moment None = same_objects library good
 stay_by_step library good moment (Some request) =
     subst (Stay library) (sym (step_objects library request moment)) (idled_objects library good library.segments (without_segments (removed_by_step library.segments request) library.segments) moment)
 
-touched_objects : (library : Library) (flow moment : ℕ) (rows : List SegmentRow) → (touch_flow flow rows moment library).objects ≡ library.objects
+pub touched_objects : (library : Library) (flow moment : ℕ) (rows : List SegmentRow) → (touch_flow flow rows moment library).objects ≡ library.objects
 touched_objects library flow moment rows =
     cond_both (length rows == 0) library (record library { catalog = after_touch flow moment library.catalog }) (λ (l : Library). l.objects ≡ library.objects) (λ e. refl) (λ e. refl)
 

@@ -23,3 +23,8 @@ mod FollowLemmas
 mod ListsFollow
 mod RowOrder
 mod RowLibrary
+mod ChangeFacts
+mod ObjectsCome
+mod SoundLemmas
+mod ReplyLemmas
+mod MediaKept

@@ -1,2 +1,4 @@
 pub mod Laws
 pub mod RowLaws
+pub mod ChangeLaws
+pub mod MediaLaws

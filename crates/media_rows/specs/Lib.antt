@@ -20,5 +20,6 @@ pub mod Answer
 pub mod Good
 pub mod Apply
 pub mod Sound
+pub mod Media
 pub mod Snapshot
 pub mod Restoring
