@@ -118,31 +118,3 @@ fn is_plain(flow: &FlowBody) -> bool
         && flow.members.items().is_empty()
         && flow.essence.is_none()
 }
-
-#[cfg(test)]
-mod tests {
-    use super::*;
-
-    const VECTOR: [u8; 58] = [
-        1, 0, 0, 0, 0, 0, 0, 0, 0, 0, 0, 0, 0, 0, 0, 0x40, 0, 0x80, 0, 0, 0, 0, 0, 0, 0xf1, 0, 0,
-        0, 0, 0, 0, 0x40, 0, 0x80, 0, 0, 0, 0, 0, 0, 0xa1, 1, 0, 0, 0, 0, 0, 0, 0, 0, 0, 0, 0, 0,
-        0, 0, 0, 0,
-    ];
-
-    #[test]
-    fn a_change_is_these_bytes(rt: HostRuntime) -> Result<(), Memory> {
-        let alloc = rt.alloc();
-        let change = Change {
-            moment: 0,
-            flow: 0x4000_8000_0000_0000_00f1,
-            source: 0x4000_8000_0000_0000_00a1,
-        };
-        assert_eq!(rt; change.bytes(alloc)?.bytes(), VECTOR.as_slice(), "written");
-        assert_eq!(rt; read_change(alloc, &VECTOR)?, Some(change), "read");
-        assert_eq!(rt; read_change(alloc, &VECTOR[1..])?, None, "a byte less");
-        let mut other = VECTOR;
-        other[57] = 1;
-        assert_eq!(rt; read_change(alloc, &other)?, None, "another last byte");
-        Ok(())
-    }
-}

@@ -11,8 +11,6 @@ mod outcome;
 mod request;
 mod store;
 mod tally;
-#[cfg(test)]
-mod tests;
 mod top;
 mod unread;
 mod words;
