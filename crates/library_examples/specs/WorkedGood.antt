@@ -20,7 +20,10 @@ use Rattle.media_rows.specs.Good.{is_good, are_segments_good, are_references_goo
 use Rattle.media_rows.specs.Library.{Library, last_serial}
 use Rattle.media_rows.specs.Lists.{numbers_below}
 use Rattle.media_rows.specs.Ranges.{eternity}
-use Rattle.library_examples.specs.Examples.{first_flow, second_flow, member, nothing, put, seconds, piece, piece_of, stored, allocate, with_pieces, shared, hook, outbox_with}
+use Rattle.media_rows.specs.Sound.{is_good_command, has_good_values, is_sound}
+use Rattle.media_rows.specs.declared.command.Command.TheVariants as commands
+use Rattle.media_rows.specs.declared.command.Want.TheVariants.{Count, Named}
+use Rattle.library_examples.specs.Examples.{one_source, first_flow, second_flow, member, nothing, put, seconds, piece, piece_of, stored, allocate, with_pieces, shared, hook, outbox_with}
 use Rattle.library_examples.specs.Studio.{third_flow, take_tag, left_source, bare_source, main_body, sound_body, main_flow, sound_flow, both_flow, object_a, object_b, object_c, later_piece, early_piece, open_request, done_request, one_hook, event, studio_events, studio}
 
 -- ---- good libraries
@@ -301,3 +304,48 @@ pub record ChangesAreAllowed : Type 0 where
   pub early_sweep : is_allowed studio (changes.SweepStep 86522) ≡ false
   pub sweep : is_allowed studio (changes.SweepStep 86523) ≡ true
   pub step : is_allowed studio (changes.DeleteStep 5) ≡ true
+
+-- ---- what commands and changes bring
+
+-- the storing of the studio's allocated object
+abbrev pub keep : ℕ → ℕ → Bool
+keep start size = is_good_command studio (commands.Keep (codes "c") start size)
+
+-- A command brings good texts, ranges and ids. Bytes come to the least free place for them, of an object that isn't stored.
+pub record CommandsAreGood : Type 0 where
+  pub least_place : keep 3 5 ≡ true
+  pub other_free_place : keep 4 5 ≡ false
+  pub taken_place : keep 2 5 ≡ false
+  pub no_bytes : keep 0 0 ≡ true
+  pub no_bytes_elsewhere : keep 3 0 ≡ false
+  pub no_place : keep 3 180225 ≡ false
+  pub stored_object : is_good_command studio (commands.Keep (codes "a") 3 5) ≡ false
+  pub unknown_object : is_good_command studio (commands.Keep (codes "z") 3 5) ≡ true
+  pub bad_body : is_good_command studio (commands.PutFlow (record main_body { label = Some no_text })) ≡ false
+  pub bad_part : is_good_command studio (commands.SetFlow first_flow (parts.Label (Some no_text))) ≡ false
+  pub bad_source_part : is_good_command studio (commands.SetSource one_source (parts.Label (Some no_text))) ≡ false
+  pub bad_ids : is_good_command studio (commands.Allocate first_flow (Named (codes "d e" ∷ []))) ≡ false
+  pub made_ids : is_good_command studio (commands.Allocate first_flow (Count 5)) ≡ true
+  pub unbounded : is_good_command studio (commands.AddSegments first_flow (record (piece 0 1) { range = eternity } ∷ [])) ≡ false
+  pub any_cut : is_good_command studio (commands.CutSegments first_flow eternity) ≡ true
+  pub bad_hook : is_good_command studio (commands.PutHook (record one_hook.hook { url = no_text })) ≡ false
+  pub good_hook : is_good_command studio (commands.PutHook one_hook.hook) ≡ true
+
+-- A change brings the same, but for the place, which is tested with what is allowed. A request that deletes its flow has all of the line, and the serials don't end.
+pub record ChangesAreSound : Type 0 where
+  pub bad_body : has_good_values (changes.PutFlow 5 (record main_body { label = Some no_text })) ≡ false
+  pub bad_part : has_good_values (changes.SetFlow 5 first_flow (parts.Label (Some no_text))) ≡ false
+  pub bad_source_part : has_good_values (changes.SetSource 5 one_source (parts.Label (Some no_text))) ≡ false
+  pub bad_ids : has_good_values (changes.Allocate 5 first_flow (codes "d" ∷ [] ∷ [])) ≡ false
+  pub any_place : has_good_values (changes.Store 5 (codes "c") 9 1) ≡ true
+  pub no_bytes : has_good_values (changes.Store 5 (codes "c") 9 0) ≡ false
+  pub unbounded : has_good_values (changes.AddSegments 5 first_flow (record (piece 0 1) { range = None } ∷ [])) ≡ false
+  pub whole_line : has_good_values (changes.AskDelete 5 first_flow eternity true) ≡ true
+  pub part_with_flow : has_good_values (changes.AskDelete 5 first_flow (seconds 0 9) true) ≡ false
+  pub part_alone : has_good_values (changes.AskDelete 5 first_flow (seconds 0 9) false) ≡ true
+  pub bad_hook : has_good_values (changes.PutHook 5 (record one_hook.hook { url = no_text })) ≡ false
+  pub sound : is_sound studio (changes.DeleteStep 253402300799) ≡ true
+  pub no_moment : is_sound studio (changes.DeleteStep 253402300800) ≡ false
+  pub bad_values : is_sound studio (changes.Store 5 (codes "c") 9 0) ≡ false
+  pub last_serial_left : is_sound (record stored { next_serial = 9223372036854775806 }) (allocate (codes "b")) ≡ true
+  pub no_serial_left : is_sound (record stored { next_serial = 9223372036854775807 }) (allocate (codes "b")) ≡ false

@@ -18,6 +18,7 @@ use Rattle.media_rows.specs.declared.request.DeleteStatus.TheVariants as statuse
 use Rattle.media_rows.specs.Answer.{Outcome, answer, refusal_of, made_id, is_taken, put_media_answer, get_media_reply}
 use Rattle.media_rows.specs.Changes.{after}
 use Rattle.media_rows.specs.Library.{Library}
+use Rattle.media_rows.specs.Media.{Archive, is_held, asks, puts, gets, answer_to, archive_after, fits_bytes}
 use Rattle.media_rows.specs.Objects.{free_place}
 use Rattle.media_rows.specs.Ranges.{eternity}
 use Rattle.media_rows.specs.Segments.{covered, overlapping}
@@ -178,6 +179,31 @@ pub record MediaAreKept : Type 0 where
   pub given_other : get_media_reply studio (codes "b") ≡ replies.Media 4097
   pub not_given : get_media_reply two_objects (codes "b") ≡ replies.Refused refusals.UnknownObject
   pub not_kept : get_media_reply studio (codes "z") ≡ replies.Refused refusals.UnknownObject
+
+-- the archive of a stored object and an allocated one
+abbrev pub archive : Archive
+archive = record { library = two_objects; held = their_bytes }
+
+-- the bytes of its objects after a change, with which these bytes come
+abbrev pub held_after : Change → List ℕ → List (List ℕ)
+held_after change came = (archive_after change came archive).held
+
+-- A question is a command, bytes to keep, or bytes to give. A change leaves the bytes of the objects that stay; those that come are of the object that it stores.
+pub record BytesStandBeside : Type 0 where
+  pub fits : is_held archive ≡ true
+  pub too_short : is_held (record archive { held = codes "xy" ∷ [] ∷ [] }) ≡ false
+  pub too_many : is_held (record archive { held = codes "xyz" ∷ [] ∷ [] ∷ [] }) ≡ false
+  pub unstored : is_held (record archive { held = codes "xyz" ∷ codes "q" ∷ [] }) ≡ false
+  pub command : answer_to archive (asks (commands.DropFlow 99)) 5 ≡ leaves (replies.Refused refusals.NoFlow)
+  pub put : answer_to archive (puts (codes "b") (codes "q")) 5
+      ≡ gives replies.Created (changes.Store 5 (codes "b") 1 1)
+  pub get : answer_to archive (gets (codes "a")) 5 ≡ leaves (replies.Media 3)
+  pub no_get : answer_to archive (gets (codes "b")) 5 ≡ leaves (replies.Refused refusals.UnknownObject)
+  pub bytes_come : held_after (changes.Store 5 (codes "b") 1 1) (codes "q") ≡ codes "xyz" ∷ codes "q" ∷ []
+  pub bytes_stay : held_after (changes.DropFlow 5 first_flow) (codes "q") ≡ codes "xyz" ∷ [] ∷ []
+  pub objects_come : held_after (allocate (codes "c")) [] ≡ codes "xyz" ∷ [] ∷ [] ∷ []
+  pub objects_go : held_after (changes.SweepStep 86400) [] ≡ []
+  pub came_whole : fits_bytes (changes.Store 5 (codes "b") 1 2) (codes "q") ≡ false
 
 -- ---- places
 

@@ -1,5 +1,5 @@
 //! Good libraries, and changes that apply.
-ghost use Rattle.library_examples.specs.WorkedGood.{BadCollections, BadExtents, BadNames, BadOutboxes, BadReferences, BadRequests, BadSegments, BadSources, BadTexts, ChangesAreAllowed, ChangesAreTested, ExamplesAreGood};
+ghost use Rattle.library_examples.specs.WorkedGood.{BadCollections, BadExtents, BadNames, BadOutboxes, BadReferences, BadRequests, BadSegments, BadSources, BadTexts, ChangesAreAllowed, ChangesAreSound, ChangesAreTested, CommandsAreGood, ExamplesAreGood};
 
 /// The examples are good.
 pub fn examples_are_good()
@@ -64,4 +64,16 @@ pub fn changes_are_tested()
 /// id that the store itself made is taken only where it is kept.
 pub fn changes_are_allowed()
     ensures { ChangesAreAllowed }
+{}
+
+/// A command brings good texts, ranges and ids. Bytes come to the least free place for them, of an
+/// object that isn't stored.
+pub fn commands_are_good()
+    ensures { CommandsAreGood }
+{}
+
+/// A change brings the same, but for the place, which is tested with what is allowed. A request
+/// that deletes its flow has all of the line, and the serials don't end.
+pub fn changes_are_sound()
+    ensures { ChangesAreSound }
 {}

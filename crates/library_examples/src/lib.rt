@@ -15,8 +15,8 @@ mod views;
 pub use crate::events::{events_are_told, hooks_fail, two_hooks_hear};
 pub use crate::good::{
     bad_collections, bad_extents, bad_names, bad_outboxes, bad_references, bad_requests,
-    bad_segments, bad_sources, bad_texts, changes_are_allowed, changes_are_tested,
-    examples_are_good,
+    bad_segments, bad_sources, bad_texts, changes_are_allowed, changes_are_sound,
+    changes_are_tested, commands_are_good, examples_are_good,
 };
 pub use crate::refusals::{
     bytes_are_kept_once, collections_are_tested, collections_come_last, deleting_stands,
@@ -25,8 +25,8 @@ pub use crate::refusals::{
     unset_parts_are_named,
 };
 pub use crate::replies::{
-    cuts_cover, ids_are_made, many_are_asked_for, media_are_kept, places_are_found,
-    replies_are_given,
+    bytes_stand_beside, cuts_cover, ids_are_made, many_are_asked_for, media_are_kept,
+    places_are_found, replies_are_given,
 };
 pub use crate::rows::{done_ones_stay, rows_are_kept, snapshots_have_all};
 pub use crate::stamps::{

@@ -1,5 +1,5 @@
 //! Replies, and the change that each has.
-ghost use Rattle.library_examples.specs.WorkedReplies.{CutsCover, IdsAreMade, ManyAreAskedFor, MediaAreKept, PlacesAreFound, RepliesAreGiven};
+ghost use Rattle.library_examples.specs.WorkedReplies.{BytesStandBeside, CutsCover, IdsAreMade, ManyAreAskedFor, MediaAreKept, PlacesAreFound, RepliesAreGiven};
 
 /// A flow, a hook or segments that are new are created, and all else is done. What isn't there
 /// isn't dropped, and a refusal changes nothing.
@@ -29,6 +29,12 @@ pub fn ids_are_made()
 /// are refused. An object without bytes is stored even where no block is free.
 pub fn media_are_kept()
     ensures { MediaAreKept }
+{}
+
+/// A question is a command, bytes to keep, or bytes to give. A change leaves the bytes of the
+/// objects that stay; those that come are of the object that it stores.
+pub fn bytes_stand_beside()
+    ensures { BytesStandBeside }
 {}
 
 /// The least place of so many free blocks, also between objects, and none where they don't fit.
