@@ -43,14 +43,17 @@ covers_all (Some s) = refl
 -- all segments of a flow are covered by the whole line
 length-covered_all : (segments : List SegmentRow) (flow : ℕ) → length (covered segments flow eternity) ≡ length (segments_of flow segments)
 length-covered_all segments flow =
-    length-in_order starts_before _ ∙ length-filter_passing (λ row. covers eternity row.segment.range) (segments_of flow segments) (λ row. covers_all row.segment.range)
+    length-in_order starts_before _ ∙ length-filter_passing (λ row. covers eternity row.segment.range) (segments_of flow segments)
+    (λ row. covers_all row.segment.range)
 
-drop_allowed : (library : Library) (flow moment : ℕ) → change_refusal library flow ≡ None → IfSome (accepted_drop library flow moment).change (IsAllowedAt library moment)
+drop_allowed : (library : Library) (flow moment : ℕ) → change_refusal library flow ≡ None
+    → IfSome (accepted_drop library flow moment).change (IsAllowedAt library moment)
 drop_allowed library flow moment none =
     cond_both (nat_le (length (segments_of flow library.segments)) 32) _ _ (λ (o : Outcome). IfSome o.change (IsAllowedAt library moment))
     (λ e. record { allowed = and_from _ _ (none_is _ none) e; at = refl })
     (λ e. record {
-      allowed = and_from _ _ (none_is _ none) (lt-ltb 32 (length (covered library.segments flow eternity)) (omega (arith, leb-false _ _ e, length-covered_all library.segments flow)));
+      allowed = and_from _ _ (none_is _ none) (lt-ltb 32 (length (covered library.segments flow eternity))
+          (omega (arith, leb-false _ _ e, length-covered_all library.segments flow)));
       at = refl;
     })
 
@@ -106,18 +109,24 @@ by_answer : (library : Library) (command : Command) (moment : ℕ) (outcome : Ou
 by_answer library command moment outcome h = by_refusal (IsAllowedAt library moment) (refusal_of library command) outcome h
 
 pub answers_allowed : AnswersAreAllowed
-answers_allowed library (commands.PutFlow body) moment place = by_answer library (commands.PutFlow body) moment _ (λ none. record { allowed = none_is _ none; at = refl })
-answers_allowed library (commands.SetFlow flow part) moment place = by_answer library (commands.SetFlow flow part) moment _ (λ none. record { allowed = none_is _ none; at = refl })
-answers_allowed library (commands.SetSource source part) moment place = by_answer library (commands.SetSource source part) moment _ (λ none. record { allowed = none_is _ none; at = refl })
+answers_allowed library (commands.PutFlow body) moment place = by_answer library (commands.PutFlow body) moment _
+    (λ none. record { allowed = none_is _ none; at = refl })
+answers_allowed library (commands.SetFlow flow part) moment place = by_answer library (commands.SetFlow flow part) moment _
+    (λ none. record { allowed = none_is _ none; at = refl })
+answers_allowed library (commands.SetSource source part) moment place = by_answer library (commands.SetSource source part) moment _
+    (λ none. record { allowed = none_is _ none; at = refl })
 answers_allowed library (commands.DropFlow flow) moment place = by_answer library (commands.DropFlow flow) moment _ (drop_allowed library flow moment)
 answers_allowed library (commands.Allocate flow want) moment place = by_answer library (commands.Allocate flow want) moment _ (λ none.
     let parts = neither _ _ none in
-    let untaken = first_taken_less (is_taken library want) (is_kept_object library) (kept_is_taken library want) [] (wanted_ids library want) (taken_none _ parts.1) in
+    let untaken = first_taken_less (is_taken library want) (is_kept_object library) (kept_is_taken library want) [] (wanted_ids library want)
+    (taken_none _ parts.1) in
     record { allowed = and_from _ _ (none_is _ parts.0) (none_is _ untaken); at = refl })
 answers_allowed library (commands.Keep object start size) moment place =
     by_answer library (commands.Keep object start size) moment _ (λ none. record { allowed = and_from _ _ (none_is _ none) (place none); at = refl })
-answers_allowed library (commands.AddSegments flow posts) moment place = by_answer library (commands.AddSegments flow posts) moment _ (λ none. record { allowed = none_is _ none; at = refl })
-answers_allowed library (commands.CutSegments flow range) moment place = by_answer library (commands.CutSegments flow range) moment _ (cut_allowed library flow range moment)
+answers_allowed library (commands.AddSegments flow posts) moment place = by_answer library (commands.AddSegments flow posts) moment _
+    (λ none. record { allowed = none_is _ none; at = refl })
+answers_allowed library (commands.CutSegments flow range) moment place = by_answer library (commands.CutSegments flow range) moment _
+    (cut_allowed library flow range moment)
 answers_allowed library (commands.PutHook hook) moment place = record { allowed = refl; at = refl }
 answers_allowed library (commands.DropHook url) moment place = drop_hook_allowed library url moment (is_some (hook_of url library.outbox.hooks)) refl
 answers_allowed library commands.Root moment place = tt

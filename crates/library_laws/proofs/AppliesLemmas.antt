@@ -48,7 +48,8 @@ nibble_small : (xs : List ℕ) (k : ℕ) → nibble xs k < 16
 nibble_small xs k = grind arith
 
 place_is_byte : (xs : List ℕ) (k : ℕ) → is_id_byte (cond (is_hyphen_place k) 45 (hex_digit lower (nibble xs (digit_place k)))) ≡ true
-place_is_byte xs k = cond_both (is_hyphen_place k) 45 (hex_digit lower (nibble xs (digit_place k))) (λ b. is_id_byte b ≡ true) (λ e. refl) (λ e. hex_is_byte (nibble xs (digit_place k)) (nibble_small xs (digit_place k)))
+place_is_byte xs k = cond_both (is_hyphen_place k) 45 (hex_digit lower (nibble xs (digit_place k))) (λ b. is_id_byte b ≡ true) (λ e. refl)
+    (λ e. hex_is_byte (nibble xs (digit_place k)) (nibble_small xs (digit_place k)))
 
 all_places : (n : ℕ) (f : ℕ → ℕ) → ((k : ℕ) → is_id_byte (f k) ≡ true) → list_all is_id_byte (by_index n f) ≡ true
 unfolding by_index
@@ -57,7 +58,8 @@ all_places (suc n) f h = list_all-both is_id_byte (by_index n f) (f n ∷ []) (a
 
 id_is_bytes : (id : ℕ) → list_all is_id_byte (id_text id) ≡ true
 unfolding id_text
-id_is_bytes id = all_places 36 (λ k. cond (is_hyphen_place k) 45 (hex_digit lower (nibble (to_be_bytes w128 id) (digit_place k)))) (place_is_byte (to_be_bytes w128 id))
+id_is_bytes id = all_places 36 (λ k. cond (is_hyphen_place k) 45 (hex_digit lower (nibble (to_be_bytes w128 id) (digit_place k))))
+    (place_is_byte (to_be_bytes w128 id))
 
 digit_is_byte : (n : ℕ) → n < 10 → is_id_byte (48 + n) ≡ true
 digit_is_byte n less = and_from (nat_le 33 (48 + n)) (nat_le (48 + n) 126) (le-leb 33 (48 + n) (omega arith)) (le-leb (48 + n) 126 (omega arith))
@@ -65,19 +67,23 @@ digit_is_byte n less = and_from (nat_le 33 (48 + n)) (nat_le (48 + n) 126) (le-l
 digits_are_bytes : (n : ℕ) → n < 2 ^ 64 → list_all is_id_byte (decimal n) ≡ true
 digits_are_bytes n small =
     decimal_by_steps (λ m ds. list_all is_id_byte ds ≡ true) (λ m less. and_from (is_id_byte (48 + m)) true (digit_is_byte m less) refl)
-    (λ m ds more before. list_all-both is_id_byte ds ((48 + m % 10) ∷ []) before (and_from (is_id_byte (48 + m % 10)) true (digit_is_byte (m % 10) (omega arith)) refl)) n small
+    (λ m ds more before. list_all-both is_id_byte ds ((48 + m % 10) ∷ []) before
+    (and_from (is_id_byte (48 + m % 10)) true (digit_is_byte (m % 10) (omega arith)) refl)) n small
 
 made_is_id : (store serial : ℕ) → serial ≤ last_serial → is_object_id (made_id store serial) ≡ true
 made_is_id store serial small =
     let short = length-decimal-le 20 serial (omega arith) (omega arith) (omega arith) in
-    let long : length (made_id store serial) ≡ 37 + length (decimal serial) = omega (arith, length-append (made_prefix store) (decimal serial), length-append (id_text store) (codes "-"), length-id_text store) in
+    let long : length (made_id store serial) ≡ 37 + length (decimal serial) = omega
+    (arith, length-append (made_prefix store) (decimal serial), length-append (id_text store) (codes "-"), length-id_text store) in
     and_from _ _ (and_from _ _ (le-leb 1 (length (made_id store serial)) (omega arith)) (le-leb (length (made_id store serial)) 200 (omega arith)))
-    (list_all-both is_id_byte (made_prefix store) (decimal serial) (list_all-both is_id_byte (id_text store) (codes "-") (id_is_bytes store) refl) (digits_are_bytes serial (omega arith)))
+    (list_all-both is_id_byte (made_prefix store) (decimal serial) (list_all-both is_id_byte (id_text store) (codes "-") (id_is_bytes store) refl)
+    (digits_are_bytes serial (omega arith)))
 
 below : (n i : ℕ) → In i (numbers_below n) → i < n
 unfolding numbers_below
 below zero i here = absurd here
-below (suc n) i here = elim (In-append (numbers_below n) (n ∷ []) i here) [ inl front ↦ let b = below n i front in omega arith | inr (inl same) ↦ omega (arith, same) | inr (inr bad) ↦ absurd bad ]
+below (suc n) i here = elim (In-append (numbers_below n) (n ∷ []) i here)
+    [ inl front ↦ let b = below n i front in omega arith | inr (inl same) ↦ omega (arith, same) | inr (inr bad) ↦ absurd bad ]
 
 length-below : (n : ℕ) → length (numbers_below n) ≡ n
 unfolding numbers_below
@@ -88,7 +94,8 @@ length-map_made : (store next : ℕ) (is : List ℕ) → length (map (λ i. made
 length-map_made store next [] = refl
 length-map_made store next (i ∷ is) = ap suc (length-map_made store next is)
 
-wanted_are_ids : (library : Library) (want : Want) → is_want_good want ≡ true → library.next_serial + length (wanted_ids library want) ≤ last_serial → list_all is_object_id (wanted_ids library want) ≡ true
+wanted_are_ids : (library : Library) (want : Want) → is_want_good want ≡ true → library.next_serial + length (wanted_ids library want) ≤ last_serial
+    → list_all is_object_id (wanted_ids library want) ≡ true
 wanted_are_ids library (Count n) good most =
     list_all-mapped is_object_id (λ i. made_id library.id (library.next_serial + i)) (numbers_below n) (λ i here.
     let b = below n i here in
@@ -140,24 +147,28 @@ Brings library change = (after change library).next_serial ≤ last_serial → h
 
 drop_brings : (library : Library) (flow moment : ℕ) → IfSome (accepted_drop library flow moment).change (Brings library)
 unfolding Brings
-drop_brings library flow moment = cond_both (nat_le (length (segments_of flow library.segments)) 32) _ _ (λ (o : Outcome). IfSome o.change (Brings library)) (λ e m. refl) (λ e m. refl)
+drop_brings library flow moment = cond_both (nat_le (length (segments_of flow library.segments)) 32) _ _ (λ (o : Outcome). IfSome o.change (Brings library))
+    (λ e m. refl) (λ e m. refl)
 
 cut_brings : (library : Library) (flow : ℕ) (range : Option Span) (moment : ℕ) → IfSome (accepted_cut library flow range moment).change (Brings library)
 unfolding Brings
 cut_brings library flow range moment =
     cond_both (length (covered library.segments flow range) == 0) _ _ (λ (o : Outcome). IfSome o.change (Brings library)) (λ e. tt)
-    (λ some. cond_both (nat_le (length (covered library.segments flow range)) 32) _ _ (λ (o : Outcome). IfSome o.change (Brings library)) (λ e m. refl) (λ e m. refl))
+    (λ some. cond_both (nat_le (length (covered library.segments flow range)) 32) _ _ (λ (o : Outcome). IfSome o.change (Brings library)) (λ e m. refl)
+    (λ e m. refl))
 
 brings_by : (library : Library) (command : Command) (outcome : Outcome) → IfSome outcome.change (Brings library)
     → IfSome (changing_answer (refusal_of library command) (Some outcome)).change (Brings library)
 brings_by library command outcome h = by_refusal (Brings library) (refusal_of library command) outcome (λ none. h)
 
-hook_brings : (library : Library) (url : List ℕ) (moment : ℕ) (kept : Bool) → IfSome (cond kept (changed replies.Done (changes.DropHook moment url)) (unchanged replies.Done)).change (Brings library)
+hook_brings : (library : Library) (url : List ℕ) (moment : ℕ) (kept : Bool)
+    → IfSome (cond kept (changed replies.Done (changes.DropHook moment url)) (unchanged replies.Done)).change (Brings library)
 unfolding Brings
 hook_brings library url moment true = λ m. refl
 hook_brings library url moment false = tt
 
-answers_bring : (library : Library) (command : Command) (moment : ℕ) → is_good_command library command ≡ true → IfSome (answer library command moment).change (Brings library)
+answers_bring : (library : Library) (command : Command) (moment : ℕ) → is_good_command library command ≡ true
+    → IfSome (answer library command moment).change (Brings library)
 unfolding Brings
 answers_bring library (commands.PutFlow body) moment good = brings_by library (commands.PutFlow body) _ (λ m. good)
 answers_bring library (commands.SetFlow flow part) moment good = brings_by library (commands.SetFlow flow part) _ (λ m. good)
@@ -168,7 +179,8 @@ answers_bring library (commands.Keep object start size) moment good =
     by_refusal (Brings library) (keep_refusal (object_of object library.objects)) (changed replies.Created (changes.Store moment object start size))
     (λ none m. (found_place library object start size good none).1)
 answers_bring library (commands.AddSegments flow posts) moment good = brings_by library (commands.AddSegments flow posts) _ (λ m. good)
-answers_bring library (commands.CutSegments flow range) moment good = brings_by library (commands.CutSegments flow range) _ (cut_brings library flow range moment)
+answers_bring library (commands.CutSegments flow range) moment good = brings_by library (commands.CutSegments flow range) _
+    (cut_brings library flow range moment)
 answers_bring library (commands.PutHook hook) moment good = λ m. good
 answers_bring library (commands.DropHook url) moment good = hook_brings library url moment (is_some (hook_of url library.outbox.hooks))
 answers_bring library commands.Root moment good = tt
@@ -212,7 +224,8 @@ good_place library (commands.Object id) good = tt
 good_place library commands.Requests good = tt
 good_place library (commands.Request serial) good = tt
 
-both : (library : Library) (moment : ℕ) → Good library → is_moment moment ≡ true → (o : Option Change) → IfSome o (IsAllowedAt library moment) → IfSome o (Brings library)
+both : (library : Library) (moment : ℕ) → Good library → is_moment moment ≡ true → (o : Option Change) → IfSome o (IsAllowedAt library moment)
+    → IfSome o (Brings library)
     → IfSome o (λ change. IsFalse (passes_serials change library) → applied change library ≡ Some (after change library))
 unfolding Brings
 both library moment good at None allowed brings = tt
@@ -222,18 +235,26 @@ both library moment good at (Some change) allowed brings = λ room.
 
 pub answers_apply : AnswersApply
 answers_apply library command moment good command_good at =
-    both library moment good at (answer library command moment).change (answers_allowed library command moment (good_place library command command_good)) (answers_bring library command moment command_good)
+    both library moment good at (answer library command moment).change (answers_allowed library command moment (good_place library command command_good))
+    (answers_bring library command moment command_good)
 
 -- ---- turns
 
-turn_by : (library : Library) (moment : ℕ) → Good library → is_moment moment ≡ true → (change : Change) → is_allowed library change ≡ true → moment_of change ≡ moment → has_good_values change ≡ true
+turn_by : (library : Library) (moment : ℕ) → Good library → is_moment moment ≡ true → (change : Change) → is_allowed library change ≡ true → moment_of change
+    ≡ moment → has_good_values change ≡ true
     → IsFalse (passes_serials change library) → applied change library ≡ Some (after change library)
 turn_by library moment good at change allowed same values room =
-    changes_apply library change good allowed (record { at = ap is_moment same ∙ at; values = values; serials = ltb-false last_serial (after change library).next_serial room })
+    changes_apply library change good allowed (record {
+      at = ap is_moment same
+          ∙ at;
+      values = values;
+      serials = ltb-false last_serial (after change library).next_serial room;
+    })
 
 pub turns_apply : TurnsApply
 turns_apply library moment good at =
-    cond_both (is_some (first_unfinished library.requests)) (Some (changes.DeleteStep moment)) (cond (nat_lt 0 (length (swept_objects library.segments library.objects moment))) (Some (changes.SweepStep moment)) None)
+    cond_both (is_some (first_unfinished library.requests)) (Some (changes.DeleteStep moment))
+    (cond (nat_lt 0 (length (swept_objects library.segments library.objects moment))) (Some (changes.SweepStep moment)) None)
     (λ (o : Option Change). IfSome o (λ change. IsFalse (passes_serials change library) → applied change library ≡ Some (after change library)))
     (λ due. turn_by library moment good at (changes.DeleteStep moment) due refl refl)
     (λ none. cond_both (nat_lt 0 (length (swept_objects library.segments library.objects moment))) (Some (changes.SweepStep moment)) None

@@ -41,7 +41,8 @@ count-or p q (x ∷ xs) =
 -- a key that no item has
 count-none : {X : Type 0} (key : X → ℕ) (k : ℕ) (xs : List X) → ((x : X) → In x xs → k ≡ key x → ⊥) → length (filter (λ x. k == key x) xs) ≡ 0
 count-none key k [] apart = refl
-count-none key k (x ∷ xs) apart = ap (λ b. length (cond b (x ∷ filter (λ y. k == key y) xs) (filter (λ y. k == key y) xs))) (ne_eqb k (key x) (apart x (inl refl))) ∙ count-none key k xs (λ y here. apart y (inr here))
+count-none key k (x ∷ xs) apart = ap (λ b. length (cond b (x ∷ filter (λ y. k == key y) xs) (filter (λ y. k == key y) xs)))
+    (ne_eqb k (key x) (apart x (inl refl))) ∙ count-none key k xs (λ y here. apart y (inr here))
 
 one_step : {X : Type 0} (b : Bool) (x : X) (rest : List X) → length rest ≤ 1 → (b ≡ true → length rest ≡ 0) → length (cond b (x ∷ rest) rest) ≤ 1
 one_step true x rest le none = let e = none refl in omega arith
@@ -63,7 +64,8 @@ none_pass [] = refl
 none_pass (x ∷ xs) = none_pass xs
 
 -- and of several keys at most as many items
-count-keys : {X : Type 0} (key : X → ℕ) (gone xs : List X) → rises (λ a b. nat_lt (key a) (key b)) xs ≡ true → length (filter (λ x. list_any (λ g. key g == key x) gone) xs) ≤ length gone
+count-keys : {X : Type 0} (key : X → ℕ) (gone xs : List X) → rises (λ a b. nat_lt (key a) (key b)) xs ≡ true
+    → length (filter (λ x. list_any (λ g. key g == key x) gone) xs) ≤ length gone
 count-keys key [] xs e = omega (arith, none_pass xs)
 count-keys key (g ∷ gs) xs e =
     omega (arith, count-or (λ x. key g == key x) (λ x. list_any (λ h. key h == key x) gs) xs, count-one key (key g) xs e, count-keys key gs xs e)
@@ -72,23 +74,34 @@ count-keys key (g ∷ gs) xs e =
 lost : {X : Type 0} (key : X → ℕ) (gone xs : List X) → rises (λ a b. nat_lt (key a) (key b)) xs ≡ true
     → length xs ≤ length (filter (λ x. not (list_any (λ g. key g == key x) gone)) xs) + length gone
 lost key gone xs e =
-    omega (arith, length-filter_both (λ x. list_any (λ g. key g == key x) gone) (λ x. not (list_any (λ g. key g == key x) gone)) (λ x. refl) xs, count-keys key gone xs e)
+    omega (
+      arith,
+      length-filter_both (λ x. list_any (λ g. key g == key x) gone) (λ x. not (list_any (λ g. key g == key x) gone)) (λ x. refl) xs,
+      count-keys key
+          gone xs e,
+    )
 
 -- ---- steps
 
-end_segments : (gone : Bool) (one other : Library) (segments : List SegmentRow) → one.segments ≡ segments → other.segments ≡ segments → (cond gone one other).segments ≡ segments
+end_segments : (gone : Bool) (one other : Library) (segments : List SegmentRow) → one.segments ≡ segments → other.segments ≡ segments
+    → (cond gone one other).segments ≡ segments
 end_segments true one other segments e k = e
 end_segments false one other segments e k = k
 
 -- the segments that a step leaves
-left_by_step : (library : Library) (request : DeleteRow) (moment : ℕ) → (after_request_step moment request library).segments ≡ without_segments (removed_by_step library.segments request) library.segments
+left_by_step : (library : Library) (request : DeleteRow) (moment : ℕ) → (after_request_step moment request library).segments
+    ≡ without_segments (removed_by_step library.segments request) library.segments
 left_by_step library request moment =
     let removed : List SegmentRow = removed_by_step library.segments request in
     let touched : (touch_flow request.flow removed moment (with_step request moment library)).segments ≡ library.segments =
-    cond_both (length removed == 0) (with_step request moment library) (record (with_step request moment library) { catalog = after_touch request.flow moment library.catalog }) (λ (l : Library). l.segments ≡ library.segments) (λ e. refl) (λ e. refl) in
-    end_segments (is_flow_gone request library) _ _ (without_segments removed library.segments) (ap (without_segments removed) touched) (ap (without_segments removed) touched)
+    cond_both (length removed == 0) (with_step request moment library)
+    (record (with_step request moment library) { catalog = after_touch request.flow moment library.catalog }) (λ (l : Library). l.segments ≡ library.segments)
+    (λ e. refl) (λ e. refl) in
+    end_segments (is_flow_gone request library) _ _ (without_segments removed library.segments) (ap (without_segments removed) touched)
+    (ap (without_segments removed) touched)
 
-step_bounded : (library : Library) (moment : ℕ) → Good library → (o : Option DeleteRow) → length library.segments ≤ length (after_step_of o moment library).segments + 32
+step_bounded : (library : Library) (moment : ℕ) → Good library → (o : Option DeleteRow)
+    → length library.segments ≤ length (after_step_of o moment library).segments + 32
 step_bounded library moment good None = omega arith
 step_bounded library moment good (Some request) =
     omega (

@@ -63,7 +63,9 @@ entries flows id members e =
     let parts = none_first (missing_refusal (first_missing flows id members)) (when (collects_itself flows id members) refusals.CollectsItself ∷ []) e in
     let own = none_first (when (collects_itself flows id members) refusals.CollectsItself) [] parts.1 in
     record {
-      kept = λ to here. there_or (to == id) (is_kept flows to) to id refl (not-false ((to == id) || is_kept flows to) (find-none (λ x. not ((x == id) || is_kept flows x)) (member_ids members) (none_missing (first_missing flows id members) parts.0) to here));
+      kept = λ to here. there_or (to == id) (is_kept flows to) to id refl
+          (not-false ((to == id) || is_kept flows to) (find-none (λ x. not ((x == id) || is_kept flows x)) (member_ids members)
+          (none_missing (first_missing flows id members) parts.0) to here));
       reaches = not_when (collects_itself flows id members) refusals.CollectsItself own.0;
     }
 
@@ -86,7 +88,8 @@ new_text body moment at = and_from _ _ at at
 same_sources : (sources : List SourceRow) (id : ℕ) → rises source_before sources ≡ true → list_all is_source_text sources ≡ true → Sources sources sources id
 same_sources sources id rise texts = record { rise = rise; old = λ s here. here; new = λ s here. inl here; texts = texts }
 
-one_more_source : (sources : List SourceRow) (body : FlowBody) (moment : ℕ) → is_moment moment ≡ true → rises source_before sources ≡ true → list_all is_source_text sources ≡ true
+one_more_source : (sources : List SourceRow) (body : FlowBody) (moment : ℕ) → is_moment moment ≡ true → rises source_before sources ≡ true
+    → list_all is_source_text sources ≡ true
     → source_of body.source sources ≡ None → Sources sources (placed source_before (new_source body moment) sources) body.source
 one_more_source sources body moment at rise texts none =
     let fresh : SourceRow = new_source body moment in
@@ -94,8 +97,10 @@ one_more_source sources body moment at rise texts none =
       rise = rises-placed (λ s. s.id) fresh sources rise;
       old = λ s here. elim (cases_order s.id body.source) [
         | inl same ↦ absurd (false≢true (sym (find-none (λ r. r.id == body.source) sources none s here) ∙ eq-eqb s.id body.source same))
-        | inr (inl below) ↦ In-front (filter (λ r. source_before r fresh) sources) (fresh ∷ filter (λ r. source_before fresh r) sources) s (filter-In (λ r. source_before r fresh) sources s here (lt-ltb s.id body.source below))
-        | inr (inr above) ↦ In-back (filter (λ r. source_before r fresh) sources) (fresh ∷ filter (λ r. source_before fresh r) sources) s (inr (filter-In (λ r. source_before fresh r) sources s here (lt-ltb body.source s.id above)))
+        | inr (inl below) ↦ In-front (filter (λ r. source_before r fresh) sources) (fresh ∷ filter (λ r. source_before fresh r) sources) s
+            (filter-In (λ r. source_before r fresh) sources s here (lt-ltb s.id body.source below))
+        | inr (inr above) ↦ In-back (filter (λ r. source_before r fresh) sources) (fresh ∷ filter (λ r. source_before fresh r) sources) s
+            (inr (filter-In (λ r. source_before fresh r) sources s here (lt-ltb body.source s.id above)))
       ];
       new = λ s here. elim (placed-In source_before fresh sources s here) [ inl same ↦ inr (ap (λ (r : SourceRow). r.id) same) | inr old ↦ inl old.0 ];
       texts = list_all-from_In is_source_text (placed source_before fresh sources) (λ s here. elim (placed-In source_before fresh sources s here) [
@@ -112,8 +117,10 @@ fits_placed sources body moment row same rise =
     let all : List SourceRow = placed source_before fresh sources in
     let among : In fresh all = In-back (filter (λ r. source_before r fresh) sources) (fresh ∷ filter (λ r. source_before fresh r) sources) fresh (inl refl) in
     let found = find-some (λ r. r.id == body.source) all fresh among (eq-eqb body.source body.source refl) in
-    let is = same_by_key (λ (r : SourceRow). r.id) all (rises-placed (λ s. s.id) fresh sources rise) found.0 fresh found.2 among (eqb-true found.0.id body.source found.3) in
-    ap (λ o. fits_kept o row) (found.1 ∙ ap Some is) ∙ or_left (same_format row.body.format body.format) _ (eq-eqb (format_number row.body.format) (format_number body.format) (ap (λ (b : FlowBody). format_number b.format) same))
+    let is = same_by_key (λ (r : SourceRow). r.id) all (rises-placed (λ s. s.id) fresh sources rise) found.0 fresh found.2 among
+    (eqb-true found.0.id body.source found.3) in
+    ap (λ o. fits_kept o row) (found.1 ∙ ap Some is) ∙ or_left (same_format row.body.format body.format) _
+    (eq-eqb (format_number row.body.format) (format_number body.format) (ap (λ (b : FlowBody). format_number b.format) same))
 
 -- the texts of a body, as facts
 pub record BodyTexts (body : FlowBody) : Type 0 where
@@ -137,7 +144,8 @@ BodyTexts-from body e =
 
 pub BodyTexts-test : (body : FlowBody) → BodyTexts body → is_body_text body ≡ true
 BodyTexts-test body is =
-    and_from _ _ (and_from _ _ (and_from _ _ (and_from _ _ (and_from _ _ (and_from _ _ is.codec is.container) is.label) is.description) is.tags) is.members) is.essence
+    and_from _ _ (and_from _ _ (and_from _ _ (and_from _ _ (and_from _ _ (and_from _ _ is.codec is.container) is.label) is.description) is.tags) is.members)
+    is.essence
 
 -- the texts and moments of a row, as facts
 pub record RowTexts (row : FlowRow) : Type 0 where
@@ -159,13 +167,18 @@ RowTexts-test row is = and_from _ _ (and_from _ _ (and_from _ _ is.body is.creat
 -- ---- the change of a put
 
 -- a format that is the same as another fits where that one does
-same_fits : (source : SourceRow) (row old : FlowRow) → same_format row.body.format old.body.format ≡ true → fits_kept (Some source) old ≡ true → fits_kept (Some source) row ≡ true
+same_fits : (source : SourceRow) (row old : FlowRow) → same_format row.body.format old.body.format ≡ true → fits_kept (Some source) old ≡ true
+    → fits_kept (Some source) row ≡ true
 same_fits source row old same e =
-    ap (λ n. (n == format_number source.format) || (n == format_number Multi)) (eqb-true (format_number row.body.format) (format_number old.body.format) same) ∙ e
+    ap (λ n. (n == format_number source.format) || (n == format_number Multi)) (eqb-true (format_number row.body.format) (format_number old.body.format) same)
+    ∙ e
 
-pub old_fits : (library : Library) → Good library → (old : FlowRow) → In old library.catalog.flows → fits_kept (source_of old.body.source library.catalog.sources) old ≡ true
+pub old_fits : (library : Library) → Good library → (old : FlowRow) → In old library.catalog.flows
+    → fits_kept (source_of old.body.source library.catalog.sources) old ≡ true
 old_fits library good old here =
-    list_all-In (λ row. fits_kept (source_of row.body.source library.catalog.sources) row) library.catalog.flows (and_parts (list_all (λ row. fits_kept (source_of row.body.source library.catalog.sources) row) library.catalog.flows) (list_all (has_flow library.catalog.flows) library.catalog.sources) good.sources).0 old here
+    list_all-In (λ row. fits_kept (source_of row.body.source library.catalog.sources) row) library.catalog.flows
+    (and_parts (list_all (λ row. fits_kept (source_of row.body.source library.catalog.sources) row) library.catalog.flows)
+    (list_all (has_flow library.catalog.flows) library.catalog.sources) good.sources).0 old here
 
 put_catalog : Option FlowRow → Option SourceRow → FlowBody → ℕ → Catalog → Catalog
 put_catalog o s body moment catalog = record {
@@ -173,10 +186,12 @@ put_catalog o s body moment catalog = record {
   flows = placed flow_before (put_row o body moment) catalog.flows;
 }
 
-put_text : (o : Option FlowRow) (body : FlowBody) (moment : ℕ) → is_moment moment ≡ true → is_body_text body ≡ true → ((old : FlowRow) → o ≡ Some old → is_flow_text old ≡ true) → is_flow_text (put_row o body moment) ≡ true
+put_text : (o : Option FlowRow) (body : FlowBody) (moment : ℕ) → is_moment moment ≡ true → is_body_text body ≡ true
+    → ((old : FlowRow) → o ≡ Some old → is_flow_text old ≡ true) → is_flow_text (put_row o body moment) ≡ true
 put_text None body moment at text old = RowTexts-test (put_row None body moment) (record { body = text; created = at; updated = at; segments = refl })
 put_text (Some row) body moment at text old =
-    let t = RowTexts-from row (old row refl) in RowTexts-test (put_row (Some row) body moment) (record { body = text; created = t.created; updated = at; segments = t.segments })
+    let t = RowTexts-from row (old row refl) in RowTexts-test (put_row (Some row) body moment)
+    (record { body = text; created = t.created; updated = at; segments = t.segments })
 
 put_body : (o : Option FlowRow) (body : FlowBody) (moment : ℕ) → (put_row o body moment).body ≡ body
 put_body None body moment = refl
@@ -190,7 +205,8 @@ record Put (library : Library) (body : FlowBody) (o : Option FlowRow) (s : Optio
   fits : (src : SourceRow) → s ≡ Some src → fits_format src.format body.format ≡ true
   same_source : (r : FlowRow) → In r library.catalog.flows → r.body.id ≡ body.id → r.body.source ≡ body.source
 
-put_change : (library : Library) (body : FlowBody) (moment : ℕ) (o : Option FlowRow) (s : Option SourceRow) → Good library → is_moment moment ≡ true → is_body_text body ≡ true
+put_change : (library : Library) (body : FlowBody) (moment : ℕ) (o : Option FlowRow) (s : Option SourceRow) → Good library → is_moment moment ≡ true
+    → is_body_text body ≡ true
     → Put library body o s → Sources library.catalog.sources (sources_after_put s library.catalog.sources body moment) body.source
     → fits_kept (source_of body.source (sources_after_put s library.catalog.sources body moment)) (put_row o body moment) ≡ true
     → FlowChange library (put_catalog o s body moment library.catalog) (put_row o body moment)
@@ -209,41 +225,53 @@ put_change library body moment o s good at text put sources fits =
       new_sources = λ q here. elim (sources.new q here) [ inl old ↦ inl old | inr same ↦ inr (same ∙ sym (ap (λ (b : FlowBody). b.source) own)) ];
       fits = subst (λ (b : FlowBody). fits_kept (source_of b.source (sources_after_put s library.catalog.sources body moment)) new ≡ true) (sym own) fits;
       same_source = λ r here e. put.same_source r here (e ∙ ap (λ (b : FlowBody). b.id) own) ∙ sym (ap (λ (b : FlowBody). b.source) own);
-      members = λ id entry. elim (put.entries_good.kept id (subst (λ (b : FlowBody). In id (member_ids b.members)) own entry)) [ inl same ↦ inl (same ∙ sym (ap (λ (b : FlowBody). b.id) own)) | inr kept ↦ inr kept ];
+      members = λ id entry. elim (put.entries_good.kept id (subst (λ (b : FlowBody). In id (member_ids b.members)) own entry))
+          [ inl same ↦ inl (same ∙ sym (ap (λ (b : FlowBody). b.id) own)) | inr kept ↦ inr kept ];
       reaches = ap (λ (b : FlowBody). collects_itself library.catalog.flows b.id b.members) own ∙ put.entries_good.reaches;
-      text = put_text o body moment at text (λ old e. list_all-In is_flow_text library.catalog.flows texts.flows old (find-In (λ r. r.body.id == body.id) library.catalog.flows old (put.flow ∙ e)).0);
+      text = put_text o body moment at text (λ old e. list_all-In is_flow_text library.catalog.flows texts.flows old
+          (find-In (λ r. r.body.id == body.id) library.catalog.flows old (put.flow ∙ e)).0);
       source_texts = sources.texts;
     }
 
 -- a put that is not refused
-put_told : (library : Library) (body : FlowBody) (o : Option FlowRow) (s : Option SourceRow) → Good library → flow_of body.id library.catalog.flows ≡ o → source_of body.source library.catalog.sources ≡ s
+put_told : (library : Library) (body : FlowBody) (o : Option FlowRow) (s : Option SourceRow) → Good library → flow_of body.id library.catalog.flows ≡ o
+    → source_of body.source library.catalog.sources ≡ s
     → first_refusal (put_refusals o library.catalog body) ≡ None → Put library body o s
 put_told library body None s good flow source none =
-    let parts = none_first (when (not (fits_source (source_of body.source library.catalog.sources) body)) refusals.SourceFormat) (collection_refusals library.catalog.flows body.id body.members) none in
+    let parts = none_first (when (not (fits_source (source_of body.source library.catalog.sources) body)) refusals.SourceFormat)
+    (collection_refusals library.catalog.flows body.id body.members) none in
     record {
       flow = flow;
       source = source;
       entries_good = entries library.catalog.flows body.id body.members parts.1;
-      fits = λ src e. ap (λ q. fits_source q body) (sym (source ∙ e)) ∙ not-false (fits_source (source_of body.source library.catalog.sources) body) (not_when _ refusals.SourceFormat parts.0);
-      same_source = λ r here e. absurd (false≢true (sym (find-none (λ q. q.body.id == body.id) library.catalog.flows flow r here) ∙ eq-eqb r.body.id body.id e));
+      fits = λ src e. ap (λ q. fits_source q body) (sym (source ∙ e))
+          ∙ not-false (fits_source (source_of body.source library.catalog.sources) body) (not_when _ refusals.SourceFormat parts.0);
+      same_source = λ r here e. absurd (false≢true (sym (find-none (λ q. q.body.id == body.id) library.catalog.flows flow r here)
+          ∙ eq-eqb r.body.id body.id e));
     }
 put_told library body (Some old) s good flow source none =
     let names = Names-from library good.names in
     let order = and_parts (rises source_before library.catalog.sources) (rises flow_before library.catalog.flows) names.catalog in
-    let first = none_first (when old.body.read_only refusals.ReadOnly) (when (not (keeps_flow old.body body)) refusals.FlowChanged ∷ collection_refusals library.catalog.flows body.id body.members) none in
-    let parts = none_first (when (not (keeps_flow old.body body)) refusals.FlowChanged) (collection_refusals library.catalog.flows body.id body.members) first.1 in
-    let keeps = and_parts (body.source == old.body.source) (same_format body.format old.body.format) (not-false (keeps_flow old.body body) (not_when _ refusals.FlowChanged parts.0)) in
+    let first = none_first (when old.body.read_only refusals.ReadOnly)
+    (when (not (keeps_flow old.body body)) refusals.FlowChanged ∷ collection_refusals library.catalog.flows body.id body.members) none in
+    let parts = none_first (when (not (keeps_flow old.body body)) refusals.FlowChanged) (collection_refusals library.catalog.flows body.id body.members) first.1
+    in
+    let keeps = and_parts (body.source == old.body.source) (same_format body.format old.body.format)
+    (not-false (keeps_flow old.body body) (not_when _ refusals.FlowChanged parts.0)) in
     let at = find-In (λ r. r.body.id == body.id) library.catalog.flows old flow in
     let under : old.body.source ≡ body.source = sym (eqb-true body.source old.body.source keeps.0) in
     record {
       flow = flow;
       source = source;
       entries_good = entries library.catalog.flows body.id body.members parts.1;
-      fits = λ src e. same_fits src (put_row None body 0) old keeps.1 (ap (λ q. fits_kept q old) (sym (ap (λ i. source_of i library.catalog.sources) under ∙ source ∙ e)) ∙ old_fits library good old at.0);
-      same_source = λ r here e. ap (λ (q : FlowRow). q.body.source) (same_by_key (λ q. q.body.id) library.catalog.flows order.1 r old here at.0 (e ∙ sym (eqb-true old.body.id body.id at.1))) ∙ under;
+      fits = λ src e. same_fits src (put_row None body 0) old keeps.1
+          (ap (λ q. fits_kept q old) (sym (ap (λ i. source_of i library.catalog.sources) under ∙ source ∙ e)) ∙ old_fits library good old at.0);
+      same_source = λ r here e. ap (λ (q : FlowRow). q.body.source)
+          (same_by_key (λ q. q.body.id) library.catalog.flows order.1 r old here at.0 (e ∙ sym (eqb-true old.body.id body.id at.1))) ∙ under;
     }
 
-put_by : (library : Library) (body : FlowBody) (moment : ℕ) (o : Option FlowRow) (s : Option SourceRow) → Good library → is_moment moment ≡ true → is_body_text body ≡ true
+put_by : (library : Library) (body : FlowBody) (moment : ℕ) (o : Option FlowRow) (s : Option SourceRow) → Good library → is_moment moment ≡ true
+    → is_body_text body ≡ true
     → Put library body o s → FlowChange library (put_catalog o s body moment library.catalog) (put_row o body moment)
 put_by library body moment o None good at text put =
     let names = Names-from library good.names in
@@ -258,9 +286,11 @@ put_by library body moment o (Some src) good at text put =
     let order = and_parts (rises source_before library.catalog.sources) (rises flow_before library.catalog.flows) names.catalog in
     put_change library body moment o (Some src) good at text put
     (same_sources library.catalog.sources body.source order.0 texts.sources)
-    (ap (λ q. fits_kept q (put_row o body moment)) put.source ∙ ap (λ (b : FlowBody). fits_format src.format b.format) (put_body o body moment) ∙ put.fits src refl)
+    (ap (λ q. fits_kept q (put_row o body moment)) put.source ∙ ap (λ (b : FlowBody). fits_format src.format b.format) (put_body o body moment)
+    ∙ put.fits src refl)
 
-pub put_keeps_catalog : (library : Library) (body : FlowBody) (moment : ℕ) → Good library → is_moment moment ≡ true → is_body_text body ≡ true → put_refusal library.catalog body ≡ None
+pub put_keeps_catalog : (library : Library) (body : FlowBody) (moment : ℕ) → Good library → is_moment moment ≡ true → is_body_text body ≡ true
+    → put_refusal library.catalog body ≡ None
     → Good (with_catalog (after_put body moment library.catalog) library)
 unfolding put_catalog
 put_keeps_catalog library body moment good at text none =

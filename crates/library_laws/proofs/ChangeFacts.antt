@@ -35,7 +35,8 @@ post_unheard (thing ∷ later) moment next events =
 
 pub nothing_posted : NothingPosted
 nothing_posted library happened moment none =
-    ap (λ h. with_posted (after_post happened moment (record { outbox = record { hooks = h; events = library.outbox.events }; next = library.next_serial })) library) none
+    ap (λ h. with_posted (after_post happened moment (record { outbox = record { hooks = h; events = library.outbox.events }; next = library.next_serial }))
+    library) none
     ∙ ap (λ p. with_posted p library) (post_unheard happened moment library.next_serial library.outbox.events)
     ∙ ap (λ h. record library { outbox = record { hooks = h; events = library.outbox.events } }) (sym none)
 
@@ -46,7 +47,8 @@ same_store library = record { id = refl; blocks = refl }
 
 touched_store : (library : Library) (flow moment : ℕ) (rows : List SegmentRow) → IsSameStore library (touch_flow flow rows moment library)
 touched_store library flow moment rows =
-    cond_both (length rows == 0) library (record library { catalog = after_touch flow moment library.catalog }) (IsSameStore library) (λ e. same_store library) (λ e. record { id = refl; blocks = refl })
+    cond_both (length rows == 0) library (record library { catalog = after_touch flow moment library.catalog }) (IsSameStore library) (λ e. same_store library)
+    (λ e. record { id = refl; blocks = refl })
 
 stepped_store : (gone : Bool) (library touched : Library) (flow moment : ℕ) (removed : List SegmentRow) → IsSameStore library touched
     → IsSameStore library (cond gone (remove_flow flow moment (remove_segments removed moment touched)) (remove_segments removed moment touched))

@@ -65,7 +65,8 @@ is_free_flow library flow e =
 
 kept_test : (library : Library) (flow : ℕ) → IsFree library flow → is_kept library.catalog.flows flow ≡ true
 kept_test library flow is =
-    let at = find-In (λ r. r.body.id == flow) library.catalog.flows is.row is.kept in list_any-from_In (λ r. r.body.id == flow) library.catalog.flows is.row at.0 at.1
+    let at = find-In (λ r. r.body.id == flow) library.catalog.flows is.row is.kept in list_any-from_In (λ r. r.body.id == flow) library.catalog.flows is.row
+    at.0 at.1
 
 touched_kept : (library : Library) (flow moment : ℕ) → IsFree library flow → is_kept (after_touch flow moment library.catalog).flows flow ≡ true
 touched_kept library flow moment is =
@@ -77,17 +78,20 @@ touched_kept library flow moment is =
 -- ---- segments that go
 
 -- a flow is touched where segments went
-pub touched_keeps_good : (library : Library) (flow : ℕ) (rows : List SegmentRow) (moment : ℕ) (row : FlowRow) → Good library → is_moment moment ≡ true → flow_of flow library.catalog.flows ≡ Some row
+pub touched_keeps_good : (library : Library) (flow : ℕ) (rows : List SegmentRow) (moment : ℕ) (row : FlowRow) → Good library → is_moment moment ≡ true
+    → flow_of flow library.catalog.flows ≡ Some row
     → Good (touch_flow flow rows moment library)
 touched_keeps_good library flow rows moment row good at is =
-    cond_both (length rows == 0) library (record library { catalog = after_touch flow moment library.catalog }) Good (λ e. good) (λ e. touch_keeps_good library flow moment row good at is)
+    cond_both (length rows == 0) library (record library { catalog = after_touch flow moment library.catalog }) Good (λ e. good)
+    (λ e. touch_keeps_good library flow moment row good at is)
 
 -- no segment of a flow is left where all of them went
 all_gone : (library : Library) (flow : ℕ) (s : SegmentRow) → In s (without_segments (segments_of flow library.segments) library.segments) → s.flow ≡ flow → ⊥
 all_gone library flow s here same =
     let at = In-filter (λ row. not (list_any (λ gone. gone.serial == row.serial) (segments_of flow library.segments))) library.segments s here in
     false≢true (sym (not-true (list_any (λ gone. gone.serial == s.serial) (segments_of flow library.segments)) at.1)
-    ∙ list_any-from_In (λ gone. gone.serial == s.serial) (segments_of flow library.segments) s (filter-In (λ row. row.flow == flow) library.segments s at.0 (eq-eqb s.flow flow same)) (eq-eqb s.serial s.serial refl))
+    ∙ list_any-from_In (λ gone. gone.serial == s.serial) (segments_of flow library.segments) s
+    (filter-In (λ row. row.flow == flow) library.segments s at.0 (eq-eqb s.flow flow same)) (eq-eqb s.serial s.serial refl))
 
 -- ---- a delete step
 
@@ -109,43 +113,55 @@ none_among [] x e here = here
 none_among (y ∷ ys) x e here = absurd (cc)
 
 -- a step that leaves none of a whole flow's segments leaves no segment of the flow
-none_left : (library : Library) (request : DeleteRow) → is_eternity request.range ≡ true → is_after_segments library.segments request ≡ true → is_finished_by_step library.segments request ≡ true
+none_left : (library : Library) (request : DeleteRow) → is_eternity request.range ≡ true → is_after_segments library.segments request ≡ true
+    → is_finished_by_step library.segments request ≡ true
     → (s : SegmentRow) → In s (without_segments (removed_by_step library.segments request) library.segments) → s.flow ≡ request.flow → ⊥
 none_left library request whole later finished s here same =
     let at = In-filter (λ row. not (list_any (λ gone. gone.serial == row.serial) (removed_by_step library.segments request))) library.segments s here in
     let left : List SegmentRow = without_segments (removed_by_step library.segments request) library.segments in
     let own = filter-In (λ row. row.flow == request.flow) left s here (eq-eqb s.flow request.flow same) in
-    let all = in_order-In starts_before (filter (λ row. covers request.range row.segment.range) (segments_of request.flow left)) s (filter-In (λ row. covers request.range row.segment.range) (segments_of request.flow left) s own (whole_covers request.range s.segment.range whole)) in
-    let before : nat_lt s.serial request.serial ≡ true = earlier s.flow request.flow (nat_lt s.serial request.serial) same (list_all-In (λ r. not (r.flow == request.flow) || nat_lt r.serial request.serial) library.segments later s at.0) in
+    let all = in_order-In starts_before (filter (λ row. covers request.range row.segment.range) (segments_of request.flow left)) s
+    (filter-In (λ row. covers request.range row.segment.range) (segments_of request.flow left) s own (whole_covers request.range s.segment.range whole)) in
+    let before : nat_lt s.serial request.serial ≡ true = earlier s.flow request.flow (nat_lt s.serial request.serial) same
+    (list_all-In (λ r. not (r.flow == request.flow) || nat_lt r.serial request.serial) library.segments later s at.0) in
     none_among (left_by_step library.segments request) s (eqb-true (length (left_by_step library.segments request)) 0 finished)
     (filter-In (λ row. nat_lt row.serial request.serial) (covered left request.flow request.range) s all before)
 
 unfinished_kept : (library : Library) (request : DeleteRow) → Good library → In request library.requests → is_unfinished request ≡ true
-    → (is_kept library.catalog.flows request.flow ≡ true) × (request.delete_flow ≡ true → (is_eternity request.range ≡ true) × (is_after_segments library.segments request ≡ true))
+    → (is_kept library.catalog.flows request.flow ≡ true) ×
+    (request.delete_flow ≡ true → (is_eternity request.range ≡ true) × (is_after_segments library.segments request ≡ true))
 unfinished_kept library request good here open_one =
-    let asked = and_parts (list_all (is_request_good library.catalog.flows library.segments) library.requests) (nat_le (done_count library.requests) done_kept) good.requests in
-    let told = unfinished_told library.catalog.flows library.segments request open_one (list_all-In (is_request_good library.catalog.flows library.segments) library.requests asked.0 request here) in
+    let asked = and_parts (list_all (is_request_good library.catalog.flows library.segments) library.requests) (nat_le (done_count library.requests) done_kept)
+    good.requests in
+    let told = unfinished_told library.catalog.flows library.segments request open_one
+    (list_all-In (is_request_good library.catalog.flows library.segments) library.requests asked.0 request here) in
     (told.kept, told.whole)
 
 -- the end of a step: the flow goes too, or it stays
 abbrev pub step_end : Bool → Library → DeleteRow → ℕ → Library → Library
 step_end gone library request moment stepped =
     with_happened
-    (cond gone (drop_events library.catalog request.flow (removed_by_step library.segments request)) (removed_events library.catalog request.flow (removed_by_step library.segments request)))
+    (cond gone (drop_events library.catalog request.flow (removed_by_step library.segments request))
+    (removed_events library.catalog request.flow (removed_by_step library.segments request)))
     moment (cond gone (remove_flow request.flow moment stepped) stepped)
 
 -- a touch leaves the segments
-left_in_step : (library : Library) (request : DeleteRow) (moment : ℕ) (removed : List SegmentRow) (s : SegmentRow) → In s (without_segments removed (touch_flow request.flow removed moment (with_step request moment library)).segments)
+left_in_step : (library : Library) (request : DeleteRow) (moment : ℕ) (removed : List SegmentRow) (s : SegmentRow)
+    → In s (without_segments removed (touch_flow request.flow removed moment (with_step request moment library)).segments)
     → In s (without_segments removed library.segments)
 left_in_step library request moment removed s here =
-    subst (λ l. In s (without_segments removed l)) (cond_both (length removed == 0) (with_step request moment library) (record (with_step request moment library) { catalog = after_touch request.flow moment library.catalog }) (λ (l : Library). l.segments ≡ library.segments) (λ e. refl) (λ e. refl)) here
+    subst (λ l. In s (without_segments removed l)) (cond_both (length removed == 0) (with_step request moment library)
+    (record (with_step request moment library) { catalog = after_touch request.flow moment library.catalog }) (λ (l : Library). l.segments ≡ library.segments)
+    (λ e. refl) (λ e. refl)) here
 
 -- with or without its flow
-step_by : (gone : Bool) (library : Library) (request : DeleteRow) (moment : ℕ) (stepped : Library) → is_flow_gone request library ≡ gone → Good stepped → is_moment moment ≡ true
+step_by : (gone : Bool) (library : Library) (request : DeleteRow) (moment : ℕ) (stepped : Library) → is_flow_gone request library ≡ gone → Good stepped
+    → is_moment moment ≡ true
     → (gone ≡ true → (s : SegmentRow) → In s stepped.segments → s.flow ≡ request.flow → ⊥)
     → (step_end gone library request moment stepped).next_serial ≤ last_serial → Good (step_end gone library request moment stepped)
 step_by true library request moment stepped is good at empty most =
-    happened_keeps_good (drop_events library.catalog request.flow (removed_by_step library.segments request)) moment _ (gone_flow_keeps_good stepped request.flow moment good at (empty refl)) at most
+    happened_keeps_good (drop_events library.catalog request.flow (removed_by_step library.segments request)) moment _
+    (gone_flow_keeps_good stepped request.flow moment good at (empty refl)) at most
 step_by false library request moment stepped is good at empty most =
     happened_keeps_good (removed_events library.catalog request.flow (removed_by_step library.segments request)) moment stepped good at most
 
@@ -154,7 +170,8 @@ abbrev pub step_after : ℕ → DeleteRow → Library → Library
 step_after moment request library = with_happened (request_step_events request library) moment (after_request_step moment request library)
 
 -- a good one is left
-pub request_step_keeps_good : (library : Library) (request : DeleteRow) (moment : ℕ) → Good library → is_moment moment ≡ true → In request library.requests → is_unfinished request ≡ true
+pub request_step_keeps_good : (library : Library) (request : DeleteRow) (moment : ℕ) → Good library → is_moment moment ≡ true → In request library.requests
+    → is_unfinished request ≡ true
     → (step_after moment request library).next_serial ≤ last_serial → Good (step_after moment request library)
 request_step_keeps_good library request moment good at here open_one most =
     let told = unfinished_kept library request good here open_one in
@@ -162,21 +179,26 @@ request_step_keeps_good library request moment good at here open_one most =
     let found = find-some (λ r. r.body.id == request.flow) library.catalog.flows row.0 row.1 row.2 in
     let removed : List SegmentRow = removed_by_step library.segments request in
     let asked : Library = touch_flow request.flow removed moment (with_step request moment library) in
-    let first = touched_keeps_good (with_step request moment library) request.flow removed moment found.0 (step_keeps_good library request moment good at here open_one) at found.1 in
+    let first = touched_keeps_good (with_step request moment library) request.flow removed moment found.0
+    (step_keeps_good library request moment good at here open_one) at found.1 in
     let stepped : Library = remove_segments removed moment asked in
     let second = removal_keeps_good asked removed moment first at in
-    step_by (is_flow_gone request library) library request moment stepped refl second at (λ gone. let p = and_parts (is_finished_by_step library.segments request) request.delete_flow gone in let whole = told.1 p.1 in
+    step_by (is_flow_gone request library) library request moment stepped refl second at
+    (λ gone. let p = and_parts (is_finished_by_step library.segments request) request.delete_flow gone in let whole = told.1 p.1 in
     λ s here same. none_left library request whole.0 whole.1 p.0 s (left_in_step library request moment removed s here) same) most
 
-delete_step_by : (library : Library) (moment : ℕ) → Good library → is_moment moment ≡ true → (o : Option DeleteRow) → first_unfinished library.requests ≡ o → is_some o ≡ true
-    → (with_happened (step_events o library) moment (after_step_of o moment library)).next_serial ≤ last_serial → Good (with_happened (step_events o library) moment (after_step_of o moment library))
+delete_step_by : (library : Library) (moment : ℕ) → Good library → is_moment moment ≡ true → (o : Option DeleteRow) → first_unfinished library.requests ≡ o
+    → is_some o ≡ true
+    → (with_happened (step_events o library) moment (after_step_of o moment library)).next_serial ≤ last_serial
+    → Good (with_happened (step_events o library) moment (after_step_of o moment library))
 delete_step_by library moment good at None is some most = good
 delete_step_by library moment good at (Some request) is some most =
     let found = find-In is_unfinished library.requests request is in request_step_keeps_good library request moment good at found.0 found.1 most
 
 -- ---- segments that are posted
 
-add_keeps_good : (library : Library) (moment flow : ℕ) (posts : List Segment) → Good library → IsSound library (changes.AddSegments moment flow posts) → IsFree library flow
+add_keeps_good : (library : Library) (moment flow : ℕ) (posts : List Segment) → Good library → IsSound library (changes.AddSegments moment flow posts)
+    → IsFree library flow
     → posts_refusal library.objects library.segments flow library.next_serial posts ≡ None → Good (after (changes.AddSegments moment flow posts) library)
 add_keeps_good library moment flow posts good sound free none =
     let events : List Happened = added_events library.catalog flow (posted flow library.next_serial posts) in
@@ -184,22 +206,29 @@ add_keeps_good library moment flow posts good sound free none =
     let with_new : Library = with_posts flow posts touched_one in
     let grows = next_grows events moment (record { outbox = library.outbox; next = with_new.next_serial }) in
     happened_keeps_good events moment with_new
-    (posts_keep_good touched_one flow posts (touch_keeps_good library flow moment free.row good sound.at free.kept) (touched_kept library flow moment free) free.free sound.values none (omega (arith, grows, sound.serials))) sound.at sound.serials
+    (posts_keep_good touched_one flow posts (touch_keeps_good library flow moment free.row good sound.at free.kept) (touched_kept library flow moment free)
+    free.free sound.values none (omega (arith, grows, sound.serials))) sound.at sound.serials
 
 -- ---- all changes
 
 pub changes_keep_good : ChangesKeepGood
 changes_keep_good library (changes.PutFlow moment body) good allowed sound =
-    let none = neither (deleting_refusal library body.id) (put_refusal library.catalog body) (none_from (or_else (deleting_refusal library body.id) (put_refusal library.catalog body)) allowed) in
-    happened_keeps_good (put_events library.catalog body) moment _ (put_keeps_catalog library body moment good sound.at sound.values none.1) sound.at sound.serials
+    let none = neither (deleting_refusal library body.id) (put_refusal library.catalog body)
+    (none_from (or_else (deleting_refusal library body.id) (put_refusal library.catalog body)) allowed) in
+    happened_keeps_good (put_events library.catalog body) moment _ (put_keeps_catalog library body moment good sound.at sound.values none.1) sound.at
+    sound.serials
 changes_keep_good library (changes.SetFlow moment flow part) good allowed sound =
-    let none = neither (deleting_refusal library flow) (set_refusal library.catalog flow part) (none_from (or_else (deleting_refusal library flow) (set_refusal library.catalog flow part)) allowed) in
-    happened_keeps_good (set_events library.catalog flow) moment _ (set_keeps_catalog library flow part moment good sound.at sound.values none.1) sound.at sound.serials
+    let none = neither (deleting_refusal library flow) (set_refusal library.catalog flow part)
+    (none_from (or_else (deleting_refusal library flow) (set_refusal library.catalog flow part)) allowed) in
+    happened_keeps_good (set_events library.catalog flow) moment _ (set_keeps_catalog library flow part moment good sound.at sound.values none.1) sound.at
+    sound.serials
 changes_keep_good library (changes.SetSource moment source part) good allowed sound =
-    happened_keeps_good (source_event SourceUpdated source ∷ []) moment _ (set_source_keeps_catalog library source part moment good sound.at sound.values) sound.at sound.serials
+    happened_keeps_good (source_event SourceUpdated source ∷ []) moment _ (set_source_keeps_catalog library source part moment good sound.at sound.values)
+    sound.at sound.serials
 changes_keep_good library (changes.DropFlow moment flow) good allowed sound =
     happened_keeps_good (drop_events library.catalog flow (segments_of flow library.segments)) moment _
-    (gone_flow_keeps_good (remove_segments (segments_of flow library.segments) moment library) flow moment (removal_keeps_good library (segments_of flow library.segments) moment good sound.at) sound.at (all_gone library flow)) sound.at sound.serials
+    (gone_flow_keeps_good (remove_segments (segments_of flow library.segments) moment library) flow moment
+    (removal_keeps_good library (segments_of flow library.segments) moment good sound.at) sound.at (all_gone library flow)) sound.at sound.serials
 changes_keep_good library (changes.Allocate moment flow ids) good allowed sound =
     let parts = and_parts (is_none (change_refusal library flow)) (is_none (first_taken (is_kept_object library) [] ids)) allowed in
     allocation_keeps_good library moment ids good sound.at sound.values (none_from (first_taken (is_kept_object library) [] ids) parts.1) sound.serials
@@ -207,16 +236,19 @@ changes_keep_good library (changes.Store moment object start size) good allowed 
     let parts = and_parts (is_none (keep_refusal (object_of object library.objects))) (is_free library.objects library.blocks (blocks_of size) start) allowed in
     storing_keeps_good library moment object start size good sound.at parts.1 sound.values
 changes_keep_good library (changes.AddSegments moment flow posts) good allowed sound =
-    let none = neither (change_refusal library flow) (posts_refusal library.objects library.segments flow library.next_serial posts) (none_from (or_else (change_refusal library flow) (posts_refusal library.objects library.segments flow library.next_serial posts)) allowed) in
+    let none = neither (change_refusal library flow) (posts_refusal library.objects library.segments flow library.next_serial posts)
+    (none_from (or_else (change_refusal library flow) (posts_refusal library.objects library.segments flow library.next_serial posts)) allowed) in
     let free = is_free_flow library flow none.0 in
     add_keeps_good library moment flow posts good sound free none.1
 changes_keep_good library (changes.CutSegments moment flow range) good allowed sound =
-    let first = and_parts (is_none (change_refusal library flow) && nat_le 1 (length (covered library.segments flow range))) (nat_le (length (covered library.segments flow range)) step_size) allowed in
+    let first = and_parts (is_none (change_refusal library flow) && nat_le 1 (length (covered library.segments flow range)))
+    (nat_le (length (covered library.segments flow range)) step_size) allowed in
     let parts = and_parts (is_none (change_refusal library flow)) (nat_le 1 (length (covered library.segments flow range))) first.0 in
     let free = is_free_flow library flow (none_from (change_refusal library flow) parts.0) in
     let gone : List SegmentRow = covered library.segments flow range in
     happened_keeps_good (removed_events library.catalog flow gone) moment _
-    (touched_keeps_good (remove_segments gone moment library) flow gone moment free.row (removal_keeps_good library gone moment good sound.at) sound.at free.kept) sound.at sound.serials
+    (touched_keeps_good (remove_segments gone moment library) flow gone moment free.row (removal_keeps_good library gone moment good sound.at) sound.at
+    free.kept) sound.at sound.serials
 changes_keep_good library (changes.AskDelete moment flow range delete_flow) good allowed sound =
     let parts = and_parts (is_none (change_refusal library flow)) (nat_lt step_size (length (covered library.segments flow range))) allowed in
     let free = is_free_flow library flow (none_from (change_refusal library flow) parts.0) in
@@ -240,10 +272,14 @@ good_is_tested library = (
       let x = and_parts _ (are_extents_good library.blocks library.objects) n.0 in
       let f = and_parts (are_segments_good library.catalog.flows library.segments) (are_references_good library.objects library.segments) x.0 in
       record { segments = f.0; references = f.1; extents = x.1; names = n.1; sources = s.1; collections = c.1; requests = r.1; outbox = o.1; texts = t.1 },
-  λ good. and_from _ _ (and_from _ _ (and_from _ _ (and_from _ _ (and_from _ _ (and_from _ _ (and_from _ _ (and_from _ _ good.segments good.references) good.extents) good.names) good.sources) good.collections) good.requests) good.outbox) good.texts,
+  λ good. and_from _ _ (and_from _ _ (and_from _ _ (and_from _ _
+      (and_from _ _ (and_from _ _ (and_from _ _ (and_from _ _ good.segments good.references) good.extents) good.names) good.sources) good.collections)
+      good.requests) good.outbox) good.texts,
 )
 
 pub changes_apply : ChangesApply
 changes_apply library change good allowed sound =
     ap (λ b. cond b (Some (after change library)) None)
-    (and_from (is_moment (moment_of change) && is_allowed library change) (is_good (after change library)) (and_from (is_moment (moment_of change)) (is_allowed library change) sound.at allowed) ((good_is_tested (after change library)).1 (changes_keep_good library change good allowed sound)))
+    (and_from (is_moment (moment_of change) && is_allowed library change) (is_good (after change library))
+    (and_from (is_moment (moment_of change)) (is_allowed library change) sound.at allowed)
+    ((good_is_tested (after change library)).1 (changes_keep_good library change good allowed sound)))

@@ -21,7 +21,12 @@ collected_from flows ids x h =
     let row = In-by_row (has_number found.0.body.id ids) (member_ids found.0.body.members) x found.2 in (
       found.0.body.id,
       has_number-In found.0.body.id ids row.0,
-      record { row = found.0; kept = Contains-from_In flows found.0 found.1; row_is = refl; entry = Contains-from_In (member_ids found.0.body.members) x row.1 },
+      record {
+        row = found.0;
+        kept = Contains-from_In flows found.0 found.1;
+        row_is = refl;
+        entry = Contains-from_In (member_ids found.0.body.members) x row.1;
+      },
     )
 
 by_row-In : (b : Bool) (ids : List ℕ) (x : ℕ) → b ≡ true → In x ids → In x (cond b ids [])
@@ -32,7 +37,8 @@ by_row-In false ids x e h = absurd (false≢true e)
 collected_to : (flows : List FlowRow) (ids : List ℕ) (from x : ℕ) → In from ids → Collects flows from x → In x (collected_by flows ids)
 collected_to flows ids from x h c =
     flat_map-In (collected_by_row ids) flows c.row x (In-from_Contains flows c.row c.kept)
-    (by_row-In (has_number c.row.body.id ids) (member_ids c.row.body.members) x (In-has_number c.row.body.id ids (subst (λ a. In a ids) (sym c.row_is) h)) (In-from_Contains (member_ids c.row.body.members) x c.entry))
+    (by_row-In (has_number c.row.body.id ids) (member_ids c.row.body.members) x (In-has_number c.row.body.id ids (subst (λ a. In a ids) (sym c.row_is) h))
+    (In-from_Contains (member_ids c.row.body.members) x c.entry))
 
 -- ---- what is found can be reached
 
@@ -77,14 +83,17 @@ found ids row = has_number row.body.id ids
 
 more_found : (flows : List FlowRow) (ids : List ℕ) (row : FlowRow) → In row flows → found ids row ≡ true → found (one_step flows ids) row ≡ true
 unfolding found
-more_found flows ids row h e = In-has_number row.body.id (one_step flows ids) (In-front ids (collected_by flows ids) row.body.id (has_number-In row.body.id ids e))
+more_found flows ids row h e = In-has_number row.body.id (one_step flows ids)
+    (In-front ids (collected_by flows ids) row.body.id (has_number-In row.body.id ids e))
 
 -- a step that finds no further flow leaves a closed list
-closed_step : (flows : List FlowRow) (ids : List ℕ) → length (filter (found (one_step flows ids)) flows) ≤ length (filter (found ids) flows) → IsClosed flows (one_step flows ids)
+closed_step : (flows : List FlowRow) (ids : List ℕ) → length (filter (found (one_step flows ids)) flows) ≤ length (filter (found ids) flows)
+    → IsClosed flows (one_step flows ids)
 unfolding found
 closed_step flows ids le = record {
   closed = λ from to h c.
-      let was = count-same (found ids) (found (one_step flows ids)) flows (more_found flows ids) le c.row (In-from_Contains flows c.row c.kept) (In-has_number c.row.body.id (one_step flows ids) (subst (λ a. In a (one_step flows ids)) (sym c.row_is) h)) in
+      let was = count-same (found ids) (found (one_step flows ids)) flows (more_found flows ids) le c.row (In-from_Contains flows c.row c.kept)
+      (In-has_number c.row.body.id (one_step flows ids) (subst (λ a. In a (one_step flows ids)) (sym c.row_is) h)) in
       In-back ids (collected_by flows ids) to (collected_to flows ids from to (subst (λ a. In a ids) c.row_is (has_number-In c.row.body.id ids was)) c);
 }
 
@@ -103,12 +112,14 @@ closed_none : (flows : List FlowRow) (ids : List ℕ) → length (filter (found 
 unfolding found
 closed_none flows ids le = record {
   closed = λ from to h c.
-      absurd (false≢true (count-same (λ row. false) (found ids) flows (λ row here e. absurd (false≢true e)) (omega (arith, le)) c.row (In-from_Contains flows c.row c.kept)
+      absurd (false≢true (count-same (λ row. false) (found ids) flows (λ row here e. absurd (false≢true e)) (omega (arith, le)) c.row
+      (In-from_Contains flows c.row c.kept)
       (In-has_number c.row.body.id ids (subst (λ a. In a ids) (sym c.row_is) h))));
 }
 
 -- after so many steps the list is closed, or has found more flows than steps were made
-closed_or_more : (steps : ℕ) (flows : List FlowRow) (ids : List ℕ) → IsClosed flows (reached steps flows ids) ⊎ (steps < length (filter (found (reached steps flows ids)) flows))
+closed_or_more : (steps : ℕ) (flows : List FlowRow) (ids : List ℕ)
+    → IsClosed flows (reached steps flows ids) ⊎ (steps < length (filter (found (reached steps flows ids)) flows))
 closed_or_more zero flows ids =
     elim (cases_lt 0 (length (filter (found ids) flows))) [ inl some ↦ inr some | inr none ↦ inl (closed_none flows ids none) ]
 closed_or_more (suc steps) flows ids =

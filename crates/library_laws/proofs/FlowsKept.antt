@@ -35,8 +35,10 @@ placed-Replaces flows new = record {
   among = In-back (filter (λ r. flow_before r new) flows) (new ∷ filter (λ r. flow_before new r) flows) new (inl refl);
   others = λ r here. elim (cases_order r.body.id new.body.id) [
     | inl same ↦ inl same
-    | inr (inl below) ↦ inr (In-front (filter (λ q. flow_before q new) flows) (new ∷ filter (λ q. flow_before new q) flows) r (filter-In (λ q. flow_before q new) flows r here (lt-ltb r.body.id new.body.id below)))
-    | inr (inr above) ↦ inr (In-back (filter (λ q. flow_before q new) flows) (new ∷ filter (λ q. flow_before new q) flows) r (inr (filter-In (λ q. flow_before new q) flows r here (lt-ltb new.body.id r.body.id above))))
+    | inr (inl below) ↦ inr (In-front (filter (λ q. flow_before q new) flows) (new ∷ filter (λ q. flow_before new q) flows) r
+        (filter-In (λ q. flow_before q new) flows r here (lt-ltb r.body.id new.body.id below)))
+    | inr (inr above) ↦ inr (In-back (filter (λ q. flow_before q new) flows) (new ∷ filter (λ q. flow_before new q) flows) r
+        (inr (filter-In (λ q. flow_before new q) flows r here (lt-ltb new.body.id r.body.id above))))
   ];
 }
 
@@ -44,7 +46,8 @@ changed_row : (b : Bool) (change : FlowRow → FlowRow) (r y : FlowRow) → y �
 changed_row true change r y e = inl (refl, e)
 changed_row false change r y e = inr (refl, e)
 
-pub changed-Replaces : (flows : List FlowRow) (id : ℕ) (change : FlowRow → FlowRow) (old : FlowRow) → rises flow_before flows ≡ true → flow_of id flows ≡ Some old
+pub changed-Replaces : (flows : List FlowRow) (id : ℕ) (change : FlowRow → FlowRow) (old : FlowRow) → rises flow_before flows ≡ true → flow_of id flows
+    ≡ Some old
     → ((r : FlowRow) → (change r).body.id ≡ r.body.id) → Replaces flows (with_flow id change flows) (change old)
 changed-Replaces flows id change old rise is same =
     let at = find-In (λ r. r.body.id == id) flows old is in
@@ -55,12 +58,17 @@ changed-Replaces flows id change old rise is same =
           let r = In-map apply flows y here in
           elim (changed_row (r.0.body.id == id) change r.0 y r.2) [
             | inl (e, is_change) ↦ inl (is_change ∙ ap change (same_by_key (λ q. q.body.id) flows rise r.0 old r.1 at.0 (eqb-true r.0.body.id id e ∙ sym own)))
-            | inr (e, unchanged) ↦ inr (subst (λ q. In q flows) (sym unchanged) r.1, λ k. eqb-false r.0.body.id id e (ap (λ (q : FlowRow). q.body.id) (sym unchanged) ∙ k ∙ same old ∙ own))
+            | inr (e, unchanged) ↦ inr (
+              subst (λ q. In q flows) (sym unchanged) r.1,
+              λ k. eqb-false r.0.body.id id e
+                  (ap (λ (q : FlowRow). q.body.id) (sym unchanged) ∙ k ∙ same old ∙ own),
+            )
           ];
       among = subst (λ b. In (cond b (change old) old) (map apply flows)) at.1 (map-In apply flows old at.0);
       others = λ r here. elim (cases_order r.body.id id) [
         | inl e ↦ inl (e ∙ sym own ∙ sym (same old))
-        | inr less ↦ inr (subst (λ b. In (cond b (change r) r) (map apply flows)) (ne_eqb r.body.id id (λ e. elim less [ inl l ↦ absurd (omega arith) | inr g ↦ absurd (omega arith) ])) (map-In apply flows r here))
+        | inr less ↦ inr (subst (λ b. In (cond b (change r) r) (map apply flows))
+            (ne_eqb r.body.id id (λ e. elim less [ inl l ↦ absurd (omega arith) | inr g ↦ absurd (omega arith) ])) (map-In apply flows r here))
       ];
     }
 
@@ -85,18 +93,29 @@ record OnFrom (flows : List FlowRow) (new : FlowRow) (to : ℕ) : Type 0 where
   way : Reaches flows to entry
 
 -- a way over the new rows leads over the old rows alone, or to the new row's flow and on from an entry of it
-way_step : (flows flows₂ : List FlowRow) (new : FlowRow) (to from next : ℕ) (c : Collects flows₂ from next) → (c.row ≡ new) ⊎ (In c.row flows × (c.row.body.id ≡ new.body.id → ⊥))
-    → Reaches flows to next ⊎ (Reaches flows new.body.id next × OnFrom flows new to) → Reaches flows to from ⊎ (Reaches flows new.body.id from × OnFrom flows new to)
+way_step : (flows flows₂ : List FlowRow) (new : FlowRow) (to from next : ℕ) (c : Collects flows₂ from next)
+    → (c.row ≡ new) ⊎ (In c.row flows × (c.row.body.id ≡ new.body.id → ⊥))
+    → Reaches flows to next ⊎ (Reaches flows new.body.id next × OnFrom flows new to)
+    → Reaches flows to from ⊎ (Reaches flows new.body.id from × OnFrom flows new to)
 way_step flows flows₂ new to from next c (inl same) (inl way) =
     let at : from ≡ new.body.id = sym c.row_is ∙ ap (λ (r : FlowRow). r.body.id) same in
-    inr (there from at, record { entry = next; among = subst (λ (r : FlowRow). In next (member_ids r.body.members)) same (In-from_Contains (member_ids c.row.body.members) next c.entry); way = way })
+    inr (
+      there from at,
+      record {
+        entry = next;
+        among = subst (λ (r : FlowRow). In next (member_ids r.body.members)) same
+            (In-from_Contains (member_ids c.row.body.members) next c.entry);
+        way = way;
+      },
+    )
 way_step flows flows₂ new to from next c (inl same) (inr (back, on)) = inr (there from (sym c.row_is ∙ ap (λ (r : FlowRow). r.body.id) same), on)
 way_step flows flows₂ new to from next c (inr (old, apart)) (inl way) =
     inl (through from next (record { row = c.row; kept = Contains-from_In flows c.row old; row_is = c.row_is; entry = c.entry }) way)
 way_step flows flows₂ new to from next c (inr (old, apart)) (inr (back, on)) =
     inr (through from next (record { row = c.row; kept = Contains-from_In flows c.row old; row_is = c.row_is; entry = c.entry }) back, on)
 
-way_splits : (flows flows₂ : List FlowRow) (new : FlowRow) → Replaces flows flows₂ new → (to from : ℕ) → Reaches flows₂ to from → Reaches flows to from ⊎ (Reaches flows new.body.id from × OnFrom flows new to)
+way_splits : (flows flows₂ : List FlowRow) (new : FlowRow) → Replaces flows flows₂ new → (to from : ℕ) → Reaches flows₂ to from
+    → Reaches flows to from ⊎ (Reaches flows new.body.id from × OnFrom flows new to)
 way_splits flows flows₂ new is to from (there _ same) = inl (there from same)
 way_splits flows flows₂ new is to from (through _ next c way) =
     way_step flows flows₂ new to from next c (is.rows c.row (In-from_Contains flows₂ c.row c.kept)) (way_splits flows flows₂ new is to next way)
@@ -107,12 +126,14 @@ on_and_on flows b c a (there _ same) way = subst (λ x. Reaches flows c x) (sym 
 on_and_on flows b c a (through _ next step first) way = through a next step (on_and_on flows b c next first way)
 
 -- no flow reaches itself over the new rows
-no_circle : (flows flows₂ : List FlowRow) (new : FlowRow) → Replaces flows flows₂ new → ((r : FlowRow) → In r flows → AnyReaches flows r.body.members r.body.id → ⊥)
+no_circle : (flows flows₂ : List FlowRow) (new : FlowRow) → Replaces flows flows₂ new
+    → ((r : FlowRow) → In r flows → AnyReaches flows r.body.members r.body.id → ⊥)
     → (AnyReaches flows new.body.members new.body.id → ⊥) → (r : FlowRow) → In r flows₂ → AnyReaches flows₂ r.body.members r.body.id → ⊥
 no_circle flows flows₂ new is old own r here any =
     elim (is.rows r here) [
       | inl same ↦
-          let first : Contains (member_ids new.body.members) any.first = subst (λ (q : FlowRow). Contains (member_ids q.body.members) any.first) same any.entry in
+          let first : Contains (member_ids new.body.members) any.first = subst (λ (q : FlowRow). Contains (member_ids q.body.members) any.first) same any.entry
+          in
           elim (way_splits flows flows₂ new is new.body.id any.first (subst (λ (q : FlowRow). Reaches flows₂ q.body.id any.first) same any.way)) [
             | inl way ↦ own (record { first = any.first; entry = first; way = way })
             | inr (back, on) ↦ own (record { first = any.first; entry = first; way = back })
@@ -122,7 +143,12 @@ no_circle flows flows₂ new is old own r here any =
             | inl way ↦ old r kept (record { first = any.first; entry = any.entry; way = way })
             | inr (back, on) ↦
                 let step : Collects flows r.body.id any.first = record { row = r; kept = Contains-from_In flows r kept; row_is = refl; entry = any.entry } in
-                own (record { first = on.entry; entry = Contains-from_In (member_ids new.body.members) on.entry on.among; way = on_and_on flows r.body.id new.body.id on.entry on.way (through r.body.id any.first step back) })
+                own (record {
+                  first = on.entry;
+                  entry = Contains-from_In (member_ids new.body.members) on.entry on.among;
+                  way = on_and_on flows r.body.id
+                      new.body.id on.entry on.way (through r.body.id any.first step back);
+                })
           ]
     ]
 
@@ -161,34 +187,44 @@ still_fits sources sources₂ rise stays row e =
     let there_too : source_of row.body.source sources₂ ≡ Some s.0 = ap (λ i. source_of i sources₂) (sym own) ∙ looked_up sources₂ s.0 rise (stays s.0 at.0) in
     ap (λ o. fits_kept o row) (there_too ∙ sym s.1) ∙ e
 
-sources_stay_good : (library : Library) (catalog : Catalog) (new : FlowRow) → FlowChange library catalog new → are_sources_good library.catalog ≡ true → are_sources_good catalog ≡ true
+sources_stay_good : (library : Library) (catalog : Catalog) (new : FlowRow) → FlowChange library catalog new → are_sources_good library.catalog ≡ true
+    → are_sources_good catalog ≡ true
 sources_stay_good library catalog new is e =
-    let parts = and_parts (list_all (λ row. fits_kept (source_of row.body.source library.catalog.sources) row) library.catalog.flows) (list_all (has_flow library.catalog.flows) library.catalog.sources) e in
+    let parts = and_parts (list_all (λ row. fits_kept (source_of row.body.source library.catalog.sources) row) library.catalog.flows)
+    (list_all (has_flow library.catalog.flows) library.catalog.sources) e in
     and_from _ _
     (list_all-from_In (λ row. fits_kept (source_of row.body.source catalog.sources) row) catalog.flows (λ row here. elim (is.replaces.rows row here) [
       | inl same ↦ subst (λ (q : FlowRow). fits_kept (source_of q.body.source catalog.sources) q ≡ true) (sym same) is.fits
-      | inr (old, apart) ↦ still_fits library.catalog.sources catalog.sources is.sources_rise is.old_sources row (list_all-In (λ r. fits_kept (source_of r.body.source library.catalog.sources) r) library.catalog.flows parts.0 row old)
+      | inr (old, apart) ↦ still_fits library.catalog.sources catalog.sources is.sources_rise is.old_sources row
+          (list_all-In (λ r. fits_kept (source_of r.body.source library.catalog.sources) r) library.catalog.flows parts.0 row old)
     ]))
     (list_all-from_In (has_flow catalog.flows) catalog.sources (λ s here. elim (is.new_sources s here) [
       | inl old ↦
-          let flow = list_any-In (λ r. r.body.source == s.id) library.catalog.flows (list_all-In (has_flow library.catalog.flows) library.catalog.sources parts.1 s old) in
+          let flow = list_any-In (λ r. r.body.source == s.id) library.catalog.flows
+          (list_all-In (has_flow library.catalog.flows) library.catalog.sources parts.1 s old) in
           elim (is.replaces.others flow.0 flow.1) [
-            | inl same ↦ list_any-from_In (λ r. r.body.source == s.id) catalog.flows new is.replaces.among (eq-eqb new.body.source s.id (sym (is.same_source flow.0 flow.1 same) ∙ eqb-true flow.0.body.source s.id flow.2))
+            | inl same ↦ list_any-from_In (λ r. r.body.source == s.id) catalog.flows new is.replaces.among
+                (eq-eqb new.body.source s.id (sym (is.same_source flow.0 flow.1 same) ∙ eqb-true flow.0.body.source s.id flow.2))
             | inr stays ↦ list_any-from_In (λ r. r.body.source == s.id) catalog.flows flow.0 stays flow.2
           ]
       | inr fresh ↦ list_any-from_In (λ r. r.body.source == s.id) catalog.flows new is.replaces.among (eq-eqb new.body.source s.id (sym fresh))
     ]))
 
-collections_stay_good : (library : Library) (catalog : Catalog) (new : FlowRow) → FlowChange library catalog new → list_all (is_collection_good library.catalog.flows) library.catalog.flows ≡ true
+collections_stay_good : (library : Library) (catalog : Catalog) (new : FlowRow) → FlowChange library catalog new
+    → list_all (is_collection_good library.catalog.flows) library.catalog.flows ≡ true
     → list_all (is_collection_good catalog.flows) catalog.flows ≡ true
 collections_stay_good library catalog new is e =
     let flows : List FlowRow = library.catalog.flows in
-    let good : (r : FlowRow) → In r flows → (list_all (is_kept flows) (member_ids r.body.members) ≡ true) × (not (collects_itself flows r.body.id r.body.members) ≡ true) = λ r here.
-    and_parts (list_all (is_kept flows) (member_ids r.body.members)) (not (collects_itself flows r.body.id r.body.members)) (list_all-In (is_collection_good flows) flows e r here) in
+    let good : (r : FlowRow) → In r flows → (list_all (is_kept flows) (member_ids r.body.members) ≡ true)
+    × (not (collects_itself flows r.body.id r.body.members) ≡ true) = λ r here.
+    and_parts (list_all (is_kept flows) (member_ids r.body.members)) (not (collects_itself flows r.body.id r.body.members))
+    (list_all-In (is_collection_good flows) flows e r here) in
     let none : (r : FlowRow) → In r flows → AnyReaches flows r.body.members r.body.id → ⊥ = λ r here any.
     false≢true (sym (not-true (collects_itself flows r.body.id r.body.members) (good r here).1) ∙ (collects_itself_is flows r.body.id r.body.members).1 any) in
-    let own : AnyReaches flows new.body.members new.body.id → ⊥ = λ any. false≢true (sym is.reaches ∙ (collects_itself_is flows new.body.id new.body.members).1 any) in
-    list_all-from_In (is_collection_good catalog.flows) catalog.flows (λ r here. and_from (list_all (is_kept catalog.flows) (member_ids r.body.members)) (not (collects_itself catalog.flows r.body.id r.body.members))
+    let own : AnyReaches flows new.body.members new.body.id
+    → ⊥ = λ any. false≢true (sym is.reaches ∙ (collects_itself_is flows new.body.id new.body.members).1 any) in
+    list_all-from_In (is_collection_good catalog.flows) catalog.flows
+    (λ r here. and_from (list_all (is_kept catalog.flows) (member_ids r.body.members)) (not (collects_itself catalog.flows r.body.id r.body.members))
     (list_all-from_In (is_kept catalog.flows) (member_ids r.body.members) (λ id entry. elim (is.replaces.rows r here) [
       | inl same ↦ elim (is.members id (subst (λ (q : FlowRow). In id (member_ids q.body.members)) same entry)) [
         | inl itself ↦ ap (is_kept catalog.flows) itself ∙ new_kept flows catalog.flows new is.replaces
@@ -196,23 +232,27 @@ collections_stay_good library catalog new is e =
       ]
       | inr (old, apart) ↦ still_kept flows catalog.flows new is.replaces id (list_all-In (is_kept flows) (member_ids r.body.members) (good r old).0 id entry)
     ]))
-    (not_from_false (collects_itself catalog.flows r.body.id r.body.members) (false_from_ne_true (collects_itself catalog.flows r.body.id r.body.members) (λ bad.
+    (not_from_false (collects_itself catalog.flows r.body.id r.body.members)
+    (false_from_ne_true (collects_itself catalog.flows r.body.id r.body.members) (λ bad.
     no_circle flows catalog.flows new is.replaces none own r here ((collects_itself_is catalog.flows r.body.id r.body.members).0 bad)))))
 
 -- the library with another catalog
 abbrev pub with_catalog : Catalog → Library → Library
 with_catalog catalog library = record library { catalog = catalog }
 
-pub flow_change_keeps_good : (library : Library) (catalog : Catalog) (new : FlowRow) → FlowChange library catalog new → Good library → Good (with_catalog catalog library)
+pub flow_change_keeps_good : (library : Library) (catalog : Catalog) (new : FlowRow) → FlowChange library catalog new → Good library
+    → Good (with_catalog catalog library)
 flow_change_keeps_good library catalog new is good =
     let names = Names-from library good.names in
     let texts = Texts-from library good.texts in
     let one = and_parts (rises are_compatible library.segments) (list_all (is_segment_good library.catalog.flows) library.segments) good.segments in
-    let asked = and_parts (list_all (is_request_good library.catalog.flows library.segments) library.requests) (nat_le (done_count library.requests) done_kept) good.requests in
+    let asked = and_parts (list_all (is_request_good library.catalog.flows library.segments) library.requests) (nat_le (done_count library.requests) done_kept)
+    good.requests in
     let kept = still_kept library.catalog.flows catalog.flows new is.replaces in
     record {
       segments = and_from _ _ one.0 (list_all-from_In (is_segment_good catalog.flows) library.segments (λ s here.
-          let parts = and_parts (has_both_ends s.segment.range) (is_kept library.catalog.flows s.flow) (list_all-In (is_segment_good library.catalog.flows) library.segments one.1 s here) in
+          let parts = and_parts (has_both_ends s.segment.range) (is_kept library.catalog.flows s.flow)
+          (list_all-In (is_segment_good library.catalog.flows) library.segments one.1 s here) in
           and_from (has_both_ends s.segment.range) (is_kept catalog.flows s.flow) parts.0 (kept s.flow parts.1)));
       references = good.references;
       extents = good.extents;
@@ -232,7 +272,8 @@ flow_change_keeps_good library catalog new is good =
       sources = sources_stay_good library catalog new is good.sources;
       collections = collections_stay_good library catalog new is good.collections;
       requests = and_from _ _ (list_all-from_In (is_request_good catalog.flows library.segments) library.requests (λ row here.
-          request_stays_good library.catalog.flows catalog.flows library.segments library.segments row (λ u. kept row.flow) (λ u d k. k) (list_all-In (is_request_good library.catalog.flows library.segments) library.requests asked.0 row here))) asked.1;
+          request_stays_good library.catalog.flows catalog.flows library.segments library.segments row (λ u. kept row.flow) (λ u d k. k)
+          (list_all-In (is_request_good library.catalog.flows library.segments) library.requests asked.0 row here))) asked.1;
       outbox = good.outbox;
       texts = Texts-test (with_catalog catalog library) (record {
         sources = is.source_texts;

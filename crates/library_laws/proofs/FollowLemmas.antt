@@ -8,7 +8,7 @@ use Rattle.std.proofs.lemmas.Int.{ints}
 use Rattle.std.proofs.lemmas.List.{reverse-append}
 use Rattle.media_rows.specs.declared.command.Page.{Page}
 use Rattle.media_rows.specs.Lists.{rises, is_past, last_key}
-use Rattle.library_laws.specs.Laws.{Follows}
+use Rattle.library_laws.specs.Laws.{NextPageFollows}
 use Rattle.library_laws.proofs.ListLemmas.{In, In-append, In-filter, In-take, list_all-In, rises-filter}
 use Rattle.library_laws.proofs.KeptLemmas.{rises-both}
 
@@ -66,13 +66,15 @@ reverse-first x xs = reverse-append (x ∷ []) xs
 
 In-reverse : {X : Type 0} (xs : List X) (x : X) → In x (reverse xs) → In x xs
 In-reverse [] x h = absurd h
-In-reverse (y ∷ ys) x h = elim (In-append (reverse ys) (y ∷ []) x (subst (In x) (reverse-first y ys) h)) [ inl front ↦ inr (In-reverse ys x front) | inr (inl same) ↦ inl same | inr (inr none) ↦ absurd none ]
+In-reverse (y ∷ ys) x h = elim (In-append (reverse ys) (y ∷ []) x (subst (In x) (reverse-first y ys) h))
+    [ inl front ↦ inr (In-reverse ys x front) | inr (inl same) ↦ inl same | inr (inr none) ↦ absurd none ]
 
 rises_reversed : {X : Type 0} (t : X → X → Bool) (xs : List X) → rises t xs ≡ true → rises (λ a b. t b a) (reverse xs) ≡ true
 rises_reversed t [] e = refl
 rises_reversed t (x ∷ xs) e =
     let parts = and_parts (list_all (t x) xs) (rises t xs) e in
-    ap (rises (λ a b. t b a)) (reverse-first x xs) ∙ rises-both (λ a b. t b a) (reverse xs) (x ∷ []) (rises_reversed t xs parts.1) refl (λ a b here there. elim there [
+    ap (rises (λ a b. t b a)) (reverse-first x xs) ∙ rises-both (λ a b. t b a) (reverse xs) (x ∷ []) (rises_reversed t xs parts.1) refl
+    (λ a b here there. elim there [
       | inl same ↦ ap (λ c. t c a) same ∙ list_all-In (t x) xs parts.0 a (In-reverse xs a here)
       | inr none ↦ absurd none
     ])
@@ -87,15 +89,18 @@ in_direction key false xs e = e
 cut_first : {X : Type 0} (key : X → ℤ) (backwards : Bool) (x : X) (xs : List X) (k : ℤ) → list_all (λ y. behind backwards (key x) (key y)) xs ≡ true → key x ≡ k
     → x ∷ xs ≡ x ∷ filter (λ y. behind backwards k (key y)) (x ∷ xs)
 cut_first key backwards x xs k later same =
-    ap (λ l. x ∷ l) (sym (cond-false (behind backwards k (key x)) (x ∷ filter (λ y. behind backwards k (key y)) xs) (filter (λ y. behind backwards k (key y)) xs) (not_itself backwards k (key x) same)
+    ap (λ l. x ∷ l) (sym (cond-false (behind backwards k (key x)) (x ∷ filter (λ y. behind backwards k (key y)) xs)
+    (filter (λ y. behind backwards k (key y)) xs) (not_itself backwards k (key x) same)
     ∙ filter-whole (λ y. behind backwards k (key y)) xs (subst (λ j. list_all (λ y. behind backwards j (key y)) xs ≡ true) same later)))
 
-cut_at : {X : Type 0} (key : X → ℤ) (backwards : Bool) (n : ℕ) (xs : List X) (k : ℤ) → rises (λ a b. behind backwards (key a) (key b)) xs ≡ true → last_key key (take n xs) ≡ Some k
+cut_at : {X : Type 0} (key : X → ℤ) (backwards : Bool) (n : ℕ) (xs : List X) (k : ℤ) → rises (λ a b. behind backwards (key a) (key b)) xs ≡ true
+    → last_key key (take n xs) ≡ Some k
     → xs ≡ take n xs ++ filter (λ x. behind backwards k (key x)) xs
 cut_at key backwards zero xs k rise e = absurd (cc)
 cut_at key backwards (suc n) [] k rise e = absurd (cc)
 cut_at key backwards (suc zero) (x ∷ xs) k rise e =
-    cut_first key backwards x xs k (and_parts (list_all (λ y. behind backwards (key x) (key y)) xs) (rises (λ a b. behind backwards (key a) (key b)) xs) rise).0 (same_some (key x) k e)
+    cut_first key backwards x xs k (and_parts (list_all (λ y. behind backwards (key x) (key y)) xs) (rises (λ a b. behind backwards (key a) (key b)) xs) rise).0
+    (same_some (key x) k e)
 cut_at key backwards (suc (suc n)) (x ∷ []) k rise e = cut_first key backwards x [] k refl (same_some (key x) k e)
 cut_at key backwards (suc (suc n)) (x ∷ y ∷ ys) k rise e =
     let parts = and_parts (list_all (λ z. behind backwards (key x) (key z)) (y ∷ ys)) (rises (λ a b. behind backwards (key a) (key b)) (y ∷ ys)) rise in
@@ -103,13 +108,14 @@ cut_at key backwards (suc (suc n)) (x ∷ y ∷ ys) k rise e =
     let early = subst (λ j. behind backwards (key x) j ≡ true) found.2
     (list_all-In (λ z. behind backwards (key x) (key z)) (y ∷ ys) parts.0 found.0 (In-take (suc n) (y ∷ ys) found.0 found.1)) in
     ap (λ l. x ∷ l) (cut_at key backwards (suc n) (y ∷ ys) k parts.1 e
-    ∙ ap (λ l. take (suc n) (y ∷ ys) ++ l) (sym (cond-false (behind backwards k (key x)) (x ∷ filter (λ z. behind backwards k (key z)) (y ∷ ys)) (filter (λ z. behind backwards k (key z)) (y ∷ ys)) (one_way_key backwards (key x) k early))))
+    ∙ ap (λ l. take (suc n) (y ∷ ys) ++ l) (sym (cond-false (behind backwards k (key x)) (x ∷ filter (λ z. behind backwards k (key z)) (y ∷ ys))
+    (filter (λ z. behind backwards k (key z)) (y ∷ ys)) (one_way_key backwards (key x) k early))))
 
 cond_some : (b : Bool) (o : Option ℤ) (k : ℤ) → cond b o None ≡ Some k → o ≡ Some k
 cond_some true o k e = e
 cond_some false o k e = absurd (cc)
 
-pub follows : {X : Type 0} (key : X → ℤ) (xs : List X) (page : Page) → rises (λ a b. int_lt (key a) (key b)) xs ≡ true → Follows key page xs
+pub follows : {X : Type 0} (key : X → ℤ) (xs : List X) (page : Page) → rises (λ a b. int_lt (key a) (key b)) xs ≡ true → NextPageFollows key page xs
 follows {X} key xs page rise = record {
   next = λ last e.
       let ys : List X = if page.reverse then reverse xs else xs in
@@ -117,7 +123,9 @@ follows {X} key xs page rise = record {
       let taken = cond_some (nat_lt page.limit (length (filter past ys))) (last_key key (take page.limit (filter past ys))) last e in
       let risen = rises-filter (λ a b. behind page.reverse (key a) (key b)) past ys (in_direction key page.reverse xs rise) in
       let found = last-In key (take page.limit (filter past ys)) last taken in
-      let own = subst (λ j. is_past page.after page.reverse j ≡ true) found.2 (In-filter past ys found.0 (In-take page.limit (filter past ys) found.0 found.1)).1 in
+      let own = subst (λ j. is_past page.after page.reverse j ≡ true) found.2
+      (In-filter past ys found.0 (In-take page.limit (filter past ys) found.0 found.1)).1 in
       cut_at key page.reverse page.limit (filter past ys) last risen taken
-      ∙ ap (λ l. take page.limit (filter past ys) ++ l) (filter-both past (λ x. behind page.reverse last (key x)) ys (λ x more. past_on page.after page.reverse last (key x) own more));
+      ∙ ap (λ l. take page.limit (filter past ys) ++ l) (filter-both past (λ x. behind page.reverse last (key x)) ys
+      (λ x more. past_on page.after page.reverse last (key x) own more));
 }

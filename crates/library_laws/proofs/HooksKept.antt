@@ -25,17 +25,21 @@ waits : List ℕ → List HookRow → EventRow → Bool
 waits url hooks row = not (has_number row.hook (gone_serials url hooks))
 
 -- the hook of an event that waits still is kept
-hook_stays : (url : List ℕ) (hooks : List HookRow) (event : EventRow) → has_hook hooks event ≡ true → waits url hooks event ≡ true → has_hook (filter (stays url) hooks) event ≡ true
+hook_stays : (url : List ℕ) (hooks : List HookRow) (event : EventRow) → has_hook hooks event ≡ true → waits url hooks event ≡ true
+    → has_hook (filter (stays url) hooks) event ≡ true
 unfolding stays waits
 hook_stays url hooks event e w =
     let found = list_any-In (λ row. row.serial == event.hook) hooks e in
     let kept : stays url found.0 ≡ true = not_from_false (has_url url found.0) (false_from_ne_true (has_url url found.0) (λ goes.
-    true≢false (sym (In-has_number event.hook (gone_serials url hooks) (subst (λ s. In s (gone_serials url hooks)) (eqb-true found.0.serial event.hook found.2) (map-In (λ row. row.serial) (filter (has_url url) hooks) found.0 (filter-In (has_url url) hooks found.0 found.1 goes))))
+    true≢false (sym (In-has_number event.hook (gone_serials url hooks)
+    (subst (λ s. In s (gone_serials url hooks)) (eqb-true found.0.serial event.hook found.2)
+    (map-In (λ row. row.serial) (filter (has_url url) hooks) found.0 (filter-In (has_url url) hooks found.0 found.1 goes))))
     ∙ not-true (has_number event.hook (gone_serials url hooks)) w))) in
     list_any-from_In (λ row. row.serial == event.hook) (filter (stays url) hooks) found.0 (filter-In (stays url) hooks found.0 found.1 kept) found.2
 
 -- fewer events leave a hook good
-fewer_wait : (few many : ℕ) (failed : Bool) → few ≤ many → (nat_le many most_waiting && (nat_lt many most_waiting || failed)) ≡ true → (nat_le few most_waiting && (nat_lt few most_waiting || failed)) ≡ true
+fewer_wait : (few many : ℕ) (failed : Bool) → few ≤ many → (nat_le many most_waiting && (nat_lt many most_waiting || failed)) ≡ true
+    → (nat_le few most_waiting && (nat_lt few most_waiting || failed)) ≡ true
 fewer_wait few many failed le e =
     let parts = and_parts (nat_le many 1000) (nat_lt many 1000 || failed) e in
     let most = leb-true many 1000 parts.0 in
@@ -54,7 +58,8 @@ drop_outbox_good url outbox e =
     let w = In-filter (waits url outbox.hooks) outbox.events event here in
     hook_stays url outbox.hooks event (list_all-In (has_hook outbox.hooks) outbox.events parts.0 event w.0) w.1))
     (list_all-from_In (is_hook_good left) (filter (stays url) outbox.hooks) (λ row here.
-    fewer_wait (waiting_count row.serial left) (waiting_count row.serial outbox.events) row.failed (count-filter (λ event. event.hook == row.serial) (waits url outbox.hooks) outbox.events)
+    fewer_wait (waiting_count row.serial left) (waiting_count row.serial outbox.events) row.failed
+    (count-filter (λ event. event.hook == row.serial) (waits url outbox.hooks) outbox.events)
     (list_all-In (is_hook_good outbox.events) outbox.hooks parts.1 row (In-filter (stays url) outbox.hooks row here).0)))
 
 pub dropped_hook_keeps_good : (library : Library) (url : List ℕ) → Good library → Good (without_hook url library)
@@ -69,14 +74,16 @@ dropped_hook_keeps_good library url good =
       names = Names-test (without_hook url library) (record {
         catalog = names.catalog;
         objects = names.objects;
-        urls = rises-Sub _ (map (λ row. row.hook.url) (filter (stays url) library.outbox.hooks)) (map (λ row. row.hook.url) library.outbox.hooks) (Sub-filter (λ row. row.hook.url) (stays url) library.outbox.hooks) names.urls;
+        urls = rises-Sub _ (map (λ row. row.hook.url) (filter (stays url) library.outbox.hooks)) (map (λ row. row.hook.url) library.outbox.hooks)
+            (Sub-filter (λ row. row.hook.url) (stays url) library.outbox.hooks) names.urls;
         objects_rise = names.objects_rise;
         segments_rise = names.segments_rise;
         requests_rise = names.requests_rise;
         hooks_rise = rises-filter _ (stays url) library.outbox.hooks names.hooks_rise;
         events_rise = rises-filter _ (waits url library.outbox.hooks) library.outbox.events names.events_rise;
         serials = Serials-Sub library.next_serial (serials_of (without_hook url library)) (serials_of library)
-            (Sub-append _ _ _ _ (Sub-append _ _ _ _ (Sub-same _) (Sub-filter (λ row. row.serial) (stays url) library.outbox.hooks)) (Sub-filter (λ row. row.serial) (waits url library.outbox.hooks) library.outbox.events)) names.serials;
+            (Sub-append _ _ _ _ (Sub-append _ _ _ _ (Sub-same _) (Sub-filter (λ row. row.serial) (stays url) library.outbox.hooks))
+            (Sub-filter (λ row. row.serial) (waits url library.outbox.hooks) library.outbox.events)) names.serials;
         least = names.least;
         most = names.most;
       });
@@ -106,21 +113,25 @@ add_hook row library = record library {
 none_waits : (serial : ℕ) (events : List EventRow) → ((event : EventRow) → In event events → event.hook ≡ serial → ⊥) → waiting_count serial events ≡ 0
 none_waits serial [] apart = refl
 none_waits serial (event ∷ later) apart =
-    ap (λ b. length (cond b (event ∷ waiting_for serial later) (waiting_for serial later))) (ne_eqb event.hook serial (apart event (inl refl))) ∙ none_waits serial later (λ e here. apart e (inr here))
+    ap (λ b. length (cond b (event ∷ waiting_for serial later) (waiting_for serial later))) (ne_eqb event.hook serial (apart event (inl refl)))
+    ∙ none_waits serial later (λ e here. apart e (inr here))
 
 new_hook_good : (count : ℕ) → count ≡ 0 → (nat_le count most_waiting && (nat_lt count most_waiting || false)) ≡ true
 new_hook_good count e = ap (λ c. nat_le c most_waiting && (nat_lt c most_waiting || false)) e
 
 added_hook_keeps_good : (library : Library) (row : HookRow) → Good library → row.serial ≡ library.next_serial → row.failed ≡ false → is_hook_text row ≡ true
-    → ((other : HookRow) → In other library.outbox.hooks → bytes_eq other.hook.url row.hook.url ≡ false) → library.next_serial + 1 ≤ last_serial → Good (add_hook row library)
+    → ((other : HookRow) → In other library.outbox.hooks → bytes_eq other.hook.url row.hook.url ≡ false) → library.next_serial + 1 ≤ last_serial
+    → Good (add_hook row library)
 unfolding add_hook
 added_hook_keeps_good library row good serial fresh text apart most =
     let names = Names-from library good.names in
     let texts = Texts-from library good.texts in
-    let outbox = and_parts (list_all (has_hook library.outbox.hooks) library.outbox.events) (list_all (is_hook_good library.outbox.events) library.outbox.hooks) good.outbox in
+    let outbox = and_parts (list_all (has_hook library.outbox.hooks) library.outbox.events) (list_all (is_hook_good library.outbox.events) library.outbox.hooks)
+    good.outbox in
     let below = hook_below library names in
     let waiting = none_waits row.serial library.outbox.events (λ event here same.
-    let hook = list_any-In (λ h. h.serial == event.hook) library.outbox.hooks (list_all-In (has_hook library.outbox.hooks) library.outbox.events outbox.0 event here) in
+    let hook = list_any-In (λ h. h.serial == event.hook) library.outbox.hooks
+    (list_all-In (has_hook library.outbox.hooks) library.outbox.events outbox.0 event here) in
     let at = eqb-true hook.0.serial event.hook hook.2 in
     let low = below hook.0 hook.1 in
     absurd (omega arith)) in
@@ -132,7 +143,8 @@ added_hook_keeps_good library row good serial fresh text apart most =
         catalog = names.catalog;
         objects = names.objects;
         urls = ap are_distinct_texts (map-append (λ (h : HookRow). h.hook.url) library.outbox.hooks (row ∷ []))
-            ∙ rises-both (λ a b. not (bytes_eq a b)) (map (λ (h : HookRow). h.hook.url) library.outbox.hooks) (row.hook.url ∷ []) names.urls refl (λ a b here there. not_from_false (bytes_eq a b) (elim there [
+            ∙ rises-both (λ a b. not (bytes_eq a b)) (map (λ (h : HookRow). h.hook.url) library.outbox.hooks) (row.hook.url ∷ []) names.urls refl
+            (λ a b here there. not_from_false (bytes_eq a b) (elim there [
               | inl same ↦ let h = In-map (λ (r : HookRow). r.hook.url) library.outbox.hooks a here in ap₂ bytes_eq h.2 same ∙ apart h.0 h.1
               | inr bad ↦ absurd bad
             ]));
@@ -141,9 +153,14 @@ added_hook_keeps_good library row good serial fresh text apart most =
         requests_rise = names.requests_rise;
         hooks_rise = rises-counted (λ h. h.serial) library.outbox.hooks (row ∷ []) library.next_serial 1 names.hooks_rise below (ap (λ s. s ∷ []) serial);
         events_rise = names.events_rise;
-        serials = subst (λ (l : List ℕ). Serials (library.next_serial + 1) (map (λ r. r.serial) library.objects ++ map (λ r. r.serial) library.segments ++ map (λ r. r.serial) library.requests ++ l ++ map (λ r. r.serial) library.outbox.events))
-            (ap (λ s. map (λ (h : HookRow). h.serial) library.outbox.hooks ++ s ∷ []) (sym serial) ∙ sym (map-append (λ (h : HookRow). h.serial) library.outbox.hooks (row ∷ [])))
-            (serials_hooks library.next_serial (library.next_serial + 1) (map (λ r. r.serial) library.objects) (map (λ r. r.serial) library.segments) (map (λ r. r.serial) library.requests) (map (λ h. h.serial) library.outbox.hooks) (library.next_serial ∷ []) (map (λ e. e.serial) library.outbox.events) names.least (omega arith) names.serials (counted-New library.next_serial 1));
+        serials = subst (λ (l : List ℕ). Serials (library.next_serial + 1)
+            (map (λ r. r.serial) library.objects ++ map (λ r. r.serial) library.segments ++ map (λ r. r.serial) library.requests ++ l ++ map (λ r. r.serial)
+            library.outbox.events))
+            (ap (λ s. map (λ (h : HookRow). h.serial) library.outbox.hooks ++ s ∷ []) (sym serial)
+            ∙ sym (map-append (λ (h : HookRow). h.serial) library.outbox.hooks (row ∷ [])))
+            (serials_hooks library.next_serial (library.next_serial + 1) (map (λ r. r.serial) library.objects) (map (λ r. r.serial) library.segments)
+            (map (λ r. r.serial) library.requests) (map (λ h. h.serial) library.outbox.hooks) (library.next_serial ∷ [])
+            (map (λ e. e.serial) library.outbox.events) names.least (omega arith) names.serials (counted-New library.next_serial 1));
         least = omega (arith, names.least);
         most = most;
       });
@@ -152,10 +169,14 @@ added_hook_keeps_good library row good serial fresh text apart most =
       requests = good.requests;
       outbox = and_from _ _
           (list_all-from_In (has_hook (library.outbox.hooks ++ row ∷ [])) library.outbox.events (λ event here.
-          let hook = list_any-In (λ h. h.serial == event.hook) library.outbox.hooks (list_all-In (has_hook library.outbox.hooks) library.outbox.events outbox.0 event here) in
-          list_any-from_In (λ h. h.serial == event.hook) (library.outbox.hooks ++ row ∷ []) hook.0 (In-front library.outbox.hooks (row ∷ []) hook.0 hook.1) hook.2))
+          let hook = list_any-In (λ h. h.serial == event.hook) library.outbox.hooks
+          (list_all-In (has_hook library.outbox.hooks) library.outbox.events outbox.0 event here) in
+          list_any-from_In (λ h. h.serial == event.hook) (library.outbox.hooks ++ row ∷ []) hook.0 (In-front library.outbox.hooks (row ∷ []) hook.0 hook.1)
+          hook.2))
           (list_all-both (is_hook_good library.outbox.events) library.outbox.hooks (row ∷ []) outbox.1
-          (and_from _ true (ap (λ f. nat_le (waiting_count row.serial library.outbox.events) most_waiting && (nat_lt (waiting_count row.serial library.outbox.events) most_waiting || f)) fresh ∙ new_hook_good (waiting_count row.serial library.outbox.events) waiting) refl));
+          (and_from _ true (ap (λ f. nat_le (waiting_count row.serial library.outbox.events) most_waiting &&
+          (nat_lt (waiting_count row.serial library.outbox.events) most_waiting || f)) fresh
+          ∙ new_hook_good (waiting_count row.serial library.outbox.events) waiting) refl));
       texts = Texts-test (add_hook row library) (record {
         sources = texts.sources;
         flows = texts.flows;
@@ -166,7 +187,8 @@ added_hook_keeps_good library row good serial fresh text apart most =
       });
     }
 
-pub put_hook_keeps_good : (library : Library) (hook : Hook) → Good library → is_hook_text (hook_row hook library.next_serial) ≡ true → library.next_serial + 1 ≤ last_serial → Good (after_hook hook library)
+pub put_hook_keeps_good : (library : Library) (hook : Hook) → Good library → is_hook_text (hook_row hook library.next_serial) ≡ true
+    → library.next_serial + 1 ≤ last_serial → Good (after_hook hook library)
 unfolding add_hook stays waits
 put_hook_keeps_good library hook good text most =
     added_hook_keeps_good (without_hook hook.url library) (hook_row hook library.next_serial) (dropped_hook_keeps_good library hook.url good) refl refl text

@@ -148,7 +148,8 @@ rises-placed key x xs e =
     let before : _ → _ → Bool = λ a b. nat_lt (key a) (key b) in
     rises-both before (filter (λ y. before y x) xs) (x ∷ filter (λ y. before x y) xs)
     (rises-filter before (λ y. before y x) xs e)
-    (and_from _ _ (list_all-from_In (before x) (filter (λ y. before x y) xs) (λ y here. (In-filter (λ z. before x z) xs y here).1)) (rises-filter before (λ y. before x y) xs e))
+    (and_from _ _ (list_all-from_In (before x) (filter (λ y. before x y) xs) (λ y here. (In-filter (λ z. before x z) xs y here).1))
+    (rises-filter before (λ y. before x y) xs e))
     (λ a b here there. lt-ltb (key a) (key b) (let low = ltb-true (key a) (key x) (In-filter (λ z. before z x) xs a here).1 in elim there [
       | inl same ↦ subst (λ c. key a < key c) (sym same) low
       | inr later ↦ let high = ltb-true (key x) (key b) (In-filter (λ z. before x z) xs b later).1 in omega arith
@@ -173,7 +174,8 @@ unequal : (a b : ℕ) → (a ≡ b → ⊥) → not (a == b) ≡ true
 unequal a b h = not_from_false (a == b) (ne_eqb a b h)
 
 -- new serials put into a list of old ones
-pub Serials-more : (next after : ℕ) (xs new ys : List ℕ) → 1 ≤ next → next ≤ after → Serials next (xs ++ ys) → New next after new → Serials after ((xs ++ new) ++ ys)
+pub Serials-more : (next after : ℕ) (xs new ys : List ℕ) → 1 ≤ next → next ≤ after → Serials next (xs ++ ys) → New next after new
+    → Serials after ((xs ++ new) ++ ys)
 Serials-more next after xs new ys least le is fresh =
     let parts = rises-parts (λ a b. not (a == b)) xs ys is.distinct in
     record {
@@ -221,7 +223,8 @@ Serials-test next serials is least most =
 -- ---- rows of one key, and texts
 
 -- two rows of a list by rising keys that have one key are one row
-pub same_by_key : {X : Type 0} (key : X → ℕ) (xs : List X) → rises (λ a b. nat_lt (key a) (key b)) xs ≡ true → (a b : X) → In a xs → In b xs → key a ≡ key b → a ≡ b
+pub same_by_key : {X : Type 0} (key : X → ℕ) (xs : List X) → rises (λ a b. nat_lt (key a) (key b)) xs ≡ true → (a b : X) → In a xs → In b xs → key a ≡ key b → a
+    ≡ b
 same_by_key key xs rise a b here there same =
     elim (rises-In (λ x y. nat_lt (key x) (key y)) xs rise a b here there) [
       | inl e ↦ e
@@ -250,12 +253,14 @@ counted-within from (suc count) s (inr later) = let w = counted-within (from + 1
 pub counted-rise : (from count : ℕ) → rises nat_lt (counted from count) ≡ true
 counted-rise from zero = refl
 counted-rise from (suc count) =
-    and_from _ _ (list_all-from_In (nat_lt from) (counted (from + 1) count) (λ s here. let w = counted-within (from + 1) count s here in lt-ltb from s (omega arith))) (counted-rise (from + 1) count)
+    and_from _ _ (list_all-from_In (nat_lt from) (counted (from + 1) count)
+    (λ s here. let w = counted-within (from + 1) count s here in lt-ltb from s (omega arith))) (counted-rise (from + 1) count)
 
 counted-distinct : (from count : ℕ) → are_distinct (counted from count) ≡ true
 counted-distinct from zero = refl
 counted-distinct from (suc count) =
-    and_from _ _ (list_all-from_In (λ s. not (from == s)) (counted (from + 1) count) (λ s here. let w = counted-within (from + 1) count s here in unequal from s (λ e. absurd (omega arith)))) (counted-distinct (from + 1) count)
+    and_from _ _ (list_all-from_In (λ s. not (from == s)) (counted (from + 1) count)
+    (λ s here. let w = counted-within (from + 1) count s here in unequal from s (λ e. absurd (omega arith)))) (counted-distinct (from + 1) count)
 
 pub counted-New : (from count : ℕ) → New from (from + count) (counted from count)
 counted-New from count = record { distinct = counted-distinct from count; within = counted-within from count }
@@ -265,7 +270,8 @@ pub rises-counted : {X : Type 0} (key : X → ℕ) (old new : List X) (next coun
     → ((x : X) → In x old → key x < next) → map key new ≡ counted next count → rises (λ a b. nat_lt (key a) (key b)) (old ++ new) ≡ true
 rises-counted key old new next count rise below e =
     rises-both (λ a b. nat_lt (key a) (key b)) old new rise (sym (rises-keys nat_lt key new) ∙ ap (rises nat_lt) e ∙ counted-rise next count)
-    (λ a b here there. lt-ltb (key a) (key b) (let low = below a here in let high = counted-within next count (key b) (subst (In (key b)) e (map-In key new b there)) in omega arith))
+    (λ a b here there. lt-ltb (key a) (key b) (let low = below a here in let high = counted-within next count (key b)
+    (subst (In (key b)) e (map-In key new b there)) in omega arith))
 
 -- ---- serials put into one of the five lists of a library
 
@@ -275,9 +281,11 @@ regroup o s r h e = simp append_assoc
 regroup_objects : (o w s r h e : List ℕ) → (o ++ w) ++ s ++ r ++ h ++ e ≡ (o ++ w) ++ (s ++ (r ++ (h ++ e)))
 regroup_objects o w s r h e = simp append_assoc
 
-pub serials_objects : (next after : ℕ) (o w s r h e : List ℕ) → 1 ≤ next → next ≤ after → Serials next (o ++ s ++ r ++ h ++ e) → New next after w → Serials after ((o ++ w) ++ s ++ r ++ h ++ e)
+pub serials_objects : (next after : ℕ) (o w s r h e : List ℕ) → 1 ≤ next → next ≤ after → Serials next (o ++ s ++ r ++ h ++ e) → New next after w
+    → Serials after ((o ++ w) ++ s ++ r ++ h ++ e)
 serials_objects next after o w s r h e least le is new =
-    subst (Serials after) (sym (regroup_objects o w s r h e)) (Serials-more next after o w (s ++ (r ++ (h ++ e))) least le (subst (Serials next) (regroup o s r h e) is) new)
+    subst (Serials after) (sym (regroup_objects o w s r h e))
+    (Serials-more next after o w (s ++ (r ++ (h ++ e))) least le (subst (Serials next) (regroup o s r h e) is) new)
 
 before_segments : (o s r h e : List ℕ) → o ++ s ++ r ++ h ++ e ≡ (o ++ s) ++ (r ++ (h ++ e))
 before_segments o s r h e = simp append_assoc
@@ -285,9 +293,11 @@ before_segments o s r h e = simp append_assoc
 regroup_segments : (o s w r h e : List ℕ) → o ++ (s ++ w) ++ r ++ h ++ e ≡ ((o ++ s) ++ w) ++ (r ++ (h ++ e))
 regroup_segments o s w r h e = simp append_assoc
 
-pub serials_segments : (next after : ℕ) (o s w r h e : List ℕ) → 1 ≤ next → next ≤ after → Serials next (o ++ s ++ r ++ h ++ e) → New next after w → Serials after (o ++ (s ++ w) ++ r ++ h ++ e)
+pub serials_segments : (next after : ℕ) (o s w r h e : List ℕ) → 1 ≤ next → next ≤ after → Serials next (o ++ s ++ r ++ h ++ e) → New next after w
+    → Serials after (o ++ (s ++ w) ++ r ++ h ++ e)
 serials_segments next after o s w r h e least le is new =
-    subst (Serials after) (sym (regroup_segments o s w r h e)) (Serials-more next after (o ++ s) w (r ++ (h ++ e)) least le (subst (Serials next) (before_segments o s r h e) is) new)
+    subst (Serials after) (sym (regroup_segments o s w r h e))
+    (Serials-more next after (o ++ s) w (r ++ (h ++ e)) least le (subst (Serials next) (before_segments o s r h e) is) new)
 
 before_requests : (o s r h e : List ℕ) → o ++ s ++ r ++ h ++ e ≡ (o ++ s ++ r) ++ (h ++ e)
 before_requests o s r h e = simp append_assoc
@@ -295,14 +305,17 @@ before_requests o s r h e = simp append_assoc
 regroup_requests : (o s r w h e : List ℕ) → o ++ s ++ (r ++ w) ++ h ++ e ≡ ((o ++ s ++ r) ++ w) ++ (h ++ e)
 regroup_requests o s r w h e = simp append_assoc
 
-pub serials_requests : (next after : ℕ) (o s r w h e : List ℕ) → 1 ≤ next → next ≤ after → Serials next (o ++ s ++ r ++ h ++ e) → New next after w → Serials after (o ++ s ++ (r ++ w) ++ h ++ e)
+pub serials_requests : (next after : ℕ) (o s r w h e : List ℕ) → 1 ≤ next → next ≤ after → Serials next (o ++ s ++ r ++ h ++ e) → New next after w
+    → Serials after (o ++ s ++ (r ++ w) ++ h ++ e)
 serials_requests next after o s r w h e least le is new =
-    subst (Serials after) (sym (regroup_requests o s r w h e)) (Serials-more next after (o ++ s ++ r) w (h ++ e) least le (subst (Serials next) (before_requests o s r h e) is) new)
+    subst (Serials after) (sym (regroup_requests o s r w h e))
+    (Serials-more next after (o ++ s ++ r) w (h ++ e) least le (subst (Serials next) (before_requests o s r h e) is) new)
 
 regroup_hooks : (o s r h w e : List ℕ) → o ++ s ++ r ++ (h ++ w) ++ e ≡ ((o ++ s ++ r ++ h) ++ w) ++ e
 regroup_hooks o s r h w e = simp append_assoc
 
-pub serials_hooks : (next after : ℕ) (o s r h w e : List ℕ) → 1 ≤ next → next ≤ after → Serials next (o ++ s ++ r ++ h ++ e) → New next after w → Serials after (o ++ s ++ r ++ (h ++ w) ++ e)
+pub serials_hooks : (next after : ℕ) (o s r h w e : List ℕ) → 1 ≤ next → next ≤ after → Serials next (o ++ s ++ r ++ h ++ e) → New next after w
+    → Serials after (o ++ s ++ r ++ (h ++ w) ++ e)
 serials_hooks next after o s r h w e least le is new =
     subst (Serials after) (sym (regroup_hooks o s r h w e)) (Serials-more next after (o ++ s ++ r ++ h) w e least le is new)
 
@@ -327,4 +340,5 @@ among_events o s r h e x here = In-back (o ++ s ++ r ++ h) e x here
 pub fewer_requests : (next : ℕ) (o s r r₂ h e : List ℕ) → Sub r₂ r → Serials next (o ++ s ++ r ++ h ++ e) → Serials next (o ++ s ++ r₂ ++ h ++ e)
 fewer_requests next o s r r₂ h e sub is =
     Serials-Sub next (o ++ s ++ r₂ ++ h ++ e) (o ++ s ++ r ++ h ++ e)
-    (Sub-append (o ++ s ++ r₂ ++ h) (o ++ s ++ r ++ h) e e (Sub-append (o ++ s ++ r₂) (o ++ s ++ r) h h (Sub-append (o ++ s) (o ++ s) r₂ r (Sub-same (o ++ s)) sub) (Sub-same h)) (Sub-same e)) is
+    (Sub-append (o ++ s ++ r₂ ++ h) (o ++ s ++ r ++ h) e e (Sub-append (o ++ s ++ r₂) (o ++ s ++ r) h h
+    (Sub-append (o ++ s) (o ++ s) r₂ r (Sub-same (o ++ s)) sub) (Sub-same h)) (Sub-same e)) is

@@ -79,7 +79,8 @@ rises-In t (z ∷ zs) e x y (inr h) (inr k) = rises-In t zs (and_parts (list_all
 pub list_all-filter : {X : Type 0} (p q : X → Bool) (xs : List X) → list_all p xs ≡ true → list_all p (filter q xs) ≡ true
 list_all-filter p q xs e = list_all-from_In p (filter q xs) (λ x h. list_all-In p xs e x (In-filter q xs x h).0)
 
-rises-cond : {X : Type 0} (t : X → X → Bool) (b : Bool) (x : X) (xs : List X) → list_all (t x) xs ≡ true → rises t xs ≡ true → rises t (cond b (x ∷ xs) xs) ≡ true
+rises-cond : {X : Type 0} (t : X → X → Bool) (b : Bool) (x : X) (xs : List X) → list_all (t x) xs ≡ true → rises t xs ≡ true → rises t (cond b (x ∷ xs) xs)
+    ≡ true
 rises-cond t true x xs h k = and_from (list_all (t x) xs) (rises t xs) h k
 rises-cond t false x xs h k = k
 
@@ -94,7 +95,8 @@ rises-filter t p (x ∷ xs) e =
 length-inserted : {X : Type 0} (before : X → X → Bool) (x : X) (ys : List X) → length (inserted before x ys) ≡ suc (length ys)
 length-inserted before x [] = refl
 length-inserted before x (y ∷ ys) =
-    cond_both (before y x) (y ∷ inserted before x ys) (x ∷ y ∷ ys) (λ l. length l ≡ suc (suc (length ys))) (λ e. ap suc (length-inserted before x ys)) (λ e. refl)
+    cond_both (before y x) (y ∷ inserted before x ys) (x ∷ y ∷ ys) (λ l. length l ≡ suc (suc (length ys))) (λ e. ap suc (length-inserted before x ys))
+    (λ e. refl)
 
 pub length-in_order : {X : Type 0} (before : X → X → Bool) (xs : List X) → length (in_order before xs) ≡ length xs
 length-in_order before [] = refl
@@ -154,7 +156,8 @@ flat_map-In f (z ∷ xs) x y (inr later) k = In-back (f z) (flat_map f xs) y (fl
 
 -- ---- how many pass
 
-count_both : {X : Type 0} (a b : Bool) → (a ≡ true → b ≡ true) → (x : X) (ps qs : List X) → length ps ≤ length qs → length (cond a (x ∷ ps) ps) ≤ length (cond b (x ∷ qs) qs)
+count_both : {X : Type 0} (a b : Bool) → (a ≡ true → b ≡ true) → (x : X) (ps qs : List X) → length ps ≤ length qs
+    → length (cond a (x ∷ ps) ps) ≤ length (cond b (x ∷ qs) qs)
 count_both true true h x ps qs le = omega arith
 count_both true false h x ps qs le = absurd (false≢true (h refl))
 count_both false true h x ps qs le = omega arith
@@ -166,7 +169,8 @@ count-le p q [] h = omega arith
 count-le p q (x ∷ xs) h =
     count_both (p x) (q x) (h x (inl refl)) x (filter p xs) (filter q xs) (count-le p q xs (λ y later. h y (inr later)))
 
-count_step : {X : Type 0} (p q : X → Bool) (y x : X) (ys : List X) → q x ≡ true → (a b : Bool) → p y ≡ a → q y ≡ b → (a ≡ true → b ≡ true) → In x (y ∷ ys) → (ps qs : List X)
+count_step : {X : Type 0} (p q : X → Bool) (y x : X) (ys : List X) → q x ≡ true → (a b : Bool) → p y ≡ a → q y ≡ b → (a ≡ true → b ≡ true) → In x (y ∷ ys)
+    → (ps qs : List X)
     → length (cond b (y ∷ qs) qs) ≤ length (cond a (y ∷ ps) ps) → length ps ≤ length qs → (length qs ≤ length ps → In x ys → p x ≡ true) → p x ≡ true
 count_step p q y x ys e true true pa qb h (inl same) ps qs le all later = ap p same ∙ pa
 count_step p q y x ys e true true pa qb h (inr more) ps qs le all later = later (omega arith) more
@@ -203,18 +207,21 @@ map_step true f x o = refl
 map_step false f x o = refl
 
 some_step : {X : Type 0} (p : X → Bool) (y : X) (ys : List X) (x : X) (b : Bool) → p y ≡ b → In x (y ∷ ys) → p x ≡ true
-    → (In x ys → p x ≡ true → (z : X) × (find p ys ≡ Some z) × In z ys × (p z ≡ true)) → (z : X) × (cond b (Some y) (find p ys) ≡ Some z) × In z (y ∷ ys) × (p z ≡ true)
+    → (In x ys → p x ≡ true → (z : X) × (find p ys ≡ Some z) × In z ys × (p z ≡ true)) → (z : X) × (cond b (Some y) (find p ys) ≡ Some z) × In z (y ∷ ys)
+    × (p z ≡ true)
 some_step p y ys x true e here k later = (y, refl, inl refl, e)
 some_step p y ys x false e (inl same) k later = absurd (false≢true (sym e ∙ ap p (sym same) ∙ k))
 some_step p y ys x false e (inr more) k later = let rest = later more k in (rest.0, rest.1, inr rest.2, rest.3)
 
-inserted_step : {X : Type 0} (b : Bool) (x y : X) (ys rest : List X) (z : X) → In z (cond b (y ∷ rest) (x ∷ y ∷ ys)) → (In z rest → (z ≡ x) ⊎ In z ys) → (z ≡ x) ⊎ In z (y ∷ ys)
+inserted_step : {X : Type 0} (b : Bool) (x y : X) (ys rest : List X) (z : X) → In z (cond b (y ∷ rest) (x ∷ y ∷ ys)) → (In z rest → (z ≡ x) ⊎ In z ys)
+    → (z ≡ x) ⊎ In z (y ∷ ys)
 inserted_step true x y ys rest z (inl same) later = inr (inl same)
 inserted_step true x y ys rest z (inr more) later = elim (later more) [ inl same ↦ inl same | inr there ↦ inr (inr there) ]
 inserted_step false x y ys rest z (inl same) later = inl same
 inserted_step false x y ys rest z (inr more) later = inr more
 
-back_step : {X : Type 0} (b : Bool) (x y : X) (ys rest : List X) (z : X) → (z ≡ x) ⊎ In z (y ∷ ys) → ((z ≡ x) ⊎ In z ys → In z rest) → In z (cond b (y ∷ rest) (x ∷ y ∷ ys))
+back_step : {X : Type 0} (b : Bool) (x y : X) (ys rest : List X) (z : X) → (z ≡ x) ⊎ In z (y ∷ ys) → ((z ≡ x) ⊎ In z ys → In z rest)
+    → In z (cond b (y ∷ rest) (x ∷ y ∷ ys))
 back_step true x y ys rest z (inl same) later = inr (later (inl same))
 back_step true x y ys rest z (inr (inl same)) later = inl same
 back_step true x y ys rest z (inr (inr more)) later = inr (later (inr more))

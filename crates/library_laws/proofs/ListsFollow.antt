@@ -76,7 +76,8 @@ same_swapped a b e = grind (arith, nat_tests)
 pub compatible_swapped : (a b : SegmentRow) → are_compatible a b ≡ true → are_compatible b a ≡ true
 compatible_swapped a b e =
     not_from_false ((b.flow == a.flow) && overlaps b.segment.range a.segment.range)
-    (elim (and_cases (a.flow == b.flow) (overlaps a.segment.range b.segment.range) (not-true ((a.flow == b.flow) && overlaps a.segment.range b.segment.range) e)) [
+    (elim (and_cases (a.flow == b.flow) (overlaps a.segment.range b.segment.range)
+    (not-true ((a.flow == b.flow) && overlaps a.segment.range b.segment.range) e)) [
       | inl other ↦ and_left (b.flow == a.flow) (overlaps b.segment.range a.segment.range) (same_swapped a.flow b.flow other)
       | inr clear ↦ and_right (b.flow == a.flow) (overlaps b.segment.range a.segment.range) (overlaps_swapped a.segment.range b.segment.range clear)
     ])
@@ -91,7 +92,8 @@ by_ends (Some a) (Some b) (Some c) None h k i j l m e f = absurd (false≢true m
 by_ends (Some a) (Some b) (Some c) (Some d) h k i j l m e f =
     elim (and_cases (ends.are_ordered (Some a) (Some d)) (ends.are_ordered (Some c) (Some b)) e) [ inl x ↦ grind (arith, ints) | inr x ↦ grind (arith, ints) ]
 
-pub apart_points : (r q : Option Span) → IsRange r → IsRange q → has_both_ends r ≡ true → has_both_ends q ≡ true → overlaps r q ≡ false → low_before (low_of q) (low_of r) ≡ false
+pub apart_points : (r q : Option Span) → IsRange r → IsRange q → has_both_ends r ≡ true → has_both_ends q ≡ true → overlaps r q ≡ false
+    → low_before (low_of q) (low_of r) ≡ false
     → int_lt (unwrap_or (low_of r) (pos 0)) (unwrap_or (low_of q) (pos 0)) ≡ true
 apart_points None q fine fine₂ e f clear order = absurd (false≢true e)
 apart_points (Some s) None fine fine₂ e f clear order = absurd (false≢true f)
@@ -103,7 +105,8 @@ apart_points (Some s) (Some t) fine fine₂ e f clear order =
 -- rows of one flow that are compatible don't overlap
 pub clear_of : (a b : SegmentRow) (flow : ℕ) → a.flow ≡ flow → b.flow ≡ flow → are_compatible a b ≡ true → overlaps a.segment.range b.segment.range ≡ false
 clear_of a b flow e f fits =
-    elim (and_cases (a.flow == b.flow) (overlaps a.segment.range b.segment.range) (not-true ((a.flow == b.flow) && overlaps a.segment.range b.segment.range) fits)) [
+    elim (and_cases (a.flow == b.flow) (overlaps a.segment.range b.segment.range)
+    (not-true ((a.flow == b.flow) && overlaps a.segment.range b.segment.range) fits)) [
       | inl other ↦ absurd (false≢true (sym other ∙ eq-eqb a.flow b.flow (e ∙ sym f)))
       | inr clear ↦ clear
     ]
@@ -121,7 +124,8 @@ answers_rise library good fine flow range object =
     let rows : List SegmentRow = filter test (segments_of flow library.segments) in
     let parts = and_parts (rises are_compatible library.segments) (list_all (is_segment_good library.catalog.flows) library.segments) good.segments in
     let known : (row : SegmentRow) → In row (in_order starts_before rows) → Asked library flow row = λ row here.
-    let own = In-filter (λ r. r.flow == flow) library.segments row (In-filter test (segments_of flow library.segments) row (In-in_order starts_before rows row here)).0 in
+    let own = In-filter (λ r. r.flow == flow) library.segments row
+    (In-filter test (segments_of flow library.segments) row (In-in_order starts_before rows row here)).0 in
     record {
       under = eqb-true row.flow flow own.1;
       range = fine row (Contains-from_In library.segments row own.0);
@@ -146,13 +150,16 @@ lists_follow : (library : Library) → Good library → HaveRanges library.segme
 lists_follow library good fine =
     let order = and_parts (rises source_before library.catalog.sources) (rises flow_before library.catalog.flows) (Names-from library good.names).catalog in
     record {
-      segments = λ flow range object page. follows first_point (overlapping library.segments flow range object) page (answers_rise library good fine flow range object);
+      segments = λ flow range object page. follows first_point (overlapping library.segments flow range object) page
+          (answers_rise library good fine flow range object);
       sources = λ test page. let risen = rises-filter source_before test library.catalog.sources order.0 in
           follows source_key (filter test library.catalog.sources) page
-          (rises-joined source_before source_before (λ a b. int_lt (source_key a) (source_key b)) (filter test library.catalog.sources) (λ a b here there e f. key_rises (2 ^ 127) a.id b.id e) risen risen);
+          (rises-joined source_before source_before (λ a b. int_lt (source_key a) (source_key b)) (filter test library.catalog.sources)
+          (λ a b here there e f. key_rises (2 ^ 127) a.id b.id e) risen risen);
       flows = λ test page. let risen = rises-filter flow_before test library.catalog.flows order.1 in
           follows flow_key (filter test library.catalog.flows) page
-          (rises-joined flow_before flow_before (λ a b. int_lt (flow_key a) (flow_key b)) (filter test library.catalog.flows) (λ a b here there e f. key_rises (2 ^ 127) a.body.id b.body.id e) risen risen);
+          (rises-joined flow_before flow_before (λ a b. int_lt (flow_key a) (flow_key b)) (filter test library.catalog.flows)
+          (λ a b here there e f. key_rises (2 ^ 127) a.body.id b.body.id e) risen risen);
     }
 
 pub pages_follow : PagesFollow

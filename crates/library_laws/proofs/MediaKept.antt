@@ -40,23 +40,27 @@ passed false x y e = refl
 -- ---- bytes along objects
 
 -- each object has its own bytes, where no two have one id
-own_bytes : (objects : List ObjectRow) (held : List (List ℕ)) → are_bytes_of objects held ≡ true → are_object_ids_distinct objects ≡ true → (row : ObjectRow) → In row objects
+own_bytes : (objects : List ObjectRow) (held : List (List ℕ)) → are_bytes_of objects held ≡ true → are_object_ids_distinct objects ≡ true → (row : ObjectRow)
+    → In row objects
     → fits_state row.state (bytes_of row.id objects held) ≡ true
 own_bytes [] held fits distinct row here = absurd here
 own_bytes (first ∷ rows) [] fits distinct row here = absurd (false≢true fits)
 own_bytes (first ∷ rows) (bytes ∷ more) fits distinct row (inl same) =
     let parts = and_parts (fits_state first.state bytes) (are_bytes_of rows more) fits in
     let own : bytes_of row.id (first ∷ rows) (bytes ∷ more) ≡ bytes =
-    ap (λ (r : ObjectRow). bytes_of r.id (first ∷ rows) (bytes ∷ more)) same ∙ chosen (bytes_eq first.id first.id) bytes (bytes_of first.id rows more) (text_same first.id) in
+    ap (λ (r : ObjectRow). bytes_of r.id (first ∷ rows) (bytes ∷ more)) same
+    ∙ chosen (bytes_eq first.id first.id) bytes (bytes_of first.id rows more) (text_same first.id) in
     ap (λ (r : ObjectRow). fits_state r.state (bytes_of row.id (first ∷ rows) (bytes ∷ more))) same ∙ ap (fits_state first.state) own ∙ parts.0
 own_bytes (first ∷ rows) (bytes ∷ more) fits distinct row (inr there) =
     let parts = and_parts (fits_state first.state bytes) (are_bytes_of rows more) fits in
     let apart = and_parts (list_all (λ id. not (bytes_eq first.id id)) (map (λ row. row.id) rows)) (are_object_ids_distinct rows) distinct in
-    let other = not-true (bytes_eq first.id row.id) (list_all-In (λ id. not (bytes_eq first.id id)) (map (λ row. row.id) rows) apart.0 row.id (map-In (λ (r : ObjectRow). r.id) rows row there)) in
+    let other = not-true (bytes_eq first.id row.id) (list_all-In (λ id. not (bytes_eq first.id id)) (map (λ row. row.id) rows) apart.0 row.id
+    (map-In (λ (r : ObjectRow). r.id) rows row there)) in
     ap (fits_state row.state) (passed (bytes_eq first.id row.id) bytes (bytes_of row.id rows more) other) ∙ own_bytes rows more parts.1 apart.1 row there
 
 -- an object that isn't kept has none
-none_step : (b : Bool) (r : ObjectRow) (o : Option ObjectRow) (x y : List ℕ) → is_none (cond b (Some r) o) ≡ true → (is_none o ≡ true → y ≡ []) → cond b x y ≡ []
+none_step : (b : Bool) (r : ObjectRow) (o : Option ObjectRow) (x y : List ℕ) → is_none (cond b (Some r) o) ≡ true → (is_none o ≡ true → y ≡ []) → cond b x y
+    ≡ []
 none_step true r o x y e h = absurd (false≢true e)
 none_step false r o x y e h = h e
 
@@ -67,11 +71,13 @@ no_bytes id (first ∷ rows) (bytes ∷ more) none =
     none_step (bytes_eq first.id id) first (object_of id rows) bytes (bytes_of id rows more) none (λ later. no_bytes id rows more later)
 
 -- bytes that are a function of each object's id
-along : (rows : List ObjectRow) (f : List ℕ → List ℕ) → ((row : ObjectRow) → In row rows → fits_state row.state (f row.id) ≡ true) → are_bytes_of rows (map (λ row. f row.id) rows) ≡ true
+along : (rows : List ObjectRow) (f : List ℕ → List ℕ) → ((row : ObjectRow) → In row rows → fits_state row.state (f row.id) ≡ true)
+    → are_bytes_of rows (map (λ row. f row.id) rows) ≡ true
 along [] f h = refl
 along (row ∷ rows) f h = and_from _ _ (h row (inl refl)) (along rows f (λ other there. h other (inr there)))
 
-along_step : (b : Bool) (first row : ObjectRow) (rows : List ObjectRow) (f : List ℕ → List ℕ) (rest : List ℕ) → bytes_eq first.id row.id ≡ b → In row (first ∷ rows) → (In row rows → rest ≡ f row.id)
+along_step : (b : Bool) (first row : ObjectRow) (rows : List ObjectRow) (f : List ℕ → List ℕ) (rest : List ℕ) → bytes_eq first.id row.id ≡ b
+    → In row (first ∷ rows) → (In row rows → rest ≡ f row.id)
     → cond b (f first.id) rest ≡ f row.id
 along_step true first row rows f rest is here h = ap f (same_text first.id row.id is)
 along_step false first row rows f rest is (inl same) h = absurd (false≢true (sym is ∙ ap (λ (r : ObjectRow). bytes_eq first.id r.id) same ∙ text_same first.id))
@@ -92,7 +98,8 @@ record Stores (change : Change) (id : List ℕ) : Type 0 where
   is : change ≡ changes.Store moment id start size
 
 by_id : (b : Bool) (moment start size : ℕ) (given : List ℕ) (archive : Archive) (id object : List ℕ) → bytes_eq id object ≡ b
-    → (cond b given (bytes_of id archive.library.objects archive.held) ≡ bytes_of id archive.library.objects archive.held) ⊎ Stores (changes.Store moment object start size) id
+    → (cond b given (bytes_of id archive.library.objects archive.held) ≡ bytes_of id archive.library.objects archive.held) ⊎ Stores
+    (changes.Store moment object start size) id
 by_id true moment start size given archive id object is =
     inr (record { moment = moment; start = start; size = size; is = ap (λ o. changes.Store moment o start size) (sym (same_text id object is)) })
 by_id false moment start size given archive id object is = inl refl
@@ -115,40 +122,49 @@ cases_of (changes.PutHook moment hook) given archive id = inl refl
 cases_of (changes.DropHook moment url) given archive id = inl refl
 
 -- the object of an id is at the place at which its bytes were stored
-state_step : (b : Bool) (id : List ℕ) (start size moment : ℕ) (row old : ObjectRow) → bytes_eq old.id id ≡ b → row ≡ cond b (stored_row start size moment old) old → row.id ≡ id → row.state ≡ Stored start size
+state_step : (b : Bool) (id : List ℕ) (start size moment : ℕ) (row old : ObjectRow) → bytes_eq old.id id ≡ b → row
+    ≡ cond b (stored_row start size moment old) old → row.id ≡ id → row.state ≡ Stored start size
 state_step true id start size moment row old is e same = ap (λ (r : ObjectRow). r.state) e
 state_step false id start size moment row old is e same =
     absurd (false≢true (sym is ∙ ap (λ t. bytes_eq t id) (sym (ap (λ (r : ObjectRow). r.id) e) ∙ same) ∙ text_same id))
 
-stored_state : (objects : List ObjectRow) (id : List ℕ) (start size moment : ℕ) (row : ObjectRow) → In row (with_bytes id start size moment objects) → row.id ≡ id → row.state ≡ Stored start size
+stored_state : (objects : List ObjectRow) (id : List ℕ) (start size moment : ℕ) (row : ObjectRow) → In row (with_bytes id start size moment objects) → row.id
+    ≡ id → row.state ≡ Stored start size
 stored_state objects id start size moment row here same =
     let old = In-map (λ row. cond (bytes_eq row.id id) (stored_row start size moment row) row) objects row here in
     state_step (bytes_eq old.0.id id) id start size moment row old.0 refl old.2 same
 
 -- bytes that come have the length of the object that is stored
-given_fits : (archive : Archive) (given : List ℕ) (row : ObjectRow) (moment start size : ℕ) → In row (after (changes.Store moment row.id start size) archive.library).objects
-    → fits_bytes (changes.Store moment row.id start size) given ≡ true → fits_state row.state (bytes_after (changes.Store moment row.id start size) given archive row.id) ≡ true
+given_fits : (archive : Archive) (given : List ℕ) (row : ObjectRow) (moment start size : ℕ)
+    → In row (after (changes.Store moment row.id start size) archive.library).objects
+    → fits_bytes (changes.Store moment row.id start size) given ≡ true
+    → fits_state row.state (bytes_after (changes.Store moment row.id start size) given archive row.id) ≡ true
 given_fits archive given row moment start size here fits =
-    ap (λ s. fits_state s (bytes_after (changes.Store moment row.id start size) given archive row.id)) (stored_state archive.library.objects row.id start size moment row here refl)
+    ap (λ s. fits_state s (bytes_after (changes.Store moment row.id start size) given archive row.id))
+    (stored_state archive.library.objects row.id start size moment row here refl)
     ∙ ap (λ b. length b == size) (chosen (bytes_eq row.id row.id) given (bytes_of row.id archive.library.objects archive.held) (text_same row.id)) ∙ fits
 
-stores_fit : (archive : Archive) (change : Change) (given : List ℕ) (row : ObjectRow) → Stores change row.id → In row (after change archive.library).objects → fits_bytes change given ≡ true
+stores_fit : (archive : Archive) (change : Change) (given : List ℕ) (row : ObjectRow) → Stores change row.id → In row (after change archive.library).objects
+    → fits_bytes change given ≡ true
     → fits_state row.state (bytes_after change given archive row.id) ≡ true
 stores_fit archive change given row s here fits =
-    subst (λ c. In row (after c archive.library).objects → fits_bytes c given ≡ true → fits_state row.state (bytes_after c given archive row.id) ≡ true) (sym s.is)
+    subst (λ c. In row (after c archive.library).objects → fits_bytes c given ≡ true → fits_state row.state (bytes_after c given archive row.id) ≡ true)
+    (sym s.is)
     (given_fits archive given row s.moment s.start s.size) here fits
 
 -- ---- bytes that fit
 
 -- an id of an allocation isn't kept
-taken_first : (taken known : Bool) (id : List ℕ) (rest : Option (List ℕ)) → is_none (cond (taken || known) (Some id) rest) ≡ true → (taken ≡ false) × (is_none rest ≡ true)
+taken_first : (taken known : Bool) (id : List ℕ) (rest : Option (List ℕ)) → is_none (cond (taken || known) (Some id) rest) ≡ true → (taken ≡ false)
+    × (is_none rest ≡ true)
 taken_first true known id rest e = absurd (false≢true e)
 taken_first false true id rest e = absurd (false≢true e)
 taken_first false false id rest e = (refl, e)
 
 untaken : (taken : List ℕ → Bool) (earlier ids : List (List ℕ)) → is_none (first_taken taken earlier ids) ≡ true → (id : List ℕ) → In id ids → taken id ≡ false
 untaken taken earlier [] e id here = absurd here
-untaken taken earlier (first ∷ later) e id (inl same) = ap taken same ∙ (taken_first (taken first) (has_text first earlier) first (first_taken taken (first ∷ earlier) later) e).0
+untaken taken earlier (first ∷ later) e id (inl same) = ap taken same
+    ∙ (taken_first (taken first) (has_text first earlier) first (first_taken taken (first ∷ earlier) later) e).0
 untaken taken earlier (first ∷ later) e id (inr there) =
     untaken taken (first ∷ earlier) later (taken_first (taken first) (has_text first earlier) first (first_taken taken (first ∷ earlier) later) e).1 id there
 
@@ -156,26 +172,32 @@ no_such : (o : Option ObjectRow) → is_some o ≡ false → is_none o ≡ true
 no_such None e = refl
 no_such (Some row) e = absurd (false≢true (sym e))
 
-new_is_new : (library : Library) (change : Change) (moment flow : ℕ) (ids : List (List ℕ)) (id : List ℕ) → change ≡ changes.Allocate moment flow ids → is_allowed library change ≡ true → In id ids
+new_is_new : (library : Library) (change : Change) (moment flow : ℕ) (ids : List (List ℕ)) (id : List ℕ) → change ≡ changes.Allocate moment flow ids
+    → is_allowed library change ≡ true → In id ids
     → is_none (object_of id library.objects) ≡ true
 new_is_new library change moment flow ids id is allowed among =
-    let parts = and_parts (is_none (change_refusal library flow)) (is_none (first_taken (is_kept_object library) [] ids)) (ap (is_allowed library) (sym is) ∙ allowed) in
+    let parts = and_parts (is_none (change_refusal library flow)) (is_none (first_taken (is_kept_object library) [] ids))
+    (ap (is_allowed library) (sym is) ∙ allowed) in
     no_such (object_of id library.objects) (untaken (is_kept_object library) [] ids parts.1 id among)
 
-old_fits : (archive : Archive) (change : Change) (given : List ℕ) (row : ObjectRow) → IsGoodArchive archive → is_allowed archive.library change ≡ true → fits_bytes change given ≡ true
-    → In row (after change archive.library).objects → bytes_after change given archive row.id ≡ bytes_of row.id archive.library.objects archive.held → Came archive.library change row
+old_fits : (archive : Archive) (change : Change) (given : List ℕ) (row : ObjectRow) → IsGoodArchive archive → is_allowed archive.library change ≡ true
+    → fits_bytes change given ≡ true
+    → In row (after change archive.library).objects → bytes_after change given archive row.id ≡ bytes_of row.id archive.library.objects archive.held
+    → Came archive.library change row
     → fits_state row.state (bytes_after change given archive row.id) ≡ true
 old_fits archive change given row good allowed fits here same (kept old there serial id state) =
     ap (fits_state row.state) same ∙ ap (λ s. fits_state s (bytes_of row.id archive.library.objects archive.held)) state
     ∙ ap (λ i. fits_state old.state (bytes_of i archive.library.objects archive.held)) id
     ∙ own_bytes archive.library.objects archive.held good.held (Names-from archive.library good.good.names).objects old there
 old_fits archive change given row good allowed fits here same (made moment flow ids is among state) =
-    ap (fits_state row.state) (same ∙ no_bytes row.id archive.library.objects archive.held (new_is_new archive.library change moment flow ids row.id is allowed among))
+    ap (fits_state row.state) (same ∙ no_bytes row.id archive.library.objects archive.held
+    (new_is_new archive.library change moment flow ids row.id is allowed among))
     ∙ ap (λ s. fits_state s []) state
 old_fits archive change given row good allowed fits here same (stored moment start size is state) =
     stores_fit archive change given row (record { moment = moment; start = start; size = size; is = is }) here fits
 
-row_fits : (archive : Archive) (change : Change) (given : List ℕ) → IsGoodArchive archive → is_allowed archive.library change ≡ true → fits_bytes change given ≡ true → (row : ObjectRow)
+row_fits : (archive : Archive) (change : Change) (given : List ℕ) → IsGoodArchive archive → is_allowed archive.library change ≡ true → fits_bytes change given
+    ≡ true → (row : ObjectRow)
     → In row (after change archive.library).objects → fits_state row.state (bytes_after change given archive row.id) ≡ true
 row_fits archive change given good allowed fits row here =
     elim (cases_of change given archive row.id) [
@@ -189,11 +211,13 @@ bytes_fit archive change given good allowed fits =
 
 -- ---- bytes that stay
 
-not_again : (archive : Archive) (change : Change) (old : ObjectRow) (id : List ℕ) → IsGoodArchive archive → is_allowed archive.library change ≡ true → In old archive.library.objects → id ≡ old.id
+not_again : (archive : Archive) (change : Change) (old : ObjectRow) (id : List ℕ) → IsGoodArchive archive → is_allowed archive.library change ≡ true
+    → In old archive.library.objects → id ≡ old.id
     → is_stored old.state ≡ true → Stores change id → ⊥
 not_again archive change old id good allowed here same st s =
     let library : Library = archive.library in
-    let parts = and_parts (is_none (keep_refusal (object_of id library.objects))) (is_free library.objects library.blocks (blocks_of s.size) s.start) (ap (is_allowed library) (sym s.is) ∙ allowed) in
+    let parts = and_parts (is_none (keep_refusal (object_of id library.objects))) (is_free library.objects library.blocks (blocks_of s.size) s.start)
+    (ap (is_allowed library) (sym s.is) ∙ allowed) in
     let one = allocated_one (object_of id library.objects) parts.0 in
     let at = find-In (λ r. bytes_eq r.id id) library.objects one.0 one.1 in
     let e = same_id library.objects (Names-from library good.good.names).objects old one.0 here at.0 (sym same ∙ sym (same_text one.0.id id at.1)) in
@@ -202,7 +226,8 @@ not_again archive change old id good allowed here same st s =
 pub bytes_stay : BytesStay
 bytes_stay archive change given good allowed old new here there serial st =
     let same = first_bytes_stay archive.library change good.good allowed old new here there serial st in
-    let own = bytes_along (after change archive.library).objects (bytes_after change given archive) new (In-from_Contains (after change archive.library).objects new there) in
+    let own = bytes_along (after change archive.library).objects (bytes_after change given archive) new
+    (In-from_Contains (after change archive.library).objects new there) in
     elim (cases_of change given archive new.id) [
       | inl e ↦ own ∙ e ∙ ap (λ i. bytes_of i archive.library.objects archive.held) same.0
       | inr s ↦ absurd (not_again archive change old new.id good allowed (In-from_Contains archive.library.objects old here) same.0 st s)
@@ -210,10 +235,13 @@ bytes_stay archive change given good allowed old new here there serial st =
 
 -- ---- a put
 
-takes : (library : Library) (object bytes : List ℕ) (moment : ℕ) → Good library → is_moment moment ≡ true → (row : ObjectRow) → object_of object library.objects ≡ Some row → row.state ≡ Allocated
-    → (start : ℕ) → IsLeastPlace library.objects library.blocks (blocks_of (length bytes)) start → TakesPlace library object bytes moment (changes.Store moment object start (length bytes))
+takes : (library : Library) (object bytes : List ℕ) (moment : ℕ) → Good library → is_moment moment ≡ true → (row : ObjectRow) → object_of object library.objects
+    ≡ Some row → row.state ≡ Allocated
+    → (start : ℕ) → IsLeastPlace library.objects library.blocks (blocks_of (length bytes)) start
+    → TakesPlace library object bytes moment (changes.Store moment object start (length bytes))
 takes library object bytes moment good at row is state start least =
-    let refused : is_none (keep_refusal (object_of object library.objects)) ≡ true = ap (λ o. is_none (keep_refusal o)) is ∙ ap (λ s. is_none (keep_state s)) state in
+    let refused : is_none (keep_refusal (object_of object library.objects)) ≡ true = ap (λ o. is_none (keep_refusal o)) is
+    ∙ ap (λ s. is_none (keep_state s)) state in
     record {
       start = start;
       is = refl;
@@ -222,22 +250,28 @@ takes library object bytes moment good at row is state start least =
           (record { at = at; values = zero_or_more (length bytes) start least.zero; serials = (Names-from library good.names).most });
     }
 
-placed : (library : Library) (object bytes : List ℕ) (moment : ℕ) → Good library → is_moment moment ≡ true → (row : ObjectRow) → object_of object library.objects ≡ Some row → row.state ≡ Allocated
+placed : (library : Library) (object bytes : List ℕ) (moment : ℕ) → Good library → is_moment moment ≡ true → (row : ObjectRow)
+    → object_of object library.objects ≡ Some row → row.state ≡ Allocated
     → (p : Option ℕ) → MatchOption p ((place : ℕ) → place < library.blocks → IsFalse (is_free library.objects library.blocks (blocks_of (length bytes)) place))
     (IsLeastPlace library.objects library.blocks (blocks_of (length bytes)))
     → IfSome (placed_put p object (length bytes) moment).change (TakesPlace library object bytes moment)
 placed library object bytes moment good at row is state None least = tt
 placed library object bytes moment good at row is state (Some start) least = takes library object bytes moment good at row is state start least
 
-by_state : (library : Library) (object bytes : List ℕ) (moment : ℕ) → Good library → is_moment moment ≡ true → (row : ObjectRow) → object_of object library.objects ≡ Some row
+by_state : (library : Library) (object bytes : List ℕ) (moment : ℕ) → Good library → is_moment moment ≡ true → (row : ObjectRow)
+    → object_of object library.objects ≡ Some row
     → (state : ObjectState) → row.state ≡ state → (again : Reply)
-    → IfSome (put_by_state state (placed_put (free_place library.objects library.blocks (blocks_of (length bytes))) object (length bytes) moment) (unchanged again)).change (TakesPlace library object bytes moment)
+    → IfSome (put_by_state state (placed_put (free_place library.objects library.blocks (blocks_of (length bytes))) object (length bytes) moment)
+    (unchanged again)).change (TakesPlace library object bytes moment)
 by_state library object bytes moment good at row is Allocated state again =
-    placed library object bytes moment good at row is state (free_place library.objects library.blocks (blocks_of (length bytes))) (places_are_least library.objects library.blocks (blocks_of (length bytes)))
+    placed library object bytes moment good at row is state (free_place library.objects library.blocks (blocks_of (length bytes)))
+    (places_are_least library.objects library.blocks (blocks_of (length bytes)))
 by_state library object bytes moment good at row is (Stored start size) state again = tt
 
-by_object : (library : Library) (object bytes : List ℕ) (moment : ℕ) → Good library → is_moment moment ≡ true → (o : Option ObjectRow) → object_of object library.objects ≡ o → (again : Reply)
-    → IfSome (put_answer_by o (placed_put (free_place library.objects library.blocks (blocks_of (length bytes))) object (length bytes) moment) (unchanged again)).change (TakesPlace library object bytes moment)
+by_object : (library : Library) (object bytes : List ℕ) (moment : ℕ) → Good library → is_moment moment ≡ true → (o : Option ObjectRow)
+    → object_of object library.objects ≡ o → (again : Reply)
+    → IfSome (put_answer_by o (placed_put (free_place library.objects library.blocks (blocks_of (length bytes))) object (length bytes) moment)
+    (unchanged again)).change (TakesPlace library object bytes moment)
 by_object library object bytes moment good at None is again = tt
 by_object library object bytes moment good at (Some row) is again = by_state library object bytes moment good at row is row.state refl again
 

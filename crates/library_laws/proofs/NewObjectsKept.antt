@@ -27,10 +27,12 @@ record Untaken (taken : List ℕ → Bool) (earlier ids : List (List ℕ)) : Typ
   distinct : are_distinct_texts ids ≡ true
 
 different : (a b : List ℕ) → bytes_eq b a ≡ false → not (bytes_eq a b) ≡ true
-different a b e = not_from_false (bytes_eq a b) (false_from_ne_true (bytes_eq a b) (λ bad. false≢true (sym e ∙ ap (bytes_eq b) (same_text a b bad) ∙ text_same b)))
+different a b e = not_from_false (bytes_eq a b) (false_from_ne_true (bytes_eq a b)
+    (λ bad. false≢true (sym e ∙ ap (bytes_eq b) (same_text a b bad) ∙ text_same b)))
 
 untaken_step : (taken : List ℕ → Bool) (earlier : List (List ℕ)) (id : List ℕ) (later : List (List ℕ)) (a b : Bool) → taken id ≡ a → has_text id earlier ≡ b
-    → cond (a || b) (Some id) (first_taken taken (id ∷ earlier) later) ≡ None → (first_taken taken (id ∷ earlier) later ≡ None → Untaken taken (id ∷ earlier) later) → Untaken taken earlier (id ∷ later)
+    → cond (a || b) (Some id) (first_taken taken (id ∷ earlier) later) ≡ None
+    → (first_taken taken (id ∷ earlier) later ≡ None → Untaken taken (id ∷ earlier) later) → Untaken taken earlier (id ∷ later)
 untaken_step taken earlier id later true b ta hb none rest = absurd (cc)
 untaken_step taken earlier id later false true ta hb none rest = absurd (cc)
 untaken_step taken earlier id later false false ta hb none rest =
@@ -40,7 +42,8 @@ untaken_step taken earlier id later false false ta hb none rest =
         | inl same ↦ (ap taken same ∙ ta, ap (λ y. has_text y earlier) same ∙ hb)
         | inr more ↦ let w = r.apart x more in (w.0, (or_parts (bytes_eq x id) (has_text x earlier) w.1).1)
       ];
-      distinct = and_from _ _ (list_all-from_In (λ x. not (bytes_eq id x)) later (λ x here. different id x (or_parts (bytes_eq x id) (has_text x earlier) (r.apart x here).1).0)) r.distinct;
+      distinct = and_from _ _ (list_all-from_In (λ x. not (bytes_eq id x)) later
+          (λ x here. different id x (or_parts (bytes_eq x id) (has_text x earlier) (r.apart x here).1).0)) r.distinct;
     }
 
 untaken : (taken : List ℕ → Bool) (earlier ids : List (List ℕ)) → first_taken taken earlier ids ≡ None → Untaken taken earlier ids
@@ -58,9 +61,11 @@ serials-allocated serial moment [] = refl
 serials-allocated serial moment (id ∷ later) = ap (λ l. serial ∷ l) (serials-allocated (serial + 1) moment later)
 
 -- what each new row is
-allocated_is : (serial moment : ℕ) (ids : List (List ℕ)) (row : ObjectRow) → In row (allocated_rows serial moment ids) → (row.state ≡ Allocated) × (row.idle_since ≡ moment) × In row.id ids
+allocated_is : (serial moment : ℕ) (ids : List (List ℕ)) (row : ObjectRow) → In row (allocated_rows serial moment ids) → (row.state ≡ Allocated)
+    × (row.idle_since ≡ moment) × In row.id ids
 allocated_is serial moment [] row here = absurd here
-allocated_is serial moment (id ∷ later) row (inl same) = (ap (λ (r : ObjectRow). r.state) same, ap (λ (r : ObjectRow). r.idle_since) same, inl (ap (λ (r : ObjectRow). r.id) same))
+allocated_is serial moment (id ∷ later) row (inl same) =
+    (ap (λ (r : ObjectRow). r.state) same, ap (λ (r : ObjectRow). r.idle_since) same, inl (ap (λ (r : ObjectRow). r.id) same))
 allocated_is serial moment (id ∷ later) row (inr more) = let w = allocated_is (serial + 1) moment later row more in (w.0, w.1, inr w.2)
 
 apart_allocated : (a b : ObjectState) → b ≡ Allocated → are_states_apart a b ≡ true
@@ -73,9 +78,12 @@ first_apart a b e = ap (λ s. are_states_apart s b) e
 -- new rows have no block
 rises-allocated : (serial moment : ℕ) (ids : List (List ℕ)) → rises (λ a b. are_states_apart a.state b.state) (allocated_rows serial moment ids) ≡ true
 rises-allocated serial moment [] = refl
-rises-allocated serial moment (id ∷ later) = and_from _ _ (list_all-from_In (λ (b : ObjectRow). are_states_apart Allocated b.state) (allocated_rows (serial + 1) moment later) (λ b here. refl)) (rises-allocated (serial + 1) moment later)
+rises-allocated serial moment (id ∷ later) = and_from _ _
+    (list_all-from_In (λ (b : ObjectRow). are_states_apart Allocated b.state) (allocated_rows (serial + 1) moment later) (λ b here. refl))
+    (rises-allocated (serial + 1) moment later)
 
-front_step : (b : Bool) (x : ObjectRow) (rest more : Option ObjectRow) → is_stored_row (cond b (Some x) rest) ≡ true → (is_stored_row rest ≡ true → more ≡ rest) → cond b (Some x) more ≡ cond b (Some x) rest
+front_step : (b : Bool) (x : ObjectRow) (rest more : Option ObjectRow) → is_stored_row (cond b (Some x) rest) ≡ true → (is_stored_row rest ≡ true → more ≡ rest)
+    → cond b (Some x) more ≡ cond b (Some x) rest
 front_step true x rest more e later = refl
 front_step false x rest more e later = later e
 
@@ -89,7 +97,8 @@ allocation_keeps_good library moment ids good at forms free most =
     let names = Names-from library good.names in
     let texts = Texts-from library good.texts in
     let new : List ObjectRow = allocated_rows library.next_serial moment ids in
-    let extents = and_parts (rises (λ a b. are_states_apart a.state b.state) library.objects) (list_all (λ row. is_extent_good library.blocks row.state) library.objects) good.extents in
+    let extents = and_parts (rises (λ a b. are_states_apart a.state b.state) library.objects)
+    (list_all (λ row. is_extent_good library.blocks row.state) library.objects) good.extents in
     let fresh = untaken (is_kept_object library) [] ids free in
     let numbers = serials-allocated library.next_serial moment ids in
     record {
@@ -101,11 +110,14 @@ allocation_keeps_good library moment ids good at forms free most =
           (rises-both (λ a b. are_states_apart a.state b.state) library.objects new extents.0 (rises-allocated library.next_serial moment ids)
           (λ a b here there. apart_allocated a.state b.state (allocated_is library.next_serial moment ids b there).0))
           (list_all-both (λ row. is_extent_good library.blocks row.state) library.objects new extents.1
-          (list_all-from_In (λ row. is_extent_good library.blocks row.state) new (λ row here. ap (is_extent_good library.blocks) (allocated_is library.next_serial moment ids row here).0)));
+          (list_all-from_In (λ row. is_extent_good library.blocks row.state) new
+          (λ row here. ap (is_extent_good library.blocks) (allocated_is library.next_serial moment ids row here).0)));
       names = Names-test (after_allocate moment ids library) (record {
         catalog = names.catalog;
-        objects = ap are_distinct_texts (map-append (λ row. row.id) library.objects new ∙ ap (λ l. map (λ (row : ObjectRow). row.id) library.objects ++ l) (ids-allocated library.next_serial moment ids))
-            ∙ rises-both (λ a b. not (bytes_eq a b)) (map (λ row. row.id) library.objects) ids names.objects fresh.distinct (λ a b here there. not_from_false (bytes_eq a b) (false_from_ne_true (bytes_eq a b) (λ bad.
+        objects = ap are_distinct_texts (map-append (λ row. row.id) library.objects new
+            ∙ ap (λ l. map (λ (row : ObjectRow). row.id) library.objects ++ l) (ids-allocated library.next_serial moment ids))
+            ∙ rises-both (λ a b. not (bytes_eq a b)) (map (λ row. row.id) library.objects) ids names.objects fresh.distinct
+            (λ a b here there. not_from_false (bytes_eq a b) (false_from_ne_true (bytes_eq a b) (λ bad.
             let row = In-map (λ (r : ObjectRow). r.id) library.objects a here in
             let kept = find-some (λ r. bytes_eq r.id b) library.objects row.0 row.1 (ap (λ x. bytes_eq x b) (sym row.2) ∙ bad) in
             false≢true (sym (fresh.apart b there).0 ∙ ap is_some kept.1))));
@@ -116,9 +128,12 @@ allocation_keeps_good library moment ids good at forms free most =
         requests_rise = names.requests_rise;
         hooks_rise = names.hooks_rise;
         events_rise = names.events_rise;
-        serials = subst (λ (l : List ℕ). Serials (library.next_serial + length ids) (l ++ map (λ row. row.serial) library.segments ++ map (λ row. row.serial) library.requests ++ map (λ row. row.serial) library.outbox.hooks ++ map (λ row. row.serial) library.outbox.events))
+        serials = subst (λ (l : List ℕ). Serials (library.next_serial + length ids)
+            (l ++ map (λ row. row.serial) library.segments ++ map (λ row. row.serial) library.requests ++ map (λ row. row.serial) library.outbox.hooks ++ map
+            (λ row. row.serial) library.outbox.events))
             (ap (λ l. map (λ (row : ObjectRow). row.serial) library.objects ++ l) (sym numbers) ∙ sym (map-append (λ row. row.serial) library.objects new))
-            (serials_objects library.next_serial (library.next_serial + length ids) (map (λ row. row.serial) library.objects) (counted library.next_serial (length ids)) _ _ _ _ names.least (omega arith) names.serials (counted-New library.next_serial (length ids)));
+            (serials_objects library.next_serial (library.next_serial + length ids) (map (λ row. row.serial) library.objects)
+            (counted library.next_serial (length ids)) _ _ _ _ names.least (omega arith) names.serials (counted-New library.next_serial (length ids)));
         least = omega (arith, names.least);
         most = most;
       });
@@ -130,7 +145,8 @@ allocation_keeps_good library moment ids good at forms free most =
         sources = texts.sources;
         flows = texts.flows;
         objects = list_all-both is_object_text library.objects new texts.objects (list_all-from_In is_object_text new (λ row here.
-            let w = allocated_is library.next_serial moment ids row here in and_from _ _ (list_all-In is_object_id ids forms row.id w.2) (ap is_moment w.1 ∙ at)));
+            let w = allocated_is library.next_serial moment ids row here in and_from _ _ (list_all-In is_object_id ids forms row.id w.2)
+            (ap is_moment w.1 ∙ at)));
         requests = texts.requests;
         hooks = texts.hooks;
         events = texts.events;
@@ -149,20 +165,24 @@ bytes_id id start size moment row = cond_both (bytes_eq row.id id) (stored_row s
 
 bytes_serial : (id : List ℕ) (start size moment : ℕ) (row : ObjectRow) → (put_bytes id start size moment row).serial ≡ row.serial
 unfolding put_bytes
-bytes_serial id start size moment row = cond_both (bytes_eq row.id id) (stored_row start size moment row) row (λ r. r.serial ≡ row.serial) (λ e. refl) (λ e. refl)
+bytes_serial id start size moment row = cond_both (bytes_eq row.id id) (stored_row start size moment row) row (λ r. r.serial ≡ row.serial) (λ e. refl)
+    (λ e. refl)
 
 state_step : (b : Bool) (start size moment : ℕ) (row : ObjectRow) → (cond b (stored_row start size moment row) row).state ≡ cond b (Stored start size) row.state
 state_step true start size moment row = refl
 state_step false start size moment row = refl
 
-bytes_state : (id : List ℕ) (start size moment : ℕ) (row : ObjectRow) → (put_bytes id start size moment row).state ≡ cond (bytes_eq row.id id) (Stored start size) row.state
+bytes_state : (id : List ℕ) (start size moment : ℕ) (row : ObjectRow) → (put_bytes id start size moment row).state
+    ≡ cond (bytes_eq row.id id) (Stored start size) row.state
 unfolding put_bytes
 bytes_state id start size moment row = state_step (bytes_eq row.id id) start size moment row
 
-still_stored : (id : List ℕ) (start size moment : ℕ) (o : Option ObjectRow) → is_stored_row o ≡ true → is_stored_row (option_map (put_bytes id start size moment) o) ≡ true
+still_stored : (id : List ℕ) (start size moment : ℕ) (o : Option ObjectRow) → is_stored_row o ≡ true
+    → is_stored_row (option_map (put_bytes id start size moment) o) ≡ true
 still_stored id start size moment None e = absurd (false≢true e)
 still_stored id start size moment (Some row) e =
-    ap is_stored (bytes_state id start size moment row) ∙ cond_both (bytes_eq row.id id) (Stored start size) row.state (λ s. is_stored s ≡ true) (λ k. refl) (λ k. e)
+    ap is_stored (bytes_state id start size moment row) ∙ cond_both (bytes_eq row.id id) (Stored start size) row.state (λ s. is_stored s ≡ true) (λ k. refl)
+    (λ k. e)
 
 -- a free place is apart from each state, on either side
 clear_before : (start size : ℕ) (state : ObjectState) → is_clear_of start (blocks_of size) state ≡ true → are_states_apart (Stored start size) state ≡ true
@@ -177,49 +197,63 @@ clear_behind start size Allocated e = refl
 clear_behind start size (Stored other more) e = swap (nat_le (start + blocks_of size) other) (nat_le (other + blocks_of more) start) e
 
 still_apart : (a b : Bool) (start size : ℕ) (left right : ObjectState) → (a ≡ true → b ≡ true → ⊥) → are_states_apart left right ≡ true
-    → is_clear_of start (blocks_of size) left ≡ true → is_clear_of start (blocks_of size) right ≡ true → are_states_apart (cond a (Stored start size) left) (cond b (Stored start size) right) ≡ true
+    → is_clear_of start (blocks_of size) left ≡ true → is_clear_of start (blocks_of size) right ≡ true
+    → are_states_apart (cond a (Stored start size) left) (cond b (Stored start size) right) ≡ true
 still_apart true true start size left right one e l r = absurd (one refl refl)
 still_apart true false start size left right one e l r = clear_before start size right r
 still_apart false true start size left right one e l r = clear_behind start size left l
 still_apart false false start size left right one e l r = e
 
 pub storing_keeps_good : (library : Library) (moment : ℕ) (object : List ℕ) (start size : ℕ) → Good library → is_moment moment ≡ true
-    → is_free library.objects library.blocks (blocks_of size) start ≡ true → (nat_lt 0 size || (start == 0)) ≡ true → Good (after_store moment object start size library)
+    → is_free library.objects library.blocks (blocks_of size) start ≡ true → (nat_lt 0 size || (start == 0)) ≡ true
+    → Good (after_store moment object start size library)
 unfolding put_bytes
 storing_keeps_good library moment object start size good at free zero_first =
     let names = Names-from library good.names in
     let texts = Texts-from library good.texts in
     let change : ObjectRow → ObjectRow = put_bytes object start size moment in
-    let place = and_parts (nat_le (start + blocks_of size) library.blocks) (list_all (λ row. is_clear_of start (blocks_of size) row.state) library.objects) free in
-    let extents = and_parts (rises (λ a b. are_states_apart a.state b.state) library.objects) (list_all (λ row. is_extent_good library.blocks row.state) library.objects) good.extents in
+    let place = and_parts (nat_le (start + blocks_of size) library.blocks) (list_all (λ row. is_clear_of start (blocks_of size) row.state) library.objects) free
+    in
+    let extents = and_parts (rises (λ a b. are_states_apart a.state b.state) library.objects)
+    (list_all (λ row. is_extent_good library.blocks row.state) library.objects) good.extents in
     let ids = map-kept (λ (row : ObjectRow). row.id) change library.objects (bytes_id object start size moment) in
     let serials = map-kept (λ (row : ObjectRow). row.serial) change library.objects (bytes_serial object start size moment) in
     record {
       segments = good.segments;
       references = list_all-from_In (λ s. is_stored_object (map change library.objects) s.segment.object) library.segments (λ s here.
-          ap is_stored_row (find-map (λ row. bytes_eq row.id s.segment.object) change library.objects (λ row. ap (λ i. bytes_eq i s.segment.object) (bytes_id object start size moment row)))
-          ∙ still_stored object start size moment (object_of s.segment.object library.objects) (list_all-In (λ t. is_stored_object library.objects t.segment.object) library.segments good.references s here));
+          ap is_stored_row (find-map (λ row. bytes_eq row.id s.segment.object) change library.objects
+          (λ row. ap (λ i. bytes_eq i s.segment.object) (bytes_id object start size moment row)))
+          ∙ still_stored object start size moment (object_of s.segment.object library.objects)
+          (list_all-In (λ t. is_stored_object library.objects t.segment.object) library.segments good.references s here));
       extents = and_from _ _
-          (rises-mapped (λ a b. are_states_apart a.state b.state) (λ a b. not (bytes_eq a.id b.id)) (λ a b. are_states_apart a.state b.state) change library.objects
+          (rises-mapped (λ a b. are_states_apart a.state b.state) (λ a b. not (bytes_eq a.id b.id)) (λ a b. are_states_apart a.state b.state) change
+          library.objects
           (λ x y here there t u. ap₂ are_states_apart (bytes_state object start size moment x) (bytes_state object start size moment y)
           ∙ still_apart (bytes_eq x.id object) (bytes_eq y.id object) start size x.state y.state
-          (λ a b. false≢true (sym (not-true (bytes_eq x.id y.id) u) ∙ ap (bytes_eq x.id) (same_text y.id object b ∙ sym (same_text x.id object a)) ∙ text_same x.id)) t
-          (list_all-In (λ row. is_clear_of start (blocks_of size) row.state) library.objects place.1 x here) (list_all-In (λ row. is_clear_of start (blocks_of size) row.state) library.objects place.1 y there))
+          (λ a b. false≢true (sym (not-true (bytes_eq x.id y.id) u) ∙ ap (bytes_eq x.id) (same_text y.id object b ∙ sym (same_text x.id object a))
+          ∙ text_same x.id)) t
+          (list_all-In (λ row. is_clear_of start (blocks_of size) row.state) library.objects place.1 x here)
+          (list_all-In (λ row. is_clear_of start (blocks_of size) row.state) library.objects place.1 y there))
           extents.0 (sym (rises-keys (λ a b. not (bytes_eq a b)) (λ (row : ObjectRow). row.id) library.objects) ∙ names.objects))
           (list_all-mapped (λ row. is_extent_good library.blocks row.state) change library.objects (λ row here.
           ap (is_extent_good library.blocks) (bytes_state object start size moment row)
-          ∙ cond_both (bytes_eq row.id object) (Stored start size) row.state (λ s. is_extent_good library.blocks s ≡ true) (λ e. and_from _ _ place.0 zero_first)
+          ∙ cond_both (bytes_eq row.id object) (Stored start size) row.state (λ s. is_extent_good library.blocks s ≡ true)
+          (λ e. and_from _ _ place.0 zero_first)
           (λ e. list_all-In (λ r. is_extent_good library.blocks r.state) library.objects extents.1 row here)));
       names = Names-test (after_store moment object start size library) (record {
         catalog = names.catalog;
         objects = ap are_distinct_texts ids ∙ names.objects;
         urls = names.urls;
-        objects_rise = rises-mapped _ _ (λ a b. nat_lt a.serial b.serial) change library.objects (λ x y here there t u. ap₂ nat_lt (bytes_serial object start size moment x) (bytes_serial object start size moment y) ∙ t) names.objects_rise names.objects_rise;
+        objects_rise = rises-mapped _ _ (λ a b. nat_lt a.serial b.serial) change library.objects
+            (λ x y here there t u. ap₂ nat_lt (bytes_serial object start size moment x) (bytes_serial object start size moment y) ∙ t) names.objects_rise
+            names.objects_rise;
         segments_rise = names.segments_rise;
         requests_rise = names.requests_rise;
         hooks_rise = names.hooks_rise;
         events_rise = names.events_rise;
-        serials = subst (λ (l : List ℕ). Serials library.next_serial (l ++ map (λ row. row.serial) library.segments ++ map (λ row. row.serial) library.requests ++ map (λ row. row.serial) library.outbox.hooks ++ map (λ row. row.serial) library.outbox.events)) (sym serials) names.serials;
+        serials = subst (λ (l : List ℕ). Serials library.next_serial
+            (l ++ map (λ row. row.serial) library.segments ++ map (λ row. row.serial) library.requests ++ map (λ row. row.serial) library.outbox.hooks ++ map
+            (λ row. row.serial) library.outbox.events)) (sym serials) names.serials;
         least = names.least;
         most = names.most;
       });
@@ -232,7 +266,9 @@ storing_keeps_good library moment object start size good at free zero_first =
         flows = texts.flows;
         objects = list_all-mapped is_object_text change library.objects (λ row here.
             let parts = and_parts (is_object_id row.id) (is_moment row.idle_since) (list_all-In is_object_text library.objects texts.objects row here) in
-            cond_both (bytes_eq row.id object) (stored_row start size moment row) row (λ r. is_object_text r ≡ true) (λ e. and_from (is_object_id row.id) (is_moment moment) parts.0 at) (λ e. and_from (is_object_id row.id) (is_moment row.idle_since) parts.0 parts.1));
+            cond_both (bytes_eq row.id object) (stored_row start size moment row) row (λ r. is_object_text r ≡ true)
+            (λ e. and_from (is_object_id row.id) (is_moment moment) parts.0 at)
+            (λ e. and_from (is_object_id row.id) (is_moment row.idle_since) parts.0 parts.1));
         requests = texts.requests;
         hooks = texts.hooks;
         events = texts.events;

@@ -26,10 +26,12 @@ pub data Came (library : Library) (change : Change) (row : ObjectRow) : Type 0 w
   made : (moment flow : ℕ) (ids : List (List ℕ)) → change ≡ changes.Allocate moment flow ids → In row.id ids → row.state ≡ Allocated → Came library change row
   stored : (moment start size : ℕ) → change ≡ changes.Store moment row.id start size → row.state ≡ Stored start size → Came library change row
 
-by_idled : (library : Library) (change : Change) (was left : List SegmentRow) (moment : ℕ) (row : ObjectRow) → In row (idled was left moment library.objects) → Came library change row
+by_idled : (library : Library) (change : Change) (was left : List SegmentRow) (moment : ℕ) (row : ObjectRow) → In row (idled was left moment library.objects)
+    → Came library change row
 by_idled library change was left moment row here =
     let old = In-map (idled_row was left moment) library.objects row here in
-    kept old.0 old.1 (ap (λ (r : ObjectRow). r.serial) old.2 ∙ idled_serial was left moment old.0) (ap (λ (r : ObjectRow). r.id) old.2 ∙ idled_id was left moment old.0)
+    kept old.0 old.1 (ap (λ (r : ObjectRow). r.serial) old.2 ∙ idled_serial was left moment old.0)
+    (ap (λ (r : ObjectRow). r.id) old.2 ∙ idled_id was left moment old.0)
     (ap (λ (r : ObjectRow). r.state) old.2 ∙ idled_state was left moment old.0)
 
 by_same : (library : Library) (change : Change) (row : ObjectRow) → In row library.objects → Came library change row
@@ -40,17 +42,21 @@ in_allocated serial moment [] row here = absurd here
 in_allocated serial moment (id ∷ later) row (inl same) = (inl (ap (λ (r : ObjectRow). r.id) same), ap (λ (r : ObjectRow). r.state) same)
 in_allocated serial moment (id ∷ later) row (inr there) = let found = in_allocated (serial + 1) moment later row there in (inr found.0, found.1)
 
-by_stored : (library : Library) (moment : ℕ) (object : List ℕ) (start size : ℕ) (row old : ObjectRow) (b : Bool) → bytes_eq old.id object ≡ b → In old library.objects
+by_stored : (library : Library) (moment : ℕ) (object : List ℕ) (start size : ℕ) (row old : ObjectRow) (b : Bool) → bytes_eq old.id object ≡ b
+    → In old library.objects
     → row ≡ cond b (stored_row start size moment old) old → Came library (changes.Store moment object start size) row
 by_stored library moment object start size row old true is here e =
-    stored moment start size (ap (λ o. changes.Store moment o start size) (sym (ap (λ (r : ObjectRow). r.id) e ∙ same_text old.id object is))) (ap (λ (r : ObjectRow). r.state) e)
+    stored moment start size (ap (λ o. changes.Store moment o start size) (sym (ap (λ (r : ObjectRow). r.id) e ∙ same_text old.id object is)))
+    (ap (λ (r : ObjectRow). r.state) e)
 by_stored library moment object start size row old false is here e =
     kept old here (ap (λ (r : ObjectRow). r.serial) e) (ap (λ (r : ObjectRow). r.id) e) (ap (λ (r : ObjectRow). r.state) e)
 
-by_step : (library : Library) (change : Change) (moment : ℕ) (o : Option DeleteRow) (row : ObjectRow) → In row (after_step_of o moment library).objects → Came library change row
+by_step : (library : Library) (change : Change) (moment : ℕ) (o : Option DeleteRow) (row : ObjectRow) → In row (after_step_of o moment library).objects
+    → Came library change row
 by_step library change moment None row here = by_same library change row here
 by_step library change moment (Some request) row here =
-    by_idled library change library.segments (without_segments (removed_by_step library.segments request) library.segments) moment row (subst (In row) (step_objects library request moment) here)
+    by_idled library change library.segments (without_segments (removed_by_step library.segments request) library.segments) moment row
+    (subst (In row) (step_objects library request moment) here)
 
 pub came : (library : Library) (change : Change) (row : ObjectRow) → In row (after change library).objects → Came library change row
 came library (changes.PutFlow moment flow) row here = by_same library _ row here
@@ -74,7 +80,8 @@ came library (changes.CutSegments moment flow range) row here =
 came library (changes.AskDelete moment flow range delete_flow) row here = by_same library _ row here
 came library (changes.DeleteStep moment) row here = by_step library _ moment (first_unfinished library.requests) row here
 came library (changes.SweepStep moment) row here =
-    by_same library _ row (In-filter (λ row. not (list_any (λ other. other.serial == row.serial) (swept_objects library.segments library.objects moment))) library.objects row here).0
+    by_same library _ row (In-filter (λ row. not (list_any (λ other. other.serial == row.serial) (swept_objects library.segments library.objects moment)))
+    library.objects row here).0
 came library (changes.PutHook moment hook) row here = by_same library _ row here
 came library (changes.DropHook moment url) row here = by_same library _ row here
 

@@ -21,7 +21,8 @@ use Rattle.library_laws.proofs.KeptLemmas.{among_objects, among_segments, among_
 -- ---- new events
 
 -- the serials of new events follow one another
-serials-events_for : (happened : Happened) (moment serial : ℕ) (hooks : List HookRow) → map (λ row. row.serial) (events_for happened moment serial hooks) ≡ counted serial (length hooks)
+serials-events_for : (happened : Happened) (moment serial : ℕ) (hooks : List HookRow) → map (λ row. row.serial) (events_for happened moment serial hooks)
+    ≡ counted serial (length hooks)
 serials-events_for happened moment serial [] = refl
 serials-events_for happened moment serial (row ∷ later) = ap (λ l. serial ∷ l) (serials-events_for happened moment (serial + 1) later)
 
@@ -36,9 +37,11 @@ record IsFor (hooks : List HookRow) (moment : ℕ) (event : EventRow) : Type 0 w
   hook : event.hook ≡ row.serial
   at : event.moment ≡ moment
 
-events_are_for : (happened : Happened) (moment serial : ℕ) (hooks : List HookRow) (event : EventRow) → In event (events_for happened moment serial hooks) → IsFor hooks moment event
+events_are_for : (happened : Happened) (moment serial : ℕ) (hooks : List HookRow) (event : EventRow) → In event (events_for happened moment serial hooks)
+    → IsFor hooks moment event
 events_are_for happened moment serial [] event here = absurd here
-events_are_for happened moment serial (row ∷ later) event (inl same) = record { row = row; among = inl refl; hook = ap (λ e. e.hook) same; at = ap (λ e. e.moment) same }
+events_are_for happened moment serial (row ∷ later) event (inl same) = record
+    { row = row; among = inl refl; hook = ap (λ e. e.hook) same; at = ap (λ e. e.moment) same }
 events_are_for happened moment serial (row ∷ later) event (inr more) =
     let rest = events_are_for happened moment (serial + 1) later event more in
     record { row = rest.row; among = inr rest.among; hook = rest.hook; at = rest.at }
@@ -50,7 +53,8 @@ none_for : (happened : Happened) (moment serial : ℕ) (hooks : List HookRow) (h
     → length (waiting_for hook (events_for happened moment serial hooks)) ≡ 0
 none_for happened moment serial [] hook apart = refl
 none_for happened moment serial (row ∷ later) hook apart =
-    ap (λ b. length (cond b (event_row happened moment row serial ∷ waiting_for hook (events_for happened moment (serial + 1) later)) (waiting_for hook (events_for happened moment (serial + 1) later)))) (ne_eqb row.serial hook (apart row (inl refl)))
+    ap (λ b. length (cond b (event_row happened moment row serial ∷ waiting_for hook (events_for happened moment (serial + 1) later))
+    (waiting_for hook (events_for happened moment (serial + 1) later)))) (ne_eqb row.serial hook (apart row (inl refl)))
     ∙ none_for happened moment (serial + 1) later hook (λ r here. apart r (inr here))
 
 length-one : (b : Bool) (event : EventRow) (rest : List EventRow) → length rest ≤ 1 → (b ≡ true → length rest ≡ 0) → length (cond b (event ∷ rest) rest) ≤ 1
@@ -77,7 +81,8 @@ waiting_step false event old all new e = e
 -- the events that wait for a hook, old and new
 waiting-append : (hook : ℕ) (old new : List EventRow) → waiting_count hook (old ++ new) ≡ waiting_count hook old + waiting_count hook new
 waiting-append hook [] new = sym (omega arith)
-waiting-append hook (event ∷ old) new = waiting_step (event.hook == hook) event (waiting_for hook old) (waiting_for hook (old ++ new)) (waiting_count hook new) (waiting-append hook old new)
+waiting-append hook (event ∷ old) new = waiting_step (event.hook == hook) event (waiting_for hook old) (waiting_for hook (old ++ new)) (waiting_count hook new)
+    (waiting-append hook old new)
 
 -- ---- one happening
 
@@ -88,10 +93,12 @@ record IsOutbox (next : ℕ) (outbox : Outbox) : Type 0 where
   good : (row : HookRow) → In row outbox.hooks → is_hook_good outbox.events row ≡ true
 
 -- a hook is known by its serial once it is marked too
-marked_hook : (events : List EventRow) (hooks : List HookRow) (event : EventRow) → has_hook hooks event ≡ true → has_hook (map (marked events) hooks) event ≡ true
+marked_hook : (events : List EventRow) (hooks : List HookRow) (event : EventRow) → has_hook hooks event ≡ true → has_hook (map (marked events) hooks) event
+    ≡ true
 marked_hook events hooks event e =
     let found = list_any-In (λ row. row.serial == event.hook) hooks e in
-    list_any-from_In (λ row. row.serial == event.hook) (map (marked events) hooks) (marked events found.0) (map-In (marked events) hooks found.0 found.1) found.2
+    list_any-from_In (λ row. row.serial == event.hook) (map (marked events) hooks) (marked events found.0) (map-In (marked events) hooks found.0 found.1)
+    found.2
 
 -- each event's hook is kept
 hooks_kept : (next : ℕ) (outbox : Outbox) (happened : Happened) (moment : ℕ) → IsOutbox next outbox
@@ -103,11 +110,13 @@ hooks_kept next outbox happened moment is =
       | inl old ↦ is.kept event old
       | inr new ↦
           let by = events_are_for happened moment next (filter (takes happened) outbox.hooks) event new in
-          list_any-from_In (λ row. row.serial == event.hook) outbox.hooks by.row (In-filter (takes happened) outbox.hooks by.row by.among).0 (eq-eqb by.row.serial event.hook (sym by.hook))
+          list_any-from_In (λ row. row.serial == event.hook) outbox.hooks by.row (In-filter (takes happened) outbox.hooks by.row by.among).0
+          (eq-eqb by.row.serial event.hook (sym by.hook))
     ]))
 
 -- a hook that takes nothing has the events that it had
-unmoved : (next : ℕ) (outbox : Outbox) (happened : Happened) (moment : ℕ) → IsOutbox next outbox → (row : HookRow) → In row outbox.hooks → takes happened row ≡ false
+unmoved : (next : ℕ) (outbox : Outbox) (happened : Happened) (moment : ℕ) → IsOutbox next outbox → (row : HookRow) → In row outbox.hooks → takes happened row
+    ≡ false
     → waiting_count row.serial (new_events happened moment next outbox.hooks) ≡ 0
 unmoved next outbox happened moment is row here untaken =
     none_for happened moment next (filter (takes happened) outbox.hooks) row.serial (λ other among same.
@@ -117,10 +126,12 @@ unmoved next outbox happened moment is row here untaken =
 
 -- a failed hook takes nothing
 failed_takes_none : (happened : Happened) (row : HookRow) → row.failed ≡ true → takes happened row ≡ false
-failed_takes_none happened row e = ap (λ b. not b && list_any (same_event happened.kind) row.hook.events && (is_of_source happened.kind || admits row.hook.flow_ids happened.subject) && admits row.hook.source_ids happened.source) e
+failed_takes_none happened row e = ap (λ b. not b && list_any (same_event happened.kind) row.hook.events &&
+    (is_of_source happened.kind || admits row.hook.flow_ids happened.subject) && admits row.hook.source_ids happened.source) e
 
 -- the test of a marked hook
-good_marked : (failed : Bool) (count : ℕ) → count ≤ 1000 → (nat_le count most_waiting && (nat_lt count most_waiting || (failed || nat_le most_waiting count))) ≡ true
+good_marked : (failed : Bool) (count : ℕ) → count ≤ 1000 → (nat_le count most_waiting && (nat_lt count most_waiting || (failed || nat_le most_waiting count)))
+    ≡ true
 good_marked failed count le =
     and_from (nat_le count 1000) _ (le-leb count 1000 le) (elim (cases_lt count 1000) [
       | inl less ↦ or_left (nat_lt count 1000) (failed || nat_le 1000 count) (lt-ltb count 1000 less)
@@ -131,13 +142,15 @@ good_marked failed count le =
 few_wait : (next : ℕ) (outbox : Outbox) (happened : Happened) (moment : ℕ) → IsOutbox next outbox → (row : HookRow) → In row outbox.hooks
     → waiting_count row.serial (outbox.events ++ new_events happened moment next outbox.hooks) ≤ 1000
 few_wait next outbox happened moment is row here =
-    let parts = and_parts (nat_le (waiting_count row.serial outbox.events) most_waiting) (nat_lt (waiting_count row.serial outbox.events) most_waiting || row.failed) (is.good row here) in
+    let parts = and_parts (nat_le (waiting_count row.serial outbox.events) most_waiting)
+    (nat_lt (waiting_count row.serial outbox.events) most_waiting || row.failed) (is.good row here) in
     let old = leb-true (waiting_count row.serial outbox.events) 1000 parts.0 in
     let both = waiting-append row.serial outbox.events (new_events happened moment next outbox.hooks) in
     elim (or_cases (nat_lt (waiting_count row.serial outbox.events) most_waiting) row.failed parts.1) [
       | inl below ↦
           let less = ltb-true (waiting_count row.serial outbox.events) 1000 below in
-          let one = one_for happened moment next (filter (takes happened) outbox.hooks) row.serial (rises-filter _ (takes happened) outbox.hooks is.hooks_rise) in
+          let one = one_for happened moment next (filter (takes happened) outbox.hooks) row.serial (rises-filter _ (takes happened) outbox.hooks is.hooks_rise)
+          in
           omega arith
       | inr failed ↦ let none = unmoved next outbox happened moment is row here (failed_takes_none happened row failed) in omega arith
     ]
@@ -146,13 +159,20 @@ hooks_good : (next : ℕ) (outbox : Outbox) (happened : Happened) (moment : ℕ)
     → list_all (is_hook_good (after_one happened moment next outbox).events) (after_one happened moment next outbox).hooks ≡ true
 hooks_good next outbox happened moment is =
     let all : List EventRow = outbox.events ++ new_events happened moment next outbox.hooks in
-    list_all-mapped (is_hook_good all) (marked all) outbox.hooks (λ row here. good_marked row.failed (waiting_count row.serial all) (few_wait next outbox happened moment is row here))
+    list_all-mapped (is_hook_good all) (marked all) outbox.hooks
+    (λ row here. good_marked row.failed (waiting_count row.serial all) (few_wait next outbox happened moment is row here))
 
-pub outbox_stays_good : (next : ℕ) (outbox : Outbox) (happened : Happened) (moment : ℕ) → rises_by (λ row. row.serial) outbox.hooks ≡ true → is_outbox_good outbox ≡ true
+pub outbox_stays_good : (next : ℕ) (outbox : Outbox) (happened : Happened) (moment : ℕ) → rises_by (λ row. row.serial) outbox.hooks ≡ true
+    → is_outbox_good outbox ≡ true
     → is_outbox_good (after_one happened moment next outbox) ≡ true
 outbox_stays_good next outbox happened moment rise e =
     let parts = and_parts (list_all (has_hook outbox.hooks) outbox.events) (list_all (is_hook_good outbox.events) outbox.hooks) e in
-    let is : IsOutbox next outbox = record { hooks_rise = rise; kept = list_all-In (has_hook outbox.hooks) outbox.events parts.0; good = list_all-In (is_hook_good outbox.events) outbox.hooks parts.1 } in
+    let is : IsOutbox next outbox = record {
+      hooks_rise = rise;
+      kept = list_all-In (has_hook outbox.hooks) outbox.events parts.0;
+      good = list_all-In
+          (is_hook_good outbox.events) outbox.hooks parts.1;
+    } in
     and_from _ _ (hooks_kept next outbox happened moment is) (hooks_good next outbox happened moment is)
 
 -- ---- the library
@@ -200,7 +220,8 @@ pub Names-test : (library : Library) → Names library → are_names_good librar
 Names-test library is =
     and_from _ (are_serials_good library.next_serial (serials_of library))
     (and_from _ (are_serials_in_order library)
-    (and_from _ (are_urls_distinct library.outbox.hooks) (and_from (is_catalog_in_order library.catalog) (are_object_ids_distinct library.objects) is.catalog is.objects) is.urls)
+    (and_from _ (are_urls_distinct library.outbox.hooks) (and_from (is_catalog_in_order library.catalog) (are_object_ids_distinct library.objects) is.catalog
+    is.objects) is.urls)
     (and_from _ _ (and_from _ _ (and_from _ _ (and_from _ _ is.objects_rise is.segments_rise) is.requests_rise) is.hooks_rise) is.events_rise))
     (Serials-test library.next_serial (serials_of library) is.serials is.least is.most)
 
@@ -237,30 +258,45 @@ after_happened happened moment library = with_posted (record {
 
 -- serials are below the next one
 pub object_below : (library : Library) → Names library → (row : ObjectRow) → In row library.objects → row.serial < library.next_serial
-object_below library names row here = (names.serials.within row.serial (among_objects (map (λ r. r.serial) library.objects) (map (λ r. r.serial) library.segments) (map (λ r. r.serial) library.requests) (map (λ r. r.serial) library.outbox.hooks) (map (λ r. r.serial) library.outbox.events) row.serial (map-In (λ r. r.serial) library.objects row here))).1
+object_below library names row here = (names.serials.within row.serial
+    (among_objects (map (λ r. r.serial) library.objects) (map (λ r. r.serial) library.segments) (map (λ r. r.serial) library.requests)
+    (map (λ r. r.serial) library.outbox.hooks) (map (λ r. r.serial) library.outbox.events) row.serial (map-In (λ r. r.serial) library.objects row here))).1
 
 pub segment_below : (library : Library) → Names library → (row : SegmentRow) → In row library.segments → row.serial < library.next_serial
-segment_below library names row here = (names.serials.within row.serial (among_segments (map (λ r. r.serial) library.objects) (map (λ r. r.serial) library.segments) (map (λ r. r.serial) library.requests) (map (λ r. r.serial) library.outbox.hooks) (map (λ r. r.serial) library.outbox.events) row.serial (map-In (λ r. r.serial) library.segments row here))).1
+segment_below library names row here = (names.serials.within row.serial
+    (among_segments (map (λ r. r.serial) library.objects) (map (λ r. r.serial) library.segments) (map (λ r. r.serial) library.requests)
+    (map (λ r. r.serial) library.outbox.hooks) (map (λ r. r.serial) library.outbox.events) row.serial (map-In (λ r. r.serial) library.segments row here))).1
 
 pub request_below : (library : Library) → Names library → (row : DeleteRow) → In row library.requests → row.serial < library.next_serial
-request_below library names row here = (names.serials.within row.serial (among_requests (map (λ r. r.serial) library.objects) (map (λ r. r.serial) library.segments) (map (λ r. r.serial) library.requests) (map (λ r. r.serial) library.outbox.hooks) (map (λ r. r.serial) library.outbox.events) row.serial (map-In (λ r. r.serial) library.requests row here))).1
+request_below library names row here = (names.serials.within row.serial
+    (among_requests (map (λ r. r.serial) library.objects) (map (λ r. r.serial) library.segments) (map (λ r. r.serial) library.requests)
+    (map (λ r. r.serial) library.outbox.hooks) (map (λ r. r.serial) library.outbox.events) row.serial (map-In (λ r. r.serial) library.requests row here))).1
 
 pub hook_below : (library : Library) → Names library → (row : HookRow) → In row library.outbox.hooks → row.serial < library.next_serial
-hook_below library names row here = (names.serials.within row.serial (among_hooks (map (λ r. r.serial) library.objects) (map (λ r. r.serial) library.segments) (map (λ r. r.serial) library.requests) (map (λ r. r.serial) library.outbox.hooks) (map (λ r. r.serial) library.outbox.events) row.serial (map-In (λ r. r.serial) library.outbox.hooks row here))).1
+hook_below library names row here = (names.serials.within row.serial
+    (among_hooks (map (λ r. r.serial) library.objects) (map (λ r. r.serial) library.segments) (map (λ r. r.serial) library.requests)
+    (map (λ r. r.serial) library.outbox.hooks) (map (λ r. r.serial) library.outbox.events) row.serial
+    (map-In (λ r. r.serial) library.outbox.hooks row here))).1
 
 pub event_below : (library : Library) → Names library → (row : EventRow) → In row library.outbox.events → row.serial < library.next_serial
-event_below library names row here = (names.serials.within row.serial (among_events (map (λ r. r.serial) library.objects) (map (λ r. r.serial) library.segments) (map (λ r. r.serial) library.requests) (map (λ r. r.serial) library.outbox.hooks) (map (λ r. r.serial) library.outbox.events) row.serial (map-In (λ r. r.serial) library.outbox.events row here))).1
+event_below library names row here = (names.serials.within row.serial
+    (among_events (map (λ r. r.serial) library.objects) (map (λ r. r.serial) library.segments) (map (λ r. r.serial) library.requests)
+    (map (λ r. r.serial) library.outbox.hooks) (map (λ r. r.serial) library.outbox.events) row.serial
+    (map-In (λ r. r.serial) library.outbox.events row here))).1
 
 serials_after : (library : Library) (hooks : List HookRow) (new : List EventRow) → map (λ row. row.serial) hooks ≡ map (λ row. row.serial) library.outbox.hooks
-    → map (λ row. row.serial) library.objects ++ map (λ row. row.serial) library.segments ++ map (λ row. row.serial) library.requests ++ map (λ row. row.serial) hooks
+    → map (λ row. row.serial) library.objects ++ map (λ row. row.serial) library.segments ++ map (λ row. row.serial) library.requests ++ map (λ row. row.serial)
+    hooks
     ++ map (λ row. row.serial) (library.outbox.events ++ new) ≡ serials_of library ++ map (λ row. row.serial) new
 serials_after library hooks new e =
-    ap₂ (λ (h v : List ℕ). map (λ row. row.serial) library.objects ++ map (λ row. row.serial) library.segments ++ map (λ row. row.serial) library.requests ++ h ++ v) e
+    ap₂ (λ (h v : List ℕ). map (λ row. row.serial) library.objects ++ map (λ row. row.serial) library.segments ++ map (λ row. row.serial) library.requests ++ h
+    ++ v) e
     (map-append (λ row. row.serial) library.outbox.events new)
     ∙ sym (append_assoc _ (map (λ row. row.serial) library.outbox.events) (map (λ row. row.serial) new))
 
 names_after : (happened : Happened) (moment : ℕ) (library : Library) → Names library
-    → library.next_serial + length (new_events happened moment library.next_serial library.outbox.hooks) ≤ last_serial → Names (after_happened happened moment library)
+    → library.next_serial + length (new_events happened moment library.next_serial library.outbox.hooks) ≤ last_serial
+    → Names (after_happened happened moment library)
 unfolding after_happened
 names_after happened moment library is most =
     let hooks : List HookRow = filter (takes happened) library.outbox.hooks in
@@ -268,8 +304,11 @@ names_after happened moment library is most =
     let all : List EventRow = library.outbox.events ++ fresh in
     let numbers = serials-events_for happened moment library.next_serial hooks in
     let count = length-events_for happened moment library.next_serial hooks in
-    let kept : map (λ (row : HookRow). row.serial) (map (marked all) library.outbox.hooks) ≡ map (λ row. row.serial) library.outbox.hooks = map-kept (λ row. row.serial) (marked all) library.outbox.hooks (λ row. refl) in
-    let grown = Serials-more library.next_serial (library.next_serial + length hooks) (serials_of library) (map (λ row. row.serial) fresh) [] is.least (omega arith) (subst (Serials library.next_serial) (sym (append-nil (serials_of library))) is.serials) (subst (New library.next_serial (library.next_serial + length hooks)) (sym numbers) (counted-New library.next_serial (length hooks))) in
+    let kept : map (λ (row : HookRow). row.serial) (map (marked all) library.outbox.hooks)
+    ≡ map (λ row. row.serial) library.outbox.hooks = map-kept (λ row. row.serial) (marked all) library.outbox.hooks (λ row. refl) in
+    let grown = Serials-more library.next_serial (library.next_serial + length hooks) (serials_of library) (map (λ row. row.serial) fresh) [] is.least
+    (omega arith) (subst (Serials library.next_serial) (sym (append-nil (serials_of library))) is.serials)
+    (subst (New library.next_serial (library.next_serial + length hooks)) (sym numbers) (counted-New library.next_serial (length hooks))) in
     record {
       catalog = is.catalog;
       objects = is.objects;
@@ -278,8 +317,11 @@ names_after happened moment library is most =
       segments_rise = is.segments_rise;
       requests_rise = is.requests_rise;
       hooks_rise = rises-mapped _ _ _ (marked all) library.outbox.hooks (λ x y here there t u. t) is.hooks_rise is.hooks_rise;
-      events_rise = rises-counted (λ row. row.serial) library.outbox.events fresh library.next_serial (length hooks) is.events_rise (event_below library is) numbers;
-      serials = subst (λ (n : ℕ). Serials (library.next_serial + n) (serials_of (after_happened happened moment library))) (sym count) (subst (Serials (library.next_serial + length hooks)) (append-nil (serials_of library ++ map (λ row. row.serial) fresh) ∙ sym (serials_after library (map (marked all) library.outbox.hooks) fresh kept)) grown);
+      events_rise = rises-counted (λ row. row.serial) library.outbox.events fresh library.next_serial (length hooks) is.events_rise (event_below library is)
+          numbers;
+      serials = subst (λ (n : ℕ). Serials (library.next_serial + n) (serials_of (after_happened happened moment library))) (sym count)
+          (subst (Serials (library.next_serial + length hooks)) (append-nil (serials_of library ++ map (λ row. row.serial) fresh)
+          ∙ sym (serials_after library (map (marked all) library.outbox.hooks) fresh kept)) grown);
       least = omega (arith, is.least);
       most = most;
     }
@@ -293,13 +335,16 @@ texts_after happened moment library is at =
       flows = is.flows;
       objects = is.objects;
       requests = is.requests;
-      hooks = list_all-mapped is_hook_text (marked (library.outbox.events ++ fresh)) library.outbox.hooks (λ row here. list_all-In is_hook_text library.outbox.hooks is.hooks row here);
+      hooks = list_all-mapped is_hook_text (marked (library.outbox.events ++ fresh)) library.outbox.hooks
+          (λ row here. list_all-In is_hook_text library.outbox.hooks is.hooks row here);
       events = list_all-both is_event_text library.outbox.events fresh is.events
-          (list_all-from_In is_event_text fresh (λ event here. ap is_moment (events_are_for happened moment library.next_serial (filter (takes happened) library.outbox.hooks) event here).at ∙ at));
+          (list_all-from_In is_event_text fresh (λ event here. ap is_moment
+          (events_are_for happened moment library.next_serial (filter (takes happened) library.outbox.hooks) event here).at ∙ at));
     }
 
 one_keeps : (happened : Happened) (moment : ℕ) (library : Library) → Good library → is_moment moment ≡ true
-    → library.next_serial + length (new_events happened moment library.next_serial library.outbox.hooks) ≤ last_serial → Good (after_happened happened moment library)
+    → library.next_serial + length (new_events happened moment library.next_serial library.outbox.hooks) ≤ last_serial
+    → Good (after_happened happened moment library)
 unfolding after_happened
 one_keeps happened moment library good at most =
     let names = Names-from library good.names in

@@ -18,15 +18,24 @@ pub range_answer_on_points : RangeAnswerIsOnPoints
 range_answer_on_points segments flow range object fine is row =
     let test : SegmentRow → Bool = λ r. overlaps r.segment.range range && names_object object r in (
       λ here.
-          let asked = In-filter test (segments_of flow segments) row (In-in_order starts_before (filter test (segments_of flow segments)) row (In-from_Contains (overlapping segments flow range object) row here)) in
+          let asked = In-filter test (segments_of flow segments) row
+          (In-in_order starts_before (filter test (segments_of flow segments)) row (In-from_Contains (overlapping segments flow range object) row here)) in
           let own = In-filter (λ r. r.flow == flow) segments row asked.0 in
           let parts = and_parts (overlaps row.segment.range range) (names_object object row) asked.1 in
           let kept = Contains-from_In segments row own.0 in
-          record { kept = kept; under = eqb-true row.flow flow own.1; meets = (overlaps_decides row.segment.range range (fine row kept) is).0 parts.0; names = parts.1 },
+          record {
+            kept = kept;
+            under = eqb-true row.flow flow own.1;
+            meets = (overlaps_decides row.segment.range range (fine row kept) is).0 parts.0;
+            names =
+                parts.1;
+          },
       λ asked.
-          let test_holds = and_from (overlaps row.segment.range range) (names_object object row) ((overlaps_decides row.segment.range range (fine row asked.kept) is).1 asked.meets) asked.names in
+          let test_holds = and_from (overlaps row.segment.range range) (names_object object row)
+          ((overlaps_decides row.segment.range range (fine row asked.kept) is).1 asked.meets) asked.names in
           Contains-from_In (overlapping segments flow range object) row (in_order-In starts_before (filter test (segments_of flow segments)) row
-          (filter-In test (segments_of flow segments) row (filter-In (λ r. r.flow == flow) segments row (In-from_Contains segments row asked.kept) (eq-eqb row.flow flow asked.under)) test_holds)),
+          (filter-In test (segments_of flow segments) row (filter-In (λ r. r.flow == flow) segments row (In-from_Contains segments row asked.kept)
+          (eq-eqb row.flow flow asked.under)) test_holds)),
     )
 
 -- a list that isn't empty has a last key
@@ -41,7 +50,8 @@ some_taken (suc n) [] least more = absurd (omega arith)
 some_taken (suc n) (x ∷ xs) least more = omega arith
 
 -- no next key comes only where the page has all
-no_more : {X : Type 0} (key : X → ℤ) (limit : ℕ) (xs : List X) → 1 ≤ limit → (b : Bool) → nat_lt limit (length xs) ≡ b → cond b (last_key key (take limit xs)) None ≡ None → take limit xs ≡ xs
+no_more : {X : Type 0} (key : X → ℤ) (limit : ℕ) (xs : List X) → 1 ≤ limit → (b : Bool) → nat_lt limit (length xs) ≡ b
+    → cond b (last_key key (take limit xs)) None ≡ None → take limit xs ≡ xs
 no_more key limit xs least true more e = absurd (some_last key (take limit xs) (some_taken limit xs least (ltb-true limit (length xs) more)) e)
 no_more key limit xs least false few e = take-whole limit xs (ltb-false limit (length xs) few)
 
@@ -59,7 +69,8 @@ pub record IsOrder {X : Type 0} (before : X → X → Bool) : Type 0 where
   pub one_way : (a b : X) → before a b ≡ true → before b a ≡ false
   pub passes_on : (a b c : X) → before b a ≡ false → before c b ≡ false → before c a ≡ false
 
-inserted_case : {X : Type 0} (b : Bool) (before : X → X → Bool) → IsOrder before → (x y : X) (ys : List X) → before y x ≡ b → list_all (λ z. not (before z y)) ys ≡ true → rises (λ a c. not (before c a)) ys ≡ true
+inserted_case : {X : Type 0} (b : Bool) (before : X → X → Bool) → IsOrder before → (x y : X) (ys : List X) → before y x ≡ b
+    → list_all (λ z. not (before z y)) ys ≡ true → rises (λ a c. not (before c a)) ys ≡ true
     → rises (λ a c. not (before c a)) (inserted before x ys) ≡ true → rises (λ a c. not (before c a)) (cond b (y ∷ inserted before x ys) (x ∷ y ∷ ys)) ≡ true
 inserted_case true before is x y ys e later rise rest =
     and_from (list_all (λ z. not (before z y)) (inserted before x ys)) (rises (λ a c. not (before c a)) (inserted before x ys))
@@ -70,10 +81,12 @@ inserted_case true before is x y ys e later rise rest =
 inserted_case false before is x y ys e later rise rest =
     and_from (list_all (λ z. not (before z x)) (y ∷ ys)) (rises (λ a c. not (before c a)) (y ∷ ys))
     (and_from (not (before y x)) (list_all (λ z. not (before z x)) ys) (not_from_false (before y x) e)
-    (list_all-from_In (λ z. not (before z x)) ys (λ z here. not_from_false (before z x) (is.passes_on x y z e (not-true (before z y) (list_all-In (λ w. not (before w y)) ys later z here))))))
+    (list_all-from_In (λ z. not (before z x)) ys (λ z here. not_from_false (before z x)
+    (is.passes_on x y z e (not-true (before z y) (list_all-In (λ w. not (before w y)) ys later z here))))))
     (and_from (list_all (λ z. not (before z y)) ys) (rises (λ a c. not (before c a)) ys) later rise)
 
-inserted_rises : {X : Type 0} (before : X → X → Bool) → IsOrder before → (x : X) (ys : List X) → rises (λ a b. not (before b a)) ys ≡ true → rises (λ a b. not (before b a)) (inserted before x ys) ≡ true
+inserted_rises : {X : Type 0} (before : X → X → Bool) → IsOrder before → (x : X) (ys : List X) → rises (λ a b. not (before b a)) ys ≡ true
+    → rises (λ a b. not (before b a)) (inserted before x ys) ≡ true
 inserted_rises before is x [] e = refl
 inserted_rises before is x (y ∷ ys) e =
     let parts = and_parts (list_all (λ z. not (before z y)) ys) (rises (λ a b. not (before b a)) ys) e in
@@ -94,7 +107,8 @@ one_way_low None s (Some b) t e = refl
 one_way_low (Some a) s None t e = absurd (cc)
 one_way_low (Some a) s (Some b) t e = grind (arith, ints, nat_tests)
 
-passes_on_low : (a : Option ℤ) (s : ℕ) (b : Option ℤ) (t : ℕ) (c : Option ℤ) (u : ℕ) → stands_before b t a s ≡ false → stands_before c u b t ≡ false → stands_before c u a s ≡ false
+passes_on_low : (a : Option ℤ) (s : ℕ) (b : Option ℤ) (t : ℕ) (c : Option ℤ) (u : ℕ) → stands_before b t a s ≡ false → stands_before c u b t ≡ false
+    → stands_before c u a s ≡ false
 unfolding stands_before
 passes_on_low None s None t None u e k = grind (arith, nat_tests)
 passes_on_low None s None t (Some c) u e k = refl

@@ -42,7 +42,8 @@ none_below p = λ k less. absurd (omega arith)
 least_found : (p : ℕ → Bool) (n : ℕ) → Least p n (find p (numbers_below n))
 unfolding numbers_below
 least_found p zero = none_below p
-least_found p (suc n) = subst (Least p (suc n)) (sym (find-behind p (numbers_below n) n)) (least_step p n (p n) refl (find p (numbers_below n)) (least_found p n))
+least_found p (suc n) = subst (Least p (suc n)) (sym (find-behind p (numbers_below n) n))
+    (least_step p n (p n) refl (find p (numbers_below n)) (least_found p n))
 
 -- no blocks are clear of everything
 nothing_clear : (state : ObjectState) → is_clear_of 0 0 state ≡ true
@@ -51,7 +52,8 @@ nothing_clear (Stored start size) = or_left (nat_le (0 + 0) start) (nat_le (star
 
 no_blocks : (objects : List ObjectRow) (blocks : ℕ) → IsLeastPlace objects blocks 0 0
 no_blocks objects blocks = record {
-  free = and_from (nat_le (0 + 0) blocks) (list_all (λ row. is_clear_of 0 0 row.state) objects) (le-leb (0 + 0) blocks (omega arith)) (list_all-from_In (λ row. is_clear_of 0 0 row.state) objects (λ row here. nothing_clear row.state));
+  free = and_from (nat_le (0 + 0) blocks) (list_all (λ row. is_clear_of 0 0 row.state) objects) (le-leb (0 + 0) blocks (omega arith))
+      (list_all-from_In (λ row. is_clear_of 0 0 row.state) objects (λ row here. nothing_clear row.state));
   zero = λ e. refl;
   least = λ lower less. absurd (omega arith);
 }
@@ -63,9 +65,11 @@ some_blocks objects blocks count some None none = none
 some_blocks objects blocks count some (Some place) is = record { free = is.0; zero = λ e. absurd (some e); least = is.2 }
 
 places_by : (objects : List ObjectRow) (blocks count : ℕ) (b : Bool) → (count == 0) ≡ b
-    → MatchOption (cond b (Some 0) (find (is_free objects blocks count) (numbers_below blocks))) ((place : ℕ) → place < blocks → IsFalse (is_free objects blocks count place)) (IsLeastPlace objects blocks count)
+    → MatchOption (cond b (Some 0) (find (is_free objects blocks count) (numbers_below blocks)))
+    ((place : ℕ) → place < blocks → IsFalse (is_free objects blocks count place)) (IsLeastPlace objects blocks count)
 places_by objects blocks count true e = subst (λ c. IsLeastPlace objects blocks c 0) (sym (eqb-true count 0 e)) (no_blocks objects blocks)
-places_by objects blocks count false e = some_blocks objects blocks count (eqb-false count 0 e) (find (is_free objects blocks count) (numbers_below blocks)) (least_found (is_free objects blocks count) blocks)
+places_by objects blocks count false e = some_blocks objects blocks count (eqb-false count 0 e) (find (is_free objects blocks count) (numbers_below blocks))
+    (least_found (is_free objects blocks count) blocks)
 
 pub places_are_least : PlacesAreLeast
 places_are_least objects blocks count = places_by objects blocks count (count == 0) refl

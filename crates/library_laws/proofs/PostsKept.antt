@@ -38,31 +38,38 @@ none_overlaps None e = refl
 none_overlaps (Some row) e = absurd (cc)
 
 -- no kept segment of the flow overlaps the new one
-apart_from_all : (segments : List SegmentRow) (flow : ℕ) (range : Option Span) → slice_get (overlapping segments flow range None) 0 ≡ None → (s : SegmentRow) → In s segments
+apart_from_all : (segments : List SegmentRow) (flow : ℕ) (range : Option Span) → slice_get (overlapping segments flow range None) 0 ≡ None → (s : SegmentRow)
+    → In s segments
     → ((s.flow == flow) && overlaps s.segment.range range) ≡ true → ⊥
 apart_from_all segments flow range none s here e =
     let parts = and_parts (s.flow == flow) (overlaps s.segment.range range) e in
     no_first (overlapping segments flow range None) s none
     (in_order-In starts_before (filter (λ row. overlaps row.segment.range range && names_object None row) (segments_of flow segments)) s
-    (filter-In (λ row. overlaps row.segment.range range && names_object None row) (segments_of flow segments) s (filter-In (λ row. row.flow == flow) segments s here parts.0) (and_from (overlaps s.segment.range range) true parts.1 refl)))
+    (filter-In (λ row. overlaps row.segment.range range && names_object None row) (segments_of flow segments) s
+    (filter-In (λ row. row.flow == flow) segments s here parts.0) (and_from (overlaps s.segment.range range) true parts.1 refl)))
 
 -- the rows of a post, one after the other
-posts_step : (segments : List SegmentRow) (flow serial : ℕ) (post : Segment) → rises are_compatible segments ≡ true → overlap_refusal (slice_get (overlapping segments flow post.range None) 0) ≡ None
+posts_step : (segments : List SegmentRow) (flow serial : ℕ) (post : Segment) → rises are_compatible segments ≡ true
+    → overlap_refusal (slice_get (overlapping segments flow post.range None) 0) ≡ None
     → rises are_compatible (segments ++ record { flow = flow; serial = serial; segment = post } ∷ []) ≡ true
 posts_step segments flow serial post e none =
     rises-both are_compatible segments (record { flow = flow; serial = serial; segment = post } ∷ []) e refl (λ a b here there. elim there [
-      | inl same ↦ subst (λ (r : SegmentRow). are_compatible a r ≡ true) (sym same) (not_from_false ((a.flow == flow) && overlaps a.segment.range post.range) (false_from_ne_true ((a.flow == flow) && overlaps a.segment.range post.range)
+      | inl same ↦ subst (λ (r : SegmentRow). are_compatible a r ≡ true) (sym same)
+          (not_from_false ((a.flow == flow) && overlaps a.segment.range post.range)
+          (false_from_ne_true ((a.flow == flow) && overlaps a.segment.range post.range)
           (apart_from_all segments flow post.range (none_overlaps (slice_get (overlapping segments flow post.range None) 0) none) a here)))
       | inr bad ↦ absurd bad
     ])
 
-posts_compatible : (objects : List ObjectRow) (segments : List SegmentRow) (flow serial : ℕ) (posts : List Segment) → rises are_compatible segments ≡ true → posts_refusal objects segments flow serial posts ≡ None
+posts_compatible : (objects : List ObjectRow) (segments : List SegmentRow) (flow serial : ℕ) (posts : List Segment) → rises are_compatible segments ≡ true
+    → posts_refusal objects segments flow serial posts ≡ None
     → rises are_compatible (segments ++ posted flow serial posts) ≡ true
 posts_compatible objects segments flow serial [] e none = ap (rises are_compatible) (append-nil segments) ∙ e
 posts_compatible objects segments flow serial (post ∷ later) e none =
     let row : SegmentRow = record { flow = flow; serial = serial; segment = post } in
     let outer = neither (when (not (is_stored_object objects post.object)) (refusals.NoObject post.object)) _ none in
-    let inner = neither (overlap_refusal (slice_get (overlapping segments flow post.range None) 0)) (posts_refusal objects (segments ++ row ∷ []) flow (serial + 1) later) outer.1 in
+    let inner = neither (overlap_refusal (slice_get (overlapping segments flow post.range None) 0))
+    (posts_refusal objects (segments ++ row ∷ []) flow (serial + 1) later) outer.1 in
     ap (rises are_compatible) (sym (append_assoc segments (row ∷ []) (posted flow (serial + 1) later)))
     ∙ posts_compatible objects (segments ++ row ∷ []) flow (serial + 1) later (posts_step segments flow serial post e inner.0) inner.1
 
@@ -72,22 +79,31 @@ record IsPosted (objects : List ObjectRow) (flow : ℕ) (posts : List Segment) (
   among : In row.segment posts
   stored : is_stored_object objects row.segment.object ≡ true
 
-posted_step : (objects : List ObjectRow) (flow : ℕ) (post : Segment) (later : List Segment) (first row : SegmentRow) (rows : List SegmentRow) → first ≡ record { flow = flow; serial = first.serial; segment = post } → In row (first ∷ rows)
+posted_step : (objects : List ObjectRow) (flow : ℕ) (post : Segment) (later : List Segment) (first row : SegmentRow) (rows : List SegmentRow) → first
+    ≡ record { flow = flow; serial = first.serial; segment = post } → In row (first ∷ rows)
     → is_stored_object objects post.object ≡ true → (In row rows → IsPosted objects flow later row) → IsPosted objects flow (post ∷ later) row
 posted_step objects flow post later first row rows is (inl same) stored rest =
     let own : row ≡ record { flow = flow; serial = first.serial; segment = post } = same ∙ is in
-    record { under = ap (λ (r : SegmentRow). r.flow) own; among = inl (ap (λ (r : SegmentRow). r.segment) own); stored = ap (λ (r : SegmentRow). is_stored_object objects r.segment.object) own ∙ stored }
+    record {
+      under = ap (λ (r : SegmentRow). r.flow) own;
+      among = inl (ap (λ (r : SegmentRow). r.segment) own);
+      stored = ap
+          (λ (r : SegmentRow). is_stored_object objects r.segment.object) own ∙ stored;
+    }
 posted_step objects flow post later first row rows is (inr more) stored rest =
     let r = rest more in record { under = r.under; among = inr r.among; stored = r.stored }
 
-posted_is : (objects : List ObjectRow) (segments : List SegmentRow) (flow serial : ℕ) (posts : List Segment) → posts_refusal objects segments flow serial posts ≡ None
+posted_is : (objects : List ObjectRow) (segments : List SegmentRow) (flow serial : ℕ) (posts : List Segment) → posts_refusal objects segments flow serial posts
+    ≡ None
     → (row : SegmentRow) → In row (posted flow serial posts) → IsPosted objects flow posts row
 posted_is objects segments flow serial [] none row here = absurd here
 posted_is objects segments flow serial (post ∷ later) none row here =
     let first : SegmentRow = record { flow = flow; serial = serial; segment = post } in
     let outer = neither (when (not (is_stored_object objects post.object)) (refusals.NoObject post.object)) _ none in
-    let inner = neither (overlap_refusal (slice_get (overlapping segments flow post.range None) 0)) (posts_refusal objects (segments ++ first ∷ []) flow (serial + 1) later) outer.1 in
-    posted_step objects flow post later first row (posted flow (serial + 1) later) refl here (not-false (is_stored_object objects post.object) (not_when (not (is_stored_object objects post.object)) (refusals.NoObject post.object) outer.0))
+    let inner = neither (overlap_refusal (slice_get (overlapping segments flow post.range None) 0))
+    (posts_refusal objects (segments ++ first ∷ []) flow (serial + 1) later) outer.1 in
+    posted_step objects flow post later first row (posted flow (serial + 1) later) refl here
+    (not-false (is_stored_object objects post.object) (not_when (not (is_stored_object objects post.object)) (refusals.NoObject post.object) outer.0))
     (posted_is objects (segments ++ first ∷ []) flow (serial + 1) later inner.1 row)
 
 serials-posted : (flow serial : ℕ) (posts : List Segment) → map (λ row. row.serial) (posted flow serial posts) ≡ counted serial (length posts)
@@ -104,26 +120,35 @@ with_posts flow posts library = record library {
 }
 
 -- no request deletes the flow
-free_of : (requests : List DeleteRow) (flow : ℕ) → is_deleting requests flow ≡ false → (row : DeleteRow) → In row requests → is_unfinished row ≡ true → row.delete_flow ≡ true → row.flow ≡ flow → ⊥
+free_of : (requests : List DeleteRow) (flow : ℕ) → is_deleting requests flow ≡ false → (row : DeleteRow) → In row requests → is_unfinished row ≡ true
+    → row.delete_flow ≡ true → row.flow ≡ flow → ⊥
 free_of requests flow none row here open_one deletes same =
     false≢true (sym none ∙ list_any-from_In (λ r. is_unfinished r && r.delete_flow && (r.flow == flow)) requests row here
-    (and_from (is_unfinished row && row.delete_flow) (row.flow == flow) (and_from (is_unfinished row) row.delete_flow open_one deletes) (eq-eqb row.flow flow same)))
+    (and_from (is_unfinished row && row.delete_flow) (row.flow == flow) (and_from (is_unfinished row) row.delete_flow open_one deletes)
+    (eq-eqb row.flow flow same)))
 
-pub posts_keep_good : (library : Library) (flow : ℕ) (posts : List Segment) → Good library → is_kept library.catalog.flows flow ≡ true → is_deleting library.requests flow ≡ false
-    → list_all (λ post. has_both_ends post.range) posts ≡ true → posts_refusal library.objects library.segments flow library.next_serial posts ≡ None → library.next_serial + length posts ≤ last_serial
+pub posts_keep_good : (library : Library) (flow : ℕ) (posts : List Segment) → Good library → is_kept library.catalog.flows flow ≡ true
+    → is_deleting library.requests flow ≡ false
+    → list_all (λ post. has_both_ends post.range) posts ≡ true → posts_refusal library.objects library.segments flow library.next_serial posts ≡ None
+    → library.next_serial + length posts ≤ last_serial
     → Good (with_posts flow posts library)
 posts_keep_good library flow posts good kept free ends none most =
     let names = Names-from library good.names in
     let new : List SegmentRow = posted flow library.next_serial posts in
     let is = posted_is library.objects library.segments flow library.next_serial posts none in
     let one = and_parts (rises are_compatible library.segments) (list_all (is_segment_good library.catalog.flows) library.segments) good.segments in
-    let asked = and_parts (list_all (is_request_good library.catalog.flows library.segments) library.requests) (nat_le (done_count library.requests) done_kept) good.requests in
+    let asked = and_parts (list_all (is_request_good library.catalog.flows library.segments) library.requests) (nat_le (done_count library.requests) done_kept)
+    good.requests in
     let numbers = serials-posted flow library.next_serial posts in
     record {
       segments = and_from _ _ (posts_compatible library.objects library.segments flow library.next_serial posts one.0 none)
-          (list_all-both (is_segment_good library.catalog.flows) library.segments new one.1 (list_all-from_In (is_segment_good library.catalog.flows) new (λ row here.
-          and_from (has_both_ends row.segment.range) (is_kept library.catalog.flows row.flow) (list_all-In (λ post. has_both_ends post.range) posts ends row.segment (is row here).among) (ap (is_kept library.catalog.flows) (is row here).under ∙ kept))));
-      references = list_all-both (λ row. is_stored_object library.objects row.segment.object) library.segments new good.references (list_all-from_In (λ row. is_stored_object library.objects row.segment.object) new (λ row here. (is row here).stored));
+          (list_all-both (is_segment_good library.catalog.flows) library.segments new one.1
+          (list_all-from_In (is_segment_good library.catalog.flows) new (λ row here.
+          and_from (has_both_ends row.segment.range) (is_kept library.catalog.flows row.flow)
+          (list_all-In (λ post. has_both_ends post.range) posts ends row.segment (is row here).among)
+          (ap (is_kept library.catalog.flows) (is row here).under ∙ kept))));
+      references = list_all-both (λ row. is_stored_object library.objects row.segment.object) library.segments new good.references
+          (list_all-from_In (λ row. is_stored_object library.objects row.segment.object) new (λ row here. (is row here).stored));
       extents = good.extents;
       names = Names-test (with_posts flow posts library) (record {
         catalog = names.catalog;
@@ -135,9 +160,13 @@ posts_keep_good library flow posts good kept free ends none most =
         requests_rise = names.requests_rise;
         hooks_rise = names.hooks_rise;
         events_rise = names.events_rise;
-        serials = subst (λ (l : List ℕ). Serials (library.next_serial + length posts) (map (λ r. r.serial) library.objects ++ l ++ map (λ r. r.serial) library.requests ++ map (λ r. r.serial) library.outbox.hooks ++ map (λ r. r.serial) library.outbox.events))
+        serials = subst (λ (l : List ℕ). Serials (library.next_serial + length posts)
+            (map (λ r. r.serial) library.objects ++ l ++ map (λ r. r.serial) library.requests ++ map (λ r. r.serial) library.outbox.hooks ++ map (λ r. r.serial)
+            library.outbox.events))
             (ap (λ l. map (λ (row : SegmentRow). row.serial) library.segments ++ l) (sym numbers) ∙ sym (map-append (λ row. row.serial) library.segments new))
-            (serials_segments library.next_serial (library.next_serial + length posts) (map (λ r. r.serial) library.objects) (map (λ r. r.serial) library.segments) (counted library.next_serial (length posts)) (map (λ r. r.serial) library.requests) (map (λ r. r.serial) library.outbox.hooks) (map (λ r. r.serial) library.outbox.events)
+            (serials_segments library.next_serial (library.next_serial + length posts) (map (λ r. r.serial) library.objects)
+            (map (λ r. r.serial) library.segments) (counted library.next_serial (length posts)) (map (λ r. r.serial) library.requests)
+            (map (λ r. r.serial) library.outbox.hooks) (map (λ r. r.serial) library.outbox.events)
             names.least (omega arith) names.serials (counted-New library.next_serial (length posts)));
         least = omega (arith, names.least);
         most = most;
@@ -146,8 +175,11 @@ posts_keep_good library flow posts good kept free ends none most =
       collections = good.collections;
       requests = and_from _ _ (list_all-from_In (is_request_good library.catalog.flows (library.segments ++ new)) library.requests (λ row here.
           request_stays_good library.catalog.flows library.catalog.flows library.segments (library.segments ++ new) row (λ u k. k)
-          (λ u d k. list_all-both (λ s. not (s.flow == row.flow) || nat_lt s.serial row.serial) library.segments new k (list_all-from_In (λ s. not (s.flow == row.flow) || nat_lt s.serial row.serial) new (λ s there.
-          or_left (not (s.flow == row.flow)) (nat_lt s.serial row.serial) (not_from_false (s.flow == row.flow) (ne_eqb s.flow row.flow (λ e. free_of library.requests flow free row here u d (sym e ∙ (is s there).under)))))))
+          (λ u d k. list_all-both (λ s. not (s.flow == row.flow) || nat_lt s.serial row.serial) library.segments new k
+          (list_all-from_In (λ s. not (s.flow == row.flow) || nat_lt s.serial row.serial) new (λ s there.
+          or_left (not (s.flow == row.flow)) (nat_lt s.serial row.serial)
+          (not_from_false (s.flow == row.flow) (ne_eqb s.flow row.flow
+          (λ e. free_of library.requests flow free row here u d (sym e ∙ (is s there).under)))))))
           (list_all-In (is_request_good library.catalog.flows library.segments) library.requests asked.0 row here))) asked.1;
       outbox = good.outbox;
       texts = good.texts;

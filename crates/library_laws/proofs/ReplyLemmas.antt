@@ -46,7 +46,8 @@ ids_of : {a b : List (List ℕ)} → replies.CreatedObjects a ≡ replies.Create
 ids_of e = cc
 
 -- a delete request is made, and is the reply
-asked_for : (library : Library) (flow : ℕ) (range : Option Span) (delete_flow : Bool) (moment : ℕ) → TellsRows library (accepted_request library flow range delete_flow moment)
+asked_for : (library : Library) (flow : ℕ) (range : Option Span) (delete_flow : Bool) (moment : ℕ)
+    → TellsRows library (accepted_request library flow range delete_flow moment)
 asked_for library flow range delete_flow moment = record {
   request = λ row is. record {
     change = changes.AskDelete moment flow range delete_flow;
@@ -57,7 +58,8 @@ asked_for library flow range delete_flow moment = record {
 }
 
 -- objects are made, and their ids are the reply
-made : (library : Library) (moment flow : ℕ) (wanted : List (List ℕ)) → TellsRows library (changed (replies.CreatedObjects wanted) (changes.Allocate moment flow wanted))
+made : (library : Library) (moment flow : ℕ) (wanted : List (List ℕ))
+    → TellsRows library (changed (replies.CreatedObjects wanted) (changes.Allocate moment flow wanted))
 made library moment flow wanted = record {
   request = λ row is. absurd (cc);
   objects = λ ids is. record {
@@ -76,13 +78,15 @@ shown_plain : (library : Library) (shown : Result View Refusal) → TellsRows li
 shown_plain library (Ok view) = plain library (unchanged (replies.Shown view)) refl
 shown_plain library (Err refusal) = plain library (unchanged (replies.Refused refusal)) refl
 
-by_refusal : (library : Library) (refusal : Option Refusal) (outcome : Outcome) → TellsRows library outcome → TellsRows library (changing_answer refusal (Some outcome))
+by_refusal : (library : Library) (refusal : Option Refusal) (outcome : Outcome) → TellsRows library outcome
+    → TellsRows library (changing_answer refusal (Some outcome))
 by_refusal library None outcome h = h
 by_refusal library (Some why) outcome h = plain library (unchanged (replies.Refused why)) refl
 
 drop_tells : (library : Library) (flow moment : ℕ) → TellsRows library (accepted_drop library flow moment)
 drop_tells library flow moment =
-    cond_both (nat_le (length (segments_of flow library.segments)) 32) _ _ (TellsRows library) (λ few. plain library (changed replies.Done (changes.DropFlow moment flow)) refl)
+    cond_both (nat_le (length (segments_of flow library.segments)) 32) _ _ (TellsRows library)
+    (λ few. plain library (changed replies.Done (changes.DropFlow moment flow)) refl)
     (λ many. asked_for library flow eternity true moment)
 
 cut_tells : (library : Library) (flow : ℕ) (range : Option Span) (moment : ℕ) → TellsRows library (accepted_cut library flow range moment)
@@ -93,22 +97,30 @@ cut_tells library flow range moment =
 
 drop_hook_tells : (library : Library) (url : List ℕ) (moment : ℕ) → TellsRows library (accepted_drop_hook library url moment)
 drop_hook_tells library url moment =
-    cond_both (is_some (hook_of url library.outbox.hooks)) _ _ (TellsRows library) (λ there. plain library (changed replies.Done (changes.DropHook moment url)) refl)
+    cond_both (is_some (hook_of url library.outbox.hooks)) _ _ (TellsRows library)
+    (λ there. plain library (changed replies.Done (changes.DropHook moment url)) refl)
     (λ gone. plain library (unchanged replies.Done) refl)
 
 pub replies_tell : RepliesTell
 replies_tell library (commands.PutFlow body) moment =
-    by_refusal library (refusal_of library (commands.PutFlow body)) _ (created_plain library (is_some (flow_of body.id library.catalog.flows)) (changes.PutFlow moment body))
-replies_tell library (commands.SetFlow flow part) moment = by_refusal library (refusal_of library (commands.SetFlow flow part)) _ (plain library (changed replies.Done (changes.SetFlow moment flow part)) refl)
+    by_refusal library (refusal_of library (commands.PutFlow body)) _
+    (created_plain library (is_some (flow_of body.id library.catalog.flows)) (changes.PutFlow moment body))
+replies_tell library (commands.SetFlow flow part) moment = by_refusal library (refusal_of library (commands.SetFlow flow part)) _
+    (plain library (changed replies.Done (changes.SetFlow moment flow part)) refl)
 replies_tell library (commands.SetSource source part) moment =
-    by_refusal library (refusal_of library (commands.SetSource source part)) _ (plain library (changed replies.Done (changes.SetSource moment source part)) refl)
+    by_refusal library (refusal_of library (commands.SetSource source part)) _
+    (plain library (changed replies.Done (changes.SetSource moment source part)) refl)
 replies_tell library (commands.DropFlow flow) moment = by_refusal library (refusal_of library (commands.DropFlow flow)) _ (drop_tells library flow moment)
-replies_tell library (commands.Allocate flow want) moment = by_refusal library (refusal_of library (commands.Allocate flow want)) _ (made library moment flow (wanted_ids library want))
+replies_tell library (commands.Allocate flow want) moment = by_refusal library (refusal_of library (commands.Allocate flow want)) _
+    (made library moment flow (wanted_ids library want))
 replies_tell library (commands.Keep object start size) moment =
-    by_refusal library (refusal_of library (commands.Keep object start size)) _ (plain library (changed replies.Created (changes.Store moment object start size)) refl)
+    by_refusal library (refusal_of library (commands.Keep object start size)) _
+    (plain library (changed replies.Created (changes.Store moment object start size)) refl)
 replies_tell library (commands.AddSegments flow posts) moment =
-    by_refusal library (refusal_of library (commands.AddSegments flow posts)) _ (plain library (changed replies.Created (changes.AddSegments moment flow posts)) refl)
-replies_tell library (commands.CutSegments flow range) moment = by_refusal library (refusal_of library (commands.CutSegments flow range)) _ (cut_tells library flow range moment)
+    by_refusal library (refusal_of library (commands.AddSegments flow posts)) _
+    (plain library (changed replies.Created (changes.AddSegments moment flow posts)) refl)
+replies_tell library (commands.CutSegments flow range) moment = by_refusal library (refusal_of library (commands.CutSegments flow range)) _
+    (cut_tells library flow range moment)
 replies_tell library (commands.PutHook hook) moment = created_plain library (is_some (hook_of hook.url library.outbox.hooks)) (changes.PutHook moment hook)
 replies_tell library (commands.DropHook url) moment = drop_hook_tells library url moment
 replies_tell library commands.Root moment = plain library _ refl

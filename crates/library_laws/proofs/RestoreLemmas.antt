@@ -104,13 +104,15 @@ distinct_keys key xs e = rises-keys (λ a b. not (a == b)) key xs ∙ apart_keys
 -- the serials of the outbox are distinct, as all serials are
 outbox_distinct : (o s r h e : List ℕ) → are_distinct (o ++ s ++ r ++ h ++ e) ≡ true → are_distinct (h ++ e) ≡ true
 outbox_distinct o s r h e is =
-    rises-Sub (λ a b. not (a == b)) (h ++ e) (o ++ s ++ r ++ h ++ e) (Sub-append h (o ++ s ++ r ++ h) e e (Sub-behind (o ++ s ++ r) h h (Sub-same h)) (Sub-same e)) is
+    rises-Sub (λ a b. not (a == b)) (h ++ e) (o ++ s ++ r ++ h ++ e)
+    (Sub-append h (o ++ s ++ r ++ h) e e (Sub-behind (o ++ s ++ r) h h (Sub-same h)) (Sub-same e)) is
 
 own_books : (library : Library) → Good library → OwnBooks library
 own_books library good =
     let names = Names-from library good.names in
     let order = and_parts (rises source_before library.catalog.sources) (rises flow_before library.catalog.flows) names.catalog in
-    let asked = and_parts (list_all (is_request_good library.catalog.flows library.segments) library.requests) (nat_le (done_count library.requests) done_kept) good.requests in
+    let asked = and_parts (list_all (is_request_good library.catalog.flows library.segments) library.requests) (nat_le (done_count library.requests) done_kept)
+    good.requests in
     record {
       sources = stays (λ (row : SourceRow). row.id) library.catalog.sources order.0;
       flows = stays (λ (row : FlowRow). row.body.id) library.catalog.flows order.1;
@@ -120,7 +122,8 @@ own_books library good =
       events = stays (λ (row : EventRow). row.serial) library.outbox.events names.events_rise;
       can_catalog = and_from _ _ (and_from _ _ (distinct_keys (λ (row : SourceRow). row.id) library.catalog.sources order.0)
           (distinct_keys (λ (row : FlowRow). row.body.id) library.catalog.flows order.1)) (and_from _ _ good.sources good.collections);
-      can_objects = and_from _ _ (and_from _ _ names.objects (distinct_keys (λ (row : ObjectRow). row.serial) library.objects names.objects_rise)) good.references;
+      can_objects = and_from _ _ (and_from _ _ names.objects (distinct_keys (λ (row : ObjectRow). row.serial) library.objects names.objects_rise))
+          good.references;
       can_requests = and_from _ _ (distinct_keys (λ (row : DeleteRow). row.serial) library.requests names.requests_rise) asked.1;
       can_outbox = and_from _ _ (and_from _ _ names.urls
           (outbox_distinct (map (λ row. row.serial) library.objects) (map (λ row. row.serial) library.segments) (map (λ row. row.serial) library.requests)

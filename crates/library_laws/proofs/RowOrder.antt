@@ -1,5 +1,5 @@
 -- The rows of a good library stand in their order.
-use Rattle.std.proofs.Common.{◌≡◌, ◌⊎◌, inl, inr, ℕ, suc, ◌+◌, ◌≤◌, ◌<◌, ℤ, Bool, true, false, not, ◌&&◌, ◌||◌, List, [], ◌∷◌, ◌++◌, map, Option, Some, None, nat_lt, refl, sym, ap, ◌∙◌, arith}
+use Rattle.std.proofs.Common.{◌≡◌, ◌⊎◌, inl, inr, ℕ, suc, ◌≤◌, ℤ, Bool, true, false, not, ◌&&◌, ◌||◌, List, [], ◌∷◌, ◌++◌, map, Option, Some, None, nat_lt, refl, sym, ap, ◌∙◌, arith}
 use Rattle.std.specs.Prelude.{◌==◌, int_lt, unwrap_or, pos, is_some}
 use Rattle.std.specs.List.{list_all}
 use Rattle.std.proofs.lemmas.Bool.{and_parts, and_from, or_left, or_right, or_parts, not-true, lt-ltb, ltb-false, eq-eqb, false≢true}
@@ -20,16 +20,16 @@ use Rattle.media_rows.specs.Catalog.{source_before, flow_before}
 use Rattle.media_rows.specs.Good.{Good, are_compatible, is_segment_good}
 use Rattle.media_rows.specs.Library.{Library}
 use Rattle.media_rows.specs.Lists.{rises, in_order}
-use Rattle.media_rows.specs.Ranges.{overlaps, has_both_ends}
+use Rattle.media_rows.specs.Ranges.{has_both_ends}
 use Rattle.media_rows.specs.Segments.{low_before, starts_before}
-use Rattle.media_rows.specs.Snapshot.{segment_row_before, kind_number, row_before, rows_of}
+use Rattle.media_rows.specs.Snapshot.{segment_row_before, kind_number, row_before}
 use Rattle.library_laws.specs.Laws.{HaveRanges}
 use Rattle.library_laws.specs.RowLaws.{RowsRise}
 use Rattle.library_laws.proofs.ListLemmas.{In, In-append, In-map, In-in_order, Contains-from_In, list_all-In}
 use Rattle.library_laws.proofs.KeptLemmas.{rises-both, rises-mapped}
 use Rattle.library_laws.proofs.OutboxKept.{Names-from}
 use Rattle.library_laws.proofs.PageLemmas.{IsOrder, in_order_rises, starts_in_order}
-use Rattle.library_laws.proofs.ListsFollow.{in_order_keeps, rises-joined, compatible_swapped, apart_points, clear_of}
+use Rattle.library_laws.proofs.ListsFollow.{in_order_keeps, compatible_swapped, apart_points, clear_of}
 
 -- ---- segments by flow, and then by first point
 
@@ -40,7 +40,8 @@ lex_one_way f g true false h e = grind (arith, nat_tests)
 lex_one_way f g false true h e = grind (arith, nat_tests)
 lex_one_way f g false false h e = grind (arith, nat_tests)
 
-lex_passes_on : (f g k : ℕ) (p q r : Bool) → (p ≡ false → q ≡ false → r ≡ false) → (nat_lt g f || ((g == f) && p)) ≡ false → (nat_lt k g || ((k == g) && q)) ≡ false
+lex_passes_on : (f g k : ℕ) (p q r : Bool) → (p ≡ false → q ≡ false → r ≡ false) → (nat_lt g f || ((g == f) && p)) ≡ false → (nat_lt k g || ((k == g) && q))
+    ≡ false
     → (nat_lt k f || ((k == f) && r)) ≡ false
 lex_passes_on f g k false false true h e j = let bad = h refl refl in absurd (cc)
 lex_passes_on f g k false false false h e j = grind (arith, nat_tests)
@@ -61,7 +62,8 @@ record Known (row : SegmentRow) : Type 0 where
   ended : has_both_ends row.segment.range ≡ true
 
 -- first points that are told apart are in order
-low_from_points : (a b : Option Span) → has_both_ends a ≡ true → has_both_ends b ≡ true → int_lt (unwrap_or (low_of a) (pos 0)) (unwrap_or (low_of b) (pos 0)) ≡ true
+low_from_points : (a b : Option Span) → has_both_ends a ≡ true → has_both_ends b ≡ true → int_lt (unwrap_or (low_of a) (pos 0)) (unwrap_or (low_of b) (pos 0))
+    ≡ true
     → low_before (low_of a) (low_of b) ≡ true
 low_from_points None b e f h = absurd (false≢true e)
 low_from_points (Some s) None e f h = absurd (false≢true f)
@@ -81,7 +83,8 @@ flows_or f g e = by_test (nat_lt f g) refl
     by_test false h = inr (omega (arith, ltb-false g f e, ltb-false f g h))
 
 -- the order of the rows, from that of their segments
-segment_step : (a b : SegmentRow) → Known a → Known b → are_compatible a b ≡ true → not (segment_row_before b a) ≡ true → row_before (rows.Segment a) (rows.Segment b) ≡ true
+segment_step : (a b : SegmentRow) → Known a → Known b → are_compatible a b ≡ true → not (segment_row_before b a) ≡ true
+    → row_before (rows.Segment a) (rows.Segment b) ≡ true
 segment_step a b one two fits order =
     let parts = or_parts (nat_lt b.flow a.flow) ((b.flow == a.flow) && starts_before b a) (not-true (segment_row_before b a) order) in
     elim (flows_or a.flow b.flow parts.0) [
@@ -89,16 +92,19 @@ segment_step a b one two fits order =
       | inr same ↦
           let starts : starts_before b a ≡ false = behind (b.flow == a.flow) (starts_before b a) (eq-eqb b.flow a.flow (sym same)) parts.1 in
           let clear = clear_of a b b.flow same refl fits in
-          let points = apart_points a.segment.range b.segment.range one.range two.range one.ended two.ended clear (or_parts (low_before (low_of b.segment.range) (low_of a.segment.range)) _ starts).0 in
+          let points = apart_points a.segment.range b.segment.range one.range two.range one.ended two.ended clear
+          (or_parts (low_before (low_of b.segment.range) (low_of a.segment.range)) _ starts).0 in
           or_right (nat_lt a.flow b.flow) ((a.flow == b.flow) && low_before (low_of a.segment.range) (low_of b.segment.range))
-          (and_from (a.flow == b.flow) (low_before (low_of a.segment.range) (low_of b.segment.range)) (eq-eqb a.flow b.flow same) (low_from_points a.segment.range b.segment.range one.ended two.ended points))
+          (and_from (a.flow == b.flow) (low_before (low_of a.segment.range) (low_of b.segment.range)) (eq-eqb a.flow b.flow same)
+          (low_from_points a.segment.range b.segment.range one.ended two.ended points))
     ]
   where
     behind : (p q : Bool) → p ≡ true → (p && q) ≡ false → q ≡ false
     behind true q e f = f
     behind false q e f = absurd (false≢true e)
 
-segments_rise : (library : Library) → Good library → HaveRanges library.segments → rises row_before (map rows.Segment (in_order segment_row_before library.segments)) ≡ true
+segments_rise : (library : Library) → Good library → HaveRanges library.segments
+    → rises row_before (map rows.Segment (in_order segment_row_before library.segments)) ≡ true
 segments_rise library good fine =
     let parts = and_parts (rises are_compatible library.segments) (list_all (is_segment_good library.catalog.flows) library.segments) good.segments in
     let listed : List SegmentRow = in_order segment_row_before library.segments in
@@ -119,7 +125,8 @@ segments_rise library good fine =
 pub nested : {X : Type 0} (a b c d e f g h : List X) → a ++ b ++ c ++ d ++ e ++ f ++ g ++ h ≡ a ++ (b ++ (c ++ (d ++ (e ++ (f ++ (g ++ h))))))
 nested a b c d e f g h =
     append_assoc (a ++ b ++ c ++ d ++ e ++ f) g h ∙ append_assoc (a ++ b ++ c ++ d ++ e) f (g ++ h) ∙ append_assoc (a ++ b ++ c ++ d) e (f ++ (g ++ h))
-    ∙ append_assoc (a ++ b ++ c) d (e ++ (f ++ (g ++ h))) ∙ append_assoc (a ++ b) c (d ++ (e ++ (f ++ (g ++ h)))) ∙ append_assoc a b (c ++ (d ++ (e ++ (f ++ (g ++ h)))))
+    ∙ append_assoc (a ++ b ++ c) d (e ++ (f ++ (g ++ h))) ∙ append_assoc (a ++ b) c (d ++ (e ++ (f ++ (g ++ h))))
+    ∙ append_assoc a b (c ++ (d ++ (e ++ (f ++ (g ++ h)))))
 
 -- rows of this kind and of later ones, in their order
 record Rising (kind : ℕ) (listed : List Row) : Type 0 where
@@ -150,14 +157,24 @@ pub rows_rise : RowsRise
 rows_rise library good fine =
     let names = Names-from library good.names in
     let order = and_parts (rises source_before library.catalog.sources) (rises flow_before library.catalog.flows) names.catalog in
-    let last : Rising 8 (rows.Numbers library.next_serial ∷ []) = record { rise = refl; kinds = λ row here. elim here [ inl same ↦ let is : kind_number row ≡ 8 = ap kind_number same in omega (arith, is) | inr bad ↦ absurd bad ] } in
-    let events = block 7 rows.Event (λ x. refl) library.outbox.events _ (by_number (λ (r : EventRow). r.serial) rows.Event (λ a b e. or_left _ _ e) library.outbox.events names.events_rise) last in
-    let hooks = block 6 rows.Hook (λ x. refl) library.outbox.hooks _ (by_number (λ (r : HookRow). r.serial) rows.Hook (λ a b e. or_left _ _ e) library.outbox.hooks names.hooks_rise) events in
-    let requests = block 5 rows.Request (λ x. refl) library.requests _ (by_number (λ (r : DeleteRow). r.serial) rows.Request (λ a b e. or_left _ _ e) library.requests names.requests_rise) hooks in
+    let last : Rising 8 (rows.Numbers library.next_serial ∷ []) = record {
+      rise = refl;
+      kinds = λ row here. elim here [ inl same ↦ let is : kind_number row ≡ 8 = ap kind_number same in omega (arith, is) | inr bad ↦ absurd bad ];
+    } in
+    let events = block 7 rows.Event (λ x. refl) library.outbox.events _
+    (by_number (λ (r : EventRow). r.serial) rows.Event (λ a b e. or_left _ _ e) library.outbox.events names.events_rise) last in
+    let hooks = block 6 rows.Hook (λ x. refl) library.outbox.hooks _
+    (by_number (λ (r : HookRow). r.serial) rows.Hook (λ a b e. or_left _ _ e) library.outbox.hooks names.hooks_rise) events in
+    let requests = block 5 rows.Request (λ x. refl) library.requests _
+    (by_number (λ (r : DeleteRow). r.serial) rows.Request (λ a b e. or_left _ _ e) library.requests names.requests_rise) hooks in
     let segments = block 4 rows.Segment (λ x. refl) (in_order segment_row_before library.segments) _ (segments_rise library good fine) requests in
-    let objects = block 3 rows.Object (λ x. refl) library.objects _ (by_number (λ (r : ObjectRow). r.serial) rows.Object (λ a b e. or_left _ _ e) library.objects names.objects_rise) segments in
-    let flows = block 2 rows.Flow (λ x. refl) library.catalog.flows _ (by_number (λ (r : FlowRow). r.body.id) rows.Flow (λ a b e. or_left _ _ e) library.catalog.flows order.1) objects in
-    let sources = block 1 rows.Source (λ x. refl) library.catalog.sources _ (by_number (λ (r : SourceRow). r.id) rows.Source (λ a b e. or_left _ _ e) library.catalog.sources order.0) flows in
-    ap (rises row_before) (nested (map rows.Source library.catalog.sources) (map rows.Flow library.catalog.flows) (map rows.Object library.objects) (map rows.Segment (in_order segment_row_before library.segments))
+    let objects = block 3 rows.Object (λ x. refl) library.objects _
+    (by_number (λ (r : ObjectRow). r.serial) rows.Object (λ a b e. or_left _ _ e) library.objects names.objects_rise) segments in
+    let flows = block 2 rows.Flow (λ x. refl) library.catalog.flows _
+    (by_number (λ (r : FlowRow). r.body.id) rows.Flow (λ a b e. or_left _ _ e) library.catalog.flows order.1) objects in
+    let sources = block 1 rows.Source (λ x. refl) library.catalog.sources _
+    (by_number (λ (r : SourceRow). r.id) rows.Source (λ a b e. or_left _ _ e) library.catalog.sources order.0) flows in
+    ap (rises row_before) (nested (map rows.Source library.catalog.sources) (map rows.Flow library.catalog.flows) (map rows.Object library.objects)
+    (map rows.Segment (in_order segment_row_before library.segments))
     (map rows.Request library.requests) (map rows.Hook library.outbox.hooks) (map rows.Event library.outbox.events) (rows.Numbers library.next_serial ∷ []))
     ∙ sources.rise

@@ -76,16 +76,19 @@ part_in (parts.Collection new) body t = t.members
 part_in (parts.MaxBitRate new) body t = refl
 part_in (parts.AvgBitRate new) body t = refl
 
-set_in : (flows : List FlowRow) (flow : ℕ) (part : Part) (moment : ℕ) (o : Option FlowRow) → flow_of flow flows ≡ o → first_refusal (set_refusals o flows flow part) ≡ None
+set_in : (flows : List FlowRow) (flow : ℕ) (part : Part) (moment : ℕ) (o : Option FlowRow) → flow_of flow flows ≡ o
+    → first_refusal (set_refusals o flows flow part) ≡ None
     → list_all is_flow_text (with_flow flow (set_row part moment) flows) ≡ true → is_part_good part ≡ true
 set_in flows flow part moment None is none e = absurd (cc)
 set_in flows flow part moment (Some old) is none e =
     let at = find-In (λ row. row.body.id == flow) flows old is in
-    let row = list_all-In is_flow_text (with_flow flow (set_row part moment) flows) e _ (map-In (λ row. cond (row.body.id == flow) (set_row part moment row) row) flows old at.0) in
+    let row = list_all-In is_flow_text (with_flow flow (set_row part moment) flows) e _
+    (map-In (λ row. cond (row.body.id == flow) (set_row part moment row) row) flows old at.0) in
     let good : is_flow_text (set_row part moment old) ≡ true = ap is_flow_text (sym (chosen (old.body.id == flow) (set_row part moment old) old at.1)) ∙ row in
     part_in part old.body (BodyTexts-from (body_with part old.body) (RowTexts-from (set_row part moment old) good).body)
 
-source_part_in : (part : Part) (row : SourceRow) (moment : ℕ) → source_part_unset row part ≡ None → is_source_text (set_source_row part moment row) ≡ true → is_part_good part ≡ true
+source_part_in : (part : Part) (row : SourceRow) (moment : ℕ) → source_part_unset row part ≡ None → is_source_text (set_source_row part moment row) ≡ true
+    → is_part_good part ≡ true
 source_part_in (parts.Tag name new) row moment none e =
     tag_in name new row.tags (and_parts _ _ (and_parts _ _ (and_parts _ _ e).0).0).1
 source_part_in (parts.Label new) row moment none e = (and_parts _ _ (and_parts _ _ (and_parts _ _ (and_parts _ _ e).0).0).0).0
@@ -95,13 +98,16 @@ source_part_in (parts.Collection new) row moment none e = absurd (cc)
 source_part_in (parts.MaxBitRate new) row moment none e = refl
 source_part_in (parts.AvgBitRate new) row moment none e = refl
 
-set_source_in : (sources : List SourceRow) (source : ℕ) (part : Part) (moment : ℕ) (o : Option SourceRow) → source_of source sources ≡ o → first_refusal (source_refusals o part) ≡ None
+set_source_in : (sources : List SourceRow) (source : ℕ) (part : Part) (moment : ℕ) (o : Option SourceRow) → source_of source sources ≡ o
+    → first_refusal (source_refusals o part) ≡ None
     → list_all is_source_text (with_source source (set_source_row part moment) sources) ≡ true → is_part_good part ≡ true
 set_source_in sources source part moment None is none e = absurd (cc)
 set_source_in sources source part moment (Some old) is none e =
     let at = find-In (λ row. row.id == source) sources old is in
-    let row = list_all-In is_source_text (with_source source (set_source_row part moment) sources) e _ (map-In (λ row. cond (row.id == source) (set_source_row part moment row) row) sources old at.0) in
-    let good : is_source_text (set_source_row part moment old) ≡ true = ap is_source_text (sym (chosen (old.id == source) (set_source_row part moment old) old at.1)) ∙ row in
+    let row = list_all-In is_source_text (with_source source (set_source_row part moment) sources) e _
+    (map-In (λ row. cond (row.id == source) (set_source_row part moment row) row) sources old at.0) in
+    let good : is_source_text (set_source_row part moment old)
+    ≡ true = ap is_source_text (sym (chosen (old.id == source) (set_source_row part moment old) old at.1)) ∙ row in
     source_part_in part old moment (neither (source_part_unset old part) None none).0 good
 
 -- ---- other rows
@@ -115,7 +121,8 @@ ranges_in : (flows : List FlowRow) (flow serial : ℕ) (posts : List Segment) �
     → list_all (λ post. has_both_ends post.range) posts ≡ true
 ranges_in flows flow serial [] e = refl
 ranges_in flows flow serial (post ∷ later) e =
-    let parts = and_parts _ _ e in and_from _ _ (and_parts (has_both_ends post.range) (is_kept flows flow) parts.0).0 (ranges_in flows flow (serial + 1) later parts.1)
+    let parts = and_parts _ _ e in and_from _ _ (and_parts (has_both_ends post.range) (is_kept flows flow) parts.0).0
+    (ranges_in flows flow (serial + 1) later parts.1)
 
 whole_in : (delete_flow whole late : Bool) → (not delete_flow || (whole && late)) ≡ true → (not delete_flow || whole) ≡ true
 whole_in false whole late e = refl
@@ -131,27 +138,35 @@ stored_in (Some row) e = (row, refl)
 values : (library : Library) (change : Change) → is_allowed library change ≡ true → Good (after change library) → has_good_values change ≡ true
 values library (changes.PutFlow moment body) allowed good =
     let o : Option FlowRow = flow_of body.id library.catalog.flows in
-    let row = list_all-In is_flow_text (placed flow_before (put_row o body moment) library.catalog.flows) (Texts-from (after (changes.PutFlow moment body) library) good.texts).flows (put_row o body moment)
+    let row = list_all-In is_flow_text (placed flow_before (put_row o body moment) library.catalog.flows)
+    (Texts-from (after (changes.PutFlow moment body) library) good.texts).flows (put_row o body moment)
     (placed-has flow_before (put_row o body moment) library.catalog.flows) in
     ap is_body_text (sym (put_body o body moment)) ∙ (RowTexts-from (put_row o body moment) row).body
 values library (changes.SetFlow moment flow part) allowed good =
-    let none = neither (deleting_refusal library flow) (set_refusal library.catalog flow part) (none_from (refusal_of library (commands.SetFlow flow part)) allowed) in
-    set_in library.catalog.flows flow part moment (flow_of flow library.catalog.flows) refl none.1 (Texts-from (after (changes.SetFlow moment flow part) library) good.texts).flows
+    let none = neither (deleting_refusal library flow) (set_refusal library.catalog flow part)
+    (none_from (refusal_of library (commands.SetFlow flow part)) allowed) in
+    set_in library.catalog.flows flow part moment (flow_of flow library.catalog.flows) refl none.1
+    (Texts-from (after (changes.SetFlow moment flow part) library) good.texts).flows
 values library (changes.SetSource moment source part) allowed good =
-    set_source_in library.catalog.sources source part moment (source_of source library.catalog.sources) refl (none_from (set_source_refusal library.catalog source part) allowed)
+    set_source_in library.catalog.sources source part moment (source_of source library.catalog.sources) refl
+    (none_from (set_source_refusal library.catalog source part) allowed)
     (Texts-from (after (changes.SetSource moment source part) library) good.texts).sources
 values library (changes.DropFlow moment flow) allowed good = refl
 values library (changes.Allocate moment flow ids) allowed good =
-    ids_in library.next_serial moment ids (list_all-parts is_object_text library.objects (allocated_rows library.next_serial moment ids) (Texts-from (after (changes.Allocate moment flow ids) library) good.texts).objects).1
+    ids_in library.next_serial moment ids (list_all-parts is_object_text library.objects (allocated_rows library.next_serial moment ids)
+    (Texts-from (after (changes.Allocate moment flow ids) library) good.texts).objects).1
 values library (changes.Store moment object start size) allowed good =
     let parts = and_parts (is_none (keep_refusal (object_of object library.objects))) (is_free library.objects library.blocks (blocks_of size) start) allowed in
     let one = stored_in (object_of object library.objects) parts.0 in
     let at = find-In (λ r. bytes_eq r.id object) library.objects one.0 one.1 in
     let change : ObjectRow → ObjectRow = λ r. cond (bytes_eq r.id object) (stored_row start size moment r) r in
-    let extents = and_parts (rises (λ a b. are_states_apart a.state b.state) (map change library.objects)) (list_all (λ row. is_extent_good library.blocks row.state) (map change library.objects)) good.extents in
-    let row = list_all-In (λ row. is_extent_good library.blocks row.state) (map change library.objects) extents.1 (change one.0) (map-In change library.objects one.0 at.0) in
+    let extents = and_parts (rises (λ a b. are_states_apart a.state b.state) (map change library.objects))
+    (list_all (λ row. is_extent_good library.blocks row.state) (map change library.objects)) good.extents in
+    let row = list_all-In (λ row. is_extent_good library.blocks row.state) (map change library.objects) extents.1 (change one.0)
+    (map-In change library.objects one.0 at.0) in
     let fine : is_extent_good library.blocks (Stored start size) ≡ true =
-    ap (λ (r : ObjectRow). is_extent_good library.blocks r.state) (sym (chosen (bytes_eq one.0.id object) (stored_row start size moment one.0) one.0 at.1)) ∙ row in
+    ap (λ (r : ObjectRow). is_extent_good library.blocks r.state) (sym (chosen (bytes_eq one.0.id object) (stored_row start size moment one.0) one.0 at.1))
+    ∙ row in
     (and_parts (nat_le (start + blocks_of size) library.blocks) (nat_lt 0 size || (start == 0)) fine).1
 values library (changes.AddSegments moment flow posts) allowed good =
     let next : Library = after (changes.AddSegments moment flow posts) library in
@@ -164,7 +179,8 @@ values library (changes.AskDelete moment flow range delete_flow) allowed good =
     let test : DeleteRow → Bool = is_request_good library.catalog.flows library.segments in
     let requests = and_parts (list_all test (library.requests ++ row ∷ [])) (nat_le (done_count (library.requests ++ row ∷ [])) done_kept) good.requests in
     let one = and_parts (test row) true (list_all-parts test library.requests (row ∷ []) requests.0).1 in
-    whole_in delete_flow (is_eternity range) (is_after_segments library.segments row) (and_parts (is_kept library.catalog.flows flow) (not delete_flow || (is_eternity range && is_after_segments library.segments row)) one.0).1
+    whole_in delete_flow (is_eternity range) (is_after_segments library.segments row)
+    (and_parts (is_kept library.catalog.flows flow) (not delete_flow || (is_eternity range && is_after_segments library.segments row)) one.0).1
 values library (changes.DeleteStep moment) allowed good = refl
 values library (changes.SweepStep moment) allowed good = refl
 values library (changes.PutHook moment hook) allowed good =
@@ -206,7 +222,12 @@ sound_from : (library : Library) (change : Change) → is_sound library change �
 sound_from library change e =
     let parts = and_parts _ _ e in
     let first = and_parts (is_moment (moment_of change)) (has_good_values change) parts.0 in
-    record { at = first.0; values = first.1; serials = ltb-false last_serial (after change library).next_serial (not-true (passes_serials change library) parts.1) }
+    record {
+      at = first.0;
+      values = first.1;
+      serials = ltb-false last_serial (after change library).next_serial
+          (not-true (passes_serials change library) parts.1);
+    }
 
 pub applies_is_tested : AppliesIsTested
 applies_is_tested library change good =

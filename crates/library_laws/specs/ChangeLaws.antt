@@ -37,10 +37,11 @@ AppliesIsTested = (library : Library) (change : Change) → Good library
 
 -- ---- what stays
 
--- an object that is stored after a change was stored before with its id and place, or the change stores it
+-- an object that is stored after a change was stored before with its id and place, or the change
+-- stores it
 pub data WasStored (library : Library) (change : Change) (row : ObjectRow) : Type 0 where
-  before : (old : ObjectRow) → Contains library.objects old → row.serial ≡ old.serial → row.id ≡ old.id
-      → row.state ≡ old.state → WasStored library change row
+  before : (old : ObjectRow) → Contains library.objects old → row.serial ≡ old.serial
+      → row.id ≡ old.id → row.state ≡ old.state → WasStored library change row
   now : (moment start size : ℕ) → change ≡ changes.Store moment row.id start size
       → row.state ≡ Stored start size → WasStored library change row
 
@@ -85,7 +86,8 @@ pub record AddsObjects (library : Library) (outcome : Outcome) (ids : List (List
 
 -- what a reply names is what its change adds
 pub record TellsRows (library : Library) (outcome : Outcome) : Type 0 where
-  pub request : (row : DeleteRow) → outcome.reply ≡ replies.Accepted row → AddsRequest library outcome row
+  pub request : (row : DeleteRow) → outcome.reply ≡ replies.Accepted row
+      → AddsRequest library outcome row
   pub objects : (ids : List (List ℕ)) → outcome.reply ≡ replies.CreatedObjects ids
       → AddsObjects library outcome ids
 

@@ -1,16 +1,16 @@
 -- Laws of a library together with the bytes of its objects.
-use Rattle.std.specs.Prelude.{◌≡◌, ℕ, IsTrue, IsFalse, List, Contains, Some, IfSome, length}
+use Rattle.std.specs.Prelude.{◌≡◌, ℕ, IsTrue, List, Contains, Some, IfSome, length}
 use Rattle.media_rows.specs.declared.change.Change.{Change}
 use Rattle.media_rows.specs.declared.change.Change.TheVariants as changes
 use Rattle.media_rows.specs.declared.object.ObjectRow.{ObjectRow}
-use Rattle.media_rows.specs.Apply.{is_allowed, applied, passes_serials}
+use Rattle.media_rows.specs.Apply.{is_allowed, applied}
 use Rattle.media_rows.specs.Changes.{after}
 use Rattle.media_rows.specs.Good.{Good}
 use Rattle.media_rows.specs.Library.{Library}
 use Rattle.media_rows.specs.Media.{Archive, is_held, Question, puts, answer_to, is_good_question, archive_after, fits_bytes}
 use Rattle.media_rows.specs.Moments.{is_moment}
 use Rattle.media_rows.specs.Objects.{is_stored, bytes_of, blocks_of}
-use Rattle.library_laws.specs.Laws.{IsLeastPlace}
+use Rattle.library_laws.specs.Laws.{AppliesWithin, IsLeastPlace}
 
 -- a good library, whose objects' bytes have their lengths
 pub record IsGoodArchive (archive : Archive) : Type 0 where
@@ -36,7 +36,8 @@ BytesStay = (archive : Archive) (change : Change) (came : List ℕ) → IsGoodAr
     → bytes_in (archive_after change came archive) new.id ≡ bytes_in archive old.id
 
 -- the bytes of an object are stored by this change at the least free place for them
-pub record TakesPlace (library : Library) (object bytes : List ℕ) (moment : ℕ) (change : Change) : Type 0 where
+pub record TakesPlace (library : Library) (object bytes : List ℕ) (moment : ℕ) (change : Change)
+    : Type 0 where
   pub start : ℕ
   pub is : change ≡ changes.Store moment object start (length bytes)
   pub least : IsLeastPlace library.objects library.blocks (blocks_of (length bytes)) start
@@ -46,11 +47,11 @@ pub record TakesPlace (library : Library) (object bytes : List ℕ) (moment : �
 abbrev pub PutsApply : Type 0
 PutsApply = (archive : Archive) (object bytes : List ℕ) (moment : ℕ) → Good archive.library
     → IsTrue (is_moment moment)
-    → IfSome (answer_to archive (puts object bytes) moment).change (TakesPlace archive.library object bytes moment)
+    → IfSome (answer_to archive (puts object bytes) moment).change
+    (TakesPlace archive.library object bytes moment)
 
 -- where any question is answered with a change, the change applies, unless the serials would end
 abbrev pub QuestionsApply : Type 0
 QuestionsApply = (archive : Archive) (question : Question) (moment : ℕ) → Good archive.library
     → IsTrue (is_good_question archive.library question) → IsTrue (is_moment moment)
-    → IfSome (answer_to archive question moment).change (λ change. IsFalse (passes_serials change archive.library)
-    → applied change archive.library ≡ Some (after change archive.library))
+    → IfSome (answer_to archive question moment).change (AppliesWithin archive.library)

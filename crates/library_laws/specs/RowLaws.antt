@@ -1,5 +1,5 @@
 -- Laws of a library's rows, of the tables of numbers and names, and of a few words of commands.
-use Rattle.std.specs.Prelude.{◌≡◌, ℕ, ◌^◌, ◌<◌, true, List, [], ◌∷◌, IsTrue, Option, Some, None, is_some, map, codes}
+use Rattle.std.specs.Prelude.{◌≡◌, ℕ, true, List, [], ◌∷◌, IsTrue, Some, None, is_some, map}
 use Rattle.media_rows.specs.declared.change.Change.TheVariants as changes
 use Rattle.media_rows.specs.declared.command.Command.{Command}
 use Rattle.media_rows.specs.declared.part.Part.{Part}
@@ -20,22 +20,26 @@ use Rattle.library_laws.specs.Laws.{HaveRanges}
 -- a good library is the library of its rows
 abbrev pub RowsGiveTheLibrary : Type 0
 RowsGiveTheLibrary =
-    (library : Library) → Good library → library_of library.id library.blocks (rows_of library) ≡ library
+    (library : Library) → Good library
+    → library_of library.id library.blocks (rows_of library) ≡ library
 
 -- and its rows stand in their order, each one before each later one
 abbrev pub RowsRise : Type 0
-RowsRise = (library : Library) → Good library → HaveRanges library.segments → IsTrue (rises row_before (rows_of library))
+RowsRise = (library : Library) → Good library → HaveRanges library.segments
+    → IsTrue (rises row_before (rows_of library))
 
 -- good libraries of one id and of as many media blocks are one where their rows are
 abbrev pub EqualRowsAreOneLibrary : Type 0
 EqualRowsAreOneLibrary =
-    (a b : Library) → Good a → Good b → a.id ≡ b.id → a.blocks ≡ b.blocks → rows_of a ≡ rows_of b → a ≡ b
+    (a b : Library) → Good a → Good b → a.id ≡ b.id → a.blocks ≡ b.blocks
+    → rows_of a ≡ rows_of b → a ≡ b
 
 -- ---- commands, keys and parts
 
 -- a command asks exactly where it shows something or is refused to
 abbrev pub AskingIsAnswered : Type 0
-AskingIsAnswered = (library : Library) (command : Command) → is_asking command ≡ is_some (asked library command)
+AskingIsAnswered = (library : Library) (command : Command)
+    → is_asking command ≡ is_some (asked library command)
 
 -- a key of a page by ids gives its id back
 abbrev pub KeysGiveIds : Type 0
@@ -45,27 +49,29 @@ KeysGiveIds = (id : ℕ) → key_id (id_key id) ≡ id
 abbrev pub SourcesHaveTheirParts : Type 0
 SourcesHaveTheirParts =
     (library next : Library) (moment source : ℕ) (part : Part)
-    → applied (changes.SetSource moment source part) library ≡ Some next → IsTrue (is_source_part part)
+    → applied (changes.SetSource moment source part) library ≡ Some next
+    → IsTrue (is_source_part part)
 
 -- ---- the table of refusals
 
 -- each refusal once, in the order of their numbers
 abbrev pub all_refusals : List Refusal
 all_refusals =
-    refusals.BadHead ∷ refusals.BadFraming ∷ refusals.LengthRequired ∷ refusals.TooLarge ∷ refusals.Coding
-    ∷ refusals.NoRoute ∷ refusals.NoMethod ∷ refusals.NotJson ∷ refusals.Fractional ∷ refusals.Missing []
-    ∷ refusals.WrongKind [] ∷ refusals.TooLong [] ∷ refusals.OutOfRange [] ∷ refusals.BadTimerange []
-    ∷ refusals.BadQuery [] ∷ refusals.NoSource ∷ refusals.NoFlow ∷ refusals.UnknownObject ∷ refusals.NoRequest
-    ∷ refusals.NotSet [] ∷ refusals.Deleting ∷ refusals.ReadOnly ∷ refusals.SourceFormat ∷ refusals.FlowChanged
+    refusals.BadHead ∷ refusals.BadFraming ∷ refusals.LengthRequired ∷ refusals.TooLarge
+    ∷ refusals.Coding ∷ refusals.NoRoute ∷ refusals.NoMethod ∷ refusals.NotJson
+    ∷ refusals.Fractional ∷ refusals.Missing [] ∷ refusals.WrongKind [] ∷ refusals.TooLong []
+    ∷ refusals.OutOfRange [] ∷ refusals.BadTimerange [] ∷ refusals.BadQuery [] ∷ refusals.NoSource
+    ∷ refusals.NoFlow ∷ refusals.UnknownObject ∷ refusals.NoRequest ∷ refusals.NotSet []
+    ∷ refusals.Deleting ∷ refusals.ReadOnly ∷ refusals.SourceFormat ∷ refusals.FlowChanged
     ∷ refusals.CollectsItself ∷ refusals.CollectedMissing 0 ∷ refusals.IdTaken [] ∷ refusals.OtherBytes
     ∷ refusals.NoObject [] ∷ refusals.Overlap None ∷ refusals.JournalFull ∷ refusals.MediaFull ∷ []
 
 -- numbers run from 1 to 32, names are distinct, and statuses are these, in the order of the numbers
 pub record RefusalsAreTabled : Type 0 where
   pub numbers : map refusal_number all_refusals
-      ≡ 1 ∷ 2 ∷ 3 ∷ 4 ∷ 5 ∷ 6 ∷ 7 ∷ 8 ∷ 9 ∷ 10 ∷ 11 ∷ 12 ∷ 13 ∷ 14 ∷ 15 ∷ 16 ∷ 17 ∷ 18 ∷ 19 ∷ 20 ∷ 21 ∷ 22 ∷ 23
-      ∷ 24 ∷ 25 ∷ 26 ∷ 27 ∷ 28 ∷ 29 ∷ 30 ∷ 31 ∷ 32 ∷ []
+      ≡ 1 ∷ 2 ∷ 3 ∷ 4 ∷ 5 ∷ 6 ∷ 7 ∷ 8 ∷ 9 ∷ 10 ∷ 11 ∷ 12 ∷ 13 ∷ 14 ∷ 15 ∷ 16 ∷ 17 ∷ 18 ∷ 19
+      ∷ 20 ∷ 21 ∷ 22 ∷ 23 ∷ 24 ∷ 25 ∷ 26 ∷ 27 ∷ 28 ∷ 29 ∷ 30 ∷ 31 ∷ 32 ∷ []
   pub statuses : map refusal_status all_refusals
-      ≡ 400 ∷ 400 ∷ 411 ∷ 413 ∷ 415 ∷ 404 ∷ 405 ∷ 400 ∷ 400 ∷ 400 ∷ 400 ∷ 400 ∷ 400 ∷ 400 ∷ 400 ∷ 404 ∷ 404 ∷ 404
-      ∷ 404 ∷ 404 ∷ 409 ∷ 403 ∷ 400 ∷ 400 ∷ 400 ∷ 400 ∷ 409 ∷ 409 ∷ 400 ∷ 400 ∷ 507 ∷ 507 ∷ []
+      ≡ 400 ∷ 400 ∷ 411 ∷ 413 ∷ 415 ∷ 404 ∷ 405 ∷ 400 ∷ 400 ∷ 400 ∷ 400 ∷ 400 ∷ 400 ∷ 400
+      ∷ 400 ∷ 404 ∷ 404 ∷ 404 ∷ 404 ∷ 404 ∷ 409 ∷ 403 ∷ 400 ∷ 400 ∷ 400 ∷ 400 ∷ 409 ∷ 409 ∷ 400 ∷ 400 ∷ 507 ∷ 507 ∷ []
   pub names : are_distinct_texts (map refusal_name all_refusals) ≡ true
