@@ -63,7 +63,8 @@ all_refusals =
     ∷ refusals.OutOfRange [] ∷ refusals.BadTimerange [] ∷ refusals.BadQuery [] ∷ refusals.NoSource
     ∷ refusals.NoFlow ∷ refusals.UnknownObject ∷ refusals.NoRequest ∷ refusals.NotSet []
     ∷ refusals.Deleting ∷ refusals.ReadOnly ∷ refusals.SourceFormat ∷ refusals.FlowChanged
-    ∷ refusals.CollectsItself ∷ refusals.CollectedMissing 0 ∷ refusals.IdTaken [] ∷ refusals.OtherBytes
+    ∷ refusals.CollectsItself ∷ refusals.CollectedMissing 0 ∷ refusals.IdTaken []
+    ∷ refusals.OtherBytes
     ∷ refusals.NoObject [] ∷ refusals.Overlap None ∷ refusals.JournalFull ∷ refusals.MediaFull ∷ []
 
 -- numbers run from 1 to 32, names are distinct, and statuses are these, in the order of the numbers
@@ -73,5 +74,6 @@ pub record RefusalsAreTabled : Type 0 where
       ∷ 20 ∷ 21 ∷ 22 ∷ 23 ∷ 24 ∷ 25 ∷ 26 ∷ 27 ∷ 28 ∷ 29 ∷ 30 ∷ 31 ∷ 32 ∷ []
   pub statuses : map refusal_status all_refusals
       ≡ 400 ∷ 400 ∷ 411 ∷ 413 ∷ 415 ∷ 404 ∷ 405 ∷ 400 ∷ 400 ∷ 400 ∷ 400 ∷ 400 ∷ 400 ∷ 400
-      ∷ 400 ∷ 404 ∷ 404 ∷ 404 ∷ 404 ∷ 404 ∷ 409 ∷ 403 ∷ 400 ∷ 400 ∷ 400 ∷ 400 ∷ 409 ∷ 409 ∷ 400 ∷ 400 ∷ 507 ∷ 507 ∷ []
+      ∷ 400 ∷ 404 ∷ 404 ∷ 404 ∷ 404 ∷ 404 ∷ 409 ∷ 403 ∷ 400 ∷ 400 ∷ 400 ∷ 400 ∷ 409 ∷ 409
+      ∷ 400 ∷ 400 ∷ 507 ∷ 507 ∷ []
   pub names : are_distinct_texts (map refusal_name all_refusals) ≡ true
