@@ -45,12 +45,14 @@ set_source_stays (parts.AvgBitRate new) row = refl
 changed_flows_rise : (flows : List FlowRow) (id : ℕ) (change : FlowRow → FlowRow) → ((row : FlowRow) → (change row).body.id ≡ row.body.id)
     → rises flow_before flows ≡ true → rises flow_before (with_flow id change flows) ≡ true
 changed_flows_rise flows id change stays e =
-    rises_map (λ (row : FlowRow). row.body.id) (λ row. cond (row.body.id == id) (change row) row) (λ row. flow_stays (row.body.id == id) row (change row) (stays row)) flows ∙ e
+    rises_map (λ (row : FlowRow). row.body.id) (λ row. cond (row.body.id == id) (change row) row)
+    (λ row. flow_stays (row.body.id == id) row (change row) (stays row)) flows ∙ e
 
 changed_sources_rise : (sources : List SourceRow) (id : ℕ) (change : SourceRow → SourceRow) → ((row : SourceRow) → (change row).id ≡ row.id)
     → rises source_before sources ≡ true → rises source_before (with_source id change sources) ≡ true
 changed_sources_rise sources id change stays e =
-    rises_map (λ (row : SourceRow). row.id) (λ row. cond (row.id == id) (change row) row) (λ row. source_stays (row.id == id) row (change row) (stays row)) sources ∙ e
+    rises_map (λ (row : SourceRow). row.id) (λ row. cond (row.id == id) (change row) row) (λ row. source_stays (row.id == id) row (change row) (stays row))
+    sources ∙ e
 
 -- a row that the next lists equal rises as they do
 rise_alike : {X : Type 0} (t : X → X → Bool) (next rows : List X) → next ≡ rows → rises t rows ≡ true → rises t next ≡ true
@@ -68,20 +70,24 @@ pub put_in_order : (sources next_sources : List SourceRow) (flows next_flows : L
     → next_flows ≡ placed flow_before (put_row (flow_of body.id flows) body moment) flows → IsInOrder next_sources next_flows
 put_in_order sources next_sources flows next_flows body moment old same_sources same_flows = record {
   sources_rise = rise_alike source_before next_sources _ same_sources (sources_put (source_of body.source sources) sources body moment old.sources_rise);
-  flows_rise = rise_alike flow_before next_flows _ same_flows (rises_placed (λ (row : FlowRow). row.body.id) (put_row (flow_of body.id flows) body moment) flows old.flows_rise);
+  flows_rise = rise_alike flow_before next_flows _ same_flows
+      (rises_placed (λ (row : FlowRow). row.body.id) (put_row (flow_of body.id flows) body moment) flows old.flows_rise);
 }
 
 pub set_in_order : (sources next_sources : List SourceRow) (flows next_flows : List FlowRow) (id : ℕ) (part : Part) (moment : ℕ) → IsInOrder sources flows
     → next_sources ≡ sources → next_flows ≡ with_flow id (set_row part moment) flows → IsInOrder next_sources next_flows
 set_in_order sources next_sources flows next_flows id part moment old same_sources same_flows = record {
   sources_rise = rise_alike source_before next_sources sources same_sources old.sources_rise;
-  flows_rise = rise_alike flow_before next_flows _ same_flows (changed_flows_rise flows id (set_row part moment) (λ row. set_stays part row.body) old.flows_rise);
+  flows_rise = rise_alike flow_before next_flows _ same_flows
+      (changed_flows_rise flows id (set_row part moment) (λ row. set_stays part row.body) old.flows_rise);
 }
 
-pub set_source_in_order : (sources next_sources : List SourceRow) (flows next_flows : List FlowRow) (id : ℕ) (part : Part) (moment : ℕ) → IsInOrder sources flows
+pub set_source_in_order : (sources next_sources : List SourceRow) (flows next_flows : List FlowRow) (id : ℕ) (part : Part) (moment : ℕ)
+    → IsInOrder sources flows
     → next_sources ≡ with_source id (set_source_row part moment) sources → next_flows ≡ flows → IsInOrder next_sources next_flows
 set_source_in_order sources next_sources flows next_flows id part moment old same_sources same_flows = record {
-  sources_rise = rise_alike source_before next_sources _ same_sources (changed_sources_rise sources id (set_source_row part moment) (set_source_stays part) old.sources_rise);
+  sources_rise = rise_alike source_before next_sources _ same_sources
+      (changed_sources_rise sources id (set_source_row part moment) (set_source_stays part) old.sources_rise);
   flows_rise = rise_alike flow_before next_flows flows same_flows old.flows_rise;
 }
 
@@ -105,7 +111,8 @@ drop_in_order sources next_sources flows next_flows id old same_sources same_flo
 pub restored_in_order : (sources next_sources : List SourceRow) (flows next_flows : List FlowRow) → can_restore_catalog sources flows ≡ true
     → next_sources ≡ in_order source_before sources → next_flows ≡ in_order flow_before flows → IsInOrder next_sources next_flows
 restored_in_order sources next_sources flows next_flows can same_sources same_flows =
-    let distinct = and_parts (are_distinct (map (λ (row : SourceRow). row.id) sources) && are_distinct (map (λ (row : FlowRow). row.body.id) flows)) (is_catalog_good (record { sources = sources; flows = flows })) can in
+    let distinct = and_parts (are_distinct (map (λ (row : SourceRow). row.id) sources) && are_distinct (map (λ (row : FlowRow). row.body.id) flows))
+    (is_catalog_good (record { sources = sources; flows = flows })) can in
     let ids = and_parts (are_distinct (map (λ (row : SourceRow). row.id) sources)) (are_distinct (map (λ (row : FlowRow). row.body.id) flows)) distinct.0 in
     record {
       sources_rise = rise_alike source_before next_sources _ same_sources (in_order_rises (λ (row : SourceRow). row.id) sources ids.0);

@@ -47,7 +47,8 @@ all_passing p (x ∷ xs) = passing_step p x (filter p xs) (p x) refl (all_passin
 abbrev pub by_key : {X : Type 0} → (X → ℕ) → X → X → Bool
 by_key key a b = nat_lt (key a) (key b)
 
-rises_cond : {X : Type 0} (t : X → X → Bool) (b : Bool) (x : X) (xs : List X) → list_all (t x) xs ≡ true → rises t xs ≡ true → rises t (cond b (x ∷ xs) xs) ≡ true
+rises_cond : {X : Type 0} (t : X → X → Bool) (b : Bool) (x : X) (xs : List X) → list_all (t x) xs ≡ true → rises t xs ≡ true → rises t (cond b (x ∷ xs) xs)
+    ≡ true
 rises_cond t true x xs h e = and_from (list_all (t x) xs) (rises t xs) h e
 rises_cond t false x xs h e = e
 
@@ -57,7 +58,8 @@ rises_filter t p (x ∷ xs) e =
     let parts = and_parts (list_all (t x) xs) (rises t xs) e in
     rises_cond t (p x) x (filter p xs) (all_filter (t x) p xs parts.0) (rises_filter t p xs parts.1)
 
-all_map : {X : Type 0} (key : X → ℕ) (f : X → X) → ((x : X) → key (f x) ≡ key x) → (x : X) (ys : List X) → list_all (by_key key (f x)) (map f ys) ≡ list_all (by_key key x) ys
+all_map : {X : Type 0} (key : X → ℕ) (f : X → X) → ((x : X) → key (f x) ≡ key x) → (x : X) (ys : List X) → list_all (by_key key (f x)) (map f ys)
+    ≡ list_all (by_key key x) ys
 all_map key f h x [] = refl
 all_map key f h x (y ∷ ys) = ap₂ (λ (a b : Bool). a && b) (ap₂ nat_lt (h x) (h y)) (all_map key f h x ys)
 
@@ -66,9 +68,11 @@ rises_map key f h [] = refl
 rises_map key f h (x ∷ xs) = ap₂ (λ (a b : Bool). a && b) (all_map key f h x xs) (rises_map key f h xs)
 
 -- one key stands before another, and that one before the rest
-all_later : {X : Type 0} (key : X → ℕ) (y x : X) (rest : List X) → by_key key y x ≡ true → list_all (by_key key x) rest ≡ true → list_all (by_key key y) rest ≡ true
+all_later : {X : Type 0} (key : X → ℕ) (y x : X) (rest : List X) → by_key key y x ≡ true → list_all (by_key key x) rest ≡ true → list_all (by_key key y) rest
+    ≡ true
 all_later key y x rest e h =
-    all_weaker (by_key key x) (by_key key y) rest (λ z k. let low = ltb-true (key y) (key x) e in let high = ltb-true (key x) (key z) k in lt-ltb (key y) (key z) (omega arith)) h
+    all_weaker (by_key key x) (by_key key y) rest (λ z k. let low = ltb-true (key y) (key x) e in let high = ltb-true (key x) (key z) k in lt-ltb (key y)
+    (key z) (omega arith)) h
 
 -- rows below a row, the row, and rows above it
 between : {X : Type 0} (key : X → ℕ) (x : X) (front rest : List X) → list_all (λ y. by_key key y x) front ≡ true → rises (by_key key) front ≡ true
@@ -95,7 +99,8 @@ inserted_step : {X : Type 0} (p : X → Bool) (b : Bool) (x y : X) (ys more : Li
 inserted_step p true x y ys more hx hy e h = and_from (p y) (list_all p more) hy h
 inserted_step p false x y ys more hx hy e h = and_from (p x) (p y && list_all p ys) hx (and_from (p y) (list_all p ys) hy e)
 
-all_inserted : {X : Type 0} (before : X → X → Bool) (p : X → Bool) (x : X) (ys : List X) → p x ≡ true → list_all p ys ≡ true → list_all p (inserted before x ys) ≡ true
+all_inserted : {X : Type 0} (before : X → X → Bool) (p : X → Bool) (x : X) (ys : List X) → p x ≡ true → list_all p ys ≡ true → list_all p (inserted before x ys)
+    ≡ true
 all_inserted before p x [] h e = and_from (p x) true h refl
 all_inserted before p x (y ∷ ys) h e =
     let parts = and_parts (p y) (list_all p ys) e in
@@ -113,14 +118,16 @@ above a b = grind (arith, nat_tests)
 rises_step : {X : Type 0} (key : X → ℕ) (b : Bool) (x y : X) (ys more : List X) → nat_lt (key y) (key x) ≡ b → not (key x == key y) ≡ true
     → list_all (by_key key y) ys ≡ true → rises (by_key key) ys ≡ true → (nat_lt (key y) (key x) ≡ true → list_all (by_key key y) more ≡ true)
     → rises (by_key key) more ≡ true → rises (by_key key) (cond b (y ∷ more) (x ∷ y ∷ ys)) ≡ true
-rises_step key true x y ys more e other all rising all_more more_rising = and_from (list_all (by_key key y) more) (rises (by_key key) more) (all_more e) more_rising
+rises_step key true x y ys more e other all rising all_more more_rising = and_from (list_all (by_key key y) more) (rises (by_key key) more) (all_more e)
+    more_rising
 rises_step key false x y ys more e other all rising all_more more_rising =
     let first = above (key x) (key y) e other in
     and_from (list_all (by_key key x) (y ∷ ys)) (rises (by_key key) (y ∷ ys))
     (and_from (by_key key x y) (list_all (by_key key x) ys) first (all_later key x y ys first all))
     (and_from (list_all (by_key key y) ys) (rises (by_key key) ys) all rising)
 
-inserted_rises : {X : Type 0} (key : X → ℕ) (x : X) (ys : List X) → list_all (λ y. not (key x == key y)) ys ≡ true → rises (by_key key) ys ≡ true → rises (by_key key) (inserted (by_key key) x ys) ≡ true
+inserted_rises : {X : Type 0} (key : X → ℕ) (x : X) (ys : List X) → list_all (λ y. not (key x == key y)) ys ≡ true → rises (by_key key) ys ≡ true
+    → rises (by_key key) (inserted (by_key key) x ys) ≡ true
 inserted_rises key x [] others e = refl
 inserted_rises key x (y ∷ ys) others e =
     let other = and_parts (not (key x == key y)) (list_all (λ z. not (key x == key z)) ys) others in

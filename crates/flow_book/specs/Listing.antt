@@ -1,5 +1,5 @@
--- Lists of a catalog: the rows that pass a filter behind an id, and their count. Our own profile of the
--- Time-addressable Media Store.
+-- Lists of a catalog: the rows that pass a filter behind an id, and their count. Our own profile of
+-- the Time-addressable Media Store.
 use Rattle.std.specs.Prelude.{ℕ, ◌-◌, ◌^◌, nat_lt, List, Bool, true, ◌&&◌, Option, Some, None, filter, length, min}
 use Rattle.media_rows.specs.declared.command.FlowFilter.{FlowFilter}
 use Rattle.media_rows.specs.declared.command.SourceFilter.{SourceFilter}

@@ -112,8 +112,8 @@ impl FlowBook {
         })
     }
 
-    /// Sets or clears a part of a source: a tag, its label or its description. Any other part leaves all
-    /// but the moment of the change. It is refused as `NoSource` or `NotSet`.
+    /// Sets or clears a part of a source: a tag, its label or its description. It is refused as
+    /// `NoSource`, or as `NotSet` where the part isn't set or no source may have it.
     pub fn set_source(
         &self,
         alloc: Global,
@@ -208,6 +208,7 @@ impl FlowBook {
     pub fn is_in_order(&self)
         ensures { IsTrue (is_catalog_in_order self.now) }
     {
+        // The look at a field brings the book's invariant among the facts.
         let _flows = &self.flows;
     }
 

@@ -5,7 +5,7 @@ ghost use Rattle.media_rows.specs.Catalog.{collection_refusals};
 ghost use Rattle.media_rows.specs.Collections.{collected_by, collects_itself, first_missing, is_kept, member_ids};
 ghost use Rattle.media_rows.specs.Lists.{has_number};
 ghost use Rattle.media_rows.specs.Refusals.{first_refusal};
-ghost use Rattle.flow_book.specs.Answers.{Makes};
+ghost use Rattle.flow_book.specs.Answers.{Computes};
 
 use disk_trait::Memory;
 use media_rows::{FlowRow, Member, Refusal};
@@ -18,7 +18,7 @@ pub(crate) fn collection_refusal(
     id: u128,
     members: &[Member],
 ) -> Result<Option<Refusal>, Memory>
-    ensures { Makes result (first_refusal (collection_refusals flows.now id members.now)) }
+    ensures { Computes result (first_refusal (collection_refusals flows.now id members.now)) }
 {
     if let Some(missing) = first_missing(flows, id, members) {
         return Ok(Some(Refusal::CollectedMissing(missing)));
@@ -62,7 +62,7 @@ pub(crate) fn collects_itself(
     id: u128,
     members: &[Member],
 ) -> Result<bool, Memory>
-    ensures { Makes result (collects_itself flows.now id members.now) }
+    ensures { Computes result (collects_itself flows.now id members.now) }
 {
     let mut ids = member_ids(alloc, members)?;
     for _round in 0..flows.len() {

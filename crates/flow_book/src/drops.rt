@@ -2,7 +2,7 @@
 ghost use Rattle.std.specs.Prelude.{◌≡◌, ◌==◌, filter, not};
 ghost use Rattle.media_rows.specs.Catalog.{flows_after_drop, has_flow};
 ghost use Rattle.media_rows.specs.Collections.{without_entries};
-ghost use Rattle.flow_book.specs.Answers.{Makes};
+ghost use Rattle.flow_book.specs.Answers.{Computes};
 
 use disk_trait::{Duplicate, Memory};
 use media_rows::{FlowList, FlowRow, Member, MemberList, SourceList, SourceRow};
@@ -14,7 +14,7 @@ pub(crate) fn flows_after_drop(
     flows: &[FlowRow],
     id: u128,
 ) -> Result<FlowList, Memory>
-    ensures { Makes result (flows_after_drop id flows.now) }
+    ensures { Computes result (flows_after_drop id flows.now) }
 {
     let mut list = FlowList::new(alloc);
     for row in flows {
@@ -26,7 +26,7 @@ pub(crate) fn flows_after_drop(
 }
 
 fn without_entries(alloc: Global, row: &FlowRow, id: u128) -> Result<FlowRow, Memory>
-    ensures { Makes result (without_entries id row.now) }
+    ensures { Computes result (without_entries id row.now) }
 {
     let mut next = row.duplicate(alloc)?;
     next.body.members = members_without(alloc, row.body.members.items(), id)?;
@@ -34,7 +34,7 @@ fn without_entries(alloc: Global, row: &FlowRow, id: u128) -> Result<FlowRow, Me
 }
 
 fn members_without(alloc: Global, members: &[Member], id: u128) -> Result<MemberList, Memory>
-    ensures { Makes result (filter (λ m. not (m.flow == id)) members.now) }
+    ensures { Computes result (filter (λ m. not (m.flow == id)) members.now) }
 {
     let mut list = MemberList::new(alloc);
     for member in members {
@@ -51,7 +51,7 @@ pub(crate) fn sources_with_flow(
     sources: &[SourceRow],
     flows: &[FlowRow],
 ) -> Result<SourceList, Memory>
-    ensures { Makes result (filter (has_flow flows.now) sources.now) }
+    ensures { Computes result (filter (has_flow flows.now) sources.now) }
 {
     let mut list = SourceList::new(alloc);
     for source in sources {

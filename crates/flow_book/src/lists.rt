@@ -3,7 +3,7 @@ ghost use Rattle.std.specs.Prelude.{◌≡◌, option_copied};
 ghost use Rattle.media_rows.specs.Lists.{has_text};
 ghost use Rattle.media_rows.specs.Views.{has_value, matches_format, matches_id, matches_text, passes_flow, passes_source, passes_tag, passes_tags};
 ghost use Rattle.flow_book.specs.Listing.{flows_listed, is_behind, is_flow_listed, is_source_listed, sources_listed};
-ghost use Rattle.flow_book.specs.Answers.{Makes};
+ghost use Rattle.flow_book.specs.Answers.{Computes};
 
 use crate::parts::{find_tag, has_tag, same_text};
 use crate::puts::same_format;
@@ -20,7 +20,7 @@ pub(crate) fn flows_listed(
     wanted: &FlowFilter,
     after: Option<u128>,
 ) -> Result<FlowList, Memory>
-    ensures { Makes result (flows_listed wanted.now after flows.now) }
+    ensures { Computes result (flows_listed wanted.now after flows.now) }
 {
     let mut list = FlowList::new(alloc);
     for row in flows {
@@ -38,7 +38,7 @@ pub(crate) fn sources_listed(
     wanted: &SourceFilter,
     after: Option<u128>,
 ) -> Result<SourceList, Memory>
-    ensures { Makes result (sources_listed wanted.now after sources.now) }
+    ensures { Computes result (sources_listed wanted.now after sources.now) }
 {
     let mut list = SourceList::new(alloc);
     for row in sources {

@@ -3,7 +3,7 @@ ghost use Rattle.std.specs.Prelude.{◌≡◌, bytes_eq, filter, is_some, not, o
 ghost use Rattle.media_rows.specs.declared.refusal.Refusal.TheVariants as refusals;
 ghost use Rattle.media_rows.specs.Catalog.{body_with, clears_nothing, collects_nothing, flow_part_unset, sets_mark, source_part_unset, source_with, tag_of, tags_with};
 ghost use Rattle.media_rows.specs.Refusals.{when};
-ghost use Rattle.flow_book.specs.Answers.{Makes};
+ghost use Rattle.flow_book.specs.Answers.{Computes};
 
 use crate::ordered::placed_row;
 use disk_trait::{Duplicate, Memory, Text};
@@ -16,7 +16,7 @@ pub(crate) fn flow_part_unset(
     body: &FlowBody,
     part: &Part,
 ) -> Result<Option<Refusal>, Memory>
-    ensures { Makes result (flow_part_unset body.now part.now) }
+    ensures { Computes result (flow_part_unset body.now part.now) }
 {
     match part {
         Part::Tag(name, new) => not_set(
@@ -62,7 +62,7 @@ pub(crate) fn source_part_unset(
     row: &SourceRow,
     part: &Part,
 ) -> Result<Option<Refusal>, Memory>
-    ensures { Makes result (source_part_unset row.now part.now) }
+    ensures { Computes result (source_part_unset row.now part.now) }
 {
     match part {
         Part::Tag(name, new) => not_set(alloc, clears_no_tag(row.tags.items(), name, new), b"tags"),
@@ -79,7 +79,7 @@ pub(crate) fn source_part_unset(
 
 /// The refusal that names a part, where the test holds.
 fn not_set(alloc: Global, test: bool, name: &[u8]) -> Result<Option<Refusal>, Memory>
-    ensures { Makes result (when test (refusals.NotSet name.now)) }
+    ensures { Computes result (when test (refusals.NotSet name.now)) }
 {
     if test {
         return Ok(Some(Refusal::NotSet(Text::from_bytes(alloc, name)?)));
@@ -141,7 +141,7 @@ pub(crate) fn same_text(left: &Text, right: &Text) -> bool
 
 /// What is said of a flow, with one part set or cleared.
 pub(crate) fn body_with(alloc: Global, part: &Part, body: &FlowBody) -> Result<FlowBody, Memory>
-    ensures { Makes result (body_with part.now body.now) }
+    ensures { Computes result (body_with part.now body.now) }
 {
     let mut next = body.duplicate(alloc)?;
     match part {
@@ -158,7 +158,7 @@ pub(crate) fn body_with(alloc: Global, part: &Part, body: &FlowBody) -> Result<F
 
 /// A source with one part set or cleared. The parts that it hasn't change nothing.
 pub(crate) fn source_with(alloc: Global, part: &Part, row: &SourceRow) -> Result<SourceRow, Memory>
-    ensures { Makes result (source_with part.now row.now) }
+    ensures { Computes result (source_with part.now row.now) }
 {
     let mut next = row.duplicate(alloc)?;
     match part {
@@ -171,7 +171,7 @@ pub(crate) fn source_with(alloc: Global, part: &Part, row: &SourceRow) -> Result
 }
 
 fn tags_with(alloc: Global, name: &Text, new: &Option<Tag>, tags: &[Tag]) -> Result<TagList, Memory>
-    ensures { Makes result (tags_with name.now new.now tags.now) }
+    ensures { Computes result (tags_with name.now new.now tags.now) }
 {
     match new {
         None => tags_without(alloc, name, tags),
@@ -180,7 +180,7 @@ fn tags_with(alloc: Global, name: &Text, new: &Option<Tag>, tags: &[Tag]) -> Res
 }
 
 fn tags_without(alloc: Global, name: &Text, tags: &[Tag]) -> Result<TagList, Memory>
-    ensures { Makes result (filter (λ tag. not (bytes_eq tag.name name.now)) tags.now) }
+    ensures { Computes result (filter (λ tag. not (bytes_eq tag.name name.now)) tags.now) }
 {
     let mut list = TagList::new(alloc);
     for tag in tags {

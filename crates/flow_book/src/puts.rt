@@ -3,7 +3,7 @@ ghost use Rattle.std.specs.Prelude.{◌≡◌, [], Some, None, option_copied};
 ghost use Rattle.media_rows.specs.Catalog.{Catalog, fits_format, fits_source, flow_before, flow_of, keeps_flow, new_source, put_refusal, put_refusals, put_row, same_format, source_of, sources_after_put};
 ghost use Rattle.media_rows.specs.Lists.{placed};
 ghost use Rattle.media_rows.specs.Refusals.{first_refusal};
-ghost use Rattle.flow_book.specs.Answers.{Makes, catalog_with};
+ghost use Rattle.flow_book.specs.Answers.{Computes, catalog_with};
 
 use crate::collections::collection_refusal;
 use crate::looks::{find_flow, find_source};
@@ -21,7 +21,7 @@ pub(crate) fn put_refusal(
     flows: &[FlowRow],
     body: &FlowBody,
 ) -> Result<Option<Refusal>, Memory>
-    ensures { Makes result (put_refusal (catalog_with sources.now flows.now) body.now) }
+    ensures { Computes result (put_refusal (catalog_with sources.now flows.now) body.now) }
 {
     match find_flow(flows, body.id) {
         None => new_flow_refusal(alloc, sources, flows, body),
@@ -35,7 +35,7 @@ fn new_flow_refusal(
     flows: &[FlowRow],
     body: &FlowBody,
 ) -> Result<Option<Refusal>, Memory>
-    ensures { Makes result
+    ensures { Computes result
         (first_refusal (put_refusals None (catalog_with sources.now flows.now) body.now)) }
 {
     if !fits_source(find_source(sources, body.source), body) {
@@ -50,7 +50,7 @@ fn kept_flow_refusal(
     old: &FlowRow,
     body: &FlowBody,
 ) -> Result<Option<Refusal>, Memory>
-    ensures { Makes result
+    ensures { Computes result
         (first_refusal (put_refusals (Some old.now) (catalog_with [] flows.now) body.now)) }
 {
     if old.body.read_only {
@@ -98,7 +98,7 @@ pub(crate) fn flows_after_put(
     body: &FlowBody,
     now: u64,
 ) -> Result<FlowList, Memory>
-    ensures { Makes result
+    ensures { Computes result
         (placed flow_before (put_row (flow_of body.now.id flows.now) body.now now) flows.now) }
 {
     let row = put_row(alloc, find_flow(flows, body.id), body, now)?;
@@ -111,7 +111,7 @@ fn put_row(
     body: &FlowBody,
     now: u64,
 ) -> Result<FlowRow, Memory>
-    ensures { Makes result (put_row (option_copied old.entry) body.now now) }
+    ensures { Computes result (put_row (option_copied old.entry) body.now now) }
 {
     let body = body.duplicate(alloc)?;
     match old {
@@ -137,7 +137,7 @@ pub(crate) fn sources_after_put(
     body: &FlowBody,
     now: u64,
 ) -> Result<SourceList, Memory>
-    ensures { Makes result
+    ensures { Computes result
         (sources_after_put (source_of body.now.source sources.now) sources.now body.now now) }
 {
     match find_source(sources.items(), body.source) {

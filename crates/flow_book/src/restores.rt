@@ -6,7 +6,7 @@ ghost use Rattle.media_rows.specs.Collections.{is_kept, member_ids};
 ghost use Rattle.media_rows.specs.Good.{are_collections_good, fits_kept, is_collection_good};
 ghost use Rattle.media_rows.specs.Lists.{are_distinct};
 ghost use Rattle.media_rows.specs.Restoring.{can_restore_catalog};
-ghost use Rattle.flow_book.specs.Answers.{Makes};
+ghost use Rattle.flow_book.specs.Answers.{Computes};
 
 use crate::collections::{collects_itself, is_kept};
 use crate::drops::has_flow;
@@ -22,7 +22,7 @@ pub(crate) fn can_restore(
     sources: &[SourceRow],
     flows: &[FlowRow],
 ) -> Result<bool, Memory>
-    ensures { Makes result (can_restore_catalog sources.now flows.now) }
+    ensures { Computes result (can_restore_catalog sources.now flows.now) }
 {
     if !are_distinct(&source_ids(alloc, sources)?) {
         return Ok(false);
@@ -97,7 +97,7 @@ fn have_flows(sources: &[SourceRow], flows: &[FlowRow]) -> bool
 }
 
 fn are_collections_good(alloc: Global, flows: &[FlowRow]) -> Result<bool, Memory>
-    ensures { Makes result (are_collections_good flows.now) }
+    ensures { Computes result (are_collections_good flows.now) }
 {
     for row in flows {
         if !is_collection_good(alloc, flows, row)? {
@@ -108,7 +108,7 @@ fn are_collections_good(alloc: Global, flows: &[FlowRow]) -> Result<bool, Memory
 }
 
 fn is_collection_good(alloc: Global, flows: &[FlowRow], row: &FlowRow) -> Result<bool, Memory>
-    ensures { Makes result (is_collection_good flows.now row.now) }
+    ensures { Computes result (is_collection_good flows.now row.now) }
 {
     let members = row.body.members.items();
     if !are_kept(flows, members) {

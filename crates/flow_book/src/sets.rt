@@ -2,7 +2,7 @@
 ghost use Rattle.std.specs.Prelude.{◌≡◌, ◌==◌, Some, if◌then◌else◌};
 ghost use Rattle.media_rows.specs.Catalog.{flow_of, part_refusals, set_refusals, set_row, set_source_row, source_of, source_refusals, touched, with_flow, with_source};
 ghost use Rattle.media_rows.specs.Refusals.{first_refusal};
-ghost use Rattle.flow_book.specs.Answers.{Makes};
+ghost use Rattle.flow_book.specs.Answers.{Computes};
 
 use crate::collections::collection_refusal;
 use crate::looks::{find_flow, find_source};
@@ -18,7 +18,7 @@ pub(crate) fn set_refusal(
     id: u128,
     part: &Part,
 ) -> Result<Option<Refusal>, Memory>
-    ensures { Makes result
+    ensures { Computes result
         (first_refusal (set_refusals (flow_of id flows.now) flows.now id part.now)) }
 {
     match find_flow(flows, id) {
@@ -34,7 +34,7 @@ fn kept_set_refusal(
     id: u128,
     part: &Part,
 ) -> Result<Option<Refusal>, Memory>
-    ensures { Makes result (first_refusal (set_refusals (Some old.now) flows.now id part.now)) }
+    ensures { Computes result (first_refusal (set_refusals (Some old.now) flows.now id part.now)) }
 {
     if old.body.read_only && !sets_mark(part) {
         return Ok(Some(Refusal::ReadOnly));
@@ -51,7 +51,7 @@ fn part_refusal(
     id: u128,
     part: &Part,
 ) -> Result<Option<Refusal>, Memory>
-    ensures { Makes result (first_refusal (part_refusals flows.now id part.now)) }
+    ensures { Computes result (first_refusal (part_refusals flows.now id part.now)) }
 {
     match part {
         Part::Collection(members) => collection_refusal(alloc, flows, id, members.items()),
@@ -67,7 +67,7 @@ pub(crate) fn flows_after_set(
     part: &Part,
     now: u64,
 ) -> Result<FlowList, Memory>
-    ensures { Makes result (with_flow id (set_row part.now now) flows.now) }
+    ensures { Computes result (with_flow id (set_row part.now now) flows.now) }
 {
     let mut list = FlowList::new(alloc);
     for row in flows {
@@ -83,7 +83,7 @@ fn flow_after_set(
     part: &Part,
     now: u64,
 ) -> Result<FlowRow, Memory>
-    ensures { Makes result
+    ensures { Computes result
         (if row.now.body.id == id then set_row part.now now row.now else row.now) }
 {
     if row.body.id != id {
@@ -104,7 +104,7 @@ pub(crate) fn source_refusal(
     id: u128,
     part: &Part,
 ) -> Result<Option<Refusal>, Memory>
-    ensures { Makes result (first_refusal (source_refusals (source_of id sources.now) part.now)) }
+    ensures { Computes result (first_refusal (source_refusals (source_of id sources.now) part.now)) }
 {
     match find_source(sources, id) {
         None => Ok(Some(Refusal::NoSource)),
@@ -120,7 +120,7 @@ pub(crate) fn sources_after_set(
     part: &Part,
     now: u64,
 ) -> Result<SourceList, Memory>
-    ensures { Makes result (with_source id (set_source_row part.now now) sources.now) }
+    ensures { Computes result (with_source id (set_source_row part.now now) sources.now) }
 {
     let mut list = SourceList::new(alloc);
     for row in sources {
@@ -136,7 +136,7 @@ fn source_after_set(
     part: &Part,
     now: u64,
 ) -> Result<SourceRow, Memory>
-    ensures { Makes result
+    ensures { Computes result
         (if row.now.id == id then set_source_row part.now now row.now else row.now) }
 {
     if row.id != id {
@@ -154,7 +154,7 @@ pub(crate) fn flows_after_touch(
     id: u128,
     now: u64,
 ) -> Result<FlowList, Memory>
-    ensures { Makes result (with_flow id (touched now) flows.now) }
+    ensures { Computes result (with_flow id (touched now) flows.now) }
 {
     let mut list = FlowList::new(alloc);
     for row in flows {
@@ -164,7 +164,7 @@ pub(crate) fn flows_after_touch(
 }
 
 fn flow_after_touch(alloc: Global, row: &FlowRow, id: u128, now: u64) -> Result<FlowRow, Memory>
-    ensures { Makes result (if row.now.body.id == id then touched now row.now else row.now) }
+    ensures { Computes result (if row.now.body.id == id then touched now row.now else row.now) }
 {
     let mut next = row.duplicate(alloc)?;
     if row.body.id == id {

@@ -14,4 +14,5 @@ returns-then-have_all c =
     let found : c.in_ok-collected.collected.items ≡ collected_by flows ids = rw (← c.deref.ensures.value) c.in_ok-collected.ensures in
     let all : list_all (λ m. has_number m ids) (collected_by flows ids) ≡ true =
     rw (← found) (rw (← c.deref-in-loop-round.ensures.value) (rw (← c.deref-in-loop-round-2.ensures.value) (sym c.have_all.ensures ∙ c.if-have_all.true))) in
-    c.has_number.ensures ∙ rw c.deref-then-have_all.ensures.value (ended_early flows c.args.id c.args.members.now ids c.loop-round._round within c.loop-round.invariant all)
+    c.has_number.ensures ∙ rw c.deref-then-have_all.ensures.value
+    (ended_early flows c.args.id c.args.members.now ids c.loop-round._round within c.loop-round.invariant all)
