@@ -1,0 +1,5 @@
+use Rattle.shared_tree.proofs.version.Version.others.Given as goal
+
+-- the steps of the look are counted from a ledger of its own
+abbrev pub ghosts-holds : goal.ghosts-holds
+ghosts-holds g a = record { name = a.blank.name; parts = a.blank.parts }
