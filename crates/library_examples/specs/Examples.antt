@@ -11,6 +11,8 @@ use Rattle.media_rows.specs.declared.flow.FormatKind.{FormatKind}
 use Rattle.media_rows.specs.declared.flow.FormatKind.TheVariants.{Video}
 use Rattle.media_rows.specs.declared.flow.Member.{Member}
 use Rattle.media_rows.specs.declared.hook.Hook.{Hook}
+use Rattle.media_rows.specs.declared.part.Part.{Part}
+use Rattle.media_rows.specs.declared.part.Part.TheVariants as parts
 use Rattle.media_rows.specs.declared.segment.Segment.{Segment}
 use Rattle.media_rows.specs.Changes.{after}
 use Rattle.media_rows.specs.Library.{Library, empty_library}
@@ -162,3 +164,11 @@ outbox_with count = record {
   hooks = record { serial = 1; hook = hook (codes "h") None; failed = false } ∷ [];
   events = map (λ i. waiting (i + 2)) (numbers_below count);
 }
+
+-- a label that is set
+abbrev pub new_label : Part
+new_label = parts.Label (Some (codes "x"))
+
+-- the serials of the segments, in their order
+abbrev pub segment_serials : Library → List ℕ
+segment_serials library = map (λ row. row.serial) library.segments

@@ -3,7 +3,6 @@ use Rattle.std.specs.Prelude.{◌≡◌, ℕ, ◌+◌, List, [], ◌∷◌, ◌+
 use Rattle.media_rows.specs.declared.change.Change.{Change}
 use Rattle.media_rows.specs.declared.change.Change.TheVariants as changes
 use Rattle.media_rows.specs.declared.event.EventKind.TheVariants.{FlowCreated, SegmentsDeleted}
-use Rattle.media_rows.specs.declared.part.Part.{Part}
 use Rattle.media_rows.specs.declared.part.Part.TheVariants as parts
 use Rattle.media_rows.specs.Changes.{after}
 use Rattle.media_rows.specs.Events.{flow_event}
@@ -11,7 +10,7 @@ use Rattle.media_rows.specs.Formats.{event_number}
 use Rattle.media_rows.specs.Library.{Library}
 use Rattle.media_rows.specs.Outbox.{Posted, after_post, waiting_count}
 use Rattle.media_rows.specs.Ranges.{eternity}
-use Rattle.library_examples.specs.Examples.{after_all, first_flow, second_flow, one_source, nothing, put, seconds, piece, stored, post, allocate, hook, listen, outbox_with}
+use Rattle.library_examples.specs.Examples.{new_label, after_all, first_flow, second_flow, one_source, nothing, put, seconds, piece, stored, post, allocate, hook, listen, outbox_with}
 use Rattle.library_examples.specs.Studio.{third_flow, other_source, main_body, one_hook, two_hook, event, studio_events, studio}
 
 -- ---- events of each change
@@ -32,10 +31,6 @@ at_work = after_all (post (piece 0 1 ∷ piece 1 2 ∷ []) ∷ listen ∷ []) st
 abbrev pub bare : Library
 bare = after listen stored
 
--- the setting of a label
-abbrev pub label : Part
-label = parts.Label (Some (codes "x"))
-
 -- the request to delete the first flow with all its segments
 abbrev pub ask_for_all : Change
 ask_for_all = changes.AskDelete 0 first_flow eternity true
@@ -52,7 +47,7 @@ pub record EventsAreTold : Type 0 where
   pub flow_of_kept_source : kinds (after (put 0 second_flow) at_work) ≡ 1 ∷ []
   pub replaced : kinds (after (put 0 first_flow) at_work) ≡ 2 ∷ []
   pub part_set : kinds (after (changes.SetFlow 0 first_flow (parts.ReadOnly true)) at_work) ≡ 2 ∷ []
-  pub source_set : kinds (after (changes.SetSource 0 one_source label) at_work) ≡ 7 ∷ []
+  pub source_set : kinds (after (changes.SetSource 0 one_source new_label) at_work) ≡ 7 ∷ []
   pub added : kinds (after (post (piece 2 3 ∷ [])) at_work) ≡ 4 ∷ []
   pub cut : kinds (after (changes.CutSegments 0 first_flow (seconds 0 1)) at_work) ≡ 5 ∷ []
   pub dropped : kinds (after (changes.DropFlow 0 first_flow) at_work) ≡ 5 ∷ 3 ∷ 8 ∷ []
@@ -103,14 +98,14 @@ one_failed = record studio {
 -- alone. Rows that come in the same change have their serials before. The event of a source that
 -- goes is under the source's id.
 pub record TwoHooksHear : Type 0 where
-  pub part_set : told (changes.SetFlow 203 first_flow label)
+  pub part_set : told (changes.SetFlow 203 first_flow new_label)
       ≡ (10, 2, 241, 15) ∷ (11, 2, 241, 16) ∷ []
   pub replaced : told (changes.PutFlow 201 main_body) ≡ (10, 2, 241, 15) ∷ (11, 2, 241, 16) ∷ []
   pub source_not_listed : told (changes.SetFlow 203 second_flow (parts.ReadOnly false)) ≡ []
-  pub flow_not_listed : told (changes.SetFlow 203 third_flow label) ≡ []
-  pub source_set : told (changes.SetSource 204 one_source label)
+  pub flow_not_listed : told (changes.SetFlow 203 third_flow new_label) ≡ []
+  pub source_set : told (changes.SetSource 204 one_source new_label)
       ≡ (10, 7, 161, 15) ∷ (11, 7, 161, 16) ∷ []
-  pub other_source_set : told (changes.SetSource 204 other_source label) ≡ []
+  pub other_source_set : told (changes.SetSource 204 other_source new_label) ≡ []
   pub kind_not_listed : told (changes.AddSegments 208 first_flow (piece 40 50 ∷ piece 50 60 ∷ []))
       ≡ (10, 4, 241, 17) ∷ []
   pub cut : told (changes.CutSegments 209 first_flow (seconds 0 10))
@@ -127,7 +122,7 @@ pub record TwoHooksHear : Type 0 where
   pub hull_of_the_added : map (λ row. row.range) (after (changes.AddSegments 208 first_flow
       (piece 50 60 ∷ piece 40 45 ∷ [])) quiet).outbox.events ≡ Some (seconds 40 60) ∷ []
   pub failed_hears_nothing :
-      map (λ row. row.hook) (after (changes.SetFlow 203 first_flow label) one_failed).outbox.events
+      map (λ row. row.hook) (after (changes.SetFlow 203 first_flow new_label) one_failed).outbox.events
       ≡ 11 ∷ []
 
 -- ---- a hook with 1,000 waiting events

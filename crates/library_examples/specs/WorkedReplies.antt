@@ -8,8 +8,6 @@ use Rattle.media_rows.specs.declared.command.Command.TheVariants as commands
 use Rattle.media_rows.specs.declared.command.Want.TheVariants.{Count, Named}
 use Rattle.media_rows.specs.declared.flow.FormatKind.TheVariants.{Multi}
 use Rattle.media_rows.specs.declared.object.ObjectState.TheVariants.{Stored}
-use Rattle.media_rows.specs.declared.part.Part.{Part}
-use Rattle.media_rows.specs.declared.part.Part.TheVariants as parts
 use Rattle.media_rows.specs.declared.refusal.Refusal.TheVariants as refusals
 use Rattle.media_rows.specs.declared.reply.Reply.{Reply}
 use Rattle.media_rows.specs.declared.reply.Reply.TheVariants as replies
@@ -22,7 +20,7 @@ use Rattle.media_rows.specs.Media.{Archive, is_held, asks, puts, gets, answer_to
 use Rattle.media_rows.specs.Objects.{free_place}
 use Rattle.media_rows.specs.Ranges.{eternity}
 use Rattle.media_rows.specs.Segments.{covered, overlapping}
-use Rattle.library_examples.specs.Examples.{first_flow, second_flow, body, nothing, seconds, piece, stored, allocate, with_pieces, hook}
+use Rattle.library_examples.specs.Examples.{segment_serials, new_label, first_flow, second_flow, body, nothing, seconds, piece, stored, allocate, with_pieces, hook}
 use Rattle.library_examples.specs.Studio.{other_source, main_body, object_a, object_b, one_hook, studio}
 
 -- the answer to a command on the studio at moment 205
@@ -37,10 +35,6 @@ gives reply change = record { reply = reply; change = Some change }
 abbrev pub leaves : Reply → Outcome
 leaves reply = record { reply = reply; change = None }
 
--- the setting of a label
-abbrev pub label : Part
-label = parts.Label (Some (codes "x"))
-
 -- ---- each command
 
 -- A flow, a hook or segments that are new are created, and all else is done. What isn't there isn't
@@ -50,10 +44,10 @@ pub record RepliesAreGiven : Type 0 where
       ≡ gives replies.Done (changes.PutFlow 205 main_body)
   pub new_flow : answered (commands.PutFlow (body 244 Multi []))
       ≡ gives replies.Created (changes.PutFlow 205 (body 244 Multi []))
-  pub flow_part : answered (commands.SetFlow first_flow label)
-      ≡ gives replies.Done (changes.SetFlow 205 first_flow label)
-  pub source_part : answered (commands.SetSource other_source label)
-      ≡ gives replies.Done (changes.SetSource 205 other_source label)
+  pub flow_part : answered (commands.SetFlow first_flow new_label)
+      ≡ gives replies.Done (changes.SetFlow 205 first_flow new_label)
+  pub source_part : answered (commands.SetSource other_source new_label)
+      ≡ gives replies.Done (changes.SetSource 205 other_source new_label)
   pub drop : answered (commands.DropFlow first_flow)
       ≡ gives replies.Done (changes.DropFlow 205 first_flow)
   pub named : answered (commands.Allocate first_flow (Named (codes "e" ∷ codes "d" ∷ [])))
@@ -80,8 +74,8 @@ pub record RepliesAreGiven : Type 0 where
 -- ---- what goes at once, and what is asked for
 
 -- the request that a command on 33 segments makes
-abbrev pub request_of : Option Span → Bool → DeleteRow
-request_of range delete_flow = record {
+abbrev pub made_request : Option Span → Bool → DeleteRow
+made_request range delete_flow = record {
   serial = 35;
   flow = first_flow;
   range = range;
@@ -97,19 +91,15 @@ pub record ManyAreAskedFor : Type 0 where
   pub few : answer (with_pieces 32) (commands.DropFlow first_flow) 205
       ≡ gives replies.Done (changes.DropFlow 205 first_flow)
   pub many : answer (with_pieces 33) (commands.DropFlow first_flow) 205
-      ≡ gives (replies.Accepted (request_of eternity true))
+      ≡ gives (replies.Accepted (made_request eternity true))
       (changes.AskDelete 205 first_flow eternity true)
   pub cut_few : answer (with_pieces 33) (commands.CutSegments first_flow (seconds 0 32)) 205
       ≡ gives replies.Done (changes.CutSegments 205 first_flow (seconds 0 32))
   pub cut_many : answer (with_pieces 33) (commands.CutSegments first_flow (seconds 0 33)) 205
-      ≡ gives (replies.Accepted (request_of (seconds 0 33) false))
+      ≡ gives (replies.Accepted (made_request (seconds 0 33) false))
       (changes.AskDelete 205 first_flow (seconds 0 33) false)
   pub none_covered : answer (with_pieces 33) (commands.CutSegments first_flow (seconds 40 50)) 205
       ≡ leaves replies.Done
-
--- the serials of the segments, in their order
-abbrev pub serials : Library → List ℕ
-serials library = map (λ row. row.serial) library.segments
 
 -- A cut removes what its range covers, and leaves what only overlaps it, and the segments of other
 -- flows.
@@ -117,9 +107,9 @@ pub record CutsCover : Type 0 where
   pub covers : map (λ row. row.serial) (covered studio.segments first_flow (seconds 0 15)) ≡ 5 ∷ []
   pub meets : map (λ row. row.serial) (overlapping studio.segments first_flow (seconds 0 15) None)
       ≡ 5 ∷ 4 ∷ []
-  pub left : serials (after (changes.CutSegments 205 first_flow (seconds 0 15)) studio)
+  pub left : segment_serials (after (changes.CutSegments 205 first_flow (seconds 0 15)) studio)
       ≡ 4 ∷ 6 ∷ 7 ∷ []
-  pub whole : serials (after (changes.CutSegments 205 first_flow eternity) studio) ≡ 6 ∷ []
+  pub whole : segment_serials (after (changes.CutSegments 205 first_flow eternity) studio) ≡ 6 ∷ []
   pub inner : map (λ row. row.serial) (covered studio.segments first_flow (seconds 1 9)) ≡ []
 
 -- ---- ids that the store makes

@@ -16,7 +16,7 @@ use Rattle.media_rows.specs.declared.request.DeleteStatus.TheVariants as statuse
 use Rattle.media_rows.specs.Changes.{after}
 use Rattle.media_rows.specs.Library.{Library}
 use Rattle.media_rows.specs.Ranges.{eternity}
-use Rattle.library_examples.specs.Examples.{after_all, first_flow, second_flow, one_source, body_of, member, put, seconds, piece}
+use Rattle.library_examples.specs.Examples.{new_label, after_all, first_flow, second_flow, one_source, body_of, member, put, seconds, piece}
 use Rattle.library_examples.specs.Studio.{third_flow, other_source, place_tag, take_tag, left_source, bare_source, main_body, sound_body, both_body, main_flow, sound_flow, both_flow, object_a, object_b, object_c, later_piece, early_piece, third_piece, last_piece, open_request, done_request, one_hook, two_hook, event, studio}
 
 -- when each flow was made, last said anew, and last got or lost a segment
@@ -60,10 +60,6 @@ post_at moment = changes.AddSegments moment first_flow (piece 40 50 ∷ [])
 abbrev pub cut_at : ℕ → Change
 cut_at moment = changes.CutSegments moment first_flow (seconds 0 10)
 
--- the setting of a label
-abbrev pub label : Part
-label = parts.Label (Some (codes "x"))
-
 -- the request to delete all of the first flow's segments
 abbrev pub ask_at : ℕ → Change
 ask_at moment = changes.AskDelete moment first_flow eternity false
@@ -78,9 +74,9 @@ pub record FlowStamps : Type 0 where
       ≡ (111, 201, Some 113) ∷ other_stamps
   pub new_put : flow_stamps (studio_after (changes.PutFlow 202 new_body))
       ≡ same_stamps ++ (202, 202, None) ∷ []
-  pub part_set : flow_stamps (studio_after (changes.SetFlow 203 first_flow label))
+  pub part_set : flow_stamps (studio_after (changes.SetFlow 203 first_flow new_label))
       ≡ (111, 203, Some 113) ∷ other_stamps
-  pub source_set : flow_stamps (studio_after (changes.SetSource 204 one_source label)) ≡ same_stamps
+  pub source_set : flow_stamps (studio_after (changes.SetSource 204 one_source new_label)) ≡ same_stamps
   pub dropped : flow_stamps (studio_after (changes.DropFlow 205 first_flow)) ≡ other_stamps
   pub allocated : flow_stamps (studio_after (changes.Allocate 206 first_flow (codes "d" ∷ [])))
       ≡ same_stamps
@@ -103,9 +99,9 @@ pub record SourceStamps : Type 0 where
   pub new_put : source_stamps (studio_after (changes.PutFlow 202 new_body))
       ≡ (101, 102) ∷ (103, 104) ∷ (202, 202) ∷ []
   pub flow_of_kept : source_stamps (studio_after (put 203 244)) ≡ (101, 102) ∷ (103, 104) ∷ []
-  pub part_set : source_stamps (studio_after (changes.SetFlow 204 first_flow label))
+  pub part_set : source_stamps (studio_after (changes.SetFlow 204 first_flow new_label))
       ≡ (101, 102) ∷ (103, 104) ∷ []
-  pub source_set : source_stamps (studio_after (changes.SetSource 205 other_source label))
+  pub source_set : source_stamps (studio_after (changes.SetSource 205 other_source new_label))
       ≡ (101, 102) ∷ (103, 205) ∷ []
   pub dropped : source_stamps (studio_after (changes.DropFlow 206 second_flow)) ≡ (101, 102) ∷ []
 
@@ -243,7 +239,7 @@ pub record PartsAreSet : Type 0 where
       ≡ first_body (record main_body { tags = place_tag ∷ new_take ∷ [] })
   pub no_tag : body_after (parts.Tag (codes "place") None)
       ≡ first_body (record main_body { tags = take_tag ∷ [] })
-  pub label_set : body_after label ≡ first_body (record main_body { label = Some (codes "x") })
+  pub label_set : body_after new_label ≡ first_body (record main_body { label = Some (codes "x") })
   pub no_description : body_after (parts.Description None)
       ≡ first_body (record main_body { description = None })
   pub mark : body_after (parts.ReadOnly true) ≡ first_body (record main_body { read_only = true })
@@ -253,7 +249,7 @@ pub record PartsAreSet : Type 0 where
       ≡ first_body (record main_body { max_bit_rate = None })
   pub avg_rate : body_after (parts.AvgBitRate (Some 7))
       ≡ first_body (record main_body { avg_bit_rate = Some 7 })
-  pub source_label : (studio_after (changes.SetSource 204 other_source label)).catalog.sources
+  pub source_label : (studio_after (changes.SetSource 204 other_source new_label)).catalog.sources
       ≡ left_source ∷ record bare_source { label = Some (codes "x"); updated = 204 } ∷ []
   pub source_tag : (studio_after
       (changes.SetSource 204 one_source (parts.Tag (codes "place") None))).catalog.sources

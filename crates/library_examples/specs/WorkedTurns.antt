@@ -15,12 +15,8 @@ use Rattle.media_rows.specs.Ranges.{eternity}
 use Rattle.media_rows.specs.Requests.{asked_row, is_finished_by_step}
 use Rattle.media_rows.specs.declared.request.DeleteRow.{DeleteRow}
 use Rattle.media_rows.specs.Segments.{covered}
-use Rattle.library_examples.specs.Examples.{after_all, first_flow, second_flow, nothing, put, seconds, piece, stored, pieces, post, with_pieces, shared, hook}
+use Rattle.library_examples.specs.Examples.{segment_serials, after_all, first_flow, second_flow, nothing, put, seconds, piece, stored, pieces, post, with_pieces, shared, hook}
 use Rattle.library_examples.specs.Studio.{third_flow, open_request, done_request, event, studio}
-
--- the serials of the segments, in their order
-abbrev pub serials : Library → List ℕ
-serials library = map (λ row. row.serial) library.segments
 
 -- the serials and the statuses of the delete requests, in their order
 abbrev pub numbers : Library → List (ℕ × ℕ)
@@ -64,13 +60,13 @@ behind_all = asked_row first_flow eternity false 100 0
 -- which the first removes 32, and a segment that was posted after it stays.
 pub record DeletesInSteps : Type 0 where
   pub at_once : length (covered (with_pieces 33).segments first_flow (seconds 0 32)) ≡ 32
-  pub one_left : serials (after (changes.CutSegments 0 first_flow (seconds 0 32)) (with_pieces 33))
+  pub one_left : segment_serials (after (changes.CutSegments 0 first_flow (seconds 0 32)) (with_pieces 33))
       ≡ 34 ∷ []
   pub request : numbers ask_all ≡ (35, 1) ∷ []
   pub due : turn ask_all 7 ≡ Some (changes.DeleteStep 7)
-  pub after_first : serials (after (changes.DeleteStep 7) ask_all) ≡ 34 ∷ []
+  pub after_first : segment_serials (after (changes.DeleteStep 7) ask_all) ≡ 34 ∷ []
   pub started : numbers (after (changes.DeleteStep 7) ask_all) ≡ (35, 2) ∷ []
-  pub later_post_stays : serials all_done ≡ 36 ∷ []
+  pub later_post_stays : segment_serials all_done ≡ 36 ∷ []
   pub done : numbers all_done ≡ (35, 3) ∷ []
   pub no_more : turn all_done 10 ≡ None
   pub last_step : is_finished_by_step (two_flows 32).segments behind_all ≡ true
@@ -99,9 +95,9 @@ backwards_twice = after (changes.DeleteStep 13) backwards_once
 -- A step removes the first segments by first point and not by serial, and its event has the hull of
 -- those.
 pub record StepsGoByFirstPoint : Type 0 where
-  pub left_once : serials backwards_once ≡ 3 ∷ 36 ∷ []
+  pub left_once : segment_serials backwards_once ≡ 3 ∷ 36 ∷ []
   pub started : numbers backwards_once ≡ (38, 2) ∷ []
-  pub left_twice : serials backwards_twice ≡ 36 ∷ []
+  pub left_twice : segment_serials backwards_twice ≡ 36 ∷ []
   pub done : numbers backwards_twice ≡ (38, 3) ∷ []
   pub events : backwards_twice.outbox.events
       ≡ event 37 2 SegmentsAdded first_flow (Some (seconds 0 34)) 5
@@ -126,14 +122,14 @@ flow_goes = record studio {
 -- removes the flow.
 pub record RequestsInOrder : Type 0 where
   pub first_one : numbers (after (changes.DeleteStep 211) two_open) ≡ (8, 3) ∷ (9, 2) ∷ []
-  pub first_left : serials (after (changes.DeleteStep 211) two_open) ≡ 4 ∷ 6 ∷ 7 ∷ []
+  pub first_left : segment_serials (after (changes.DeleteStep 211) two_open) ≡ 4 ∷ 6 ∷ 7 ∷ []
   pub both : turns (211 ∷ 212 ∷ 213 ∷ []) two_open
       ≡ Some (changes.DeleteStep 211) ∷ Some (changes.DeleteStep 212) ∷ None ∷ []
   pub flow_gone : map (λ row. row.body.id) (after (changes.DeleteStep 211) flow_goes).catalog.flows
       ≡ second_flow ∷ third_flow ∷ []
   pub flow_stays : map (λ row. row.body.id) (after (changes.DeleteStep 211) studio).catalog.flows
       ≡ first_flow ∷ second_flow ∷ third_flow ∷ []
-  pub flow_left : serials (after (changes.DeleteStep 211) flow_goes) ≡ 6 ∷ []
+  pub flow_left : segment_serials (after (changes.DeleteStep 211) flow_goes) ≡ 6 ∷ []
   pub done : numbers (after (changes.DeleteStep 211) flow_goes) ≡ (8, 3) ∷ (9, 3) ∷ []
 
 -- ---- sweeping

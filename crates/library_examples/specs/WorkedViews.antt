@@ -105,8 +105,8 @@ abbrev pub one_part : Part → Reply
 one_part value = shown (views.OnePart value)
 
 -- a part that isn't set, by its name
-abbrev pub not_set : List ℕ → Reply
-not_set name = replies.Refused (refusals.NotSet name)
+abbrev pub refused_part : List ℕ → Reply
+refused_part name = replies.Refused (refusals.NotSet name)
 
 -- Each part of a flow that is set is shown, and each that isn't is refused by its name. The mark
 -- and the list of all tags are there always.
@@ -123,13 +123,13 @@ pub record FlowPartsAreShown : Type 0 where
       ≡ one_part (parts.Collection both_body.members)
   pub max_rate : part names.MaxBitRate ≡ one_part (parts.MaxBitRate (Some 9000))
   pub avg_rate : part names.AvgBitRate ≡ one_part (parts.AvgBitRate (Some 8000))
-  pub no_tag : part (names.Tag (codes "x")) ≡ not_set (codes "tags")
+  pub no_tag : part (names.Tag (codes "x")) ≡ refused_part (codes "tags")
   pub no_tags : bare_part names.Tags ≡ shown (views.AllTags [])
-  pub no_label : bare_part names.Label ≡ not_set (codes "label")
-  pub no_description : bare_part names.Description ≡ not_set (codes "description")
-  pub no_collection : bare_part names.Collection ≡ not_set (codes "flow_collection")
-  pub no_max_rate : bare_part names.MaxBitRate ≡ not_set (codes "max_bit_rate")
-  pub no_avg_rate : bare_part names.AvgBitRate ≡ not_set (codes "avg_bit_rate")
+  pub no_label : bare_part names.Label ≡ refused_part (codes "label")
+  pub no_description : bare_part names.Description ≡ refused_part (codes "description")
+  pub no_collection : bare_part names.Collection ≡ refused_part (codes "flow_collection")
+  pub no_max_rate : bare_part names.MaxBitRate ≡ refused_part (codes "max_bit_rate")
+  pub no_avg_rate : bare_part names.AvgBitRate ≡ refused_part (codes "avg_bit_rate")
 
 -- A source has tags, a label and a description alone.
 pub record SourcePartsAreShown : Type 0 where
@@ -139,14 +139,14 @@ pub record SourcePartsAreShown : Type 0 where
   pub label : part_of_source names.Label ≡ one_part (parts.Label (Some (codes "left")))
   pub description : part_of_source names.Description
       ≡ one_part (parts.Description (Some (codes "the left camera")))
-  pub no_tag : bare_source_part (names.Tag (codes "place")) ≡ not_set (codes "tags")
+  pub no_tag : bare_source_part (names.Tag (codes "place")) ≡ refused_part (codes "tags")
   pub no_tags : bare_source_part names.Tags ≡ shown (views.AllTags [])
-  pub no_label : bare_source_part names.Label ≡ not_set (codes "label")
-  pub no_description : bare_source_part names.Description ≡ not_set (codes "description")
-  pub no_mark : part_of_source names.ReadOnly ≡ not_set (codes "read_only")
-  pub no_collection : part_of_source names.Collection ≡ not_set (codes "flow_collection")
-  pub no_max_rate : part_of_source names.MaxBitRate ≡ not_set (codes "max_bit_rate")
-  pub no_avg_rate : part_of_source names.AvgBitRate ≡ not_set (codes "avg_bit_rate")
+  pub no_label : bare_source_part names.Label ≡ refused_part (codes "label")
+  pub no_description : bare_source_part names.Description ≡ refused_part (codes "description")
+  pub no_mark : part_of_source names.ReadOnly ≡ refused_part (codes "read_only")
+  pub no_collection : part_of_source names.Collection ≡ refused_part (codes "flow_collection")
+  pub no_max_rate : part_of_source names.MaxBitRate ≡ refused_part (codes "max_bit_rate")
+  pub no_avg_rate : part_of_source names.AvgBitRate ≡ refused_part (codes "avg_bit_rate")
 
 -- ---- filters of sources
 
@@ -155,24 +155,24 @@ abbrev pub any_source : SourceFilter
 any_source = record { format = None; label = None; tags = [] }
 
 -- the ids of the sources that pass
-abbrev pub source_ids : SourceFilter → List ℕ
-source_ids wanted = map (λ row. row.id) (listed_sources studio wanted)
+abbrev pub passing_sources : SourceFilter → List ℕ
+passing_sources wanted = map (λ row. row.id) (listed_sources studio wanted)
 
 -- Sources are listed by format, by the whole label, and by each test on tags.
 pub record SourcesAreListed : Type 0 where
-  pub all : source_ids any_source ≡ one_source ∷ other_source ∷ []
-  pub by_format : source_ids (record any_source { format = Some Audio }) ≡ other_source ∷ []
-  pub no_format : source_ids (record any_source { format = Some Multi }) ≡ []
-  pub by_label : source_ids (record any_source { label = Some (codes "left") }) ≡ one_source ∷ []
-  pub part_of_label : source_ids (record any_source { label = Some (codes "lef") }) ≡ []
+  pub all : passing_sources any_source ≡ one_source ∷ other_source ∷ []
+  pub by_format : passing_sources (record any_source { format = Some Audio }) ≡ other_source ∷ []
+  pub no_format : passing_sources (record any_source { format = Some Multi }) ≡ []
+  pub by_label : passing_sources (record any_source { label = Some (codes "left") }) ≡ one_source ∷ []
+  pub part_of_label : passing_sources (record any_source { label = Some (codes "lef") }) ≡ []
   pub by_value :
-      source_ids (record any_source { tags = Equals (codes "place") (codes "stage") ∷ [] })
+      passing_sources (record any_source { tags = Equals (codes "place") (codes "stage") ∷ [] })
       ≡ one_source ∷ []
-  pub no_value : source_ids (record any_source { tags = Equals (codes "place") (codes "x") ∷ [] })
+  pub no_value : passing_sources (record any_source { tags = Equals (codes "place") (codes "x") ∷ [] })
       ≡ []
-  pub with_tag : source_ids (record any_source { tags = Exists (codes "place") true ∷ [] })
+  pub with_tag : passing_sources (record any_source { tags = Exists (codes "place") true ∷ [] })
       ≡ one_source ∷ []
-  pub without_tag : source_ids (record any_source { tags = Exists (codes "place") false ∷ [] })
+  pub without_tag : passing_sources (record any_source { tags = Exists (codes "place") false ∷ [] })
       ≡ other_source ∷ []
   pub view : reply (commands.Sources any_source nine)
       ≡ shown (views.Sources (left_source ∷ bare_source ∷ []) None)
@@ -184,8 +184,8 @@ abbrev pub any_flow : FlowFilter
 any_flow = record { source = None; format = None; codec = None; label = None; tags = [] }
 
 -- the ids of the flows that pass
-abbrev pub flow_ids : FlowFilter → List ℕ
-flow_ids wanted = map (λ row. row.body.id) (listed_flows studio wanted None)
+abbrev pub passing_flows : FlowFilter → List ℕ
+passing_flows wanted = map (λ row. row.body.id) (listed_flows studio wanted None)
 
 -- the ids of the flows with a segment in a range
 abbrev pub ids_within : Option Span → List ℕ
@@ -198,24 +198,24 @@ tagged tests = record any_flow { tags = tests }
 -- Flows are listed by source, format, whole codec and whole label, by each test on tags, and by a
 -- range in which a segment of theirs lies in part.
 pub record FlowsAreListed : Type 0 where
-  pub all : flow_ids any_flow ≡ first_flow ∷ second_flow ∷ third_flow ∷ []
-  pub by_source : flow_ids (record any_flow { source = Some one_source })
+  pub all : passing_flows any_flow ≡ first_flow ∷ second_flow ∷ third_flow ∷ []
+  pub by_source : passing_flows (record any_flow { source = Some one_source })
       ≡ first_flow ∷ third_flow ∷ []
-  pub no_source : flow_ids (record any_flow { source = Some 99 }) ≡ []
-  pub by_format : flow_ids (record any_flow { format = Some Multi }) ≡ third_flow ∷ []
-  pub no_format : flow_ids (record any_flow { format = Some Image }) ≡ []
-  pub by_codec : flow_ids (record any_flow { codec = Some (codes "aac") }) ≡ second_flow ∷ []
-  pub part_of_codec : flow_ids (record any_flow { codec = Some (codes "aa") }) ≡ []
-  pub by_label : flow_ids (record any_flow { label = Some (codes "both") }) ≡ third_flow ∷ []
-  pub no_label : flow_ids (record any_flow { label = Some (codes "x") }) ≡ []
-  pub by_value : flow_ids (tagged (Equals (codes "place") (codes "stage") ∷ [])) ≡ first_flow ∷ []
-  pub no_value : flow_ids (tagged (Equals (codes "place") (codes "7") ∷ [])) ≡ []
+  pub no_source : passing_flows (record any_flow { source = Some 99 }) ≡ []
+  pub by_format : passing_flows (record any_flow { format = Some Multi }) ≡ third_flow ∷ []
+  pub no_format : passing_flows (record any_flow { format = Some Image }) ≡ []
+  pub by_codec : passing_flows (record any_flow { codec = Some (codes "aac") }) ≡ second_flow ∷ []
+  pub part_of_codec : passing_flows (record any_flow { codec = Some (codes "aa") }) ≡ []
+  pub by_label : passing_flows (record any_flow { label = Some (codes "both") }) ≡ third_flow ∷ []
+  pub no_label : passing_flows (record any_flow { label = Some (codes "x") }) ≡ []
+  pub by_value : passing_flows (tagged (Equals (codes "place") (codes "stage") ∷ [])) ≡ first_flow ∷ []
+  pub no_value : passing_flows (tagged (Equals (codes "place") (codes "7") ∷ [])) ≡ []
   pub both_tests :
-      flow_ids
+      passing_flows
       (tagged (Equals (codes "place") (codes "hall") ∷ Equals (codes "take") (codes "8") ∷ []))
       ≡ []
-  pub with_tag : flow_ids (tagged (Exists (codes "take") true ∷ [])) ≡ first_flow ∷ []
-  pub without_tag : flow_ids (tagged (Exists (codes "take") false ∷ []))
+  pub with_tag : passing_flows (tagged (Exists (codes "take") true ∷ [])) ≡ first_flow ∷ []
+  pub without_tag : passing_flows (tagged (Exists (codes "take") false ∷ []))
       ≡ second_flow ∷ third_flow ∷ []
   pub within : ids_within (seconds 6 9) ≡ first_flow ∷ third_flow ∷ []
   pub within_one : ids_within (seconds 25 26) ≡ first_flow ∷ []
