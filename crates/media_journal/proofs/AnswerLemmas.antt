@@ -71,10 +71,12 @@ same_half image a b (Some at) (Some k) first second =
     }
 
 -- values with the same parts are one
-same_position : (p q : Position) → q.blocks ≡ p.blocks → q.start ≡ p.start → q.gate ≡ p.gate → q.room ≡ p.room → q ≡ p
-same_position p q blocks start gate room =
-    let make : ℕ → ℕ → ℕ → ℕ → Position = λ w x y z. record { blocks = w; start = x; gate = y; room = z } in
-    ap₂ (λ (w x : ℕ). make w x q.gate q.room) blocks start ∙ ap₂ (λ (y z : ℕ). make p.blocks p.start y z) gate room
+same_position : (p q : Position) → q.blocks ≡ p.blocks → q.half ≡ p.half → q.start ≡ p.start → q.gate ≡ p.gate → q.room ≡ p.room → q ≡ p
+same_position p q blocks half start gate room =
+    let make : ℕ → ℕ → ℕ → ℕ → ℕ → Position = λ v w x y z. record { blocks = v; half = w; start = x; gate = y; room = z } in
+    ap₂ (λ (v w : ℕ). make v w q.start q.gate q.room) blocks half
+    ∙ ap₂ (λ (x y : ℕ). make p.blocks p.half x y q.room) start gate
+    ∙ ap (λ (z : ℕ). make p.blocks p.half p.start p.gate z) room
 
 same_opened : (a b : Opened) → b.journal ≡ a.journal → b.rows ≡ a.rows → b.found ≡ a.found → b.torn ≡ a.torn → header_of b ≡ header_of a → b.rows_at ≡ a.rows_at → b ≡ a
 same_opened a b journal rows found torn header place =
@@ -91,7 +93,7 @@ one_opened image a b first second =
     let start : active_start image b.half ≡ active_start image a.half = ap (λ (x : Header). active_start image x.half) header in
     let blocks : b.blocks ≡ a.blocks = ap (λ (x : Header). x.blocks) header in
     let same = same_half image a b a.torn b.torn first.half second.half in
-    let journal = same_position a.journal b.journal (second.blocks ∙ blocks ∙ sym first.blocks) (second.start ∙ start ∙ sym first.start) same.gate same.room in
+    let journal = same_position a.journal b.journal (second.blocks ∙ blocks ∙ sym first.blocks) (second.half_blocks ∙ ap (λ (h : Header). h.half) header ∙ sym first.half_blocks) (second.start ∙ start ∙ sym first.start) same.gate same.room in
     same_opened a b journal same.rows same.found same.torn header (omega (arith, first.rows_at, second.rows_at, start))
 
 -- two answers of an image are one

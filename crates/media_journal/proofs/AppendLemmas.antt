@@ -32,6 +32,11 @@ pub active_start-least : (image : List ℕ) (half : ℕ) → 8192 ≤ active_sta
 active_start-least image half =
     elim (slice_index image 4096 % 2 == 0) as (λ b. 8192 ≤ (if b then 8192 else 8192 + 4096 * half)) [ true ↦ omega arith | false ↦ omega arith ]
 
+-- and none behind the first two blocks and a half
+pub active_start-most : (image : List ℕ) (half : ℕ) → active_start image half ≤ 8192 + 4096 * half
+active_start-most image half =
+    elim (slice_index image 4096 % 2 == 0) as (λ b. (if b then 8192 else 8192 + 4096 * half) ≤ 8192 + 4096 * half) [ true ↦ omega arith | false ↦ omega arith ]
+
 -- the image once the gate was opened behind the frame
 abbrev pub recorded : List ℕ → ℕ → List ℕ → List ℕ
 recorded image gate payload = overwritten gate (1 ∷ []) (overwritten (gate + 1) (frame_text payload) image)
@@ -116,4 +121,5 @@ gives_more image p h rows records payload within room short g =
       start = g.start ∙ sym start;
       room = rw start (omega (arith, g.room));
       blocks = g.blocks;
+      half = g.half;
     }

@@ -4,7 +4,7 @@ use Rattle.std.proofs.lemmas.List.{drop_more}
 use Rattle.std.proofs.lemmas.Bool.{cases_eq}
 use Rattle.std.specs.Prelude.{if◌then◌else◌}
 use Rattle.disk_trait.specs.Device.{Device, Left, IsDevice, may_leave, as_read}
-use Rattle.disk_trait.specs.Calls.{bytes_at, overwritten, Torn, TornWrite, Elapses}
+use Rattle.disk_trait.specs.Calls.{overwritten, Follows, Torn, TornWrite, Elapses}
 use Rattle.disk_trait.proofs.Theorems.{elapses_weaker, torn_twice}
 use Rattle.disk_trait.proofs.TornLemmas.{byte_kept, bytes_kept, torn_wider}
 use Rattle.disk_trait.proofs.OverwriteLemmas.{length-overwritten, bytes_at-before}
@@ -46,6 +46,7 @@ gives_kept image other p h rows records size same closed g =
       start = g.start ∙ sym start;
       room = g.room ∙ ap (λ (at : ℕ). at + 4096 * h.half) (sym start);
       blocks = g.blocks;
+      half = g.half;
     }
 
 -- where the write of a byte was cut short, some byte was written
@@ -128,9 +129,8 @@ module _ (old new : Device) (p : Position) (payload : List ℕ) (h : Header) (ro
       elapses_weaker (WithinRecord p.gate (frame_text payload) old.seen) (RecordEnds ok p.gate (frame_text payload) old.seen) _ _ old new time so_far (λ q l could left steps. at_end ok q l could steps)
 
 -- what is read after the call is one of the images
-pub append_left : (old new : Device) (p : Position) (payload : List ℕ) (h : Header) (rows : List ℕ) (records : List Record) → IsDevice new → new.honest ≡ true → new.shows ≡ true → new.tells ≡ true → Elapses (KeepsOrAdds p payload h rows records) (KeepsOrAdds p payload h rows records) old new → GivesOneOf new.seen p payload h rows records
-append_left old new p payload h rows records sound honest shows tells time =
-    (time.now (as_read new) (sound.itself honest shows tells)).2.image
+pub append_left : (old new : Device) (p : Position) (payload : List ℕ) (h : Header) (rows : List ℕ) (records : List Record) → IsDevice new → new.honest ≡ true → new.shows ≡ true → new.tells ≡ true → Elapses (KeepsOrAdds p payload h rows records) (KeepsOrAdds p payload h rows records) old new → Follows (KeepsOrAdds p payload h rows records) (may_leave old) (as_read new)
+append_left old new p payload h rows records sound honest shows tells time = time.now (as_read new) (sound.itself honest shows tells)
 
 -- each image has the payload
 pub append_each : (old new : Device) (p : Position) (payload : List ℕ) (h : Header) (rows : List ℕ) (records : List Record) → Elapses (KeepsOrAdds p payload h rows records) (AddsRecord p payload h rows records) old new → EachGives new (after_append p (length payload)) h rows (with_payload p payload records)

@@ -6,6 +6,7 @@ mod FormattingLemmas
 mod FrameLemmas
 mod HeaderLemmas
 mod MomentLemmas
+mod OthersLemmas
 pub mod OpeningLemmas
 pub mod ReadingLemmas
 mod ScanLemmas

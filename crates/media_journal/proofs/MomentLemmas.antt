@@ -38,3 +38,11 @@ record_written ok gate frame old mid new seen first second =
     ends : (ok : Bool) (q p : Left) → Then (SyncedWrite (gate + 1) frame old.seen) (SyncedWriteEnds ok gate (1 ∷ []) mid.seen) q p → RecordEnds ok gate frame old.seen q p
     ends true q p steps = (steps.0, steps.1, subst (λ (image : List ℕ). SyncedWrite gate (1 ∷ []) image steps.0 p) seen steps.2)
     ends false q p steps = inr steps
+
+-- the write alone, whatever is read
+pub torn_along : (at n : ℕ) (old mid new : Device) → Elapses (TornWrite at n) (TornWrite at n) old mid → Elapses Unchanged Unchanged mid new → Elapses (TornWrite at n) (TornWrite at n) old new
+torn_along at n old mid new write sync =
+    let torn = TornWrite at n in
+    elapses_weaker (WithinTwo torn torn Unchanged) (Then torn Unchanged) torn torn old new (elapses_twice torn torn Unchanged Unchanged old mid new write sync)
+    (λ q p could steps. elim steps [ inl so_far ↦ so_far | inr then ↦ write_then_unchanged at n q p then ])
+    (λ q p could left steps. write_then_unchanged at n q p steps)

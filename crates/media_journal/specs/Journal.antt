@@ -5,17 +5,22 @@ use Rattle.media_journal.specs.declared.record.Record.{Record}
 use Rattle.media_journal.specs.declared.header.Header.{Header}
 use Rattle.media_journal.specs.File.{Reads, active_start}
 
--- The blocks of the file, where the journal's half begins, where its closed gate is, and the bytes from
--- there to the half's end. The room is 0 where an open record's end passes the half.
+-- The blocks of the file and of a half, where the journal's half begins, where its closed gate is, and the
+-- bytes from there to the half's end. The room is 0 where an open record's end passes the half.
 pub record Position : Type 0 where
   pub blocks : ℕ
+  pub half : ℕ
   pub start : ℕ
   pub gate : ℕ
   pub room : ℕ
 
--- a journal stays within its file
+-- A journal stays within its half, and that within its file. So its room is at most the bytes of the
+-- longest half.
 pub record IsPosition (p : Position) : Type 0 where
   pub blocks : p.blocks ≤ 1073741824
+  pub half : p.half ≤ 65536
+  pub behind : p.start ≤ p.gate
+  pub room : p.gate + p.room ≤ p.start + 4096 * p.half
   pub within : p.gate + p.room ≤ 4096 * p.blocks
 
 -- The image gives the journal these rows and records: it reads as a store with this header, whose active
@@ -25,6 +30,7 @@ pub record Gives (image : List ℕ) (p : Position) (h : Header) (rows : List ℕ
   pub start : p.start ≡ active_start image h.half
   pub room : p.gate + p.room ≡ active_start image h.half + 4096 * h.half
   pub blocks : p.blocks ≡ h.blocks
+  pub half : p.half ≡ h.half
 
 -- the position after a payload of n bytes was appended
 abbrev pub after_append : Position → ℕ → Position

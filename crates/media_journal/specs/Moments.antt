@@ -1,7 +1,7 @@
 -- What a crash at each moment of an append or of formatting may leave, by what the images give.
-use Rattle.std.specs.Prelude.{◌≡◌, ◌+◌, ◌⊎◌, ℕ, Bool, true, false, List, [], ◌∷◌, ◌++◌, length, slice_index, Result, Ok, Err}
+use Rattle.std.specs.Prelude.{◌≡◌, ◌+◌, ◌⊎◌, ℕ, Bool, true, false, List, [], ◌∷◌, ◌++◌, drop, length, slice_index, Result, Ok, Err}
 use Rattle.disk_trait.specs.Device.{Device, Left, may_leave}
-use Rattle.disk_trait.specs.Calls.{LeavesOnly, Torn, Unchanged}
+use Rattle.disk_trait.specs.Calls.{LeavesOnly, Torn, Unchanged, bytes_at}
 use Rattle.media_journal.specs.declared.header.Header.{Header}
 use Rattle.media_journal.specs.declared.record.Record.{Record}
 use Rattle.media_journal.specs.declared.fault.FormatFault.{FormatFault}
@@ -68,3 +68,17 @@ FormatEnds (Err AlreadyStore) h rows = Unchanged
 FormatEnds (Err TooSmall) h rows = Unchanged
 FormatEnds (Err Disk) h rows = NoneOrNew h rows
 FormatEnds (Err Memory) h rows = Unchanged
+
+-- The bytes that formatting never writes stay, where a half without a record has so many bytes: those of the
+-- header's block behind its gate, those of the selector's block behind its first, and all behind the closed
+-- gate of half A, half B and the media blocks among them.
+pub record KeepsOthers (size : ℕ) (old new : List ℕ) : Type 0 where
+  pub header : bytes_at new 41 4055 ≡ bytes_at old 41 4055
+  pub selector : bytes_at new 4097 4095 ≡ bytes_at old 4097 4095
+  pub rest : drop (8192 + size) new ≡ drop (8192 + size) old
+  pub same_length : length new ≡ length old
+
+-- a step that writes no other bytes than those of a store, and tells nothing
+pub record WritesStore (size : ℕ) (old new : Left) : Type 0 where
+  pub told : new.told ≡ old.told
+  pub image : KeepsOthers size old.image new.image

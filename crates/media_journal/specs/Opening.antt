@@ -54,6 +54,7 @@ pub record IsOpened (image : List ℕ) (o : Opened) : Type 0 where
   pub header : IsHeader image (header_of o)
   pub sizes : AreSizes (header_of o) (length image)
   pub blocks : o.journal.blocks ≡ o.blocks
+  pub half_blocks : o.journal.half ≡ o.half
   pub start : o.journal.start ≡ active_start image o.half
   pub rows_at : o.rows_at ≡ active_start image o.half + 8
   pub half : OpenedHalf image o o.torn

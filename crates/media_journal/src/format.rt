@@ -1,10 +1,10 @@
 //! Formatting a device: a header, a selector and half A with its rows. At each moment the file is no
 //! store, or the new one.
-ghost use Rattle.std.specs.Prelude.{◌≡◌, ◌≤◌, ◌<◌, ◌+◌, ◌*◌, ◌∷◌, [], true, ◌↔◌, length, is_ok, IfOk, IsTrue, OnOk};
+ghost use Rattle.std.specs.Prelude.{◌≡◌, ◌≤◌, ◌<◌, ◌+◌, ◌*◌, ◌∷◌, [], ℕ, true, ◌↔◌, length, is_ok, IfOk, IsTrue, OnOk};
 ghost use Rattle.disk_trait.specs.Calls.{DiskCalls, DiskReads, Elapses, LeavesOnly, overwritten};
 ghost use Rattle.media_journal.specs.File.{HasOpenHeader, IsClosedGate, header_text};
 ghost use Rattle.media_journal.specs.Formatting.{FitsStore, FormatAnswer, GateIs, IsFormatted, OnRefusal, format_ok, half_text};
-ghost use Rattle.media_journal.specs.Moments.{FormatEnds, IsAtRest, NoneOrNew};
+ghost use Rattle.media_journal.specs.Moments.{FormatEnds, IsAtRest, NoneOrNew, WritesStore};
 ghost use Rattle.media_journal.specs.Steps.{KeepsGate, LeavesNone, NoneOrFormatted, StoreEnds};
 
 use crate::header::{BLOCK, is_open, magic};
@@ -57,6 +57,11 @@ pub fn format_device<D: Disk>(
         (D.device disk.old) (D.device disk.new) }
     ensures durable { (D.device disk.old).honest ≡ true
         → OnOk result (LeavesOnly (D.device disk.new).seen (D.device disk.new)) }
+
+    // It writes the header, the selector, and half A up to its closed gate, and no other byte, whatever
+    // it answers.
+    ensures others { Elapses (WritesStore (9 + length rows.now)) (WritesStore (9 + length rows.now))
+        (D.device disk.old) (D.device disk.new) }
 {
     let header = Header { blocks, half, id };
     let gate = read_gate(disk)?;
@@ -92,6 +97,8 @@ fn make_store<D: Disk>(disk: &mut D, gate: Gate, header: &[u8], half: &[u8]) -> 
         → ¬ (HasOpenHeader (D.device disk.old).seen)
         → Elapses (NoneOrFormatted header.now half.now (D.device disk.old).seen)
         (StoreEnds (is_ok result) header.now half.now (D.device disk.old).seen)
+        (D.device disk.old) (D.device disk.new) }
+    ensures others { Elapses (WritesStore (length half.now)) (WritesStore (length half.now))
         (D.device disk.old) (D.device disk.new) }
 {
     // A torn write of the header's text could make a store of what stands before an open gate.
@@ -142,6 +149,8 @@ fn close_stray<D: Disk>(disk: &mut D, gate: Gate) -> Result<(), Failed>
     ensures moments { IsAtRest (D.device disk.old) → GateIs (D.device disk.old).seen gate
         → ¬ (HasOpenHeader (D.device disk.old).seen)
         → Elapses LeavesNone LeavesNone (D.device disk.old) (D.device disk.new) }
+    ensures others { (size : ℕ) → Elapses (WritesStore size) (WritesStore size)
+        (D.device disk.old) (D.device disk.new) }
 {
     match gate {
         Gate::Stray => write_synced(disk, GATE, &[0]),
@@ -160,6 +169,8 @@ fn write_store<D: Disk>(disk: &mut D, header: &[u8], half: &[u8]) -> Result<(), 
     ensures durable { (D.device disk.old).honest ≡ true
         → OnOk result (LeavesOnly (D.device disk.new).seen (D.device disk.new)) }
     ensures moments { Elapses KeepsGate KeepsGate (D.device disk.old) (D.device disk.new) }
+    ensures others { Elapses (WritesStore (length half.now)) (WritesStore (length half.now))
+        (D.device disk.old) (D.device disk.new) }
 {
     disk.write_at(0, header)?;
     disk.write_at(BLOCK, &[0])?;

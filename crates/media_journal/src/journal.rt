@@ -1,8 +1,9 @@
 //! The journal behind the rows of the active half, to which records are added.
 ghost use Rattle.std.specs.Prelude.{◌≡◌, ◌≤◌, ◌<◌, ◌+◌, ◌*◌, ◌∷◌, ◌++◌, ◌↔◌, ◌^◌, [], ℕ, List, true, false, length, is_ok, OnOk, OnErr, IsErrOf};
-ghost use Rattle.disk_trait.specs.Calls.{DiskCalls, Elapses, LeavesOnly, Torn, overwritten};
-ghost use Rattle.media_journal.specs.Journal.{Gives, after_append};
-ghost use Rattle.media_journal.specs.Moments.{AppendEnds, EachGives, GivesOneOf, KeepsOrAdds, with_payload};
+ghost use Rattle.disk_trait.specs.Device.{as_read, may_leave};
+ghost use Rattle.disk_trait.specs.Calls.{DiskCalls, Elapses, Follows, LeavesOnly, Torn, overwritten};
+ghost use Rattle.media_journal.specs.Journal.{Gives, IsPosition, after_append};
+ghost use Rattle.media_journal.specs.Moments.{AppendEnds, EachGives, KeepsOrAdds, with_payload};
 ghost use Rattle.media_journal.specs.Steps.{RecordEnds, WithinRecord};
 ghost use Rattle.media_journal.specs.declared.header.Header.{Header};
 ghost use Rattle.media_journal.specs.declared.record.Record.{Record};
@@ -17,6 +18,7 @@ use std::marker::Model;
 #[derive(Drop)]
 pub struct Journal {
     pub(crate) blocks: u64,
+    pub(crate) half: u64,
     pub(crate) start: u64,
     pub(crate) gate: u64,
     pub(crate) room: u64,
@@ -29,6 +31,7 @@ impl Model for Journal {
 
     ghost view = { λ j. record {
       blocks = j.blocks;
+      half = j.half;
       start = j.start;
       gate = j.gate;
       room = j.room;
@@ -36,6 +39,7 @@ impl Model for Journal {
 
     ghost invariant = { λ j. IsPosition record {
       blocks = j.blocks;
+      half = j.half;
       start = j.start;
       gate = j.gate;
       room = j.room;
@@ -46,7 +50,8 @@ impl Journal {
     /// The bytes from the closed gate to the end of the half. A record takes its payload's length plus 5
     /// of them, and needs one more.
     pub fn room(&self) -> u64
-        ensures { result ≡ self.now.room }
+        ensures room { result ≡ self.now.room }
+        ensures most { result ≤ 4096 * 65536 }
     {
         self.room
     }
@@ -60,6 +65,7 @@ impl Journal {
         ensures full { IsErrOf result AppendFault.Full ↔ (self.old.room < length frame.now + 6) }
         ensures refused { IsErrOf result AppendFault.Full → disk.new ≡ disk.old }
         ensures err { OnErr result (self.new ≡ self.old) }
+        ensures position { IsPosition self.new }
 
         ensures moved { OnOk result (self.new ≡ after_append self.old (length frame.now)) }
         ensures content { (D.device disk.old).shows ≡ true → OnOk result
@@ -92,13 +98,15 @@ impl Journal {
         ensures durable { (D.device disk.old).honest ≡ true
             → OnOk result (LeavesOnly (D.device disk.new).seen (D.device disk.new)) }
 
-        // After `Disk` a read gives the records as they were, or with the payload. Where the device isn't
-        // honest nothing is said: there a sync that fails leaves open what is read.
+        // After `Disk` a read gives what a crash might have left before, where only the bytes of the record
+        // and of the gate behind it may differ, with the records as they were, or with the payload. Where
+        // the device isn't honest nothing is said: there a sync that fails leaves open what is read.
         ensures left { (D.device disk.old).honest ≡ true → (D.device disk.old).shows ≡ true
             → (D.device disk.old).tells ≡ true → IsErrOf result AppendFault.Disk
             → (h : Header) (rows : List ℕ) (records : List Record)
             → EachGives (D.device disk.old) self.old h rows records
-            → GivesOneOf (D.device disk.new).seen self.old frame.now h rows records }
+            → Follows (KeepsOrAdds self.old frame.now h rows records)
+            (may_leave (D.device disk.old)) (as_read (D.device disk.new)) }
 
         ensures calls { OnOk result (DiskCalls true (D.device disk.old) (D.device disk.new)) }
 

@@ -3,6 +3,7 @@ ghost use Rattle.std.specs.Prelude.{◌≡◌, ◌≤◌, ◌<◌, ◌+◌, ◌*
 ghost use Rattle.disk_trait.specs.Calls.{DiskReads};
 ghost use Rattle.media_journal.specs.Answers.{not_disk};
 ghost use Rattle.media_journal.specs.File.{active_start};
+ghost use Rattle.media_journal.specs.Journal.{IsPosition};
 ghost use Rattle.media_journal.specs.Opening.{IsOpened, OpenAnswer, header_of};
 ghost use Rattle.media_journal.specs.Readings.{HasOneReading, HasOneTornReading, HasOneAnswer, ReadsAsStore, TornIsUnreadable, DamagedIsUnreadable};
 ghost use Rattle.media_journal.specs.Scan.{HasParts};
@@ -49,6 +50,7 @@ pub fn open_journal<D: Disk>(alloc: Global, disk: &mut D) -> Result<Opened, Jour
     ensures reads { DiskReads (not_disk result) (D.device disk.old) (D.device disk.new) }
     ensures within { IfOk result (λ o. 4096 * o.journal.blocks ≤ (D.device disk.new).size) }
     ensures sizes { IfOk result (λ o. 2 * o.half + 3 ≤ o.blocks) }
+    ensures position { IfOk result (λ o. IsPosition o.journal) }
     ensures answer { (D.device disk.old).shows ≡ true → OpenAnswer (D.device disk.old).seen result }
 {
     let size = disk.len();
@@ -90,9 +92,11 @@ fn assembled(header: Header, start: u64, half: Half) -> Opened
     requires sizes { header.half ≤ 65536 }
     requires blocks { header.blocks ≤ 1073741824 }
     requires fits { 2 * header.half + 3 ≤ header.blocks }
+    requires behind { start ≤ half.chain.gate }
     requires within { half.chain.gate < start + 4096 * header.half }
     ensures header { header_of result ≡ header }
     ensures blocks { result.journal.blocks ≡ header.blocks }
+    ensures position { IsPosition result.journal }
     ensures opened { (image : List ℕ) → HasParts image header start half → IsOpened image result }
 {
     let Half { rows, chain } = half;
@@ -100,6 +104,7 @@ fn assembled(header: Header, start: u64, half: Half) -> Opened
     Opened {
         journal: Journal {
             blocks: header.blocks,
+            half: header.half,
             start,
             gate: chain.gate,
             room: if chain.torn { 0 } else { end - chain.gate },

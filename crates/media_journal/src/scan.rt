@@ -51,6 +51,7 @@ pub(crate) fn read_half<D: Disk>(
     requires some { start + 9 ≤ end }
     requires device { end ≤ (D.device disk.old).size }
     ensures reads { DiskReads (not_disk result) (D.device disk.old) (D.device disk.new) }
+    ensures behind { IfOk result (λ half. start ≤ half.chain.gate) }
     ensures within { IfOk result (λ half. half.chain.gate < end) }
     ensures half { (D.device disk.old).shows ≡ true
         → HalfAnswer (D.device disk.old).seen start end result }
@@ -91,6 +92,7 @@ pub(crate) fn read_chain<D: Disk>(
     requires within { from < window.old.end }
     requires piece { IsPieceOn (D.device disk.old) window.old }
     ensures reads { DiskReads (read_ok result) (D.device disk.old) (D.device disk.new) }
+    ensures behind { IfOk result (λ c. from ≤ c.gate) }
     ensures within { IfOk result (λ c. c.gate < window.old.end) }
     ensures chain { (D.device disk.old).shows ≡ true → IfOk result
         (λ c. IsChain (D.device disk.old).seen from window.old.end c.gate c.torn c.records) }

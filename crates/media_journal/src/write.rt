@@ -24,6 +24,8 @@ pub(crate) fn write_synced<D: Disk>(disk: &mut D, at: u64, bytes: &[u8]) -> Resu
         → Elapses (TornWrite at (length bytes.now))
         (SyncedWriteEnds (is_ok result) at bytes.now (D.device disk.old).seen)
         (D.device disk.old) (D.device disk.new) }
+    ensures time { Elapses (TornWrite at (length bytes.now)) (TornWrite at (length bytes.now))
+        (D.device disk.old) (D.device disk.new) }
 {
     disk.write_at(at, bytes)?;
     disk.sync()

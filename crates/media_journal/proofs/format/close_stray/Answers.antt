@@ -1,6 +1,7 @@
 use Rattle.std.proofs.Common.{arith}
 use Rattle.std.proofs.lemmas.Result.{on_ok_weaker}
 use Rattle.media_journal.proofs.StoreLemmas.{stray_closes, shut_by_zero}
+use Rattle.media_journal.proofs.OthersLemmas.{others_header}
 use Rattle.media_journal.proofs.format.close_stray.Goals as goal
 
 pub returns-in-Stray-clause-closed : goal.returns-in-Stray-clause-closed
@@ -12,3 +13,6 @@ returns-in-Stray-clause-closed g c = λ shows gate none.
 pub returns-in-Stray-clause-moments : goal.returns-in-Stray-clause-moments
 returns-in-Stray-clause-moments g c = λ rest gate none.
     stray_closes _ _ _ rest (rw c.in-Stray.is at gate) (c.write_synced.ensures.moments rest.honest rest.shows)
+
+pub returns-in-Stray-clause-others : goal.returns-in-Stray-clause-others
+returns-in-Stray-clause-others g c = λ size. others_header size 40 1 _ _ (omega arith) c.write_synced.ensures.time

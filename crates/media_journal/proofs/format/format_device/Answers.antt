@@ -1,8 +1,9 @@
-use Rattle.std.proofs.Common.{◌∙◌, true, false, length, refl, sym, rules}
+use Rattle.std.proofs.Common.{◌∙◌, true, false, length, ap, refl, sym, rules}
 use Rattle.std.proofs.lemmas.Result.{err_from_is_err_and}
 use Rattle.media_journal.specs.declared.header.Header.{Header}
 use Rattle.media_journal.specs.Formatting.{FitsStore}
 use Rattle.media_journal.proofs.FormattingLemmas.{not_store, reads_formatted}
+use Rattle.media_journal.proofs.OthersLemmas.{others_along, others_quiet}
 use Rattle.media_journal.proofs.StoreLemmas.{formats, reads_failed}
 use Rattle.media_journal.proofs.format.format_device.Goals as goal
 
@@ -24,6 +25,9 @@ returns-in_err-make_store g c =
           let fits = rw (← size) at (c.if-not-fits_store.ensures.0 refl) in
           formats _ rest none _ _ fits c.ranges.id.fits false c.in_ok-gate.gate _ _ _ _ c.header_bytes.ensures (c.deref.ensures.value ∙ c.in_ok-half.ensures.text) first.reads (first.gate rest.shows) c.in_err-make_store.ensures.moments;
       durable = λ honest. tt;
+      others =
+          let size = ap length c.deref.ensures.value ∙ c.in_ok-half.ensures.len in
+          others_along _ _ _ _ (others_quiet _ _ _ first.reads.time) (rw size at c.in_err-make_store.ensures.others);
     }
 
 -- The numbers fit, and the three groups of writes leave the store.
@@ -47,4 +51,7 @@ returns g c =
           let fits : FitsStore header (length (g.D.Disk.device c.args.disk.now).seen) c.args.rows.now = rw size (c.if-not-fits_store.ensures.0 refl) in
           formats _ rest none header c.args.rows.now fits c.ranges.id.fits true c.in_ok-gate.gate _ _ _ _ c.header_bytes.ensures (c.deref.ensures.value ∙ c.in_ok-half.ensures.text) first.reads (first.gate rest.shows) c.in_ok-make_store.ensures.moments;
       durable = λ honest. c.in_ok-make_store.ensures.durable (first.reads.calls.same.honest ∙ honest);
+      others =
+          let size = ap length c.deref.ensures.value ∙ c.in_ok-half.ensures.len in
+          others_along _ _ _ _ (others_quiet _ _ _ first.reads.time) (rw size at c.in_ok-make_store.ensures.others);
     }

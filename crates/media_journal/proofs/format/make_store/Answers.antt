@@ -1,6 +1,7 @@
 use Rattle.std.proofs.Common.{◌∙◌, arith}
 use Rattle.std.proofs.lemmas.Result.{on_ok_weaker, err_from_is_err_and}
 use Rattle.media_journal.proofs.StoreLemmas.{front_none, none_so_far, store_made}
+use Rattle.media_journal.proofs.OthersLemmas.{others_along, others_header}
 use Rattle.media_journal.proofs.format.make_store.Goals as goal
 
 -- The gate was closed where it stood open, then all but the gate was written, and then the gate.
@@ -41,3 +42,13 @@ returns-clause-moments g c = λ rest gate none.
     let opens = c.write_synced.ensures.moments (same.honest ∙ once.honest) (same.shows ∙ once.shows) in
     let whole = (g.met.D.Disk.sound c.write_store.new.disk).length (same.shows ∙ once.shows) in
     store_made _ _ _ _ (closes.length rest.shows) _ _ _ (omega (arith, whole, c.requires.device, same.size, closes.calls.same.size)) (writes.written once.shows) _ (writes.durable once.honest) front opens
+
+pub returns-in_err-close_stray-clause-others : goal.returns-in_err-close_stray-clause-others
+returns-in_err-close_stray-clause-others g c = c.in_err-close_stray.ensures.others _
+
+pub returns-in_err-write_store-clause-others : goal.returns-in_err-write_store-clause-others
+returns-in_err-write_store-clause-others g c = others_along _ _ _ _ (c.in_ok-close_stray.ensures.others _) c.in_err-write_store.ensures.others
+
+pub returns-clause-others : goal.returns-clause-others
+returns-clause-others g c =
+    others_along _ _ _ _ (others_along _ _ _ _ (c.in_ok-close_stray.ensures.others _) c.in_ok-write_store.ensures.others) (others_header _ 40 1 _ _ (omega arith) c.write_synced.ensures.time)

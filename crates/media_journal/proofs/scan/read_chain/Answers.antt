@@ -15,5 +15,6 @@ records-preserved g c =
       chain = λ shows.
           let found = rw (c.in-Whole.is, so_far.seen) at (c.in_ok-read_record.ensures.found (so_far.calls.same.shows ∙ shows)) in
           rw (c.in_ok-push-in-Whole.ensures.ok, c.bytes.ensures, place) (chain_push _ _ _ _ _ (c.records.invariant.chain shows) found);
+      behind = rw c.bytes.ensures (omega (arith, c.records.invariant.behind));
       within = rw (c.bytes.ensures, c.in_ok-read_record.ensures.end) (omega (arith, behind));
     }

@@ -1,4 +1,4 @@
-use Rattle.std.proofs.Common.{◌≡◌, ◌<◌, ◌-◌, true}
+use Rattle.std.proofs.Common.{◌≡◌, ◌<◌, ◌≤◌, ◌-◌, true}
 use Rattle.disk_trait.specs.Calls.{DiskReads}
 use Rattle.media_journal.specs.File.{AreRecords}
 use Rattle.media_journal.specs.Window.{IsPieceOn}
@@ -10,6 +10,7 @@ invariant-records g l = record {
   end : l.window.end ≡ l.initial.window.end;
   piece : IsPieceOn (g.D.Disk.device l.disk) l.window;
   chain : (g.D.Disk.device l.initial.disk).shows ≡ true → AreRecords (g.D.Disk.device l.initial.disk).seen l.from l.records l.at;
+  behind : l.from ≤ l.at;
   within : l.at < l.window.end;
 }
 
