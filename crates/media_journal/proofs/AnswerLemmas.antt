@@ -7,14 +7,14 @@ use Rattle.media_journal.specs.declared.fault.JournalFault.{JournalFault}
 use Rattle.media_journal.specs.declared.fault.JournalFault.TheVariants.{NotStore, Damaged, Disk, Memory}
 use Rattle.media_journal.specs.Journal.{Position}
 use Rattle.media_journal.specs.File.{IsHeader, AreSizes, HasLongRows, active_start}
-use Rattle.media_journal.specs.Opening.{IsOpened, OpenedHalf, OpenAnswer, DamagedAt, header_of}
+use Rattle.media_journal.specs.Opening.{IsOpened, OpenedHalf, OpenAnswer, DamagedAt, contents_of, header_of}
 use Rattle.media_journal.specs.Readings.{IsDecided}
 use Rattle.media_journal.proofs.HeaderLemmas.{one_header}
-use Rattle.media_journal.proofs.ReadingLemmas.{HasReading, whole_reading, torn_reading, one_reading, one_torn_reading, torn_or_whole, no_reading-long}
+use Rattle.media_journal.proofs.ReadingLemmas.{HasReading, gives_reads, whole_reading, torn_reading, one_reading, one_torn_reading, torn_or_whole, no_reading-long}
 
 -- what was opened has its rows and records up to some place
 reading_of : (image : List ℕ) (o : Opened) (torn : Option ℕ) → OpenedHalf image o torn → (gate : ℕ) × HasReading image (header_of o) gate o.rows o.found
-reading_of image o None h = (o.journal.gate, whole_reading image _ _ _ _ h.reads)
+reading_of image o None h = (o.journal.gate, whole_reading image _ _ _ _ (gives_reads image o.journal (contents_of o) h))
 reading_of image o (Some at) h = (at, torn_reading image _ _ _ _ h.reads)
 
 -- two headers of an image have the same sizes
@@ -54,12 +54,12 @@ record SameHalf (a b : Opened) (s t : Option ℕ) : Type 0 where
 
 same_half : (image : List ℕ) (a b : Opened) (s t : Option ℕ) → OpenedHalf image a s → OpenedHalf image b t → SameHalf a b s t
 same_half image a b None None first second =
-    let same = one_reading image _ _ _ _ _ _ _ _ first.reads second.reads in
+    let same = one_reading image _ _ _ _ _ _ _ _ (gives_reads image a.journal (contents_of a) first) (gives_reads image b.journal (contents_of b) second) in
     let half : b.half ≡ a.half = ap (λ (x : Header). x.half) same.0 in
     let start : active_start image b.half ≡ active_start image a.half = ap (active_start image) half in
-    record { torn = refl; gate = same.1; room = omega (arith, first.room, second.room, half, start, same.1); rows = same.2; found = same.3 }
-same_half image a b None (Some k) first second = absurd (torn_or_whole image _ _ _ _ _ _ _ _ second.reads first.reads)
-same_half image a b (Some at) None first second = absurd (torn_or_whole image _ _ _ _ _ _ _ _ first.reads second.reads)
+    record { torn = refl; gate = same.1; room = omega (arith, first.half.room, second.half.room, first.active, second.active, half, start, same.1); rows = same.2; found = same.3 }
+same_half image a b None (Some k) first second = absurd (torn_or_whole image _ _ _ _ _ _ _ _ second.reads (gives_reads image a.journal (contents_of a) first))
+same_half image a b (Some at) None first second = absurd (torn_or_whole image _ _ _ _ _ _ _ _ first.reads (gives_reads image b.journal (contents_of b) second))
 same_half image a b (Some at) (Some k) first second =
     let same = one_torn_reading image _ _ _ _ _ _ _ _ first.reads second.reads in
     record {

@@ -8,9 +8,9 @@ use Rattle.disk_trait.specs.Numbers.{u32_bytes}
 use Rattle.disk_trait.proofs.NumberLemmas.{length-u32_bytes}
 use Rattle.disk_trait.proofs.OverwriteLemmas.{length-overwritten, get_or-before, get_or-behind, get_or-written, bytes_at-add, bytes_at-before, bytes_at-behind, bytes_at-written}
 use Rattle.media_journal.specs.declared.record.Record.{Record}
-use Rattle.media_journal.specs.declared.header.Header.{Header}
 use Rattle.media_journal.specs.File.{HasHalf, IsRecordAt, active_start, record_text}
-use Rattle.media_journal.specs.Journal.{Position, Gives, after_append, frame_text}
+use Rattle.media_journal.specs.Journal.{Contents, Position, Gives, after_append, frame_text}
+use Rattle.media_journal.specs.Moments.{with_payload}
 use Rattle.media_journal.proofs.FrameLemmas.{length-frame_text}
 use Rattle.media_journal.proofs.ChainLemmas.{chain_bounds, chain_kept, chain_push}
 
@@ -98,28 +98,28 @@ half_more image start end gate rows records payload within room short h =
     }
 
 -- the image gives the journal one record more
-pub gives_more : (image : List ℕ) (p : Position) (h : Header) (rows : List ℕ) (records : List Record) (payload : List ℕ) → p.gate + p.room ≤ length image → length payload + 6 ≤ p.room → length payload < 2 ^ 32 → Gives image p h rows records → Gives (recorded image p.gate payload) (after_append p (length payload)) h rows (records ++ record { offset = p.gate; payload = payload } ∷ [])
-gives_more image p h rows records payload within room short g =
+pub gives_more : (image : List ℕ) (p : Position) (held : Contents) (payload : List ℕ) → p.gate + p.room ≤ length image → length payload + 6 ≤ p.room → length payload < 2 ^ 32 → Gives image p held → Gives (recorded image p.gate payload) (after_append p (length payload)) (with_payload p payload held)
+gives_more image p held payload within room short g =
     let fits : p.gate + (6 + length payload) ≤ length image = omega arith in
-    let bound : active_start image h.half + (8 + length rows) ≤ p.gate = chain_bounds image _ records p.gate g.reads.half.chain in
-    let behind : 8192 ≤ active_start image h.half = active_start-least image h.half in
-    let start : active_start (recorded image p.gate payload) h.half ≡ active_start image h.half =
-    ap (λ (byte : ℕ). if byte % 2 == 0 then 8192 else 8192 + 4096 * h.half) (recorded-byte image payload p.gate fits 4096 (omega arith)) in
+    let bound : p.start + (8 + length held.rows) ≤ p.gate = chain_bounds image _ held.records p.gate g.half.half.chain in
+    let behind : 8192 ≤ p.start = omega (arith, g.active, active_start-least image held.header.half) in
+    let start : active_start (recorded image p.gate payload) held.header.half ≡ active_start image held.header.half =
+    ap (λ (byte : ℕ). if byte % 2 == 0 then 8192 else 8192 + 4096 * held.header.half) (recorded-byte image payload p.gate fits 4096 (omega arith)) in
     let size = length-recorded image payload p.gate fits in
     record {
-      reads = record {
+      half = record {
         header = record {
-          gate = recorded-byte image payload p.gate fits 40 (omega arith) ∙ g.reads.header.gate;
-          text = recorded-before image payload p.gate fits 0 40 (omega arith) ∙ g.reads.header.text;
-          blocks = g.reads.header.blocks;
-          half = g.reads.header.half;
-          id = g.reads.header.id;
+          gate = recorded-byte image payload p.gate fits 40 (omega arith) ∙ g.half.header.gate;
+          text = recorded-before image payload p.gate fits 0 40 (omega arith) ∙ g.half.header.text;
+          blocks = g.half.header.blocks;
+          half = g.half.header.half;
+          id = g.half.header.id;
         };
-        sizes = rw size g.reads.sizes;
-        half = rw start (half_more image _ _ p.gate rows records payload (omega (arith, g.room)) (omega (arith, g.room)) short g.reads.half);
+        sizes = rw size g.half.sizes;
+        half = half_more image _ _ p.gate held.rows held.records payload (omega (arith, g.half.room)) (omega (arith, g.half.room)) short g.half.half;
+        room = omega (arith, g.half.room);
+        blocks = g.half.blocks;
+        half_blocks = g.half.half_blocks;
       };
-      start = g.start ∙ sym start;
-      room = rw start (omega (arith, g.room));
-      blocks = g.blocks;
-      half = g.half;
+      active = g.active ∙ sym start;
     }

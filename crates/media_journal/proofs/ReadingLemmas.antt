@@ -8,6 +8,7 @@ use Rattle.disk_trait.proofs.OverwriteLemmas.{bytes_at-add, bytes_at-bytes_at, g
 use Rattle.media_journal.specs.declared.header.Header.{Header}
 use Rattle.media_journal.specs.declared.record.Record.{Record}
 use Rattle.media_journal.specs.File.{IsOpenGate, IsClosedGate, IsHeader, IsRecordAt, IsTornAt, AreRecords, HasHalf, HasTornHalf, HasLongRows, Reads, ReadsTorn, active_start, record_text, rows_text}
+use Rattle.media_journal.specs.Journal.{Contents, Position, Gives}
 use Rattle.media_journal.specs.Scan.{IsChain, HalfFound}
 use Rattle.media_journal.proofs.ChainLemmas.{chain_bounds}
 use Rattle.media_journal.proofs.HeaderLemmas.{one_header}
@@ -175,4 +176,12 @@ half_found image start end gate n false rows found short size prefix text h = re
   chain = rw size h.chain;
   closed = h.ends;
   within = h.within;
+}
+
+-- an image that gives a journal something reads as a store
+pub gives_reads : (image : List ℕ) (p : Position) (held : Contents) → Gives image p held → Reads image held.header p.gate held.rows held.records
+gives_reads image p held g = record {
+  header = g.half.header;
+  sizes = g.half.sizes;
+  half = subst (λ (start : ℕ). HasHalf image start (start + 4096 * held.header.half) p.gate held.rows held.records) g.active g.half.half;
 }

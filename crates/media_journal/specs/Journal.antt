@@ -3,7 +3,7 @@ use Rattle.std.specs.Prelude.{◌≡◌, ◌<◌, ◌≤◌, ◌+◌, ◌-◌, �
 use Rattle.disk_trait.specs.Numbers.{u32_bytes}
 use Rattle.media_journal.specs.declared.record.Record.{Record}
 use Rattle.media_journal.specs.declared.header.Header.{Header}
-use Rattle.media_journal.specs.File.{Reads, active_start}
+use Rattle.media_journal.specs.File.{AreSizes, HasHalf, IsHeader, active_start}
 
 -- The blocks of the file and of a half, where the journal's half begins, where its closed gate is, and the
 -- bytes from there to the half's end. The room is 0 where an open record's end passes the half.
@@ -23,14 +23,26 @@ pub record IsPosition (p : Position) : Type 0 where
   pub room : p.gate + p.room ≤ p.start + 4096 * p.half
   pub within : p.gate + p.room ≤ 4096 * p.blocks
 
--- The image gives the journal these rows and records: it reads as a store with this header, whose active
--- half is the journal's, and whose records end at the journal's gate.
-pub record Gives (image : List ℕ) (p : Position) (h : Header) (rows : List ℕ) (records : List Record) : Type 0 where
-  pub reads : Reads image h p.gate rows records
-  pub start : p.start ≡ active_start image h.half
-  pub room : p.gate + p.room ≡ active_start image h.half + 4096 * h.half
-  pub blocks : p.blocks ≡ h.blocks
-  pub half : p.half ≡ h.half
+-- What a half of a store holds: the file's header, the half's rows, and its records.
+pub record Contents : Type 0 where
+  pub header : Header
+  pub rows : List ℕ
+  pub records : List Record
+
+-- The journal's half of the image holds this, whichever half the selector names: its records end at the
+-- journal's gate, and the journal's numbers are those of the file.
+pub record HasInHalf (image : List ℕ) (p : Position) (held : Contents) : Type 0 where
+  pub header : IsHeader image held.header
+  pub sizes : AreSizes held.header (length image)
+  pub half : HasHalf image p.start (p.start + 4096 * held.header.half) p.gate held.rows held.records
+  pub room : p.gate + p.room ≡ p.start + 4096 * held.header.half
+  pub blocks : p.blocks ≡ held.header.blocks
+  pub half_blocks : p.half ≡ held.header.half
+
+-- The image gives the journal this: its half holds it, and the selector names that half.
+pub record Gives (image : List ℕ) (p : Position) (held : Contents) : Type 0 where
+  pub half : HasInHalf image p held
+  pub active : p.start ≡ active_start image held.header.half
 
 -- the position after a payload of n bytes was appended
 abbrev pub after_append : Position → ℕ → Position

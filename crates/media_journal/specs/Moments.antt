@@ -3,40 +3,40 @@ use Rattle.std.specs.Prelude.{◌≡◌, ◌+◌, ◌⊎◌, ℕ, Bool, true, fa
 use Rattle.disk_trait.specs.Device.{Device, Left, may_leave}
 use Rattle.disk_trait.specs.Calls.{LeavesOnly, Torn, Unchanged, bytes_at}
 use Rattle.media_journal.specs.declared.header.Header.{Header}
-use Rattle.media_journal.specs.declared.record.Record.{Record}
 use Rattle.media_journal.specs.declared.fault.FormatFault.{FormatFault}
 use Rattle.media_journal.specs.declared.fault.FormatFault.TheVariants.{AlreadyStore, TooSmall, Disk, Memory}
 use Rattle.media_journal.specs.File.{HasOpenHeader, Reads}
-use Rattle.media_journal.specs.Journal.{Position, Gives, after_append}
+use Rattle.media_journal.specs.Journal.{Contents, Position, Gives, after_append}
 
--- each image that a crash now may leave gives the journal these rows and records
-pub record EachGives (d : Device) (p : Position) (h : Header) (rows : List ℕ) (records : List Record) : Type 0 where
-  pub gives : (left : Left) → may_leave d left → Gives left.image p h rows records
+-- each image that a crash now may leave gives the journal this
+pub record EachGives (d : Device) (p : Position) (held : Contents) : Type 0 where
+  pub gives : (left : Left) → may_leave d left → Gives left.image p held
 
--- the records with one more, whose gate is the journal's
-abbrev pub with_payload : Position → List ℕ → List Record → List Record
-with_payload p payload records = records ++ record { offset = p.gate; payload = payload } ∷ []
+-- the contents with one record more, whose gate is the journal's
+abbrev pub with_payload : Position → List ℕ → Contents → Contents
+with_payload p payload held =
+    record held { records = held.records ++ record { offset = p.gate; payload = payload } ∷ [] }
 
 -- the image gives the records as they were, or with this payload as the last one
-abbrev pub GivesOneOf : List ℕ → Position → List ℕ → Header → List ℕ → List Record → Type 0
-GivesOneOf image p payload h rows records =
-    Gives image p h rows records ⊎ Gives image (after_append p (length payload)) h rows (with_payload p payload records)
+abbrev pub GivesOneOf : List ℕ → Position → List ℕ → Contents → Type 0
+GivesOneOf image p payload held =
+    Gives image p held ⊎ Gives image (after_append p (length payload)) (with_payload p payload held)
 
 -- What an append may have done so far: nothing was told, only the bytes of a record at the journal's gate
 -- and of the gate behind it may differ, and the image gives the records as they were, or with the payload.
-pub record KeepsOrAdds (p : Position) (payload : List ℕ) (h : Header) (rows : List ℕ) (records : List Record) (old new : Left) : Type 0 where
+pub record KeepsOrAdds (p : Position) (payload : List ℕ) (held : Contents) (old new : Left) : Type 0 where
   pub told : new.told ≡ old.told
   pub elsewhere : Torn p.gate (length payload + 6) old.image new.image
-  pub image : GivesOneOf new.image p payload h rows records
+  pub image : GivesOneOf new.image p payload held
 
 -- what an append has done once it has succeeded
-pub record AddsRecord (p : Position) (payload : List ℕ) (h : Header) (rows : List ℕ) (records : List Record) (old new : Left) : Type 0 where
+pub record AddsRecord (p : Position) (payload : List ℕ) (held : Contents) (old new : Left) : Type 0 where
   pub told : new.told ≡ old.told
   pub elsewhere : Torn p.gate (length payload + 6) old.image new.image
-  pub image : Gives new.image (after_append p (length payload)) h rows (with_payload p payload records)
+  pub image : Gives new.image (after_append p (length payload)) (with_payload p payload held)
 
 -- what an append has done at its end, by whether it has succeeded
-abbrev pub AppendEnds : Bool → Position → List ℕ → Header → List ℕ → List Record → Left → Left → Type 0
+abbrev pub AppendEnds : Bool → Position → List ℕ → Contents → Left → Left → Type 0
 AppendEnds true = AddsRecord
 AppendEnds false = KeepsOrAdds
 

@@ -5,7 +5,7 @@ use Rattle.media_journal.specs.declared.open.Opened.{Opened}
 use Rattle.media_journal.specs.declared.fault.JournalFault.{JournalFault}
 use Rattle.media_journal.specs.declared.fault.JournalFault.TheVariants.{NotStore, Damaged, Disk, Memory}
 use Rattle.media_journal.specs.File.{HasOpenHeader, IsHeader, AreSizes, HasLongRows, ReadsTorn, active_start}
-use Rattle.media_journal.specs.Journal.{Gives}
+use Rattle.media_journal.specs.Journal.{Contents, Gives}
 
 -- a file of at least five blocks whose header is an open one
 pub record IsStore (image : List ℕ) : Type 0 where
@@ -36,6 +36,10 @@ DamagedAt image at = ((at ≡ 8) × HasWrongSizes image) ⊎ HasWrongRows image 
 abbrev pub header_of : Opened → Header
 header_of o = record { blocks = o.blocks; half = o.half; id = o.id }
 
+-- the header, the rows and the records that were read
+abbrev pub contents_of : Opened → Contents
+contents_of o = record { header = header_of o; rows = o.rows; records = o.found }
+
 -- The image reads up to a torn record, and has the rows and records that were opened before it. The
 -- journal ends there and has no room.
 pub record OpensTorn (image : List ℕ) (o : Opened) (at : ℕ) : Type 0 where
@@ -45,7 +49,7 @@ pub record OpensTorn (image : List ℕ) (o : Opened) (at : ℕ) : Type 0 where
 
 -- what the image reads as: all that was opened, or what was opened before a torn record
 abbrev pub OpenedHalf : List ℕ → Opened → Option ℕ → Type 0
-OpenedHalf image o None = Gives image o.journal (header_of o) o.rows o.found
+OpenedHalf image o None = Gives image o.journal (contents_of o)
 OpenedHalf image o (Some at) = OpensTorn image o at
 
 -- what was opened of the image of a store

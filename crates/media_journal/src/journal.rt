@@ -1,12 +1,10 @@
 //! The journal behind the rows of the active half, to which records are added.
-ghost use Rattle.std.specs.Prelude.{◌≡◌, ◌≤◌, ◌<◌, ◌+◌, ◌*◌, ◌∷◌, ◌++◌, ◌↔◌, ◌^◌, [], ℕ, List, true, false, length, is_ok, OnOk, OnErr, IsErrOf};
+ghost use Rattle.std.specs.Prelude.{◌≡◌, ◌≤◌, ◌<◌, ◌+◌, ◌*◌, ◌∷◌, ◌↔◌, ◌^◌, [], true, false, length, is_ok, OnOk, OnErr, IsErrOf};
 ghost use Rattle.disk_trait.specs.Device.{as_read, may_leave};
 ghost use Rattle.disk_trait.specs.Calls.{DiskCalls, Elapses, Follows, LeavesOnly, Torn, overwritten};
-ghost use Rattle.media_journal.specs.Journal.{Gives, IsPosition, after_append};
+ghost use Rattle.media_journal.specs.Journal.{Contents, Gives, IsPosition, after_append};
 ghost use Rattle.media_journal.specs.Moments.{AppendEnds, EachGives, KeepsOrAdds, with_payload};
 ghost use Rattle.media_journal.specs.Steps.{RecordEnds, WithinRecord};
-ghost use Rattle.media_journal.specs.declared.header.Header.{Header};
-ghost use Rattle.media_journal.specs.declared.record.Record.{Record};
 
 use crate::write::write_synced;
 use crate::{AppendFault, Frame};
@@ -69,10 +67,8 @@ impl Journal {
 
         ensures moved { OnOk result (self.new ≡ after_append self.old (length frame.now)) }
         ensures content { (D.device disk.old).shows ≡ true → OnOk result
-            ((h : Header) (rows : List ℕ) (records : List Record)
-            → Gives (D.device disk.old).seen self.old h rows records
-            → Gives (D.device disk.new).seen self.new h rows
-            (records ++ record { offset = self.old.gate; payload = frame.now } ∷ [])) }
+            ((held : Contents) → Gives (D.device disk.old).seen self.old held
+            → Gives (D.device disk.new).seen self.new (with_payload self.old frame.now held)) }
         ensures elsewhere { (D.device disk.old).shows ≡ true
             → OnOk result (Torn self.old.gate (length frame.now + 6)
             (D.device disk.old).seen (D.device disk.new).seen) }
@@ -85,16 +81,13 @@ impl Journal {
         // with the payload; after Ok nothing is pending, and each image has it. Other bytes may be
         // pending at the start.
         ensures moments { (D.device disk.old).honest ≡ true → (D.device disk.old).shows ≡ true
-            → (h : Header) (rows : List ℕ) (records : List Record)
-            → EachGives (D.device disk.old) self.old h rows records
-            → Elapses (KeepsOrAdds self.old frame.now h rows records)
-            (AppendEnds (is_ok result) self.old frame.now h rows records)
+            → (held : Contents) → EachGives (D.device disk.old) self.old held
+            → Elapses (KeepsOrAdds self.old frame.now held)
+            (AppendEnds (is_ok result) self.old frame.now held)
             (D.device disk.old) (D.device disk.new) }
         ensures acknowledged { (D.device disk.old).honest ≡ true → (D.device disk.old).shows ≡ true
-            → OnOk result ((h : Header) (rows : List ℕ) (records : List Record)
-            → EachGives (D.device disk.old) self.old h rows records
-            → EachGives (D.device disk.new) self.new h rows
-            (with_payload self.old frame.now records)) }
+            → OnOk result ((held : Contents) → EachGives (D.device disk.old) self.old held
+            → EachGives (D.device disk.new) self.new (with_payload self.old frame.now held)) }
         ensures durable { (D.device disk.old).honest ≡ true
             → OnOk result (LeavesOnly (D.device disk.new).seen (D.device disk.new)) }
 
@@ -103,9 +96,8 @@ impl Journal {
         // the device isn't honest nothing is said: there a sync that fails leaves open what is read.
         ensures left { (D.device disk.old).honest ≡ true → (D.device disk.old).shows ≡ true
             → (D.device disk.old).tells ≡ true → IsErrOf result AppendFault.Disk
-            → (h : Header) (rows : List ℕ) (records : List Record)
-            → EachGives (D.device disk.old) self.old h rows records
-            → Follows (KeepsOrAdds self.old frame.now h rows records)
+            → (held : Contents) → EachGives (D.device disk.old) self.old held
+            → Follows (KeepsOrAdds self.old frame.now held)
             (may_leave (D.device disk.old)) (as_read (D.device disk.new)) }
 
         ensures calls { OnOk result (DiskCalls true (D.device disk.old) (D.device disk.new)) }

@@ -6,9 +6,9 @@ use Rattle.media_journal.specs.declared.open.Opened.{Opened}
 use Rattle.media_journal.specs.declared.fault.JournalFault.{JournalFault}
 use Rattle.media_journal.specs.declared.fault.JournalFault.TheVariants as journal
 use Rattle.media_journal.specs.Journal.{Gives}
-use Rattle.media_journal.specs.Opening.{IsOpened, OpenedHalf, OpenAnswer, header_of}
+use Rattle.media_journal.specs.Opening.{IsOpened, OpenedHalf, OpenAnswer, contents_of, header_of}
 use Rattle.media_journal.proofs.OpeningLemmas.{damaged_unreadable}
-use Rattle.media_journal.proofs.ReadingLemmas.{one_reading, torn_or_whole}
+use Rattle.media_journal.proofs.ReadingLemmas.{gives_reads, one_reading, torn_or_whole}
 use Rattle.tams_top.specs.declared.library.Library.{Library}
 use Rattle.tams_top.specs.declared.store.StoreFault.{StoreFault}
 use Rattle.tams_top.specs.declared.store.StoreFault.TheVariants.{Damaged, Memory}
@@ -20,7 +20,7 @@ use Rattle.tams_top.specs.Folding.{IsFoldRefused, PartAnswer}
 use Rattle.tams_top.proofs.FoldLemmas.{one_fold}
 
 -- what the image gives where no record is torn
-gives_of : (image : List ℕ) (o : Opened) → o.torn ≡ None → IsOpened image o → Gives image o.journal (header_of o) o.rows o.found
+gives_of : (image : List ℕ) (o : Opened) → o.torn ≡ None → IsOpened image o → Gives image o.journal (contents_of o)
 gives_of image o whole is = subst (OpenedHalf image o) whole is.half
 
 -- a fault in opening the journal
@@ -40,14 +40,14 @@ no_state-torn image o at torn is s stands =
 pub no_state-rows : (image : List ℕ) (o : Opened) → o.torn ≡ None → IsOpened image o → o.rows ≢ empty_rows → StandsForNone image
 no_state-rows image o whole is other s stands =
     let gives = gives_of image o whole is in
-    let same = one_reading image _ _ _ _ _ _ _ _ gives.reads stands.reads in
+    let same = one_reading image _ _ _ _ _ _ _ _ (gives_reads image o.journal (contents_of o) gives) stands.reads in
     other (sym same.2)
 
 -- records that fold to no library
 pub no_state-fold : (image : List ℕ) (o : Opened) → o.torn ≡ None → IsOpened image o → ((to : Library) → Folds o.found (empty_library (header_of o)) to → ⊥) → StandsForNone image
 no_state-fold image o whole is refused s stands =
     let gives = gives_of image o whole is in
-    let same = one_reading image _ _ _ _ _ _ _ _ gives.reads stands.reads in
+    let same = one_reading image _ _ _ _ _ _ _ _ (gives_reads image o.journal (contents_of o) gives) stands.reads in
     let found = subst (λ (rs : List Record). Folds rs (empty_library stands.header) s.library) same.3 stands.folds in
     refused s.library (subst (λ (h : Header). Folds o.found (empty_library h) s.library) same.0 found)
 

@@ -11,7 +11,8 @@ use Rattle.tams_top.specs.declared.change.Change.{Change}
 use Rattle.tams_top.specs.declared.library.Library.{Library}
 use Rattle.tams_top.specs.declared.store.Store.{Store}
 use Rattle.tams_top.specs.Library.{empty_library}
-use Rattle.tams_top.specs.Store.{Folds, State, StandsFor, empty_rows}
+use Rattle.tams_top.specs.Store.{Folds, State, StandsFor, contents}
+use Rattle.media_journal.proofs.ReadingLemmas.{gives_reads}
 use Rattle.tams_top.specs.Opening.{state_of}
 use Rattle.tams_top.specs.History.{Taken, Last, Session, after, answered_last, answer_text, answer_to, answers_of, changed, changes_in, changes_of, end_of, is_changing, script_of, session_of}
 use Rattle.tams_top.specs.Moments.{AllRight, Beginning, EachKeeps, Handles, IsEarlier, IsLeft, IsRight, begun_in, told_before}
@@ -24,14 +25,14 @@ change_last-push f (y ∷ []) x = refl
 change_last-push f (y ∷ z ∷ xs) x = ap (λ ys. y ∷ ys) (change_last-push f (z ∷ xs) x)
 
 -- what an image gives a journal stands for the state of what its records fold to
-pub stands_at : (image : List ℕ) (p : Position) (h : Header) (records : List Record) (library : Library) → Gives image p h empty_rows records → Folds records (empty_library h) library → StandsFor image (record { library = library; room = p.room })
+pub stands_at : (image : List ℕ) (p : Position) (h : Header) (records : List Record) (library : Library) → Gives image p (contents h records) → Folds records (empty_library h) library → StandsFor image (record { library = library; room = p.room })
 stands_at image p h records library gives folds = record {
   header = h;
   gate = p.gate;
   records = records;
-  reads = gives.reads;
+  reads = gives_reads image p (contents h records) gives;
   folds = folds;
-  room = omega (arith, gives.room);
+  room = omega (arith, gives.half.room, gives.active);
 }
 
 pub stands_now : (d : Device) (s : Store) (p : Left) → EachKeeps d s → may_leave d p → StandsFor p.image (state_of s)

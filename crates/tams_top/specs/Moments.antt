@@ -9,7 +9,7 @@ use Rattle.media_journal.specs.Moments.{EachGives}
 use Rattle.tams_top.specs.declared.change.Change.{Change}
 use Rattle.tams_top.specs.declared.store.Store.{Store}
 use Rattle.tams_top.specs.Library.{empty_library}
-use Rattle.tams_top.specs.Store.{Folds, State, StandsFor, empty_rows}
+use Rattle.tams_top.specs.Store.{Folds, State, StandsFor, contents}
 use Rattle.tams_top.specs.History.{Session, Taken, answer_text, answer_to, change_of, changed, changes_in, count_of, end_of, is_changing, script_of, state_after}
 
 -- The outside is as the model says: the disk is honest, the site shows its bytes and tells its links, and
@@ -28,7 +28,7 @@ IsSettled d = LeavesOnly d.seen d
 pub record EachKeeps (d : Device) (s : Store) : Type 0 where
   pub header : Header
   pub records : List Record
-  pub gives : EachGives d s.journal header empty_rows records
+  pub gives : EachGives d s.journal (contents header records)
   pub folds : Folds records (empty_library header) s.library
 
 -- The number of changes at or before the last answer of which a byte was told, behind so many other

@@ -8,7 +8,7 @@ use Rattle.media_journal.specs.Journal.{Gives}
 use Rattle.media_journal.specs.Opening.{IsStore}
 use Rattle.tams_top.specs.declared.store.Store.{Store}
 use Rattle.tams_top.specs.Library.{empty_library}
-use Rattle.tams_top.specs.Store.{Folds, State, StandsFor, empty_rows}
+use Rattle.tams_top.specs.Store.{Folds, State, StandsFor, contents}
 
 -- the state of a store
 abbrev pub state_of : Store → State
@@ -18,7 +18,7 @@ state_of s = record { library = s.library; room = s.journal.room }
 pub record Keeps (image : List ℕ) (s : Store) : Type 0 where
   pub header : Header
   pub records : List Record
-  pub gives : Gives image s.journal header empty_rows records
+  pub gives : Gives image s.journal (contents header records)
   pub folds : Folds records (empty_library header) s.library
 
 -- the image stands for no state

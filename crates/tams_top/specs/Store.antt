@@ -5,6 +5,7 @@ use Rattle.change_codec.specs.Rows.{row_format}
 use Rattle.media_journal.specs.declared.header.Header.{Header}
 use Rattle.media_journal.specs.declared.record.Record.{Record}
 use Rattle.media_journal.specs.File.{Reads, active_start}
+use Rattle.media_journal.specs.Journal.{Contents}
 use Rattle.tams_top.specs.declared.change.Change.{Change}
 use Rattle.tams_top.specs.declared.library.Library.{Library}
 use Rattle.tams_top.specs.Change.{IsChange, change_text}
@@ -19,6 +20,10 @@ abbrev pub Folds : List Record → Library → Library → Type 0
 Folds [] from to = to ≡ from
 Folds (r ∷ rs) from to =
     (c : Change) × IsChange c × (r.payload ≡ change_text c) × ((next : Library) × (applied c from ≡ Some next) × Folds rs next to)
+
+-- what a half of a store holds whose rows are those of the empty library
+abbrev pub contents : Header → List Record → Contents
+contents header records = record { header = header; rows = empty_rows; records = records }
 
 -- a state: a library, and the bytes that are left in the journal's half
 pub record State : Type 0 where

@@ -4,4 +4,4 @@ use Rattle.tams_top.proofs.ChangeLemmas.{length-change_text}
 use Rattle.tams_top.proofs.store.Store.has_room.Goals as goal
 
 pub returns : goal.returns
-returns c = λ other. rw (length-change_text other, c.room.ensures) refl
+returns c = λ other. rw (length-change_text other, c.room.ensures.room) refl
