@@ -78,7 +78,8 @@ same_position p q blocks half start gate room =
     ∙ ap₂ (λ (x y : ℕ). make p.blocks p.half x y q.room) start gate
     ∙ ap (λ (z : ℕ). make p.blocks p.half p.start p.gate z) room
 
-same_opened : (a b : Opened) → b.journal ≡ a.journal → b.rows ≡ a.rows → b.found ≡ a.found → b.torn ≡ a.torn → header_of b ≡ header_of a → b.rows_at ≡ a.rows_at → b ≡ a
+same_opened : (a b : Opened) → b.journal ≡ a.journal → b.rows ≡ a.rows → b.found ≡ a.found → b.torn ≡ a.torn → header_of b ≡ header_of a → b.rows_at ≡ a.rows_at
+    → b ≡ a
 same_opened a b journal rows found torn header place =
     let make : Position → List ℕ → List Record → Option ℕ → Header → ℕ → Opened =
     λ j r f t h p. record { journal = j; rows = r; found = f; torn = t; blocks = h.blocks; half = h.half; id = h.id; rows_at = p } in
@@ -93,11 +94,13 @@ one_opened image a b first second =
     let start : active_start image b.half ≡ active_start image a.half = ap (λ (x : Header). active_start image x.half) header in
     let blocks : b.blocks ≡ a.blocks = ap (λ (x : Header). x.blocks) header in
     let same = same_half image a b a.torn b.torn first.half second.half in
-    let journal = same_position a.journal b.journal (second.blocks ∙ blocks ∙ sym first.blocks) (second.half_blocks ∙ ap (λ (h : Header). h.half) header ∙ sym first.half_blocks) (second.start ∙ start ∙ sym first.start) same.gate same.room in
+    let journal =
+    same_position a.journal b.journal (second.blocks ∙ blocks ∙ sym first.blocks) (second.half_blocks ∙ ap (λ (h : Header). h.half) header ∙ sym first.half_blocks) (second.start ∙ start ∙ sym first.start) same.gate same.room in
     same_opened a b journal same.rows same.found same.torn header (omega (arith, first.rows_at, second.rows_at, start))
 
 -- two answers of an image are one
-pub one_answer : (image : List ℕ) (answer other : Result Opened JournalFault) → IsDecided answer → IsDecided other → OpenAnswer image answer → OpenAnswer image other → other ≡ answer
+pub one_answer : (image : List ℕ) (answer other : Result Opened JournalFault) → IsDecided answer → IsDecided other → OpenAnswer image answer
+    → OpenAnswer image other → other ≡ answer
 one_answer image (Ok a) (Ok b) p q first second = ap Ok (one_opened image a b first second)
 one_answer image (Ok a) (Err NotStore) p q first second = absurd (second first.store)
 one_answer image (Ok a) (Err (Damaged k)) p q first second = absurd (not_damaged image a k first second.1)

@@ -10,7 +10,7 @@ use Rattle.disk_trait.proofs.OverwriteLemmas.{length-overwritten, get_or-before,
 use Rattle.media_journal.specs.declared.record.Record.{Record}
 use Rattle.media_journal.specs.File.{HasHalf, IsRecordAt, active_start, record_text}
 use Rattle.media_journal.specs.Journal.{Contents, Position, Gives, after_append, frame_text}
-use Rattle.media_journal.specs.Moments.{with_payload}
+use Rattle.media_journal.specs.JournalMoments.{with_payload}
 use Rattle.media_journal.proofs.FrameLemmas.{length-frame_text}
 use Rattle.media_journal.proofs.ChainLemmas.{chain_bounds, chain_kept, chain_push}
 
@@ -84,7 +84,9 @@ module _ (image payload : List ℕ) (gate : ℕ) (fits : gate + (6 + length payl
       ∙ rw place (get_or-written (gate + 1) (frame_text payload) image framed_fits (4 + length payload) 0 (omega (arith, length-frame_text payload)) ∙ gate-frame_text payload)
 
 -- the half has one record more
-half_more : (image : List ℕ) (start end gate : ℕ) (rows : List ℕ) (records : List Record) (payload : List ℕ) → end ≤ length image → gate + (6 + length payload) ≤ end → length payload < 2 ^ 32 → HasHalf image start end gate rows records → HasHalf (recorded image gate payload) start end (gate + (length payload + 5)) rows (records ++ record { offset = gate; payload = payload } ∷ [])
+half_more : (image : List ℕ) (start end gate : ℕ) (rows : List ℕ) (records : List Record) (payload : List ℕ) → end ≤ length image
+    → gate + (6 + length payload) ≤ end → length payload < 2 ^ 32 → HasHalf image start end gate rows records
+    → HasHalf (recorded image gate payload) start end (gate + (length payload + 5)) rows (records ++ record { offset = gate; payload = payload } ∷ [])
 half_more image start end gate rows records payload within room short h =
     let fits : gate + (6 + length payload) ≤ length image = omega arith in
     let bound : start + (8 + length rows) ≤ gate = chain_bounds image _ records gate h.chain in
@@ -92,13 +94,16 @@ half_more image start end gate rows records payload within room short h =
     record {
       text = recorded-before image payload gate fits start (8 + length rows) bound ∙ h.text;
       few = h.few;
-      chain = rw place (chain_push _ _ records gate payload (chain_kept image _ _ records gate (recorded-before image payload gate fits) h.chain) (recorded-record image payload gate fits short));
-      closed = λ one. let shut : get_or (recorded image gate payload) (gate + (length payload + 5)) 0 ≡ 0 = rw place (recorded-gate image payload gate fits) in cc;
+      chain =
+          rw place (chain_push _ _ records gate payload (chain_kept image _ _ records gate (recorded-before image payload gate fits) h.chain) (recorded-record image payload gate fits short));
+      closed =
+          λ one. let shut : get_or (recorded image gate payload) (gate + (length payload + 5)) 0 ≡ 0 = rw place (recorded-gate image payload gate fits) in cc;
       within = omega arith;
     }
 
 -- the image gives the journal one record more
-pub gives_more : (image : List ℕ) (p : Position) (held : Contents) (payload : List ℕ) → p.gate + p.room ≤ length image → length payload + 6 ≤ p.room → length payload < 2 ^ 32 → Gives image p held → Gives (recorded image p.gate payload) (after_append p (length payload)) (with_payload p payload held)
+pub gives_more : (image : List ℕ) (p : Position) (held : Contents) (payload : List ℕ) → p.gate + p.room ≤ length image → length payload + 6 ≤ p.room
+    → length payload < 2 ^ 32 → Gives image p held → Gives (recorded image p.gate payload) (after_append p (length payload)) (with_payload p payload held)
 gives_more image p held payload within room short g =
     let fits : p.gate + (6 + length payload) ≤ length image = omega arith in
     let bound : p.start + (8 + length held.rows) ≤ p.gate = chain_bounds image _ held.records p.gate g.half.half.chain in

@@ -9,13 +9,15 @@ chain_bounds image from [] to e = omega (arith, e)
 chain_bounds image from (r ∷ rs) to h = omega (arith, chain_bounds image (from + (5 + length r.payload)) rs to h.2)
 
 -- an image that is the same before the end has the same records
-pub chain_kept : (image other : List ℕ) (from : ℕ) (rs : List Record) (to : ℕ) → ((i n : ℕ) → i + n ≤ to → bytes_at other i n ≡ bytes_at image i n) → AreRecords image from rs to → AreRecords other from rs to
+pub chain_kept : (image other : List ℕ) (from : ℕ) (rs : List Record) (to : ℕ) → ((i n : ℕ) → i + n ≤ to → bytes_at other i n ≡ bytes_at image i n)
+    → AreRecords image from rs to → AreRecords other from rs to
 chain_kept image other from [] to same e = e
 chain_kept image other from (r ∷ rs) to same h =
     (h.0, record { text = same from (5 + length r.payload) (chain_bounds image (from + (5 + length r.payload)) rs to h.2) ∙ h.1.text; short = h.1.short }, chain_kept image other (from + (5 + length r.payload)) rs to same h.2)
 
 -- one more record at the end
-pub chain_push : (image : List ℕ) (from : ℕ) (rs : List Record) (mid : ℕ) (payload : List ℕ) → AreRecords image from rs mid → IsRecordAt image mid payload → AreRecords image from (rs ++ record { offset = mid; payload = payload } ∷ []) (mid + (5 + length payload))
+pub chain_push : (image : List ℕ) (from : ℕ) (rs : List Record) (mid : ℕ) (payload : List ℕ) → AreRecords image from rs mid → IsRecordAt image mid payload
+    → AreRecords image from (rs ++ record { offset = mid; payload = payload } ∷ []) (mid + (5 + length payload))
 chain_push image from [] mid payload e last =
     subst (λ (at : ℕ). (mid ≡ at) × IsRecordAt image at payload × (at + (5 + length payload) ≡ mid + (5 + length payload))) (sym e) (refl, last, refl)
 chain_push image from (r ∷ rs) mid payload h last = (h.0, h.1, chain_push image (from + (5 + length r.payload)) rs mid payload h.2 last)

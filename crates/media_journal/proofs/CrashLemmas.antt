@@ -10,14 +10,15 @@ use Rattle.disk_trait.proofs.TornLemmas.{byte_kept, bytes_kept, torn_wider}
 use Rattle.disk_trait.proofs.OverwriteLemmas.{length-overwritten, bytes_at-before}
 use Rattle.media_journal.specs.File.{IsClosedGate, active_start}
 use Rattle.media_journal.specs.Journal.{Contents, Position, Gives, after_append, frame_text}
-use Rattle.media_journal.specs.Moments.{EachGives, GivesOneOf, KeepsOrAdds, AddsRecord, AppendEnds, with_payload}
-use Rattle.media_journal.specs.Steps.{SyncedWrite, WithinRecord, RecordEnds}
+use Rattle.media_journal.specs.JournalMoments.{EachGives, GivesOneOf, KeepsOrAdds, AddsRecord, AppendEnds, with_payload}
+use Rattle.media_journal.specs.Within.Steps.{SyncedWrite, WithinRecord, RecordEnds}
 use Rattle.media_journal.proofs.FrameLemmas.{length-frame_text}
 use Rattle.media_journal.proofs.ChainLemmas.{chain_bounds, chain_kept}
 use Rattle.media_journal.proofs.AppendLemmas.{active_start-least, gives_more, recorded}
 
 -- an image that is the same before the journal's gate, and whose gate is closed, gives the same
-pub gives_kept : (image other : List ℕ) (p : Position) (held : Contents) → length other ≡ length image → take p.gate other ≡ take p.gate image → IsClosedGate other p.gate → Gives image p held → Gives other p held
+pub gives_kept : (image other : List ℕ) (p : Position) (held : Contents) → length other ≡ length image → take p.gate other ≡ take p.gate image
+    → IsClosedGate other p.gate → Gives image p held → Gives other p held
 gives_kept image other p held size same closed g =
     let behind : p.start + (8 + length held.rows) ≤ p.gate = chain_bounds image _ held.records p.gate g.half.half.chain in
     let least : 8192 ≤ p.start = omega (arith, g.active, active_start-least image held.header.half) in
@@ -55,18 +56,22 @@ torn_byte at b old new within torn is =
     sym (take-append-drop at new) ∙ ap₂ (λ (a b : List ℕ). a ++ b) torn.before behind ∙ sym (append_assoc (take at old) (b ∷ []) (drop (at + 1) old))
 
 -- an image that is the same up to and with the journal's gate gives the same
-pub gives_before : (image other : List ℕ) (p : Position) (held : Contents) → length other ≡ length image → take (p.gate + 1) other ≡ take (p.gate + 1) image → Gives image p held → Gives other p held
+pub gives_before : (image other : List ℕ) (p : Position) (held : Contents) → length other ≡ length image → take (p.gate + 1) other ≡ take (p.gate + 1) image
+    → Gives image p held → Gives other p held
 gives_before image other p held size same g =
     let gate : get_or other p.gate 0 ≡ get_or image p.gate 0 = byte_kept image other (p.gate + 1) same p.gate (omega arith) in
     gives_kept image other p held size (bytes_kept image other (p.gate + 1) same 0 p.gate (omega arith)) (λ one. g.half.half.closed (sym gate ∙ one)) g
 
 -- so what an image gives with a frame behind the gate, it gives without it
-pub gives_without_frame : (seen : List ℕ) (p : Position) (held : Contents) (frame : List ℕ) → p.gate + 1 + length frame ≤ length seen → Gives (overwritten (p.gate + 1) frame seen) p held → Gives seen p held
+pub gives_without_frame : (seen : List ℕ) (p : Position) (held : Contents) (frame : List ℕ) → p.gate + 1 + length frame ≤ length seen
+    → Gives (overwritten (p.gate + 1) frame seen) p held → Gives seen p held
 gives_without_frame seen p held frame fits g =
     gives_before (overwritten (p.gate + 1) frame seen) seen p held (sym (length-overwritten (p.gate + 1) frame seen fits)) (sym (bytes_at-before (p.gate + 1) frame seen fits 0 (p.gate + 1) (omega arith))) g
 
 -- once the frame is there, the gate's write gives the records as they were, or with the payload
-pub gives_torn_gate : (seen other : List ℕ) (p : Position) (payload : List ℕ) (held : Contents) → p.gate + p.room ≤ length seen → length payload + 6 ≤ p.room → length payload < 2 ^ 32 → Gives (overwritten (p.gate + 1) (frame_text payload) seen) p held → Torn p.gate 1 (overwritten (p.gate + 1) (frame_text payload) seen) other → GivesOneOf other p payload held
+pub gives_torn_gate : (seen other : List ℕ) (p : Position) (payload : List ℕ) (held : Contents) → p.gate + p.room ≤ length seen → length payload + 6 ≤ p.room
+    → length payload < 2 ^ 32 → Gives (overwritten (p.gate + 1) (frame_text payload) seen) p held
+    → Torn p.gate 1 (overwritten (p.gate + 1) (frame_text payload) seen) other → GivesOneOf other p payload held
 gives_torn_gate seen other p payload held within room short g torn =
     let staged = overwritten (p.gate + 1) (frame_text payload) seen in
     let fits : p.gate + 1 + length (frame_text payload) ≤ length seen = omega (arith, length-frame_text payload) in
@@ -88,11 +93,13 @@ module _ (old new : Device) (p : Position) (payload : List ℕ) (held : Contents
   frame_within : (q m : Left) → TornWrite (p.gate + 1) (length (frame_text payload)) q m → Torn p.gate (length payload + 6) q.image m.image
   frame_within q m torn = torn_wider _ _ q.image m.image torn.image _ _ (omega arith) (omega (arith, length-frame_text payload))
 
-  gate_within : (q m l : Left) → TornWrite (p.gate + 1) (length (frame_text payload)) q m → TornWrite p.gate 1 m l → Torn p.gate (length payload + 6) q.image l.image
+  gate_within : (q m l : Left) → TornWrite (p.gate + 1) (length (frame_text payload)) q m → TornWrite p.gate 1 m l
+      → Torn p.gate (length payload + 6) q.image l.image
   gate_within q m l frame gate =
       torn_twice _ _ q.image m.image l.image (frame_within q m frame) (torn_wider _ _ m.image l.image gate.image _ _ (omega arith) (omega arith))
 
-  staged : (q m : Left) → may_leave old q → SyncedWrite (p.gate + 1) (frame_text payload) old.seen q m → Gives (overwritten (p.gate + 1) (frame_text payload) old.seen) p held
+  staged : (q m : Left) → may_leave old q → SyncedWrite (p.gate + 1) (frame_text payload) old.seen q m
+      → Gives (overwritten (p.gate + 1) (frame_text payload) old.seen) p held
   staged q m could write = subst (λ (image : List ℕ). Gives image p held) write.whole (framed q m could write.torn)
 
   so_far : (q l : Left) → may_leave old q → WithinRecord p.gate (frame_text payload) old.seen q l → KeepsOrAdds p payload held q l
@@ -122,14 +129,18 @@ module _ (old new : Device) (p : Position) (payload : List ℕ) (held : Contents
       }
   at_end false q l could steps = so_far q l could steps
 
-  pub append_moments : (ok : Bool) → Elapses (WithinRecord p.gate (frame_text payload) old.seen) (RecordEnds ok p.gate (frame_text payload) old.seen) old new → Elapses (KeepsOrAdds p payload held) (AppendEnds ok p payload held) old new
+  pub append_moments : (ok : Bool) → Elapses (WithinRecord p.gate (frame_text payload) old.seen) (RecordEnds ok p.gate (frame_text payload) old.seen) old new
+      → Elapses (KeepsOrAdds p payload held) (AppendEnds ok p payload held) old new
   append_moments ok time =
       elapses_weaker (WithinRecord p.gate (frame_text payload) old.seen) (RecordEnds ok p.gate (frame_text payload) old.seen) _ _ old new time so_far (λ q l could left steps. at_end ok q l could steps)
 
 -- what is read after the call is one of the images
-pub append_left : (old new : Device) (p : Position) (payload : List ℕ) (held : Contents) → IsDevice new → new.honest ≡ true → new.shows ≡ true → new.tells ≡ true → Elapses (KeepsOrAdds p payload held) (KeepsOrAdds p payload held) old new → Follows (KeepsOrAdds p payload held) (may_leave old) (as_read new)
+pub append_left : (old new : Device) (p : Position) (payload : List ℕ) (held : Contents) → IsDevice new → new.honest ≡ true → new.shows ≡ true
+    → new.tells ≡ true → Elapses (KeepsOrAdds p payload held) (KeepsOrAdds p payload held) old new
+    → Follows (KeepsOrAdds p payload held) (may_leave old) (as_read new)
 append_left old new p payload held sound honest shows tells time = time.now (as_read new) (sound.itself honest shows tells)
 
 -- each image has the payload
-pub append_each : (old new : Device) (p : Position) (payload : List ℕ) (held : Contents) → Elapses (KeepsOrAdds p payload held) (AddsRecord p payload held) old new → EachGives new (after_append p (length payload)) (with_payload p payload held)
+pub append_each : (old new : Device) (p : Position) (payload : List ℕ) (held : Contents)
+    → Elapses (KeepsOrAdds p payload held) (AddsRecord p payload held) old new → EachGives new (after_append p (length payload)) (with_payload p payload held)
 append_each old new p payload held time = record { gives = λ left could. (time.now left could).2.image }

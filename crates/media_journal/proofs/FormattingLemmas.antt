@@ -11,7 +11,7 @@ use Rattle.media_journal.specs.declared.format.Gate.{Gate}
 use Rattle.media_journal.specs.declared.format.Gate.TheVariants.{Store, Stray, Closed}
 use Rattle.media_journal.specs.File.{magic, header_text, rows_text, active_start, Reads, HasOpenHeader}
 use Rattle.media_journal.specs.Formatting.{FitsStore, GateIs, IsFormatted, half_text, with_store}
-use Rattle.media_journal.specs.Moments.{IsNewStore}
+use Rattle.media_journal.specs.JournalMoments.{IsNewStore}
 use Rattle.media_journal.proofs.HeaderLemmas.{length-magic, has_front, front_has}
 
 -- what stands at the gate of the first 41 bytes, stands at the image's
@@ -147,11 +147,13 @@ module _ (image : List ℕ) (h : Header) (rows : List ℕ) (fits : FitsStore h (
       }
 
 -- so does what formatting leaves of an image that had this length
-pub reads_formatted : (old new : List ℕ) (h : Header) (rows : List ℕ) → FitsStore h (length old) rows → h.id < 2 ^ 128 → IsFormatted (header_text h) (half_text rows) old new → Reads new h (8192 + (8 + length rows)) rows []
+pub reads_formatted : (old new : List ℕ) (h : Header) (rows : List ℕ) → FitsStore h (length old) rows → h.id < 2 ^ 128
+    → IsFormatted (header_text h) (half_text rows) old new → Reads new h (8192 + (8 + length rows)) rows []
 reads_formatted old new h rows fits id is =
     rw is.store (formatted is.closed h rows (subst (λ (n : ℕ). FitsStore h n rows) (sym is.same_length) fits) id)
 
-pub is_new_store : (old new : List ℕ) (h : Header) (rows : List ℕ) → FitsStore h (length old) rows → h.id < 2 ^ 128 → IsFormatted (header_text h) (half_text rows) old new → IsNewStore new h rows
+pub is_new_store : (old new : List ℕ) (h : Header) (rows : List ℕ) → FitsStore h (length old) rows → h.id < 2 ^ 128
+    → IsFormatted (header_text h) (half_text rows) old new → IsNewStore new h rows
 is_new_store old new h rows fits id is = record {
   reads = reads_formatted old new h rows fits id is;
   selector = rw is.store (selector_formatted is.closed h rows (subst (λ (n : ℕ). FitsStore h n rows) (sym is.same_length) fits));

@@ -29,14 +29,17 @@ is_frame payload some short = record {
 }
 
 -- bytes that are put over in the second or in the first of two parts
-overwritten-behind : (n at : ℕ) (bytes front rest : List ℕ) → length front ≡ n → at + length bytes ≤ length rest → overwritten (n + at) bytes (front ++ rest) ≡ front ++ overwritten at bytes rest
+overwritten-behind : (n at : ℕ) (bytes front rest : List ℕ) → length front ≡ n → at + length bytes ≤ length rest
+    → overwritten (n + at) bytes (front ++ rest) ≡ front ++ overwritten at bytes rest
 overwritten-behind n at bytes front rest size fits = same_lists _ _ (search (rules, places)) (λ k d h. grind (arith, places))
 
-overwritten-before : (at : ℕ) (bytes front rest : List ℕ) → at + length bytes ≤ length front → overwritten at bytes (front ++ rest) ≡ overwritten at bytes front ++ rest
+overwritten-before : (at : ℕ) (bytes front rest : List ℕ) → at + length bytes ≤ length front
+    → overwritten at bytes (front ++ rest) ≡ overwritten at bytes front ++ rest
 overwritten-before at bytes front rest fits = same_lists _ _ (search (rules, places)) (λ k d h. grind (arith, places))
 
 -- bytes that are put over a payload in its frame
-pub filled : (at : ℕ) (bytes payload : List ℕ) → at + length bytes ≤ length payload → overwritten (4 + at) bytes (frame_text payload) ≡ frame_text (overwritten at bytes payload)
+pub filled : (at : ℕ) (bytes payload : List ℕ) → at + length bytes ≤ length payload
+    → overwritten (4 + at) bytes (frame_text payload) ≡ frame_text (overwritten at bytes payload)
 unfolding frame_text
 filled at bytes payload fits =
     let size = length-overwritten at bytes payload fits in

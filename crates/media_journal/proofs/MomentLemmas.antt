@@ -4,14 +4,17 @@ use Rattle.disk_trait.specs.Device.{Device, Left, may_leave}
 use Rattle.disk_trait.specs.Calls.{Elapses, LeavesOnly, TornWrite, Unchanged, overwritten}
 use Rattle.disk_trait.specs.DiskMoments.{Then, WithinTwo}
 use Rattle.disk_trait.proofs.Theorems.{elapses_twice, elapses_weaker}
-use Rattle.media_journal.specs.Steps.{SyncedWrite, SyncedWriteEnds, WithinRecord, RecordEnds}
+use Rattle.media_journal.specs.Within.Steps.{SyncedWrite, SyncedWriteEnds, WithinRecord, RecordEnds}
 
 -- a write and a step that changes nothing are that write
 write_then_unchanged : (at n : ℕ) (q p : Left) → Then (TornWrite at n) Unchanged q p → TornWrite at n q p
 write_then_unchanged at n q p steps = subst (λ (r : Left). TornWrite at n q r) (sym steps.2) steps.1
 
 -- a write and its sync
-pub synced_write : {T E : Type 0} (r : Result T E) (at : ℕ) (bytes : List ℕ) (old mid new : Device) → Elapses (TornWrite at (length bytes)) (TornWrite at (length bytes)) old mid → Elapses Unchanged Unchanged mid new → OnOk r (LeavesOnly new.seen new) → OnOk r (new.seen ≡ mid.seen) → mid.seen ≡ overwritten at bytes old.seen → Elapses (TornWrite at (length bytes)) (SyncedWriteEnds (is_ok r) at bytes old.seen) old new
+pub synced_write : {T E : Type 0} (r : Result T E) (at : ℕ) (bytes : List ℕ) (old mid new : Device)
+    → Elapses (TornWrite at (length bytes)) (TornWrite at (length bytes)) old mid → Elapses Unchanged Unchanged mid new → OnOk r (LeavesOnly new.seen new)
+    → OnOk r (new.seen ≡ mid.seen) → mid.seen ≡ overwritten at bytes old.seen
+    → Elapses (TornWrite at (length bytes)) (SyncedWriteEnds (is_ok r) at bytes old.seen) old new
 synced_write r at bytes old mid new write sync only seen written =
     let n = length bytes in
     let torn = TornWrite at n in
@@ -20,7 +23,8 @@ synced_write r at bytes old mid new write sync only seen written =
     (λ q p could steps. elim steps [ inl so_far ↦ so_far | inr then ↦ write_then_unchanged at n q p then ])
     (λ q p could left steps. ends r only seen q p left (write_then_unchanged at n q p steps))
   where
-    ends : {T E : Type 0} (r : Result T E) → OnOk r (LeavesOnly new.seen new) → OnOk r (new.seen ≡ mid.seen) → (q p : Left) → may_leave new p → TornWrite at (length bytes) q p → SyncedWriteEnds (is_ok r) at bytes old.seen q p
+    ends : {T E : Type 0} (r : Result T E) → OnOk r (LeavesOnly new.seen new) → OnOk r (new.seen ≡ mid.seen) → (q p : Left) → may_leave new p
+        → TornWrite at (length bytes) q p → SyncedWriteEnds (is_ok r) at bytes old.seen q p
     ends (Ok x) only seen q p left torn = record { torn = torn; whole = only p left ∙ seen ∙ written }
     ends (Err e) only seen q p left torn = torn
 
@@ -30,17 +34,23 @@ synced_is_torn true at bytes seen q p write = write.torn
 synced_is_torn false at bytes seen q p write = write
 
 -- the frame's write and then the gate's
-pub record_written : (ok : Bool) (gate : ℕ) (frame : List ℕ) (old mid new : Device) → mid.seen ≡ overwritten (gate + 1) frame old.seen → Elapses (TornWrite (gate + 1) (length frame)) (SyncedWrite (gate + 1) frame old.seen) old mid → Elapses (TornWrite gate 1) (SyncedWriteEnds ok gate (1 ∷ []) mid.seen) mid new → Elapses (WithinRecord gate frame old.seen) (RecordEnds ok gate frame old.seen) old new
+pub record_written : (ok : Bool) (gate : ℕ) (frame : List ℕ) (old mid new : Device) → mid.seen ≡ overwritten (gate + 1) frame old.seen
+    → Elapses (TornWrite (gate + 1) (length frame)) (SyncedWrite (gate + 1) frame old.seen) old mid
+    → Elapses (TornWrite gate 1) (SyncedWriteEnds ok gate (1 ∷ []) mid.seen) mid new
+    → Elapses (WithinRecord gate frame old.seen) (RecordEnds ok gate frame old.seen) old new
 record_written ok gate frame old mid new seen first second =
-    let both = elapses_twice (TornWrite (gate + 1) (length frame)) (SyncedWrite (gate + 1) frame old.seen) (TornWrite gate 1) (SyncedWriteEnds ok gate (1 ∷ []) mid.seen) old mid new first second in
+    let both =
+    elapses_twice (TornWrite (gate + 1) (length frame)) (SyncedWrite (gate + 1) frame old.seen) (TornWrite gate 1) (SyncedWriteEnds ok gate (1 ∷ []) mid.seen) old mid new first second in
     elapses_weaker _ _ _ _ old new both (λ q p could steps. steps) (λ q p could left steps. ends ok q p steps)
   where
-    ends : (ok : Bool) (q p : Left) → Then (SyncedWrite (gate + 1) frame old.seen) (SyncedWriteEnds ok gate (1 ∷ []) mid.seen) q p → RecordEnds ok gate frame old.seen q p
+    ends : (ok : Bool) (q p : Left) → Then (SyncedWrite (gate + 1) frame old.seen) (SyncedWriteEnds ok gate (1 ∷ []) mid.seen) q p
+        → RecordEnds ok gate frame old.seen q p
     ends true q p steps = (steps.0, steps.1, subst (λ (image : List ℕ). SyncedWrite gate (1 ∷ []) image steps.0 p) seen steps.2)
     ends false q p steps = inr steps
 
 -- the write alone, whatever is read
-pub torn_along : (at n : ℕ) (old mid new : Device) → Elapses (TornWrite at n) (TornWrite at n) old mid → Elapses Unchanged Unchanged mid new → Elapses (TornWrite at n) (TornWrite at n) old new
+pub torn_along : (at n : ℕ) (old mid new : Device) → Elapses (TornWrite at n) (TornWrite at n) old mid → Elapses Unchanged Unchanged mid new
+    → Elapses (TornWrite at n) (TornWrite at n) old new
 torn_along at n old mid new write sync =
     let torn = TornWrite at n in
     elapses_weaker (WithinTwo torn torn Unchanged) (Then torn Unchanged) torn torn old new (elapses_twice torn torn Unchanged Unchanged old mid new write sync)

@@ -8,7 +8,7 @@ use Rattle.media_journal.specs.declared.record.Record.{Record}
 use Rattle.media_journal.specs.declared.fault.JournalFault.{JournalFault}
 use Rattle.media_journal.specs.declared.fault.JournalFault.TheVariants.{NotStore, Damaged, Disk, Memory}
 use Rattle.media_journal.specs.File.{magic, header_text, IsHeader, AreSizes, HasLongRows, Reads, IsUnreadable, active_start}
-use Rattle.media_journal.specs.Scan.{HalfAnswer}
+use Rattle.media_journal.specs.Within.Scan.{HalfAnswer}
 use Rattle.media_journal.specs.Opening.{IsStore, HasWrongSizes, HasWrongRows, DamagedAt, OpenAnswer}
 use Rattle.media_journal.proofs.HeaderLemmas.{one_header, length-magic}
 use Rattle.media_journal.proofs.ReadingLemmas.{whole_reading, no_reading-long}
@@ -37,7 +37,8 @@ pub damaged-sizes : (image : List ℕ) (h : Header) → IsHeader image h → ¬ 
 damaged-sizes image h header wrong = inl (refl, record { header = h; is = header; wrong = wrong })
 
 -- a fault in reading the half
-pub open_fault : (image : List ℕ) (h : Header) (start : ℕ) (fault : JournalFault) → IsHeader image h → 20480 ≤ length image → AreSizes h (length image) → start ≡ active_start image h.half → HalfAnswer image start (start + 4096 * h.half) (Err fault) → OpenAnswer image (Err fault)
+pub open_fault : (image : List ℕ) (h : Header) (start : ℕ) (fault : JournalFault) → IsHeader image h → 20480 ≤ length image → AreSizes h (length image)
+    → start ≡ active_start image h.half → HalfAnswer image start (start + 4096 * h.half) (Err fault) → OpenAnswer image (Err fault)
 open_fault image h start NotStore header size sizes place answer = absurd answer
 open_fault image h start (Damaged at) header size sizes place answer =
     (is_store image h header size, inr (subst (λ (x : ℕ). HasWrongRows image x) (sym answer.0) record { header = h; is = header; sizes = sizes; active = place; long = answer.1 }))

@@ -4,7 +4,7 @@ use Rattle.disk_trait.specs.Device.{Device, Left, may_leave}
 use Rattle.disk_trait.specs.Calls.{Elapses, TornWrite, Unchanged}
 use Rattle.disk_trait.proofs.Theorems.{elapses_along, elapses_weaker}
 use Rattle.disk_trait.proofs.TornLemmas.{bytes_before, bytes_behind, torn_wider}
-use Rattle.media_journal.specs.Moments.{WritesStore}
+use Rattle.media_journal.specs.JournalMoments.{WritesStore}
 
 -- no write at all
 itself : (size : ℕ) (p : Left) → WritesStore size p p
@@ -67,21 +67,25 @@ others_quiet size old new time =
     same_step : (q p : Left) → p ≡ q → WritesStore size q p
     same_step q p same = subst (λ (r : Left). WritesStore size q r) (sym same) (itself size q)
 
-pub others_header : (size at n : ℕ) (old new : Device) → at + n ≤ 41 → Elapses (TornWrite at n) (TornWrite at n) old new → Elapses (WritesStore size) (WritesStore size) old new
+pub others_header : (size at n : ℕ) (old new : Device) → at + n ≤ 41 → Elapses (TornWrite at n) (TornWrite at n) old new
+    → Elapses (WritesStore size) (WritesStore size) old new
 others_header size at n old new within time =
     elapses_weaker (TornWrite at n) (TornWrite at n) (WritesStore size) (WritesStore size) old new time (λ q p could torn. of_header size at n q p torn within) (λ q p could left torn. of_header size at n q p torn within)
 
-pub others_selector : (size : ℕ) (old new : Device) → Elapses (TornWrite 4096 1) (TornWrite 4096 1) old new → Elapses (WritesStore size) (WritesStore size) old new
+pub others_selector : (size : ℕ) (old new : Device) → Elapses (TornWrite 4096 1) (TornWrite 4096 1) old new
+    → Elapses (WritesStore size) (WritesStore size) old new
 others_selector size old new time =
     elapses_weaker (TornWrite 4096 1) (TornWrite 4096 1) (WritesStore size) (WritesStore size) old new time
     (λ q p could torn. of_selector size 4096 1 q p torn (omega arith) (omega arith))
     (λ q p could left torn. of_selector size 4096 1 q p torn (omega arith) (omega arith))
 
-pub others_half : (size : ℕ) (old new : Device) → Elapses (TornWrite 8192 size) (TornWrite 8192 size) old new → Elapses (WritesStore size) (WritesStore size) old new
+pub others_half : (size : ℕ) (old new : Device) → Elapses (TornWrite 8192 size) (TornWrite 8192 size) old new
+    → Elapses (WritesStore size) (WritesStore size) old new
 others_half size old new time =
     elapses_weaker (TornWrite 8192 size) (TornWrite 8192 size) (WritesStore size) (WritesStore size) old new time
     (λ q p could torn. of_half size 8192 size q p torn (omega arith) (omega arith))
     (λ q p could left torn. of_half size 8192 size q p torn (omega arith) (omega arith))
 
-pub others_along : (size : ℕ) (old mid new : Device) → Elapses (WritesStore size) (WritesStore size) old mid → Elapses (WritesStore size) (WritesStore size) mid new → Elapses (WritesStore size) (WritesStore size) old new
+pub others_along : (size : ℕ) (old mid new : Device) → Elapses (WritesStore size) (WritesStore size) old mid
+    → Elapses (WritesStore size) (WritesStore size) mid new → Elapses (WritesStore size) (WritesStore size) old new
 others_along size old mid new first second = elapses_along (WritesStore size) old mid new (twice size) first second

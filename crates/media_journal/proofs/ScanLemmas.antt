@@ -12,7 +12,8 @@ bytes_at-one : (image : List ℕ) (at : ℕ) → at < length image → bytes_at 
 bytes_at-one image at within = ap (take 1) (drop-cons image at 0 within)
 
 -- the gate, the length and the payload make a record
-pub is_record : (image : List ℕ) (at n : ℕ) (payload : List ℕ) → at < length image → n < 2 ^ 32 → length payload ≡ n → IsOpenGate image at → u32_bytes n ≡ bytes_at image (at + 1) 4 → payload ≡ bytes_at image (at + 5) n → IsRecordAt image at payload
+pub is_record : (image : List ℕ) (at n : ℕ) (payload : List ℕ) → at < length image → n < 2 ^ 32 → length payload ≡ n → IsOpenGate image at
+    → u32_bytes n ≡ bytes_at image (at + 1) 4 → payload ≡ bytes_at image (at + 5) n → IsRecordAt image at payload
 unfolding record_text
 is_record image at n payload within short size gate prefix rest =
     let five : 5 + length payload ≡ 1 + (4 + n) = omega arith in
@@ -35,7 +36,8 @@ record_length image at payload h =
     ∙ take-append_seam (u32_bytes (length payload)) payload
 
 -- an open record whose length passes the half is torn
-pub is_torn : (image : List ℕ) (at end n : ℕ) → n < 2 ^ 32 → IsOpenGate image at → u32_bytes n ≡ bytes_at image (at + 1) 4 → end < at + (6 + n) → IsTornAt image at end
+pub is_torn : (image : List ℕ) (at end n : ℕ) → n < 2 ^ 32 → IsOpenGate image at → u32_bytes n ≡ bytes_at image (at + 1) 4 → end < at + (6 + n)
+    → IsTornAt image at end
 is_torn image at end n short gate prefix passes = record {
   gate = gate;
   passes = λ m small text. let same : n ≡ m = same_u32 n m short small (prefix ∙ text) in omega arith;

@@ -11,8 +11,8 @@ use Rattle.media_journal.specs.declared.header.Header.{Header}
 use Rattle.media_journal.specs.declared.format.Gate.{Gate}
 use Rattle.media_journal.specs.File.{HasOpenHeader, IsClosedGate, header_text}
 use Rattle.media_journal.specs.Formatting.{FitsStore, GateIs, IsFormatted, IsStray, half_text}
-use Rattle.media_journal.specs.Moments.{IsAtRest, MakesStore, NoneOrNew}
-use Rattle.media_journal.specs.Steps.{KeepsGate, LeavesNone, NoneOrFormatted, StoreEnds, SyncedWriteEnds}
+use Rattle.media_journal.specs.JournalMoments.{IsAtRest, MakesStore, NoneOrNew}
+use Rattle.media_journal.specs.Within.Steps.{KeepsGate, LeavesNone, NoneOrFormatted, StoreEnds, SyncedWriteEnds}
 use Rattle.disk_trait.proofs.TornLemmas.{bytes_kept, byte_kept}
 use Rattle.media_journal.proofs.CrashLemmas.{torn_byte}
 use Rattle.disk_trait.proofs.Theorems.{elapses_along, elapses_weaker}
@@ -28,7 +28,8 @@ torn_stray : (image other : List ℕ) → IsStray image → Torn 40 1 image othe
 torn_stray image other stray torn has =
     stray.bare record { begins = sym (bytes_kept image other 40 torn.before 0 8 (omega arith)) ∙ has.begins; gate = stray.gate }
 
-pub stray_closes : (ok : Bool) (old new : Device) → IsAtRest old → IsStray old.seen → Elapses (TornWrite 40 1) (SyncedWriteEnds ok 40 (0 ∷ []) old.seen) old new → Elapses LeavesNone LeavesNone old new
+pub stray_closes : (ok : Bool) (old new : Device) → IsAtRest old → IsStray old.seen → Elapses (TornWrite 40 1) (SyncedWriteEnds ok 40 (0 ∷ []) old.seen) old new
+    → Elapses LeavesNone LeavesNone old new
 stray_closes ok old new rest stray time =
     elapses_weaker (TornWrite 40 1) (SyncedWriteEnds ok 40 (0 ∷ []) old.seen) LeavesNone LeavesNone old new time none
     (λ q p could left write. none q p could (synced_is_torn ok 40 (0 ∷ []) old.seen q p write))
@@ -86,7 +87,8 @@ record Settles (image : List ℕ) (old new : Left) : Type 0 where
   pub whole : new.image ≡ image
 
 -- the gate was closed first, and then all but the gate was written
-pub front_none : (old mid new : Device) → LeavesOnly mid.seen mid → IsClosedGate mid.seen 40 → Elapses LeavesNone LeavesNone old mid → Elapses KeepsGate KeepsGate mid new → Elapses LeavesNone LeavesNone old new
+pub front_none : (old mid new : Device) → LeavesOnly mid.seen mid → IsClosedGate mid.seen 40 → Elapses LeavesNone LeavesNone old mid
+    → Elapses KeepsGate KeepsGate mid new → Elapses LeavesNone LeavesNone old new
 front_none old mid new only shut first second =
     let closes = elapses_weaker LeavesNone LeavesNone LeavesNone Shuts old mid first (λ q p could none. none)
     (λ q p could left none. record { told = none.told; gate = rw (only p left) shut }) in
@@ -101,7 +103,8 @@ front_none old mid new only shut first second =
     }
 
 -- where the writes of a store stopped before its gate's, there is none
-pub none_so_far : (header half seen : List ℕ) (old new : Device) → Elapses LeavesNone LeavesNone old new → Elapses (NoneOrFormatted header half seen) (NoneOrFormatted header half seen) old new
+pub none_so_far : (header half seen : List ℕ) (old new : Device) → Elapses LeavesNone LeavesNone old new
+    → Elapses (NoneOrFormatted header half seen) (NoneOrFormatted header half seen) old new
 none_so_far header half seen old new time =
     elapses_weaker LeavesNone LeavesNone (NoneOrFormatted header half seen) (NoneOrFormatted header half seen) old new time (λ q p could none. weaker q p none) (λ q p could left none. weaker q p none)
   where
@@ -132,7 +135,9 @@ module _ (header half seen closed : List ℕ) (same_length : length closed ≡ l
   gate_ends true q p steps = record { told = steps.2.torn.told ∙ steps.1.told; image = made p.image steps.2.whole }
   gate_ends false q p steps = gate_torn q p steps
 
-  pub store_made : (ok : Bool) → LeavesOnly mid.seen mid → Elapses LeavesNone LeavesNone old mid → Elapses (TornWrite 40 1) (SyncedWriteEnds ok 40 (1 ∷ []) mid.seen) mid new → Elapses (NoneOrFormatted header half seen) (StoreEnds ok header half seen) old new
+  pub store_made : (ok : Bool) → LeavesOnly mid.seen mid → Elapses LeavesNone LeavesNone old mid
+      → Elapses (TornWrite 40 1) (SyncedWriteEnds ok 40 (1 ∷ []) mid.seen) mid new
+      → Elapses (NoneOrFormatted header half seen) (StoreEnds ok header half seen) old new
   store_made ok only first second =
       let settles = elapses_weaker LeavesNone LeavesNone LeavesNone (Settles mid.seen) old mid first (λ q p could none. none)
       (λ q p could left none. record { told = none.told; whole = only p left }) in
@@ -182,7 +187,10 @@ module _ (old : Device) (rest : IsAtRest old) (none : ¬ (HasOpenHeader old.seen
     store_ends false q m p same steps = new_store q m p same steps
 
     -- the gate is read, and then the store is made of these bytes
-    pub formats : (ok : Bool) (gate : Gate) (header half : List ℕ) (mid new : Device) → header ≡ header_text h → half ≡ half_text rows → DiskReads true old mid → GateIs old.seen gate → (IsAtRest mid → GateIs mid.seen gate → ¬ (HasOpenHeader mid.seen) → Elapses (NoneOrFormatted header half mid.seen) (StoreEnds ok header half mid.seen) mid new) → Elapses (NoneOrNew h rows) (MakesOrNot ok) old new
+    pub formats : (ok : Bool) (gate : Gate) (header half : List ℕ) (mid new : Device) → header ≡ header_text h → half ≡ half_text rows → DiskReads true old mid
+        → GateIs old.seen gate
+        → (IsAtRest mid → GateIs mid.seen gate → ¬ (HasOpenHeader mid.seen) → Elapses (NoneOrFormatted header half mid.seen) (StoreEnds ok header half mid.seen) mid new)
+        → Elapses (NoneOrNew h rows) (MakesOrNot ok) old new
     formats ok gate header half mid new header_is half_is reads is makes =
         let second = makes (rests_after_reads old mid rest reads) (rw reads.seen is) (rw reads.seen none) in
         let writes = subst (λ (image : List ℕ). Elapses (NoneOrFormatted header half image) (StoreEnds ok header half image) mid new) reads.seen second in

@@ -3,7 +3,7 @@ use Rattle.std.proofs.Common.{◌≡◌, ◌≤◌, ◌+◌, ◌*◌, ℕ, true,
 use Rattle.disk_trait.specs.Device.{Device, IsDevice, Left, as_read}
 use Rattle.disk_trait.specs.Calls.{Elapses, LeavesOnly, Torn}
 use Rattle.media_journal.specs.Journal.{Contents, Position, Gives}
-use Rattle.media_journal.specs.Moments.{EachGives}
+use Rattle.media_journal.specs.JournalMoments.{EachGives}
 use Rattle.disk_trait.proofs.TornLemmas.{bytes_before}
 use Rattle.media_journal.proofs.AppendLemmas.{active_start-most}
 use Rattle.media_journal.proofs.CrashLemmas.{gives_before}
@@ -13,11 +13,13 @@ pub each_gives_settled : (d : Device) (p : Position) (held : Contents) → Leave
 each_gives_settled d p held settled given = record { gives = λ left could. rw (settled left could) given }
 
 -- what each image gives, a read gives
-pub gives_as_read : (d : Device) (p : Position) (held : Contents) → IsDevice d → d.honest ≡ true → d.shows ≡ true → d.tells ≡ true → EachGives d p held → Gives d.seen p held
+pub gives_as_read : (d : Device) (p : Position) (held : Contents) → IsDevice d → d.honest ≡ true → d.shows ≡ true → d.tells ≡ true → EachGives d p held
+    → Gives d.seen p held
 gives_as_read d p held sound honest shows tells each = each.gives (as_read d) (sound.itself honest shows tells)
 
 -- a call that keeps what the images give, such as a read, or a word to a peer
-pub each_gives_kept : (within ended : Left → Left → Type 0) (old new : Device) (p : Position) (held : Contents) → Elapses within ended old new → ((before after : Left) → ended before after → after.image ≡ before.image) → EachGives old p held → EachGives new p held
+pub each_gives_kept : (within ended : Left → Left → Type 0) (old new : Device) (p : Position) (held : Contents) → Elapses within ended old new
+    → ((before after : Left) → ended before after → after.image ≡ before.image) → EachGives old p held → EachGives new p held
 each_gives_kept within ended old new p held time same each = record {
   gives = λ left could.
       let from = time.now left could in
@@ -25,7 +27,8 @@ each_gives_kept within ended old new p held time same each = record {
 }
 
 -- a write at or behind the end of the room leaves what the image gives
-pub gives_elsewhere : (at n : ℕ) (image other : List ℕ) (p : Position) (held : Contents) → p.gate + p.room ≤ at → Torn at n image other → Gives image p held → Gives other p held
+pub gives_elsewhere : (at n : ℕ) (image other : List ℕ) (p : Position) (held : Contents) → p.gate + p.room ≤ at → Torn at n image other → Gives image p held
+    → Gives other p held
 gives_elsewhere at n image other p held behind torn g =
     gives_before image other p held torn.same_length (bytes_before at n image other torn 0 (p.gate + 1) (omega (arith, g.half.room, g.half.half.within))) g
 

@@ -1,6 +1,7 @@
--- The file, store format 1: a header, a selector, two halves with rows and records, and media blocks.
--- Our own format. All numbers are big-endian, and a block has 4,096 bytes.
+-- The file, store format 1: a header, a selector, two halves with rows and records, and media
+-- blocks. Our own format. All numbers are big-endian, and a block has 4,096 bytes.
 use Rattle.std.specs.Prelude.{◌≡◌, ◌≢◌, ◌<◌, ◌≤◌, ◌+◌, ◌*◌, ◌%◌, ◌^◌, ◌==◌, ℕ, List, [], ◌∷◌, ◌++◌, length, slice_index, codes, Option, Some, None, if◌then◌else◌}
+use Rattle.media_journal.specs.declared.header.TheConstants.{BLOCK, MOST_BLOCKS, MOST_HALF}
 use Rattle.disk_trait.specs.Calls.{bytes_at}
 use Rattle.disk_trait.specs.Numbers.{u32_bytes, u64_bytes, u128_bytes}
 use Rattle.media_journal.specs.declared.header.Header.{Header}
@@ -43,14 +44,15 @@ HeaderAnswer image (Some h) = IsHeader image h
 -- the numbers of a header that a file of so many bytes may have
 pub record AreSizes (h : Header) (size : ℕ) : Type 0 where
   pub some_half : 1 ≤ h.half
-  pub half : h.half ≤ 65536
-  pub blocks : h.blocks ≤ 1073741824
+  pub half : h.half ≤ MOST_HALF
+  pub blocks : h.blocks ≤ MOST_BLOCKS
   pub fits : 2 * h.half + 3 ≤ h.blocks
-  pub within : 4096 * h.blocks ≤ size
+  pub within : BLOCK * h.blocks ≤ size
 
--- where the half begins that the selector names: A at block 2 where its byte is even, and B behind A
+-- where the half begins that the selector names: A at block 2 where its byte is even, and B behind
+-- A
 abbrev pub active_start : List ℕ → ℕ → ℕ
-active_start image half = if slice_index image 4096 % 2 == 0 then 8192 else 8192 + 4096 * half
+active_start image half = if slice_index image 4096 % 2 == 0 then 8192 else 8192 + BLOCK * half
 
 -- the rows of a half with their length before them
 unfoldable pub rows_text : List ℕ → List ℕ
@@ -71,8 +73,8 @@ AreRecords image from [] to = from ≡ to
 AreRecords image from (r ∷ rs) to =
     (r.offset ≡ from) × IsRecordAt image from r.payload × AreRecords image (from + (5 + length r.payload)) rs to
 
--- A half that begins at one place and ends before another: its rows, its records, and the closed gate
--- that ends them. What lies behind that gate isn't read.
+-- A half that begins at one place and ends before another: its rows, its records, and the closed
+-- gate that ends them. What lies behind that gate isn't read.
 pub record HasHalf (image : List ℕ) (start end gate : ℕ) (rows : List ℕ) (records : List Record) : Type 0 where
   pub text : bytes_at image start (8 + length rows) ≡ rows_text rows
   pub few : length rows < 2 ^ 64
@@ -84,20 +86,22 @@ pub record HasHalf (image : List ℕ) (start end gate : ℕ) (rows : List ℕ) (
 pub record Reads (image : List ℕ) (h : Header) (gate : ℕ) (rows : List ℕ) (records : List Record) : Type 0 where
   pub header : IsHeader image h
   pub sizes : AreSizes h (length image)
-  pub half : HasHalf image (active_start image h.half) (active_start image h.half + 4096 * h.half) gate rows records
+  pub half : HasHalf image (active_start image h.half) (active_start image h.half + BLOCK * h.half) gate rows records
 
 -- the image doesn't read as a store
 abbrev pub IsUnreadable : List ℕ → Type 0
-IsUnreadable image = (h : Header) (gate : ℕ) (rows : List ℕ) (records : List Record) → Reads image h gate rows records → ⊥
+IsUnreadable image =
+    (h : Header) (gate : ℕ) (rows : List ℕ) (records : List Record)
+    → Reads image h gate rows records → ⊥
 
--- An open record stands at this place, and its end passes the half's end: no gate fits behind a payload
--- of the length that it says.
+-- An open record stands at this place, and its end passes the half's end: no gate fits behind a
+-- payload of the length that it says.
 pub record IsTornAt (image : List ℕ) (at end : ℕ) : Type 0 where
   pub gate : IsOpenGate image at
   pub passes : (n : ℕ) → n < 2 ^ 32 → bytes_at image (at + 1) 4 ≡ u32_bytes n → end < at + (6 + n)
 
--- A half that begins at one place and ends before another: its rows, its records, and the place of the
--- torn record behind them.
+-- A half that begins at one place and ends before another: its rows, its records, and the place of
+-- the torn record behind them.
 pub record HasTornHalf (image : List ℕ) (start end at : ℕ) (rows : List ℕ) (records : List Record) : Type 0 where
   pub text : bytes_at image start (8 + length rows) ≡ rows_text rows
   pub few : length rows < 2 ^ 64
@@ -105,17 +109,17 @@ pub record HasTornHalf (image : List ℕ) (start end at : ℕ) (rows : List ℕ)
   pub torn : IsTornAt image at end
   pub within : at < end
 
--- A half that begins at one place and ends before another: it says a length of its rows with which no
--- gate fits behind them.
+-- A half that begins at one place and ends before another: it says a length of its rows with which
+-- no gate fits behind them.
 pub record HasLongRows (image : List ℕ) (start end : ℕ) : Type 0 where
   pub size : ℕ
   pub short : size < 2 ^ 64
   pub text : bytes_at image start 8 ≡ u64_bytes size
   pub passes : end < start + (9 + size)
 
--- the image reads as a store up to a torn record: its header, and the rows and records of its active half
--- before that place
+-- the image reads as a store up to a torn record: its header, and the rows and records of its
+-- active half before that place
 pub record ReadsTorn (image : List ℕ) (h : Header) (at : ℕ) (rows : List ℕ) (records : List Record) : Type 0 where
   pub header : IsHeader image h
   pub sizes : AreSizes h (length image)
-  pub half : HasTornHalf image (active_start image h.half) (active_start image h.half + 4096 * h.half) at rows records
+  pub half : HasTornHalf image (active_start image h.half) (active_start image h.half + BLOCK * h.half) at rows records

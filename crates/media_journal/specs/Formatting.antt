@@ -1,5 +1,6 @@
 -- What formatting a device answers and leaves.
 use Rattle.std.specs.Prelude.{◌≡◌, ◌≤◌, ◌+◌, ◌*◌, ℕ, Bool, true, false, List, [], ◌∷◌, ◌++◌, length, Result, Ok, Err}
+use Rattle.media_journal.specs.declared.header.TheConstants.{BLOCK}
 use Rattle.disk_trait.specs.Calls.{overwritten}
 use Rattle.media_journal.specs.declared.header.Header.{Header}
 use Rattle.media_journal.specs.declared.format.Gate.{Gate}
@@ -11,15 +12,16 @@ use Rattle.media_journal.specs.File.{HasOpenHeader, AreSizes, IsClosedGate, IsOp
 -- the numbers fit the device, and the rows a half
 pub record FitsStore (h : Header) (size : ℕ) (rows : List ℕ) : Type 0 where
   pub sizes : AreSizes h size
-  pub room : length rows + 9 ≤ 4096 * h.half
+  pub room : length rows + 9 ≤ BLOCK * h.half
 
--- what formatting answers over an image, and the image that it leaves at Ok: the header, half A active
--- with the rows, and no record
+-- what formatting answers over an image, and the image that it leaves at Ok: the header, half A
+-- active with the rows, and no record
 abbrev pub FormatAnswer : List ℕ → List ℕ → Header → List ℕ → Result (Unit {0}) FormatFault → Type 0
 FormatAnswer old new h rows (Ok _) =
     (¬ (HasOpenHeader old)) × FitsStore h (length old) rows × Reads new h (8192 + (8 + length rows)) rows []
 FormatAnswer old new h rows (Err AlreadyStore) = HasOpenHeader old
-FormatAnswer old new h rows (Err TooSmall) = (¬ (HasOpenHeader old)) × (¬ (FitsStore h (length old) rows))
+FormatAnswer old new h rows (Err TooSmall) =
+    (¬ (HasOpenHeader old)) × (¬ (FitsStore h (length old) rows))
 FormatAnswer old new h rows (Err Disk) = Unit {0}
 FormatAnswer old new h rows (Err Memory) = Unit {0}
 

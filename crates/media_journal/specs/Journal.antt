@@ -1,12 +1,14 @@
 -- What a journal stands for: a place in its file, and what the file's image gives up to it.
 use Rattle.std.specs.Prelude.{◌≡◌, ◌<◌, ◌≤◌, ◌+◌, ◌-◌, ◌*◌, ◌^◌, ℕ, List, [], ◌∷◌, ◌++◌, length, take, drop}
+use Rattle.media_journal.specs.declared.header.TheConstants.{BLOCK, MOST_BLOCKS, MOST_HALF}
 use Rattle.disk_trait.specs.Numbers.{u32_bytes}
 use Rattle.media_journal.specs.declared.record.Record.{Record}
 use Rattle.media_journal.specs.declared.header.Header.{Header}
 use Rattle.media_journal.specs.File.{AreSizes, HasHalf, IsHeader, active_start}
 
--- The blocks of the file and of a half, where the journal's half begins, where its closed gate is, and the
--- bytes from there to the half's end. The room is 0 where an open record's end passes the half.
+-- The blocks of the file and of a half, where the journal's half begins, where its closed gate is,
+-- and the bytes from there to the half's end. The room is 0 where an open record's end passes the
+-- half.
 pub record Position : Type 0 where
   pub blocks : ℕ
   pub half : ℕ
@@ -14,14 +16,14 @@ pub record Position : Type 0 where
   pub gate : ℕ
   pub room : ℕ
 
--- A journal stays within its half, and that within its file. So its room is at most the bytes of the
--- longest half.
+-- A journal stays within its half, and that within its file. So its room is at most the bytes of
+-- the longest half.
 pub record IsPosition (p : Position) : Type 0 where
-  pub blocks : p.blocks ≤ 1073741824
-  pub half : p.half ≤ 65536
+  pub blocks : p.blocks ≤ MOST_BLOCKS
+  pub half : p.half ≤ MOST_HALF
   pub behind : p.start ≤ p.gate
-  pub room : p.gate + p.room ≤ p.start + 4096 * p.half
-  pub within : p.gate + p.room ≤ 4096 * p.blocks
+  pub room : p.gate + p.room ≤ p.start + BLOCK * p.half
+  pub within : p.gate + p.room ≤ BLOCK * p.blocks
 
 -- What a half of a store holds: the file's header, the half's rows, and its records.
 pub record Contents : Type 0 where
@@ -29,13 +31,13 @@ pub record Contents : Type 0 where
   pub rows : List ℕ
   pub records : List Record
 
--- The journal's half of the image holds this, whichever half the selector names: its records end at the
--- journal's gate, and the journal's numbers are those of the file.
+-- The journal's half of the image holds this, whichever half the selector names: its records end at
+-- the journal's gate, and the journal's numbers are those of the file.
 pub record HasInHalf (image : List ℕ) (p : Position) (held : Contents) : Type 0 where
   pub header : IsHeader image held.header
   pub sizes : AreSizes held.header (length image)
-  pub half : HasHalf image p.start (p.start + 4096 * held.header.half) p.gate held.rows held.records
-  pub room : p.gate + p.room ≡ p.start + 4096 * held.header.half
+  pub half : HasHalf image p.start (p.start + BLOCK * held.header.half) p.gate held.rows held.records
+  pub room : p.gate + p.room ≡ p.start + BLOCK * held.header.half
   pub blocks : p.blocks ≡ held.header.blocks
   pub half_blocks : p.half ≡ held.header.half
 

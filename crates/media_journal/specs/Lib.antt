@@ -1,13 +1,11 @@
 pub mod File
 pub mod Journal
-pub mod Scan
+pub mod Within
 pub mod Answers
 pub mod Formatting
-pub mod Moments
-pub mod Steps
+pub mod JournalMoments
 pub mod Opening
 pub mod Readings
-pub mod Window
 pub use Rattle.disk_trait.specs.Device
 pub use Rattle.disk_trait.specs.Calls
 pub use Rattle.disk_trait.specs.Numbers

@@ -1,5 +1,6 @@
 -- What opening a journal answers.
 use Rattle.std.specs.Prelude.{◌≡◌, ◌≤◌, ◌+◌, ◌*◌, ◌⊎◌, ℕ, List, length, Option, Some, None, Result, Ok, Err}
+use Rattle.media_journal.specs.declared.header.TheConstants.{BLOCK}
 use Rattle.media_journal.specs.declared.header.Header.{Header}
 use Rattle.media_journal.specs.declared.open.Opened.{Opened}
 use Rattle.media_journal.specs.declared.fault.JournalFault.{JournalFault}
@@ -18,17 +19,17 @@ pub record HasWrongSizes (image : List ℕ) : Type 0 where
   pub is : IsHeader image header
   pub wrong : ¬ (AreSizes header (length image))
 
--- the numbers are right, and the active half, which begins here, says a length of its rows that it hasn't
--- room for
+-- the numbers are right, and the active half, which begins here, says a length of its rows that it
+-- hasn't room for
 pub record HasWrongRows (image : List ℕ) (start : ℕ) : Type 0 where
   pub header : Header
   pub is : IsHeader image header
   pub sizes : AreSizes header (length image)
   pub active : start ≡ active_start image header.half
-  pub long : HasLongRows image start (start + 4096 * header.half)
+  pub long : HasLongRows image start (start + BLOCK * header.half)
 
--- The offset at which the image of a store is damaged, as far as its records' payloads and its rows aren't
--- looked into: that of the header's numbers, or that of the active half.
+-- The offset at which the image of a store is damaged, as far as its records' payloads and its rows
+-- aren't looked into: that of the header's numbers, or that of the active half.
 abbrev pub DamagedAt : List ℕ → ℕ → Type 0
 DamagedAt image at = ((at ≡ 8) × HasWrongSizes image) ⊎ HasWrongRows image at
 
@@ -63,8 +64,8 @@ pub record IsOpened (image : List ℕ) (o : Opened) : Type 0 where
   pub rows_at : o.rows_at ≡ active_start image o.half + 8
   pub half : OpenedHalf image o o.torn
 
--- What opening answers over an image: `NotStore` where it is no store, `Damaged` with the offset at which
--- it is damaged, and otherwise what was opened.
+-- What opening answers over an image: `NotStore` where it is no store, `Damaged` with the offset at
+-- which it is damaged, and otherwise what was opened.
 abbrev pub OpenAnswer : List ℕ → Result Opened JournalFault → Type 0
 OpenAnswer image (Ok o) = IsOpened image o
 OpenAnswer image (Err NotStore) = ¬ (IsStore image)

@@ -8,24 +8,32 @@ use Rattle.media_journal.specs.declared.fault.JournalFault.TheVariants.{NotStore
 use Rattle.media_journal.specs.File.{Reads, ReadsTorn, IsUnreadable}
 use Rattle.media_journal.specs.Opening.{IsStore, DamagedAt, OpenAnswer}
 
--- two readings of an image are one: their headers, the places of their closed gates, their rows and their
--- records
+-- two readings of an image are one: their headers, the places of their closed gates, their rows and
+-- their records
 abbrev pub HasOneReading : List ℕ → Type 0
 HasOneReading image =
-    (h j : Header) (gate at : ℕ) (rows other : List ℕ) (records found : List Record) → Reads image h gate rows records → Reads image j at other found → (j ≡ h) × (at ≡ gate) × (other ≡ rows) × (found ≡ records)
+    (h j : Header) (gate at : ℕ) (rows other : List ℕ) (records found : List Record)
+    → Reads image h gate rows records → Reads image j at other found
+    → (j ≡ h) × (at ≡ gate) × (other ≡ rows) × (found ≡ records)
 
 -- the same of two that end at a torn record
 abbrev pub HasOneTornReading : List ℕ → Type 0
 HasOneTornReading image =
-    (h j : Header) (torn at : ℕ) (rows other : List ℕ) (records found : List Record) → ReadsTorn image h torn rows records → ReadsTorn image j at other found → (j ≡ h) × (at ≡ torn) × (other ≡ rows) × (found ≡ records)
+    (h j : Header) (torn at : ℕ) (rows other : List ℕ) (records found : List Record)
+    → ReadsTorn image h torn rows records → ReadsTorn image j at other found
+    → (j ≡ h) × (at ≡ torn) × (other ≡ rows) × (found ≡ records)
 
 -- an image that reads is that of a store
 abbrev pub ReadsAsStore : List ℕ → Type 0
-ReadsAsStore image = (h : Header) (gate : ℕ) (rows : List ℕ) (records : List Record) → Reads image h gate rows records → IsStore image
+ReadsAsStore image =
+    (h : Header) (gate : ℕ) (rows : List ℕ) (records : List Record)
+    → Reads image h gate rows records → IsStore image
 
 -- an image that reads up to a torn record doesn't read
 abbrev pub TornIsUnreadable : List ℕ → Type 0
-TornIsUnreadable image = (h : Header) (at : ℕ) (rows : List ℕ) (records : List Record) → ReadsTorn image h at rows records → IsUnreadable image
+TornIsUnreadable image =
+    (h : Header) (at : ℕ) (rows : List ℕ) (records : List Record)
+    → ReadsTorn image h at rows records → IsUnreadable image
 
 -- nor does one that is damaged
 abbrev pub DamagedIsUnreadable : List ℕ → Type 0
@@ -42,4 +50,5 @@ IsDecided (Err Memory) = ⊥
 -- two answers that the image decides are one
 abbrev pub HasOneAnswer : List ℕ → Type 0
 HasOneAnswer image =
-    (answer other : Result Opened JournalFault) → IsDecided answer → IsDecided other → OpenAnswer image answer → OpenAnswer image other → other ≡ answer
+    (answer other : Result Opened JournalFault) → IsDecided answer → IsDecided other
+    → OpenAnswer image answer → OpenAnswer image other → other ≡ answer

@@ -4,10 +4,10 @@ ghost use Rattle.std.specs.Prelude.{◌≡◌, ◌≤◌, ◌<◌, ◌+◌, ◌*
 ghost use Rattle.disk_trait.specs.Calls.{DiskCalls, DiskReads, Elapses, LeavesOnly, overwritten};
 ghost use Rattle.media_journal.specs.File.{HasOpenHeader, IsClosedGate, header_text};
 ghost use Rattle.media_journal.specs.Formatting.{FitsStore, FormatAnswer, GateIs, IsFormatted, OnRefusal, format_ok, half_text};
-ghost use Rattle.media_journal.specs.Moments.{FormatEnds, IsAtRest, NoneOrNew, WritesStore};
-ghost use Rattle.media_journal.specs.Steps.{KeepsGate, LeavesNone, NoneOrFormatted, StoreEnds};
+ghost use Rattle.media_journal.specs.JournalMoments.{FormattingEnds, IsAtRest, NoneOrNew, WritesStore};
+ghost use Rattle.media_journal.specs.Within.Steps.{KeepsGate, LeavesNone, NoneOrFormatted, StoreEnds};
 
-use crate::header::{BLOCK, is_open, magic};
+use crate::header::{BLOCK, MOST_BLOCKS, MOST_HALF, is_open, magic};
 use crate::write::write_synced;
 use crate::{FormatFault, Header};
 use disk_trait::numbers::{u64_bytes, u128_bytes};
@@ -39,8 +39,8 @@ pub fn format_device<D: Disk>(
     rows: &[u8],
 ) -> Result<(), FormatFault>
     requires some_half { 1 ≤ half }
-    requires half { half ≤ 65536 }
-    requires blocks { blocks ≤ 1073741824 }
+    requires half { half ≤ MOST_HALF }
+    requires blocks { blocks ≤ MOST_BLOCKS }
     ensures calls { DiskCalls (format_ok result) (D.device disk.old) (D.device disk.new) }
     ensures answer { (D.device disk.old).shows ≡ true
         → FormatAnswer (D.device disk.old).seen (D.device disk.new).seen
@@ -53,7 +53,7 @@ pub fn format_device<D: Disk>(
     // is read.
     ensures moments { IsAtRest (D.device disk.old) → ¬ (HasOpenHeader (D.device disk.old).seen)
         → Elapses (NoneOrNew record { blocks = blocks; half = half; id = id } rows.now)
-        (FormatEnds result record { blocks = blocks; half = half; id = id } rows.now)
+        (FormattingEnds result record { blocks = blocks; half = half; id = id } rows.now)
         (D.device disk.old) (D.device disk.new) }
     ensures durable { (D.device disk.old).honest ≡ true
         → OnOk result (LeavesOnly (D.device disk.new).seen (D.device disk.new)) }
@@ -181,7 +181,7 @@ fn write_store<D: Disk>(disk: &mut D, header: &[u8], half: &[u8]) -> Result<(), 
 /// The bytes of a half with these rows and no record.
 #[tactic(auto, unfolding(crate::specs::Formatting::half_text, crate::specs::File::rows_text))]
 fn half_bytes(alloc: Global, rows: &[u8]) -> Result<Vec<u8>, Memory>
-    requires { length rows.now + 9 ≤ 4096 * 65536 }
+    requires { length rows.now + 9 ≤ BLOCK * MOST_HALF }
     ensures text { IfOk result (λ bytes. bytes.items ≡ half_text rows.now) }
     ensures len { IfOk result (λ bytes. length bytes.items ≡ 9 + length rows.now) }
 {

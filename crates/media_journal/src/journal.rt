@@ -3,9 +3,10 @@ ghost use Rattle.std.specs.Prelude.{◌≡◌, ◌≤◌, ◌<◌, ◌+◌, ◌*
 ghost use Rattle.disk_trait.specs.Device.{as_read, may_leave};
 ghost use Rattle.disk_trait.specs.Calls.{DiskCalls, Elapses, Follows, LeavesOnly, Torn, overwritten};
 ghost use Rattle.media_journal.specs.Journal.{Contents, Gives, IsPosition, after_append};
-ghost use Rattle.media_journal.specs.Moments.{AppendEnds, EachGives, KeepsOrAdds, with_payload};
-ghost use Rattle.media_journal.specs.Steps.{RecordEnds, WithinRecord};
+ghost use Rattle.media_journal.specs.JournalMoments.{AppendEnds, EachGives, KeepsOrAdds, with_payload};
+ghost use Rattle.media_journal.specs.Within.Steps.{RecordEnds, WithinRecord};
 
+use crate::header::{BLOCK, MOST_HALF};
 use crate::write::write_synced;
 use crate::{AppendFault, Frame};
 use disk_trait::{Disk, Failed};
@@ -49,7 +50,7 @@ impl Journal {
     /// of them, and needs one more.
     pub fn room(&self) -> u64
         ensures room { result ≡ self.now.room }
-        ensures most { result ≤ 4096 * 65536 }
+        ensures most { result ≤ BLOCK * MOST_HALF }
     {
         self.room
     }
@@ -57,7 +58,7 @@ impl Journal {
     /// Adds the frame's payload as the last record. Its bytes are synced before its gate is opened, and
     /// the open gate before the call answers. After `Disk` the journal must be opened again.
     pub fn append<D: Disk>(&mut self, disk: &mut D, frame: &Frame) -> Result<(), AppendFault>
-        requires { 4096 * self.old.blocks ≤ (D.device disk.old).size }
+        requires { BLOCK * self.old.blocks ≤ (D.device disk.old).size }
 
         // What doesn't fit is refused, and then nothing changes.
         ensures full { IsErrOf result AppendFault.Full ↔ (self.old.room < length frame.now + 6) }

@@ -6,9 +6,9 @@ ghost use Rattle.media_journal.specs.File.{active_start};
 ghost use Rattle.media_journal.specs.Journal.{IsPosition};
 ghost use Rattle.media_journal.specs.Opening.{IsOpened, OpenAnswer, header_of};
 ghost use Rattle.media_journal.specs.Readings.{HasOneReading, HasOneTornReading, HasOneAnswer, ReadsAsStore, TornIsUnreadable, DamagedIsUnreadable};
-ghost use Rattle.media_journal.specs.Scan.{HasParts};
+ghost use Rattle.media_journal.specs.Within.Scan.{IsReadHalf};
 
-use crate::header::{BLOCK, read_header};
+use crate::header::{BLOCK, MOST_BLOCKS, MOST_HALF, read_header};
 use crate::scan::{Half, read_half};
 use crate::{Header, Journal, JournalFault, RecordList};
 use disk_trait::{Disk, Failed, Text};
@@ -48,7 +48,7 @@ pub struct Opened {
 /// only the rows and payloads that are answered are kept. Both are the code's, and no clause says them.
 pub fn open_journal<D: Disk>(alloc: Global, disk: &mut D) -> Result<Opened, JournalFault>
     ensures reads { DiskReads (not_disk result) (D.device disk.old) (D.device disk.new) }
-    ensures within { IfOk result (λ o. 4096 * o.journal.blocks ≤ (D.device disk.new).size) }
+    ensures within { IfOk result (λ o. BLOCK * o.journal.blocks ≤ (D.device disk.new).size) }
     ensures sizes { IfOk result (λ o. 2 * o.half + 3 ≤ o.blocks) }
     ensures position { IfOk result (λ o. IsPosition o.journal) }
     ensures answer { (D.device disk.old).shows ≡ true → OpenAnswer (D.device disk.old).seen result }
@@ -70,10 +70,10 @@ pub fn open_journal<D: Disk>(alloc: Global, disk: &mut D) -> Result<Opened, Jour
 
 /// Where the half begins that the selector names.
 fn read_start<D: Disk>(disk: &mut D, half: u64) -> Result<u64, Failed>
-    requires half { half ≤ 65536 }
+    requires half { half ≤ MOST_HALF }
     requires device { 8192 ≤ (D.device disk.old).size }
     ensures reads { DiskReads (is_ok result) (D.device disk.old) (D.device disk.new) }
-    ensures bound { IfOk result (λ start. start ≤ 8192 + 4096 * half) }
+    ensures bound { IfOk result (λ start. start ≤ 8192 + BLOCK * half) }
     ensures start { (D.device disk.old).shows ≡ true
         → IfOk result (λ start. start ≡ active_start (D.device disk.old).seen half) }
 {
@@ -88,16 +88,16 @@ fn read_start<D: Disk>(disk: &mut D, half: u64) -> Result<u64, Failed>
 
 /// What was opened, from its parts.
 fn assembled(header: Header, start: u64, half: Half) -> Opened
-    requires start { start ≤ 8192 + 4096 * header.half }
-    requires sizes { header.half ≤ 65536 }
-    requires blocks { header.blocks ≤ 1073741824 }
+    requires start { start ≤ 8192 + BLOCK * header.half }
+    requires sizes { header.half ≤ MOST_HALF }
+    requires blocks { header.blocks ≤ MOST_BLOCKS }
     requires fits { 2 * header.half + 3 ≤ header.blocks }
     requires behind { start ≤ half.chain.gate }
-    requires within { half.chain.gate < start + 4096 * header.half }
+    requires within { half.chain.gate < start + BLOCK * header.half }
     ensures header { header_of result ≡ header }
     ensures blocks { result.journal.blocks ≡ header.blocks }
     ensures position { IsPosition result.journal }
-    ensures opened { (image : List ℕ) → HasParts image header start half → IsOpened image result }
+    ensures opened { (image : List ℕ) → IsReadHalf image header start half → IsOpened image result }
 {
     let Half { rows, chain } = half;
     let end = start + BLOCK * header.half;

@@ -4,8 +4,8 @@ ghost use Rattle.disk_trait.specs.Calls.{DiskReads, bytes_at};
 ghost use Rattle.disk_trait.specs.Numbers.{u32_bytes, u64_bytes};
 ghost use Rattle.media_journal.specs.Answers.{not_disk, read_ok};
 ghost use Rattle.media_journal.specs.File.{IsOpenGate};
-ghost use Rattle.media_journal.specs.Scan.{FoundAt, EndsBefore, HalfAnswer, IsChain};
-ghost use Rattle.media_journal.specs.Window.{IsPieceOn};
+ghost use Rattle.media_journal.specs.Within.Scan.{FoundAt, EndsBefore, HalfAnswer, IsChain};
+ghost use Rattle.media_journal.specs.Within.Window.{IsPieceOn};
 
 use crate::fault::ReadFault;
 use crate::window::Window;

@@ -1,7 +1,7 @@
 //! A window on a half, through which it is read in pieces of 64 KiB.
 ghost use Rattle.std.specs.Prelude.{◌≡◌, ◌≤◌, ◌+◌, ◌-◌, true, [], length, take, is_ok, IfOk, OnOk};
 ghost use Rattle.disk_trait.specs.Calls.{DiskReads, bytes_at};
-ghost use Rattle.media_journal.specs.Window.{IsPieceOn, Covers};
+ghost use Rattle.media_journal.specs.Within.Window.{IsPieceOn, HasBytes};
 
 use disk_trait::{Disk, Failed, Memory, copy_out};
 use std::alloc::Global;
@@ -24,7 +24,7 @@ pub(crate) struct Window {
 
 impl Model for Window {
     ghost use Rattle.std.specs.Prelude.{take};
-    ghost use Rattle.media_journal.specs.Window.{Piece, IsWindow};
+    ghost use Rattle.media_journal.specs.Within.Window.{Piece, IsWindow};
 
     ghost Value = { Piece };
 
@@ -83,12 +83,12 @@ impl Window {
 
     /// Reads the piece that begins at this offset, unless the window has so many bytes from there on.
     fn cover<D: Disk>(&mut self, disk: &mut D, at: u64, count: usize) -> Result<(), Failed>
-        requires few { count ≤ 65536 }
+        requires few { count ≤ PIECE }
         requires within { at + count ≤ self.old.end }
         requires piece { IsPieceOn (D.device disk.old) self.old }
         ensures reads { DiskReads (is_ok result) (D.device disk.old) (D.device disk.new) }
         ensures end { self.new.end ≡ self.old.end }
-        ensures covers { OnOk result (Covers self.new at count) }
+        ensures covers { OnOk result (HasBytes self.new at count) }
         ensures piece { OnOk result (IsPieceOn (D.device disk.new) self.new) }
     {
         if self.offset <= at && at + count as u64 <= self.offset + self.filled as u64 {
@@ -103,7 +103,7 @@ impl Window {
 
     /// Copies bytes of the window into all of `out`.
     fn copy(&self, at: u64, out: &mut [u8])
-        requires { Covers self.now at (length out.old) }
+        requires { HasBytes self.now at (length out.old) }
         ensures { out.new ≡ bytes_at self.now.bytes (at - self.now.offset) (length out.old) }
     {
         copy_out(&self.buffer, (at - self.offset) as usize, out);

@@ -1,7 +1,7 @@
 //! A write that is synced before anything else is done.
 ghost use Rattle.std.specs.Prelude.{◌≡◌, ◌≤◌, ◌+◌, true, length, is_ok, OnOk};
 ghost use Rattle.disk_trait.specs.Calls.{DiskCalls, Elapses, LeavesOnly, Torn, TornWrite, overwritten};
-ghost use Rattle.media_journal.specs.Steps.{SyncedWriteEnds};
+ghost use Rattle.media_journal.specs.Within.Steps.{SyncedWriteEnds};
 
 use disk_trait::{Disk, Failed};
 

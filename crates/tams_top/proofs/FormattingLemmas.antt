@@ -7,7 +7,7 @@ use Rattle.field_codec.specs.Leaves.{u32_format, u64_format}
 use Rattle.change_codec.specs.Rows.{row_format}
 use Rattle.media_journal.specs.declared.header.Header.{Header}
 use Rattle.media_journal.specs.File.{HasOpenHeader}
-use Rattle.media_journal.specs.Moments.{IsNewStore, NoneOrNew}
+use Rattle.media_journal.specs.JournalMoments.{IsNewStore, NoneOrNew}
 use Rattle.tams_top.specs.Store.{StandsFor, empty_rows}
 use Rattle.tams_top.specs.Moments.{IsSettled}
 use Rattle.tams_top.specs.Running.{formatted_state}

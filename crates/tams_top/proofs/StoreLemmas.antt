@@ -5,7 +5,7 @@ use Rattle.disk_trait.specs.Calls.{Elapses}
 use Rattle.media_journal.specs.declared.header.Header.{Header}
 use Rattle.media_journal.specs.declared.record.Record.{Record}
 use Rattle.media_journal.specs.Journal.{Position, Gives, after_append}
-use Rattle.media_journal.specs.Moments.{AppendEnds, EachGives, KeepsOrAdds, with_payload}
+use Rattle.media_journal.specs.JournalMoments.{AppendEnds, EachGives, KeepsOrAdds, with_payload}
 use Rattle.disk_trait.proofs.Theorems.{elapses_weaker}
 use Rattle.tams_top.specs.declared.change.Change.{Change}
 use Rattle.tams_top.specs.declared.library.Library.{Library}

@@ -5,7 +5,7 @@ use Rattle.disk_trait.specs.Calls.{LeavesOnly}
 use Rattle.site_edge.specs.Saying.{IsPrefix}
 use Rattle.media_journal.specs.declared.header.Header.{Header}
 use Rattle.media_journal.specs.declared.record.Record.{Record}
-use Rattle.media_journal.specs.Moments.{EachGives}
+use Rattle.media_journal.specs.JournalMoments.{EachGives}
 use Rattle.tams_top.specs.declared.change.Change.{Change}
 use Rattle.tams_top.specs.declared.store.Store.{Store}
 use Rattle.tams_top.specs.Library.{empty_library}

@@ -29,7 +29,8 @@ pub returns-in_err-write_store-clause-moments : goal.returns-in_err-write_store-
 returns-in_err-write_store-clause-moments g c = λ rest gate none.
     let failed = err_from_is_err_and c.from_residual-in_err-write_store.result c.from_residual-in_err-write_store.ensures.1 in
     let closes = c.in_ok-close_stray.ensures in
-    let front = front_none _ _ _ (closes.settled rest).settled (closes.closed rest.shows gate none) (closes.moments rest gate none) c.in_err-write_store.ensures.moments in
+    let front =
+    front_none _ _ _ (closes.settled rest).settled (closes.closed rest.shows gate none) (closes.moments rest gate none) c.in_err-write_store.ensures.moments in
     rw failed.1 (none_so_far _ _ _ _ _ front)
 
 pub returns-clause-moments : goal.returns-clause-moments

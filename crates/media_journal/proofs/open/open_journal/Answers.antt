@@ -1,7 +1,7 @@
 use Rattle.std.proofs.Common.{◌+◌, ◌*◌, ◌∙◌, ℕ, List, Err, sym, subst, arith, rules}
 use Rattle.std.proofs.lemmas.Result.{err_from_is_err_and}
 use Rattle.media_journal.specs.File.{AreSizes}
-use Rattle.media_journal.specs.Scan.{HalfAnswer}
+use Rattle.media_journal.specs.Within.Scan.{HalfAnswer}
 use Rattle.media_journal.proofs.OpeningLemmas.{is_store, damaged-sizes, open_fault}
 use Rattle.media_journal.proofs.open.open_journal.Goals as goal
 

@@ -1,7 +1,7 @@
 use Rattle.std.proofs.Common.{◌≡◌, ◌<◌, ◌≤◌, ◌-◌, true}
 use Rattle.disk_trait.specs.Calls.{DiskReads}
 use Rattle.media_journal.specs.File.{AreRecords}
-use Rattle.media_journal.specs.Window.{IsPieceOn}
+use Rattle.media_journal.specs.Within.Window.{IsPieceOn}
 use Rattle.media_journal.proofs.scan.read_chain.Given as goal
 
 abbrev pub invariant-records : goal.invariant-records

@@ -1,5 +1,5 @@
 use Rattle.std.proofs.Common.{◌≡◌, ◌+◌, ◌∙◌, refl, sym, ap, arith}
-use Rattle.media_journal.specs.Window.{Piece}
+use Rattle.media_journal.specs.Within.Window.{Piece}
 use Rattle.media_journal.proofs.ReadingLemmas.{half_found}
 use Rattle.media_journal.proofs.scan.read_half.Goals as goal
 

@@ -10,7 +10,8 @@ use Rattle.media_journal.proofs.journal.Journal.append.Goals as goal
 pub returns-clause-content : goal.returns-clause-content
 returns-clause-content g c = rw (← c.self.view_is) (λ shows held given.
     let whole = (g.met.D.Disk.sound c.args.disk.now).length shows in
-    let more = gives_more _ _ held c.args.frame.now (omega (arith, whole, c.self.invariant.within, c.requires)) (omega (arith, c.if-length-self.false, c.bytes-bytes.ensures.len)) c.bytes-bytes.ensures.short given in
+    let more =
+    gives_more _ _ held c.args.frame.now (omega (arith, whole, c.self.invariant.within, c.requires)) (omega (arith, c.if-length-self.false, c.bytes-bytes.ensures.len)) c.bytes-bytes.ensures.short given in
     rw (c.in_ok-write_record.ensures.written shows, c.bytes-bytes.ensures.len, c.bytes-bytes.ensures.text) (rw (length-frame_text c.args.frame.now) at more))
 
 -- The frame is whole in each image before its gate is written, and one byte opens it.

@@ -1,5 +1,6 @@
 -- What a scan of a half finds, from one place on.
 use Rattle.std.specs.Prelude.{◌≡◌, ◌<◌, ◌+◌, ◌*◌, ℕ, Bool, true, false, List, length, Result, Ok, Err}
+use Rattle.media_journal.specs.declared.header.TheConstants.{BLOCK}
 use Rattle.media_journal.specs.declared.header.Header.{Header}
 use Rattle.media_journal.specs.declared.record.Record.{Record}
 use Rattle.media_journal.specs.declared.scan.Found.{Found}
@@ -40,16 +41,17 @@ HalfFound image start end gate rows records false = HasHalf image start end gate
 
 -- what is read of a half
 abbrev pub HalfAnswer : List ℕ → ℕ → ℕ → Result Half JournalFault → Type 0
-HalfAnswer image start end (Ok half) = HalfFound image start end half.chain.gate half.rows half.chain.records half.chain.torn
+HalfAnswer image start end (Ok half) =
+    HalfFound image start end half.chain.gate half.rows half.chain.records half.chain.torn
 HalfAnswer image start end (Err NotStore) = ⊥
 HalfAnswer image start end (Err (Damaged at)) = (at ≡ start) × HasLongRows image start end
 HalfAnswer image start end (Err Disk) = Unit {0}
 HalfAnswer image start end (Err Memory) = Unit {0}
 
 -- what was read of an image: the header of a store, and its active half
-pub record HasParts (image : List ℕ) (h : Header) (start : ℕ) (half : Half) : Type 0 where
+pub record IsReadHalf (image : List ℕ) (h : Header) (start : ℕ) (half : Half) : Type 0 where
   pub store : IsStore image
   pub header : IsHeader image h
   pub sizes : AreSizes h (length image)
   pub start_is : start ≡ active_start image h.half
-  pub found : HalfFound image start (start + 4096 * h.half) half.chain.gate half.rows half.chain.records half.chain.torn
+  pub found : HalfFound image start (start + BLOCK * h.half) half.chain.gate half.rows half.chain.records half.chain.torn

@@ -22,8 +22,9 @@ abbrev pub GivesOneOf : List ℕ → Position → List ℕ → Contents → Type
 GivesOneOf image p payload held =
     Gives image p held ⊎ Gives image (after_append p (length payload)) (with_payload p payload held)
 
--- What an append may have done so far: nothing was told, only the bytes of a record at the journal's gate
--- and of the gate behind it may differ, and the image gives the records as they were, or with the payload.
+-- What an append may have done so far: nothing was told, only the bytes of a record at the
+-- journal's gate and of the gate behind it may differ, and the image gives the records as they
+-- were, or with the payload.
 pub record KeepsOrAdds (p : Position) (payload : List ℕ) (held : Contents) (old new : Left) : Type 0 where
   pub told : new.told ≡ old.told
   pub elsewhere : Torn p.gate (length payload + 6) old.image new.image
@@ -46,7 +47,8 @@ pub record IsAtRest (d : Device) : Type 0 where
   pub shows : d.shows ≡ true
   pub settled : LeavesOnly d.seen d
 
--- the image is the store that was asked for: its header, half A active with these rows, and no record
+-- the image is the store that was asked for: its header, half A active with these rows, and no
+-- record
 pub record IsNewStore (image : List ℕ) (h : Header) (rows : List ℕ) : Type 0 where
   pub reads : Reads image h (8192 + (8 + length rows)) rows []
   pub selector : slice_index image 4096 ≡ 0
@@ -62,16 +64,16 @@ pub record MakesStore (h : Header) (rows : List ℕ) (old new : Left) : Type 0 w
   pub image : IsNewStore new.image h rows
 
 -- what formatting has done at its end, by what it answers
-abbrev pub FormatEnds : Result (Unit {0}) FormatFault → Header → List ℕ → Left → Left → Type 0
-FormatEnds (Ok _) h rows = MakesStore h rows
-FormatEnds (Err AlreadyStore) h rows = Unchanged
-FormatEnds (Err TooSmall) h rows = Unchanged
-FormatEnds (Err Disk) h rows = NoneOrNew h rows
-FormatEnds (Err Memory) h rows = Unchanged
+abbrev pub FormattingEnds : Result (Unit {0}) FormatFault → Header → List ℕ → Left → Left → Type 0
+FormattingEnds (Ok _) h rows = MakesStore h rows
+FormattingEnds (Err AlreadyStore) h rows = Unchanged
+FormattingEnds (Err TooSmall) h rows = Unchanged
+FormattingEnds (Err Disk) h rows = NoneOrNew h rows
+FormattingEnds (Err Memory) h rows = Unchanged
 
--- The bytes that formatting never writes stay, where a half without a record has so many bytes: those of the
--- header's block behind its gate, those of the selector's block behind its first, and all behind the closed
--- gate of half A, half B and the media blocks among them.
+-- The bytes that formatting never writes stay, where a half without a record has so many bytes:
+-- those of the header's block behind its gate, those of the selector's block behind its first, and
+-- all behind the closed gate of half A, half B and the media blocks among them.
 pub record KeepsOthers (size : ℕ) (old new : List ℕ) : Type 0 where
   pub header : bytes_at new 41 4055 ≡ bytes_at old 41 4055
   pub selector : bytes_at new 4097 4095 ≡ bytes_at old 4097 4095

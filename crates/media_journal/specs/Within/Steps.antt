@@ -1,5 +1,5 @@
--- What the writes of a record and of a store may have done so far, byte by byte. Only proofs need these
--- steps: what they come to stands in Moments.
+-- What the writes of a record and of a store may have done so far, byte by byte. Only proofs need
+-- these steps: what they come to stands in Moments.
 use Rattle.std.specs.Prelude.{◌≡◌, ◌+◌, ◌⊎◌, ℕ, Bool, true, false, List, [], ◌∷◌, length, slice_index}
 use Rattle.disk_trait.specs.Device.{Left}
 use Rattle.disk_trait.specs.Calls.{TornWrite, overwritten}
@@ -17,14 +17,16 @@ abbrev pub SyncedWriteEnds : Bool → ℕ → List ℕ → List ℕ → Left →
 SyncedWriteEnds true at bytes seen = SyncedWrite at bytes seen
 SyncedWriteEnds false at bytes seen = TornWrite at (length bytes)
 
--- what the writes of a record may have done so far: its frame may be cut short behind the closed gate; or
--- it is there, and the write of the open gate may be cut short
+-- what the writes of a record may have done so far: its frame may be cut short behind the closed
+-- gate; or it is there, and the write of the open gate may be cut short
 abbrev pub WithinRecord : ℕ → List ℕ → List ℕ → Left → Left → Type 0
-WithinRecord gate frame seen = WithinTwo (TornWrite (gate + 1) (length frame)) (SyncedWrite (gate + 1) frame seen) (TornWrite gate 1)
+WithinRecord gate frame seen =
+    WithinTwo (TornWrite (gate + 1) (length frame)) (SyncedWrite (gate + 1) frame seen) (TornWrite gate 1)
 
 -- what they have done at their end
 abbrev pub RecordEnds : Bool → ℕ → List ℕ → List ℕ → Left → Left → Type 0
-RecordEnds true gate frame seen = Then (SyncedWrite (gate + 1) frame seen) (SyncedWrite gate (1 ∷ []) (overwritten (gate + 1) frame seen))
+RecordEnds true gate frame seen =
+    Then (SyncedWrite (gate + 1) frame seen) (SyncedWrite gate (1 ∷ []) (overwritten (gate + 1) frame seen))
 RecordEnds false gate frame seen = WithinRecord gate frame seen
 
 -- a step after which the image is no store, and nothing was told
@@ -37,7 +39,8 @@ pub record KeepsGate (old new : Left) : Type 0 where
   pub told : new.told ≡ old.told
   pub gate : slice_index new.image 40 ≡ slice_index old.image 40
 
--- what the writes of a store may have done so far over these bytes, with those of a header and a half
+-- what the writes of a store may have done so far over these bytes, with those of a header and a
+-- half
 pub record NoneOrFormatted (header half seen : List ℕ) (old new : Left) : Type 0 where
   pub told : new.told ≡ old.told
   pub image : (¬ (HasOpenHeader new.image)) ⊎ IsFormatted header half seen new.image
