@@ -1,36 +1,36 @@
--- The format of changes is lawful.
+-- The spelling of changes is lawful.
 use Rattle.std.proofs.Common.{◌≡◌, refl, arith, inl, inr}
 use Rattle.media_rows.specs.declared.change.Change.{Change}
 use Rattle.media_rows.specs.declared.change.Change.TheVariants as changes
-use Rattle.field_codec.specs.Format.{Format, pair, no_kind}
-use Rattle.field_codec.specs.Leaves.{u64_format, u128_format, bool_format, text_format, range_format, listed}
+use Rattle.field_codec.specs.Spelling.{Spelling, pair, no_kind}
+use Rattle.field_codec.specs.Leaves.{u64_spelling, u128_spelling, bool_spelling, text_spelling, range_spelling, listed}
 use Rattle.field_codec.specs.Laws.{Lawful}
 use Rattle.field_codec.proofs.Combined.{pair_lawful, via_lawful}
 use Rattle.field_codec.proofs.KindLaws.{Kinds, no_kinds, one_kind}
 use Rattle.field_codec.proofs.LeafLaws.{bool_lawful, text_lawful, listed_lawful}
 use Rattle.field_codec.proofs.Numbers.{u64_lawful, u128_lawful}
 use Rattle.field_codec.proofs.RangeLaws.{range_lawful}
-use Rattle.change_codec.specs.Values.{flow_format, segment_format, flow_part_format, source_part_format, hook_format}
-use Rattle.change_codec.specs.Changes.{LaterFields, ChangeFields, later_change, change_of, change_fields, at_moment, later_format, change_format}
+use Rattle.change_codec.specs.Values.{flow_spelling, segment_spelling, flow_part_spelling, source_part_spelling, hook_spelling}
+use Rattle.change_codec.specs.Changes.{LaterFields, ChangeFields, later_change, change_with, change_fields, at_moment, later_spelling, change_spelling}
 use Rattle.change_codec.proofs.ValueLaws.{flow_lawful, segment_lawful, flow_part_lawful, source_part_lawful, hook_lawful}
 
--- a moment before a lawful format
-at_moment_lawful : {A : Type 0} (f : Format A) → Lawful f → Lawful (at_moment f)
-at_moment_lawful f law = pair_lawful u64_format f u64_lawful law
+-- a moment before a lawful spelling
+at_moment_lawful : {A : Type 0} (f : Spelling A) → Lawful f → Lawful (at_moment f)
+at_moment_lawful f law = pair_lawful u64_spelling f u64_lawful law
 
 -- the later kinds begin with 7 or more
-later_kinds : Kinds 7 later_format
-unfolding later_format
+later_kinds : Kinds 7 later_spelling
+unfolding later_spelling
 later_kinds =
-    one_kind 7 8 (at_moment (pair u128_format (listed segment_format))) _ (omega arith)
-    (at_moment_lawful _ (pair_lawful u128_format _ u128_lawful (listed_lawful segment_format segment_lawful)))
-    (one_kind 8 9 (at_moment (pair u128_format range_format)) _ (omega arith) (at_moment_lawful _ (pair_lawful u128_format _ u128_lawful range_lawful))
-    (one_kind 9 10 (at_moment (pair u128_format (pair range_format bool_format))) _ (omega arith)
-    (at_moment_lawful _ (pair_lawful u128_format _ u128_lawful (pair_lawful range_format _ range_lawful bool_lawful)))
-    (one_kind 10 11 u64_format _ (omega arith) u64_lawful
-    (one_kind 11 12 u64_format _ (omega arith) u64_lawful
-    (one_kind 12 13 (at_moment hook_format) _ (omega arith) (at_moment_lawful _ hook_lawful)
-    (one_kind 13 14 (at_moment text_format) no_kind (omega arith) (at_moment_lawful _ text_lawful) (no_kinds 14)))))))
+    one_kind 7 8 (at_moment (pair u128_spelling (listed segment_spelling))) _ (omega arith)
+    (at_moment_lawful _ (pair_lawful u128_spelling _ u128_lawful (listed_lawful segment_spelling segment_lawful)))
+    (one_kind 8 9 (at_moment (pair u128_spelling range_spelling)) _ (omega arith) (at_moment_lawful _ (pair_lawful u128_spelling _ u128_lawful range_lawful))
+    (one_kind 9 10 (at_moment (pair u128_spelling (pair range_spelling bool_spelling))) _ (omega arith)
+    (at_moment_lawful _ (pair_lawful u128_spelling _ u128_lawful (pair_lawful range_spelling _ range_lawful bool_lawful)))
+    (one_kind 10 11 u64_spelling _ (omega arith) u64_lawful
+    (one_kind 11 12 u64_spelling _ (omega arith) u64_lawful
+    (one_kind 12 13 (at_moment hook_spelling) _ (omega arith) (at_moment_lawful _ hook_lawful)
+    (one_kind 13 14 (at_moment text_spelling) no_kind (omega arith) (at_moment_lawful _ text_lawful) (no_kinds 14)))))))
 
 -- a later change has the fields that it was made of
 fields-later : (p : LaterFields) → change_fields (later_change p) ≡ inr (inr (inr (inr (inr (inr p)))))
@@ -44,7 +44,7 @@ fields-later (inr (inr (inr (inr (inr (inr (inl p))))))) = refl
 fields-later (inr (inr (inr (inr (inr (inr (inr x))))))) = absurd x
 
 -- a change has the fields that it was made of
-fields-change : (p : ChangeFields) → change_fields (change_of p) ≡ p
+fields-change : (p : ChangeFields) → change_fields (change_with p) ≡ p
 fields-change (inl p) = refl
 fields-change (inr (inl p)) = refl
 fields-change (inr (inr (inl p))) = refl
@@ -54,7 +54,7 @@ fields-change (inr (inr (inr (inr (inr (inl p)))))) = refl
 fields-change (inr (inr (inr (inr (inr (inr p)))))) = fields-later p
 
 -- a change is the one with its fields
-change-fields : (c : Change) → change_of (change_fields c) ≡ c
+change-fields : (c : Change) → change_with (change_fields c) ≡ c
 change-fields (changes.PutFlow moment flow) = refl
 change-fields (changes.SetFlow moment flow part) = refl
 change-fields (changes.SetSource moment source part) = refl
@@ -70,15 +70,15 @@ change-fields (changes.PutHook moment hook) = refl
 change-fields (changes.DropHook moment url) = refl
 
 -- A change is read exactly as it is spelled and exactly up to its fault, and written as it is spelled.
-pub change_lawful : Lawful change_format
-unfolding change_format
+pub change_lawful : Lawful change_spelling
+unfolding change_spelling
 change_lawful =
-    via_lawful change_of change_fields _ fields-change change-fields
-    (one_kind 1 2 (at_moment flow_format) _ (omega arith) (at_moment_lawful _ flow_lawful)
-    (one_kind 2 3 (at_moment (pair u128_format flow_part_format)) _ (omega arith) (at_moment_lawful _ (pair_lawful u128_format _ u128_lawful flow_part_lawful))
-    (one_kind 3 4 (at_moment (pair u128_format source_part_format)) _ (omega arith) (at_moment_lawful _ (pair_lawful u128_format _ u128_lawful source_part_lawful))
-    (one_kind 4 5 (at_moment u128_format) _ (omega arith) (at_moment_lawful _ u128_lawful)
-    (one_kind 5 6 (at_moment (pair u128_format (listed text_format))) _ (omega arith)
-    (at_moment_lawful _ (pair_lawful u128_format _ u128_lawful (listed_lawful text_format text_lawful)))
-    (one_kind 6 7 (at_moment (pair text_format (pair u64_format u64_format))) later_format (omega arith)
-    (at_moment_lawful _ (pair_lawful text_format _ text_lawful (pair_lawful u64_format u64_format u64_lawful u64_lawful))) later_kinds)))))).lawful
+    via_lawful change_with change_fields _ fields-change change-fields
+    (one_kind 1 2 (at_moment flow_spelling) _ (omega arith) (at_moment_lawful _ flow_lawful)
+    (one_kind 2 3 (at_moment (pair u128_spelling flow_part_spelling)) _ (omega arith) (at_moment_lawful _ (pair_lawful u128_spelling _ u128_lawful flow_part_lawful))
+    (one_kind 3 4 (at_moment (pair u128_spelling source_part_spelling)) _ (omega arith) (at_moment_lawful _ (pair_lawful u128_spelling _ u128_lawful source_part_lawful))
+    (one_kind 4 5 (at_moment u128_spelling) _ (omega arith) (at_moment_lawful _ u128_lawful)
+    (one_kind 5 6 (at_moment (pair u128_spelling (listed text_spelling))) _ (omega arith)
+    (at_moment_lawful _ (pair_lawful u128_spelling _ u128_lawful (listed_lawful text_spelling text_lawful)))
+    (one_kind 6 7 (at_moment (pair text_spelling (pair u64_spelling u64_spelling))) later_spelling (omega arith)
+    (at_moment_lawful _ (pair_lawful text_spelling _ text_lawful (pair_lawful u64_spelling u64_spelling u64_lawful u64_lawful))) later_kinds)))))).lawful

@@ -3,10 +3,10 @@ use Rattle.std.proofs.Common.{ℕ, List}
 use Rattle.media_rows.specs.declared.part.Part.{Part}
 use Rattle.media_rows.specs.declared.part.Part.TheVariants as parts
 use Rattle.field_codec.specs.Reading.{Wrote}
-use Rattle.change_codec.specs.Values.{flow_part_format, source_part_format}
+use Rattle.change_codec.specs.Values.{flow_part_spelling, source_part_spelling}
 
-pub source_asks : (p : Part) → source_part_format.asks p → flow_part_format.asks p
-unfolding source_part_format flow_part_format
+pub source_asks : (p : Part) → source_part_spelling.asks p → flow_part_spelling.asks p
+unfolding source_part_spelling flow_part_spelling
 source_asks (parts.Tag name tag) h = h
 source_asks (parts.Label text) h = h
 source_asks (parts.Description text) h = h
@@ -15,8 +15,8 @@ source_asks (parts.Collection members) h = absurd h
 source_asks (parts.MaxBitRate rate) h = absurd h
 source_asks (parts.AvgBitRate rate) h = absurd h
 
-pub source_wrote : (old new : List ℕ) (p : Part) → source_part_format.asks p → Wrote flow_part_format old p new → Wrote source_part_format old p new
-unfolding source_part_format flow_part_format
+pub source_wrote : (old new : List ℕ) (p : Part) → source_part_spelling.asks p → Wrote flow_part_spelling old p new → Wrote source_part_spelling old p new
+unfolding source_part_spelling flow_part_spelling
 source_wrote old new (parts.Tag name tag) h w = record { written = w.written; fits = w.fits }
 source_wrote old new (parts.Label text) h w = record { written = w.written; fits = w.fits }
 source_wrote old new (parts.Description text) h w = record { written = w.written; fits = w.fits }

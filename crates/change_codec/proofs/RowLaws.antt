@@ -1,95 +1,96 @@
--- The format of rows is lawful.
+-- The spelling of rows is lawful.
 use Rattle.std.proofs.Common.{◌≡◌, ◌<◌, ◌^◌, ℕ, List, length, Some, None, Bool, true, false, refl, ap, ap₂, ◌∙◌, arith, inl, inr, ◌⊎◌}
-use Rattle.std.specs.Prelude.{◌==◌, if◌then◌else◌}
+use Rattle.std.specs.Prelude.{◌==◌, if◌then◌else◌, slice_get}
 use Rattle.std.proofs.lemmas.Bool.{eqb-true, eq-eqb}
-use Rattle.media_rows.specs.Formats.{status_number}
+use Rattle.media_rows.specs.Formats.{status_number, all_statuses}
 use Rattle.media_rows.specs.declared.object.ObjectState.{ObjectState}
 use Rattle.media_rows.specs.declared.object.ObjectState.TheVariants.{Allocated, Stored}
 use Rattle.media_rows.specs.declared.request.DeleteStatus.{DeleteStatus}
 use Rattle.media_rows.specs.declared.request.DeleteStatus.TheVariants.{Created, Started, Done}
 use Rattle.media_rows.specs.declared.row.Row.{Row}
 use Rattle.media_rows.specs.declared.row.Row.TheVariants as rows
-use Rattle.field_codec.specs.Format.{Format, nothing, pair, no_kind, optional}
-use Rattle.field_codec.specs.Leaves.{u32_format, u64_format, u128_format, bool_format, text_format, range_format, numbered}
+use Rattle.media_rows.specs.Snapshot.{kind_number}
+use Rattle.field_codec.specs.Spelling.{Spelling, no_field, pair, no_kind, optional}
+use Rattle.field_codec.specs.Leaves.{u32_spelling, u64_spelling, u128_spelling, bool_spelling, text_spelling, range_spelling, with_number}
 use Rattle.field_codec.specs.Laws.{Lawful}
 use Rattle.field_codec.proofs.Combined.{NarrowLaws, narrowed_lawful, nothing_lawful, pair_lawful, via_lawful}
 use Rattle.field_codec.proofs.KindLaws.{no_kinds, one_kind, optional_lawful}
 use Rattle.field_codec.proofs.LeafLaws.{bool_lawful, text_lawful, one_of_lawful}
 use Rattle.field_codec.proofs.Numbers.{u32_below, u32_lawful, u64_lawful, u128_lawful}
 use Rattle.field_codec.proofs.RangeLaws.{range_lawful}
-use Rattle.change_codec.specs.Values.{kind_format, event_format, tags_format, flow_format, hook_format}
-use Rattle.change_codec.specs.Rows.{source_row_format, flow_row_format, state_of, state_values, state_format, object_row_format, segment_row_format, all_statuses, status_format, delete_row_format, hook_row_format, event_row_format, measured, sized, RowFields, row_of, row_fields, row_format}
+use Rattle.change_codec.specs.Values.{kind_spelling, event_spelling, tags_spelling, flow_spelling, hook_spelling}
+use Rattle.change_codec.specs.Rows.{source_row_spelling, flow_row_spelling, object_state, state_values, state_spelling, object_row_spelling, segment_row_spelling, status_spelling, delete_row_spelling, hook_row_spelling, event_row_spelling, measured, sized, RowFields, row_of, row_fields, row_spelling}
 use Rattle.change_codec.proofs.ValueLaws.{opt_text, opt_u64, kind_lawful, event_lawful, tags_lawful, flow_lawful, segment_lawful, hook_lawful}
 
 -- ---- the fields of each kind of row
 
-pub source_row_lawful : Lawful source_row_format
-unfolding source_row_format
+pub source_row_lawful : Lawful source_row_spelling
+unfolding source_row_spelling
 source_row_lawful =
     via_lawful _ _ _ (λ x. refl) (λ x. refl)
-    (pair_lawful u128_format _ u128_lawful (pair_lawful kind_format _ kind_lawful (pair_lawful (optional text_format) _ opt_text
-    (pair_lawful (optional text_format) _ opt_text (pair_lawful tags_format _ tags_lawful (pair_lawful u64_format _ u64_lawful u64_lawful))))))
+    (pair_lawful u128_spelling _ u128_lawful (pair_lawful kind_spelling _ kind_lawful (pair_lawful (optional text_spelling) _ opt_text
+    (pair_lawful (optional text_spelling) _ opt_text (pair_lawful tags_spelling _ tags_lawful (pair_lawful u64_spelling _ u64_lawful u64_lawful))))))
 
-pub flow_row_lawful : Lawful flow_row_format
-unfolding flow_row_format
+pub flow_row_lawful : Lawful flow_row_spelling
+unfolding flow_row_spelling
 flow_row_lawful =
     via_lawful _ _ _ (λ x. refl) (λ x. refl)
-    (pair_lawful flow_format _ flow_lawful (pair_lawful u64_format _ u64_lawful (pair_lawful u64_format _ u64_lawful opt_u64)))
+    (pair_lawful flow_spelling _ flow_lawful (pair_lawful u64_spelling _ u64_lawful (pair_lawful u64_spelling _ u64_lawful opt_u64)))
 
-values-state : (p : Unit {0} ⊎ ((ℕ × ℕ) ⊎ ⊥)) → state_values (state_of p) ≡ p
+values-state : (p : Unit {0} ⊎ ((ℕ × ℕ) ⊎ ⊥)) → state_values (object_state p) ≡ p
 values-state (inl tt) = refl
 values-state (inr (inl p)) = refl
 values-state (inr (inr x)) = absurd x
 
-state-values : (s : ObjectState) → state_of (state_values s) ≡ s
+state-values : (s : ObjectState) → object_state (state_values s) ≡ s
 state-values Allocated = refl
 state-values (Stored start size) = refl
 
-pub state_lawful : Lawful state_format
-unfolding state_format
+pub state_lawful : Lawful state_spelling
+unfolding state_spelling
 state_lawful =
-    via_lawful state_of state_values _ values-state state-values
-    (one_kind 0 1 nothing _ (omega arith) nothing_lawful
-    (one_kind 1 2 (pair u64_format u64_format) no_kind (omega arith) (pair_lawful u64_format u64_format u64_lawful u64_lawful) (no_kinds 2))).lawful
+    via_lawful object_state state_values _ values-state state-values
+    (one_kind 0 1 no_field _ (omega arith) nothing_lawful
+    (one_kind 1 2 (pair u64_spelling u64_spelling) no_kind (omega arith) (pair_lawful u64_spelling u64_spelling u64_lawful u64_lawful) (no_kinds 2))).lawful
 
-pub object_row_lawful : Lawful object_row_format
-unfolding object_row_format
+pub object_row_lawful : Lawful object_row_spelling
+unfolding object_row_spelling
 object_row_lawful =
     via_lawful _ _ _ (λ x. refl) (λ x. refl)
-    (pair_lawful u64_format _ u64_lawful (pair_lawful text_format _ text_lawful (pair_lawful state_format _ state_lawful u64_lawful)))
+    (pair_lawful u64_spelling _ u64_lawful (pair_lawful text_spelling _ text_lawful (pair_lawful state_spelling _ state_lawful u64_lawful)))
 
-pub segment_row_lawful : Lawful segment_row_format
-unfolding segment_row_format
+pub segment_row_lawful : Lawful segment_row_spelling
+unfolding segment_row_spelling
 segment_row_lawful =
-    via_lawful _ _ _ (λ x. refl) (λ x. refl) (pair_lawful u128_format _ u128_lawful (pair_lawful u64_format _ u64_lawful segment_lawful))
+    via_lawful _ _ _ (λ x. refl) (λ x. refl) (pair_lawful u128_spelling _ u128_lawful (pair_lawful u64_spelling _ u64_lawful segment_lawful))
 
-each_status : (x : DeleteStatus) → numbered status_number all_statuses (status_number x) ≡ Some x
+each_status : (x : DeleteStatus) → with_number status_number all_statuses (status_number x) ≡ Some x
 each_status Created = refl
 each_status Started = refl
 each_status Done = refl
 
-pub status_lawful : Lawful status_format
-unfolding status_format
+pub status_lawful : Lawful status_spelling
+unfolding status_spelling
 status_lawful = one_of_lawful status_number all_statuses each_status
 
-pub delete_row_lawful : Lawful delete_row_format
-unfolding delete_row_format
+pub delete_row_lawful : Lawful delete_row_spelling
+unfolding delete_row_spelling
 delete_row_lawful =
     via_lawful _ _ _ (λ x. refl) (λ x. refl)
-    (pair_lawful u64_format _ u64_lawful (pair_lawful u128_format _ u128_lawful (pair_lawful range_format _ range_lawful
-    (pair_lawful bool_format _ bool_lawful (pair_lawful status_format _ status_lawful (pair_lawful u64_format _ u64_lawful u64_lawful))))))
+    (pair_lawful u64_spelling _ u64_lawful (pair_lawful u128_spelling _ u128_lawful (pair_lawful range_spelling _ range_lawful
+    (pair_lawful bool_spelling _ bool_lawful (pair_lawful status_spelling _ status_lawful (pair_lawful u64_spelling _ u64_lawful u64_lawful))))))
 
-pub hook_row_lawful : Lawful hook_row_format
-unfolding hook_row_format
+pub hook_row_lawful : Lawful hook_row_spelling
+unfolding hook_row_spelling
 hook_row_lawful =
-    via_lawful _ _ _ (λ x. refl) (λ x. refl) (pair_lawful u64_format _ u64_lawful (pair_lawful hook_format _ hook_lawful bool_lawful))
+    via_lawful _ _ _ (λ x. refl) (λ x. refl) (pair_lawful u64_spelling _ u64_lawful (pair_lawful hook_spelling _ hook_lawful bool_lawful))
 
-pub event_row_lawful : Lawful event_row_format
-unfolding event_row_format
+pub event_row_lawful : Lawful event_row_spelling
+unfolding event_row_spelling
 event_row_lawful =
     via_lawful _ _ _ (λ x. refl) (λ x. refl)
-    (pair_lawful u64_format _ u64_lawful (pair_lawful u64_format _ u64_lawful (pair_lawful event_format _ event_lawful
-    (pair_lawful u128_format _ u128_lawful (pair_lawful (optional range_format) _ (optional_lawful range_format range_lawful) u64_lawful)))))
+    (pair_lawful u64_spelling _ u64_lawful (pair_lawful u64_spelling _ u64_lawful (pair_lawful event_spelling _ event_lawful
+    (pair_lawful u128_spelling _ u128_lawful (pair_lawful (optional range_spelling) _ (optional_lawful range_spelling range_lawful) u64_lawful)))))
 
 -- ---- fields behind their length
 
@@ -99,7 +100,7 @@ measured_is spell n x y true is e =
     (ap (λ z. length (spell z)) same ∙ eqb-true (length (spell x)) n is, same)
 measured_is spell n x y false is e = absurd cc
 
-sized_laws : {A : Type 0} (f : Format A) → NarrowLaws (measured f.spell) (λ x. (length (f.spell x), x)) (λ x. Unit {0}) (λ x. length (f.spell x) < 2 ^ 32) (pair u32_format f).fits
+sized_laws : {A : Type 0} (f : Spelling A) → NarrowLaws (measured f.spell) (λ x. (length (f.spell x), x)) (λ x. Unit {0}) (λ x. length (f.spell x) < 2 ^ 32) (pair u32_spelling f).fits
 sized_laws {A = A} f = record {
   is = λ p y fits e.
       let m = measured_is f.spell p.0 p.1 y (length (f.spell p.1) == p.0) refl e in
@@ -109,10 +110,10 @@ sized_laws {A = A} f = record {
 }
 
 -- fields behind their length, where the fields are lawful
-pub sized_lawful : {A : Type 0} (f : Format A) → Lawful f → Lawful (sized f)
+pub sized_lawful : {A : Type 0} (f : Spelling A) → Lawful f → Lawful (sized f)
 sized_lawful f law =
-    narrowed_lawful (measured f.spell) (λ x. (length (f.spell x), x)) (λ x. Unit {0}) (λ x. length (f.spell x) < 2 ^ 32) (pair u32_format f) (sized_laws f)
-    (pair_lawful u32_format f u32_lawful law)
+    narrowed_lawful (measured f.spell) (λ x. (length (f.spell x), x)) (λ x. Unit {0}) (λ x. length (f.spell x) < 2 ^ 32) (pair u32_spelling f) (sized_laws f)
+    (pair_lawful u32_spelling f u32_lawful law)
 
 -- ---- rows
 
@@ -140,15 +141,29 @@ row-fields (rows.Event row) = refl
 row-fields (rows.Numbers serial) = refl
 
 -- A row is read exactly as it is spelled and exactly up to its fault, and written as it is spelled.
-pub row_lawful : Lawful row_format
-unfolding row_format
+pub row_lawful : Lawful row_spelling
+unfolding row_spelling
 row_lawful =
     via_lawful row_of row_fields _ fields-row row-fields
-    (one_kind 1 2 (sized source_row_format) _ (omega arith) (sized_lawful _ source_row_lawful)
-    (one_kind 2 3 (sized flow_row_format) _ (omega arith) (sized_lawful _ flow_row_lawful)
-    (one_kind 3 4 (sized object_row_format) _ (omega arith) (sized_lawful _ object_row_lawful)
-    (one_kind 4 5 (sized segment_row_format) _ (omega arith) (sized_lawful _ segment_row_lawful)
-    (one_kind 5 6 (sized delete_row_format) _ (omega arith) (sized_lawful _ delete_row_lawful)
-    (one_kind 6 7 (sized hook_row_format) _ (omega arith) (sized_lawful _ hook_row_lawful)
-    (one_kind 7 8 (sized event_row_format) _ (omega arith) (sized_lawful _ event_row_lawful)
-    (one_kind 8 9 (sized u64_format) no_kind (omega arith) (sized_lawful u64_format u64_lawful) (no_kinds 9))))))))).lawful
+    (one_kind 1 2 (sized source_row_spelling) _ (omega arith) (sized_lawful _ source_row_lawful)
+    (one_kind 2 3 (sized flow_row_spelling) _ (omega arith) (sized_lawful _ flow_row_lawful)
+    (one_kind 3 4 (sized object_row_spelling) _ (omega arith) (sized_lawful _ object_row_lawful)
+    (one_kind 4 5 (sized segment_row_spelling) _ (omega arith) (sized_lawful _ segment_row_lawful)
+    (one_kind 5 6 (sized delete_row_spelling) _ (omega arith) (sized_lawful _ delete_row_lawful)
+    (one_kind 6 7 (sized hook_row_spelling) _ (omega arith) (sized_lawful _ hook_row_lawful)
+    (one_kind 7 8 (sized event_row_spelling) _ (omega arith) (sized_lawful _ event_row_lawful)
+    (one_kind 8 9 (sized u64_spelling) no_kind (omega arith) (sized_lawful u64_spelling u64_lawful) (no_kinds 9))))))))).lawful
+
+-- ---- kinds
+
+-- a row's first byte is its kind's number
+pub first_is_kind : (row : Row) → slice_get (row_spelling.spell row) 0 ≡ Some (kind_number row)
+unfolding row_spelling
+first_is_kind (rows.Source row) = refl
+first_is_kind (rows.Flow row) = refl
+first_is_kind (rows.Object row) = refl
+first_is_kind (rows.Segment row) = refl
+first_is_kind (rows.Request row) = refl
+first_is_kind (rows.Hook row) = refl
+first_is_kind (rows.Event row) = refl
+first_is_kind (rows.Numbers next_serial) = refl

@@ -1,37 +1,37 @@
--- The formats of the values that stand in changes and rows are lawful.
+-- The spellings of the values that stand in changes and rows are lawful.
 use Rattle.std.proofs.Common.{◌≡◌, Some, refl, arith, inl, inr}
 use Rattle.std.specs.Prelude.{bytes_eq}
-use Rattle.media_rows.specs.Formats.{format_number, event_number}
+use Rattle.media_rows.specs.Formats.{format_number, event_number, all_formats, all_events}
 use Rattle.media_rows.specs.declared.event.EventKind.{EventKind}
 use Rattle.media_rows.specs.declared.event.EventKind.TheVariants as events
 use Rattle.media_rows.specs.declared.flow.FormatKind.{FormatKind}
 use Rattle.media_rows.specs.declared.flow.FormatKind.TheVariants as formats
 use Rattle.media_rows.specs.declared.part.Part.{Part}
 use Rattle.media_rows.specs.declared.part.Part.TheVariants as parts
-use Rattle.field_codec.specs.Format.{Format, no_kind, optional}
-use Rattle.field_codec.specs.Leaves.{u64_format, u128_format, bool_format, ts_format, text_format, range_format, listed, numbered}
+use Rattle.field_codec.specs.Spelling.{Spelling, no_kind, optional}
+use Rattle.field_codec.specs.Leaves.{u64_spelling, u128_spelling, bool_spelling, ts_spelling, text_spelling, range_spelling, listed, with_number}
 use Rattle.field_codec.specs.Laws.{Lawful}
 use Rattle.field_codec.proofs.Combined.{pair_lawful, followed_lawful, via_lawful, where_is_lawful}
 use Rattle.field_codec.proofs.KindLaws.{Kinds, no_kinds, one_kind, optional_lawful}
 use Rattle.field_codec.proofs.LeafLaws.{bool_lawful, text_lawful, listed_lawful, one_of_lawful}
 use Rattle.field_codec.proofs.Numbers.{u64_lawful, u128_lawful}
 use Rattle.field_codec.proofs.RangeLaws.{ts_lawful, range_lawful}
-use Rattle.change_codec.specs.Values.{all_formats, kind_format, all_events, event_format, has_its_values, tag_format, is_rising, tags_format, member_format, flow_head_format, flow_texts_format, flow_rest_format, flow_format, segment_format, named_tag, tag_part_format, PartValues, part_of, part_values, shared_parts, flow_part_format, source_part_format, hook_format}
+use Rattle.change_codec.specs.Values.{kind_spelling, event_spelling, has_its_values, tag_spelling, is_rising, tags_spelling, member_spelling, flow_head_spelling, flow_texts_spelling, flow_rest_spelling, flow_spelling, segment_spelling, named_tag, tag_part_spelling, PartValues, part_of, part_values, shared_parts, flow_part_spelling, source_part_spelling, hook_spelling}
 
 -- ---- formats and events
 
-each_format : (x : FormatKind) → numbered format_number all_formats (format_number x) ≡ Some x
+each_format : (x : FormatKind) → with_number format_number all_formats (format_number x) ≡ Some x
 each_format formats.Video = refl
 each_format formats.Audio = refl
 each_format formats.DataEssence = refl
 each_format formats.Multi = refl
 each_format formats.Image = refl
 
-pub kind_lawful : Lawful kind_format
-unfolding kind_format
+pub kind_lawful : Lawful kind_spelling
+unfolding kind_spelling
 kind_lawful = one_of_lawful format_number all_formats each_format
 
-each_event : (x : EventKind) → numbered event_number all_events (event_number x) ≡ Some x
+each_event : (x : EventKind) → with_number event_number all_events (event_number x) ≡ Some x
 each_event events.FlowCreated = refl
 each_event events.FlowUpdated = refl
 each_event events.FlowDeleted = refl
@@ -41,73 +41,73 @@ each_event events.SourceCreated = refl
 each_event events.SourceUpdated = refl
 each_event events.SourceDeleted = refl
 
-pub event_lawful : Lawful event_format
-unfolding event_format
+pub event_lawful : Lawful event_spelling
+unfolding event_spelling
 event_lawful = one_of_lawful event_number all_events each_event
 
 -- ---- options and lists of fields
 
-pub opt_text : Lawful (optional text_format)
-opt_text = optional_lawful text_format text_lawful
+pub opt_text : Lawful (optional text_spelling)
+opt_text = optional_lawful text_spelling text_lawful
 
-pub opt_u64 : Lawful (optional u64_format)
-opt_u64 = optional_lawful u64_format u64_lawful
+pub opt_u64 : Lawful (optional u64_spelling)
+opt_u64 = optional_lawful u64_spelling u64_lawful
 
-ids : Lawful (listed u128_format)
-ids = listed_lawful u128_format u128_lawful
+ids : Lawful (listed u128_spelling)
+ids = listed_lawful u128_spelling u128_lawful
 
 -- ---- tags
 
-pub tag_lawful : Lawful tag_format
-unfolding tag_format
+pub tag_lawful : Lawful tag_spelling
+unfolding tag_spelling
 tag_lawful =
     where_is_lawful has_its_values _
-    (via_lawful _ _ _ (λ x. refl) (λ x. refl) (pair_lawful text_format _ text_lawful (pair_lawful bool_format _ bool_lawful (listed_lawful text_format text_lawful))))
+    (via_lawful _ _ _ (λ x. refl) (λ x. refl) (pair_lawful text_spelling _ text_lawful (pair_lawful bool_spelling _ bool_lawful (listed_lawful text_spelling text_lawful))))
 
-pub tags_lawful : Lawful tags_format
-unfolding tags_format
-tags_lawful = where_is_lawful is_rising (listed tag_format) (listed_lawful tag_format tag_lawful)
+pub tags_lawful : Lawful tags_spelling
+unfolding tags_spelling
+tags_lawful = where_is_lawful is_rising (listed tag_spelling) (listed_lawful tag_spelling tag_lawful)
 
 -- ---- members, flows and segments
 
-pub member_lawful : Lawful member_format
-unfolding member_format
-member_lawful = via_lawful _ _ _ (λ x. refl) (λ x. refl) (pair_lawful u128_format _ u128_lawful opt_text)
+pub member_lawful : Lawful member_spelling
+unfolding member_spelling
+member_lawful = via_lawful _ _ _ (λ x. refl) (λ x. refl) (pair_lawful u128_spelling _ u128_lawful opt_text)
 
-flow_head_lawful : Lawful flow_head_format
-unfolding flow_head_format
-flow_head_lawful = pair_lawful u128_format _ u128_lawful (pair_lawful u128_format _ u128_lawful (pair_lawful kind_format bool_format kind_lawful bool_lawful))
+flow_head_lawful : Lawful flow_head_spelling
+unfolding flow_head_spelling
+flow_head_lawful = pair_lawful u128_spelling _ u128_lawful (pair_lawful u128_spelling _ u128_lawful (pair_lawful kind_spelling bool_spelling kind_lawful bool_lawful))
 
-flow_texts_lawful : Lawful flow_texts_format
-unfolding flow_texts_format
-flow_texts_lawful = pair_lawful (optional text_format) _ opt_text (pair_lawful (optional text_format) _ opt_text (pair_lawful (optional text_format) _ opt_text opt_text))
+flow_texts_lawful : Lawful flow_texts_spelling
+unfolding flow_texts_spelling
+flow_texts_lawful = pair_lawful (optional text_spelling) _ opt_text (pair_lawful (optional text_spelling) _ opt_text (pair_lawful (optional text_spelling) _ opt_text opt_text))
 
-flow_rest_lawful : Lawful flow_rest_format
-unfolding flow_rest_format
+flow_rest_lawful : Lawful flow_rest_spelling
+unfolding flow_rest_spelling
 flow_rest_lawful =
-    pair_lawful (optional u64_format) _ opt_u64 (pair_lawful (optional u64_format) _ opt_u64
-    (pair_lawful tags_format _ tags_lawful (pair_lawful (listed member_format) _ (listed_lawful member_format member_lawful) opt_text)))
+    pair_lawful (optional u64_spelling) _ opt_u64 (pair_lawful (optional u64_spelling) _ opt_u64
+    (pair_lawful tags_spelling _ tags_lawful (pair_lawful (listed member_spelling) _ (listed_lawful member_spelling member_lawful) opt_text)))
 
-pub flow_lawful : Lawful flow_format
-unfolding flow_format
+pub flow_lawful : Lawful flow_spelling
+unfolding flow_spelling
 flow_lawful =
     via_lawful _ _ _ (λ x. refl) (λ x. refl)
-    (pair_lawful flow_head_format _ flow_head_lawful (pair_lawful flow_texts_format flow_rest_format flow_texts_lawful flow_rest_lawful))
+    (pair_lawful flow_head_spelling _ flow_head_lawful (pair_lawful flow_texts_spelling flow_rest_spelling flow_texts_lawful flow_rest_lawful))
 
-pub segment_lawful : Lawful segment_format
-unfolding segment_format
+pub segment_lawful : Lawful segment_spelling
+unfolding segment_spelling
 segment_lawful =
     via_lawful _ _ _ (λ x. refl) (λ x. refl)
-    (pair_lawful text_format _ text_lawful (pair_lawful range_format _ range_lawful (pair_lawful ts_format _ ts_lawful
-    (pair_lawful (optional ts_format) _ (optional_lawful ts_format ts_lawful) (pair_lawful u64_format _ u64_lawful (pair_lawful (optional u64_format) _ opt_u64 opt_u64))))))
+    (pair_lawful text_spelling _ text_lawful (pair_lawful range_spelling _ range_lawful (pair_lawful ts_spelling _ ts_lawful
+    (pair_lawful (optional ts_spelling) _ (optional_lawful ts_spelling ts_lawful) (pair_lawful u64_spelling _ u64_lawful (pair_lawful (optional u64_spelling) _ opt_u64 opt_u64))))))
 
 -- ---- parts
 
-tag_part_lawful : Lawful tag_part_format
-unfolding tag_part_format
+tag_part_lawful : Lawful tag_part_spelling
+unfolding tag_part_spelling
 tag_part_lawful =
-    followed_lawful text_format (λ name. optional (named_tag name)) text_lawful
-    (λ name. optional_lawful (named_tag name) (where_is_lawful (λ tag. bytes_eq tag.name name) tag_format tag_lawful))
+    followed_lawful text_spelling (λ name. optional (named_tag name)) text_lawful
+    (λ name. optional_lawful (named_tag name) (where_is_lawful (λ tag. bytes_eq tag.name name) tag_spelling tag_lawful))
 
 values-part : (p : PartValues) → part_values (part_of p) ≡ p
 values-part (inl p) = refl
@@ -128,30 +128,30 @@ part-values (parts.Collection members) = refl
 part-values (parts.MaxBitRate rate) = refl
 part-values (parts.AvgBitRate rate) = refl
 
-shared_kinds : {B : Type 0} (others : Format B) → Kinds 4 others → Kinds 1 (shared_parts others)
+shared_kinds : {B : Type 0} (others : Spelling B) → Kinds 4 others → Kinds 1 (shared_parts others)
 shared_kinds others kinds =
-    one_kind 1 2 tag_part_format _ (omega arith) tag_part_lawful
-    (one_kind 2 3 (optional text_format) _ (omega arith) opt_text (one_kind 3 4 (optional text_format) others (omega arith) opt_text kinds))
+    one_kind 1 2 tag_part_spelling _ (omega arith) tag_part_lawful
+    (one_kind 2 3 (optional text_spelling) _ (omega arith) opt_text (one_kind 3 4 (optional text_spelling) others (omega arith) opt_text kinds))
 
-pub flow_part_lawful : Lawful flow_part_format
-unfolding flow_part_format
+pub flow_part_lawful : Lawful flow_part_spelling
+unfolding flow_part_spelling
 flow_part_lawful =
     via_lawful part_of part_values _ values-part part-values (shared_kinds _
-    (one_kind 4 5 bool_format _ (omega arith) bool_lawful
-    (one_kind 5 6 (listed member_format) _ (omega arith) (listed_lawful member_format member_lawful)
-    (one_kind 6 7 (optional u64_format) _ (omega arith) opt_u64
-    (one_kind 7 8 (optional u64_format) no_kind (omega arith) opt_u64 (no_kinds 8)))))).lawful
+    (one_kind 4 5 bool_spelling _ (omega arith) bool_lawful
+    (one_kind 5 6 (listed member_spelling) _ (omega arith) (listed_lawful member_spelling member_lawful)
+    (one_kind 6 7 (optional u64_spelling) _ (omega arith) opt_u64
+    (one_kind 7 8 (optional u64_spelling) no_kind (omega arith) opt_u64 (no_kinds 8)))))).lawful
 
-pub source_part_lawful : Lawful source_part_format
-unfolding source_part_format
+pub source_part_lawful : Lawful source_part_spelling
+unfolding source_part_spelling
 source_part_lawful = via_lawful part_of part_values _ values-part part-values (shared_kinds no_kind (no_kinds 4)).lawful
 
 -- ---- hooks
 
-pub hook_lawful : Lawful hook_format
-unfolding hook_format
+pub hook_lawful : Lawful hook_spelling
+unfolding hook_spelling
 hook_lawful =
     via_lawful _ _ _ (λ x. refl) (λ x. refl)
-    (pair_lawful text_format _ text_lawful (pair_lawful (listed event_format) _ (listed_lawful event_format event_lawful)
-    (pair_lawful (optional text_format) _ opt_text (pair_lawful (optional text_format) _ opt_text
-    (pair_lawful (optional (listed u128_format)) _ (optional_lawful (listed u128_format) ids) (optional_lawful (listed u128_format) ids))))))
+    (pair_lawful text_spelling _ text_lawful (pair_lawful (listed event_spelling) _ (listed_lawful event_spelling event_lawful)
+    (pair_lawful (optional text_spelling) _ opt_text (pair_lawful (optional text_spelling) _ opt_text
+    (pair_lawful (optional (listed u128_spelling)) _ (optional_lawful (listed u128_spelling) ids) (optional_lawful (listed u128_spelling) ids))))))

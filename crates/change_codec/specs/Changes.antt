@@ -8,40 +8,56 @@ use Rattle.media_rows.specs.declared.flow.FlowBody.{FlowBody}
 use Rattle.media_rows.specs.declared.segment.Segment.{Segment}
 use Rattle.media_rows.specs.declared.part.Part.{Part}
 use Rattle.media_rows.specs.declared.hook.Hook.{Hook}
-use Rattle.field_codec.specs.Format.{Format, pair, via, either, no_kind}
-use Rattle.field_codec.specs.Leaves.{u64_format, u128_format, bool_format, text_format, range_format, listed}
-use Rattle.change_codec.specs.Values.{flow_format, segment_format, flow_part_format, source_part_format, hook_format}
+use Rattle.field_codec.specs.Spelling.{Spelling, pair, via, either, no_kind}
+use Rattle.field_codec.specs.Leaves.{u64_spelling, u128_spelling, bool_spelling, text_spelling, range_spelling, listed}
+use Rattle.change_codec.specs.Values.{flow_spelling, segment_spelling, flow_part_spelling, source_part_spelling, hook_spelling}
 
 -- the moment and the fields of each kind of change from the seventh on, in the order of the kinds
 abbrev pub LaterFields : Type 0
 LaterFields =
-    (ℕ × (ℕ × List Segment)) ⊎ ((ℕ × (ℕ × Option Span)) ⊎ ((ℕ × (ℕ × (Option Span × Bool))) ⊎ (ℕ ⊎ (ℕ ⊎ ((ℕ × Hook) ⊎ ((ℕ × List ℕ) ⊎ ⊥))))))
+    (ℕ × (ℕ × List Segment))
+    ⊎ ((ℕ × (ℕ × Option Span))
+    ⊎ ((ℕ × (ℕ × (Option Span × Bool)))
+    ⊎ (ℕ ⊎ (ℕ ⊎ ((ℕ × Hook) ⊎ ((ℕ × List ℕ) ⊎ ⊥))))))
 
 -- the moment and the fields of each kind of change, in the order of the kinds
 abbrev pub ChangeFields : Type 0
 ChangeFields =
-    (ℕ × FlowBody) ⊎ ((ℕ × (ℕ × Part)) ⊎ ((ℕ × (ℕ × Part)) ⊎ ((ℕ × ℕ) ⊎ ((ℕ × (ℕ × List (List ℕ))) ⊎ ((ℕ × (List ℕ × (ℕ × ℕ))) ⊎ LaterFields)))))
+    (ℕ × FlowBody)
+    ⊎ ((ℕ × (ℕ × Part))
+    ⊎ ((ℕ × (ℕ × Part))
+    ⊎ ((ℕ × ℕ)
+    ⊎ ((ℕ × (ℕ × List (List ℕ)))
+    ⊎ ((ℕ × (List ℕ × (ℕ × ℕ)))
+    ⊎ LaterFields)))))
 
 -- the change with these fields, of a kind from the seventh on
 abbrev pub later_change : LaterFields → Change
-later_change (inl p) = changes.AddSegments p.0 p.1.0 p.1.1
-later_change (inr (inl p)) = changes.CutSegments p.0 p.1.0 p.1.1
-later_change (inr (inr (inl p))) = changes.AskDelete p.0 p.1.0 p.1.1.0 p.1.1.1
+later_change (inl (moment, (flow, segments))) = changes.AddSegments moment flow segments
+later_change (inr (inl (moment, (flow, range)))) = changes.CutSegments moment flow range
+later_change (inr (inr (inl (moment, (flow, (range, delete_flow)))))) =
+    changes.AskDelete moment flow range delete_flow
 later_change (inr (inr (inr (inl moment)))) = changes.DeleteStep moment
 later_change (inr (inr (inr (inr (inl moment))))) = changes.SweepStep moment
-later_change (inr (inr (inr (inr (inr (inl p)))))) = changes.PutHook p.0 p.1
-later_change (inr (inr (inr (inr (inr (inr (inl p))))))) = changes.DropHook p.0 p.1
+later_change (inr (inr (inr (inr (inr (inl (moment, hook))))))) = changes.PutHook moment hook
+later_change (inr (inr (inr (inr (inr (inr (inl (moment, url)))))))) = changes.DropHook moment url
 later_change (inr (inr (inr (inr (inr (inr (inr x))))))) = absurd x
 
 -- the change with these fields
-abbrev pub change_of : ChangeFields → Change
-change_of (inl p) = changes.PutFlow p.0 p.1
-change_of (inr (inl p)) = changes.SetFlow p.0 p.1.0 p.1.1
-change_of (inr (inr (inl p))) = changes.SetSource p.0 p.1.0 p.1.1
-change_of (inr (inr (inr (inl p)))) = changes.DropFlow p.0 p.1
-change_of (inr (inr (inr (inr (inl p))))) = changes.Allocate p.0 p.1.0 p.1.1
-change_of (inr (inr (inr (inr (inr (inl p)))))) = changes.Store p.0 p.1.0 p.1.1.0 p.1.1.1
-change_of (inr (inr (inr (inr (inr (inr p)))))) = later_change p
+abbrev pub change_with : ChangeFields → Change
+change_with (inl (moment, flow)) = changes.PutFlow moment flow
+change_with (inr (inl (moment, (flow, part)))) = changes.SetFlow moment flow part
+change_with (inr (inr (inl (moment, (source, part))))) = changes.SetSource moment source part
+change_with (inr (inr (inr (inl (moment, flow))))) = changes.DropFlow moment flow
+change_with (inr (inr (inr (inr (inl (moment, (flow, objects))))))) =
+    changes.Allocate moment flow objects
+change_with (inr (inr (inr (inr (inr (inl (moment, (object, (start, size))))))))) =
+    changes.Store moment object start size
+change_with (inr (inr (inr (inr (inr (inr p)))))) = later_change p
+
+-- the fields of a change of a kind from the seventh on
+abbrev pub later : LaterFields → ChangeFields
+later fields = inr (inr (inr (inr (inr (inr fields)))))
 
 -- the fields of a change
 abbrev pub change_fields : Change → ChangeFields
@@ -49,31 +65,36 @@ change_fields (changes.PutFlow moment flow) = inl (moment, flow)
 change_fields (changes.SetFlow moment flow part) = inr (inl (moment, (flow, part)))
 change_fields (changes.SetSource moment source part) = inr (inr (inl (moment, (source, part))))
 change_fields (changes.DropFlow moment flow) = inr (inr (inr (inl (moment, flow))))
-change_fields (changes.Allocate moment flow objects) = inr (inr (inr (inr (inl (moment, (flow, objects))))))
-change_fields (changes.Store moment object start size) = inr (inr (inr (inr (inr (inl (moment, (object, (start, size))))))))
-change_fields (changes.AddSegments moment flow segments) = inr (inr (inr (inr (inr (inr (inl (moment, (flow, segments))))))))
-change_fields (changes.CutSegments moment flow range) = inr (inr (inr (inr (inr (inr (inr (inl (moment, (flow, range)))))))))
-change_fields (changes.AskDelete moment flow range delete_flow) = inr (inr (inr (inr (inr (inr (inr (inr (inl (moment, (flow, (range, delete_flow)))))))))))
-change_fields (changes.DeleteStep moment) = inr (inr (inr (inr (inr (inr (inr (inr (inr (inl moment)))))))))
-change_fields (changes.SweepStep moment) = inr (inr (inr (inr (inr (inr (inr (inr (inr (inr (inl moment))))))))))
-change_fields (changes.PutHook moment hook) = inr (inr (inr (inr (inr (inr (inr (inr (inr (inr (inr (inl (moment, hook))))))))))))
-change_fields (changes.DropHook moment url) = inr (inr (inr (inr (inr (inr (inr (inr (inr (inr (inr (inr (inl (moment, url)))))))))))))
+change_fields (changes.Allocate moment flow objects) =
+    inr (inr (inr (inr (inl (moment, (flow, objects))))))
+change_fields (changes.Store moment object start size) =
+    inr (inr (inr (inr (inr (inl (moment, (object, (start, size))))))))
+change_fields (changes.AddSegments moment flow segments) = later (inl (moment, (flow, segments)))
+change_fields (changes.CutSegments moment flow range) = later (inr (inl (moment, (flow, range))))
+change_fields (changes.AskDelete moment flow range delete_flow) =
+    later (inr (inr (inl (moment, (flow, (range, delete_flow))))))
+change_fields (changes.DeleteStep moment) = later (inr (inr (inr (inl moment))))
+change_fields (changes.SweepStep moment) = later (inr (inr (inr (inr (inl moment)))))
+change_fields (changes.PutHook moment hook) =
+    later (inr (inr (inr (inr (inr (inl (moment, hook)))))))
+change_fields (changes.DropHook moment url) =
+    later (inr (inr (inr (inr (inr (inr (inl (moment, url))))))))
 
 -- a moment, and what stands behind it
-abbrev pub at_moment : {A : Type 0} → Format A → Format (ℕ × A)
-at_moment f = pair u64_format f
+abbrev pub at_moment : {A : Type 0} → Spelling A → Spelling (ℕ × A)
+at_moment f = pair u64_spelling f
 
--- the kinds from the seventh on: segments added, segments cut, a delete request, a step of deleting, a step of
--- sweeping, a hook put, a hook dropped
-unfoldable pub later_format : Format LaterFields
-later_format =
-    either 7 (at_moment (pair u128_format (listed segment_format)))
-    (either 8 (at_moment (pair u128_format range_format))
-    (either 9 (at_moment (pair u128_format (pair range_format bool_format)))
-    (either 10 u64_format
-    (either 11 u64_format
-    (either 12 (at_moment hook_format)
-    (either 13 (at_moment text_format) no_kind))))))
+-- the kinds from the seventh on: segments added, segments cut, a delete request, a step of
+-- deleting, a step of sweeping, a hook put, a hook dropped
+unfoldable pub later_spelling : Spelling LaterFields
+later_spelling =
+    either 7 (at_moment (pair u128_spelling (listed segment_spelling)))
+    (either 8 (at_moment (pair u128_spelling range_spelling))
+    (either 9 (at_moment (pair u128_spelling (pair range_spelling bool_spelling)))
+    (either 10 u64_spelling
+    (either 11 u64_spelling
+    (either 12 (at_moment hook_spelling)
+    (either 13 (at_moment text_spelling) no_kind))))))
 
 -- the number of a change's kind
 abbrev pub change_kind : Change → ℕ
@@ -91,14 +112,14 @@ change_kind (changes.SweepStep moment) = 11
 change_kind (changes.PutHook moment hook) = 12
 change_kind (changes.DropHook moment url) = 13
 
--- one byte of kind, the moment, and the fields: a flow put, a part of a flow set, a part of a source set, a
--- flow dropped, objects allocated, an object stored, and the later kinds
-unfoldable pub change_format : Format Change
-change_format = via change_of change_fields
-    (either 1 (at_moment flow_format)
-    (either 2 (at_moment (pair u128_format flow_part_format))
-    (either 3 (at_moment (pair u128_format source_part_format))
-    (either 4 (at_moment u128_format)
-    (either 5 (at_moment (pair u128_format (listed text_format)))
-    (either 6 (at_moment (pair text_format (pair u64_format u64_format)))
-    later_format))))))
+-- one byte of kind, the moment, and the fields: a flow put, a part of a flow set, a part of a
+-- source set, a flow dropped, objects allocated, an object stored, and the later kinds
+unfoldable pub change_spelling : Spelling Change
+change_spelling = via change_with change_fields
+    (either 1 (at_moment flow_spelling)
+    (either 2 (at_moment (pair u128_spelling flow_part_spelling))
+    (either 3 (at_moment (pair u128_spelling source_part_spelling))
+    (either 4 (at_moment u128_spelling)
+    (either 5 (at_moment (pair u128_spelling (listed text_spelling)))
+    (either 6 (at_moment (pair text_spelling (pair u64_spelling u64_spelling)))
+    later_spelling))))))

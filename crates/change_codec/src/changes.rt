@@ -1,9 +1,9 @@
 //! The fields of each kind of change.
 ghost use Rattle.std.specs.Prelude.{◌≡◌, ◌∷◌, OnOk};
 ghost use Rattle.media_rows.specs.Changes.{moment_of};
-ghost use Rattle.field_codec.specs.Format.{pair};
-ghost use Rattle.field_codec.specs.Reading.{Gives, Wrote};
-ghost use Rattle.change_codec.specs.Changes.{change_kind, change_format};
+ghost use Rattle.field_codec.specs.Spelling.{pair};
+ghost use Rattle.field_codec.specs.Reading.{GivesField, Wrote};
+ghost use Rattle.change_codec.specs.Changes.{change_kind, change_spelling};
 
 use crate::field::Field;
 use crate::parts::{read_source_part, write_source_part};
@@ -13,9 +13,9 @@ use media_rows::Change;
 use std::alloc::Global;
 
 impl Field for Change {
-    ghost format = { change_format };
+    ghost spelling = { change_spelling };
 
-    #[tactic(auto, unfolding(crate::specs::Changes::change_format, crate::specs::Changes::later_format))]
+    #[tactic(auto, unfolding(crate::specs::Changes::change_spelling, crate::specs::Changes::later_spelling))]
     fn read_from(alloc: Global, input: &mut Cursor) -> Result<Change, ReadFault> {
         let left = input.left();
         match input.first() {
@@ -36,7 +36,7 @@ impl Field for Change {
         }
     }
 
-    #[tactic(auto, unfolding(crate::specs::Changes::change_format, crate::specs::Changes::later_format))]
+    #[tactic(auto, unfolding(crate::specs::Changes::change_spelling, crate::specs::Changes::later_spelling))]
     fn write_to(&self, out: &mut Text) -> Result<(), Memory> {
         out.push(kind_of(self))?;
         write_u64(out, moment_of(self))?;
@@ -78,25 +78,25 @@ impl Field for Change {
 
 // ---- reading: the moment and the fields of each kind, which stand behind it
 
-#[tactic(auto, unfolding(crate::specs::Changes::change_format))]
+#[tactic(auto, unfolding(crate::specs::Changes::change_spelling))]
 fn read_put_flow(alloc: Global, input: &mut Cursor) -> Result<Change, ReadFault>
-    ensures { Gives change_format (1 ∷ input.old) input.new result }
+    ensures { GivesField change_spelling (1 ∷ input.old) input.new result }
 {
     let (moment, flow) = Field::read_from(alloc, input)?;
     Ok(Change::PutFlow { moment, flow })
 }
 
-#[tactic(auto, unfolding(crate::specs::Changes::change_format))]
+#[tactic(auto, unfolding(crate::specs::Changes::change_spelling))]
 fn read_set_flow(alloc: Global, input: &mut Cursor) -> Result<Change, ReadFault>
-    ensures { Gives change_format (2 ∷ input.old) input.new result }
+    ensures { GivesField change_spelling (2 ∷ input.old) input.new result }
 {
     let (moment, (flow, part)) = Field::read_from(alloc, input)?;
     Ok(Change::SetFlow { moment, flow, part })
 }
 
-#[tactic(auto, unfolding(crate::specs::Changes::change_format))]
+#[tactic(auto, unfolding(crate::specs::Changes::change_spelling))]
 fn read_set_source(alloc: Global, input: &mut Cursor) -> Result<Change, ReadFault>
-    ensures { Gives change_format (3 ∷ input.old) input.new result }
+    ensures { GivesField change_spelling (3 ∷ input.old) input.new result }
 {
     Ok(Change::SetSource {
         moment: Field::read_from(alloc, input)?,
@@ -105,17 +105,17 @@ fn read_set_source(alloc: Global, input: &mut Cursor) -> Result<Change, ReadFaul
     })
 }
 
-#[tactic(auto, unfolding(crate::specs::Changes::change_format))]
+#[tactic(auto, unfolding(crate::specs::Changes::change_spelling))]
 fn read_drop_flow(alloc: Global, input: &mut Cursor) -> Result<Change, ReadFault>
-    ensures { Gives change_format (4 ∷ input.old) input.new result }
+    ensures { GivesField change_spelling (4 ∷ input.old) input.new result }
 {
     let (moment, flow) = Field::read_from(alloc, input)?;
     Ok(Change::DropFlow { moment, flow })
 }
 
-#[tactic(auto, unfolding(crate::specs::Changes::change_format))]
+#[tactic(auto, unfolding(crate::specs::Changes::change_spelling))]
 fn read_allocate(alloc: Global, input: &mut Cursor) -> Result<Change, ReadFault>
-    ensures { Gives change_format (5 ∷ input.old) input.new result }
+    ensures { GivesField change_spelling (5 ∷ input.old) input.new result }
 {
     Ok(Change::Allocate {
         moment: Field::read_from(alloc, input)?,
@@ -124,9 +124,9 @@ fn read_allocate(alloc: Global, input: &mut Cursor) -> Result<Change, ReadFault>
     })
 }
 
-#[tactic(auto, unfolding(crate::specs::Changes::change_format))]
+#[tactic(auto, unfolding(crate::specs::Changes::change_spelling))]
 fn read_store(alloc: Global, input: &mut Cursor) -> Result<Change, ReadFault>
-    ensures { Gives change_format (6 ∷ input.old) input.new result }
+    ensures { GivesField change_spelling (6 ∷ input.old) input.new result }
 {
     Ok(Change::Store {
         moment: Field::read_from(alloc, input)?,
@@ -136,9 +136,9 @@ fn read_store(alloc: Global, input: &mut Cursor) -> Result<Change, ReadFault>
     })
 }
 
-#[tactic(auto, unfolding(crate::specs::Changes::change_format, crate::specs::Changes::later_format))]
+#[tactic(auto, unfolding(crate::specs::Changes::change_spelling, crate::specs::Changes::later_spelling))]
 fn read_add_segments(alloc: Global, input: &mut Cursor) -> Result<Change, ReadFault>
-    ensures { Gives change_format (7 ∷ input.old) input.new result }
+    ensures { GivesField change_spelling (7 ∷ input.old) input.new result }
 {
     Ok(Change::AddSegments {
         moment: Field::read_from(alloc, input)?,
@@ -147,9 +147,9 @@ fn read_add_segments(alloc: Global, input: &mut Cursor) -> Result<Change, ReadFa
     })
 }
 
-#[tactic(auto, unfolding(crate::specs::Changes::change_format, crate::specs::Changes::later_format))]
+#[tactic(auto, unfolding(crate::specs::Changes::change_spelling, crate::specs::Changes::later_spelling))]
 fn read_cut_segments(alloc: Global, input: &mut Cursor) -> Result<Change, ReadFault>
-    ensures { Gives change_format (8 ∷ input.old) input.new result }
+    ensures { GivesField change_spelling (8 ∷ input.old) input.new result }
 {
     Ok(Change::CutSegments {
         moment: Field::read_from(alloc, input)?,
@@ -158,9 +158,9 @@ fn read_cut_segments(alloc: Global, input: &mut Cursor) -> Result<Change, ReadFa
     })
 }
 
-#[tactic(auto, unfolding(crate::specs::Changes::change_format, crate::specs::Changes::later_format))]
+#[tactic(auto, unfolding(crate::specs::Changes::change_spelling, crate::specs::Changes::later_spelling))]
 fn read_ask_delete(alloc: Global, input: &mut Cursor) -> Result<Change, ReadFault>
-    ensures { Gives change_format (9 ∷ input.old) input.new result }
+    ensures { GivesField change_spelling (9 ∷ input.old) input.new result }
 {
     Ok(Change::AskDelete {
         moment: Field::read_from(alloc, input)?,
@@ -170,33 +170,33 @@ fn read_ask_delete(alloc: Global, input: &mut Cursor) -> Result<Change, ReadFaul
     })
 }
 
-#[tactic(auto, unfolding(crate::specs::Changes::change_format, crate::specs::Changes::later_format))]
+#[tactic(auto, unfolding(crate::specs::Changes::change_spelling, crate::specs::Changes::later_spelling))]
 fn read_delete_step(alloc: Global, input: &mut Cursor) -> Result<Change, ReadFault>
-    ensures { Gives change_format (10 ∷ input.old) input.new result }
+    ensures { GivesField change_spelling (10 ∷ input.old) input.new result }
 {
     let moment = Field::read_from(alloc, input)?;
     Ok(Change::DeleteStep { moment })
 }
 
-#[tactic(auto, unfolding(crate::specs::Changes::change_format, crate::specs::Changes::later_format))]
+#[tactic(auto, unfolding(crate::specs::Changes::change_spelling, crate::specs::Changes::later_spelling))]
 fn read_sweep_step(alloc: Global, input: &mut Cursor) -> Result<Change, ReadFault>
-    ensures { Gives change_format (11 ∷ input.old) input.new result }
+    ensures { GivesField change_spelling (11 ∷ input.old) input.new result }
 {
     let moment = Field::read_from(alloc, input)?;
     Ok(Change::SweepStep { moment })
 }
 
-#[tactic(auto, unfolding(crate::specs::Changes::change_format, crate::specs::Changes::later_format))]
+#[tactic(auto, unfolding(crate::specs::Changes::change_spelling, crate::specs::Changes::later_spelling))]
 fn read_put_hook(alloc: Global, input: &mut Cursor) -> Result<Change, ReadFault>
-    ensures { Gives change_format (12 ∷ input.old) input.new result }
+    ensures { GivesField change_spelling (12 ∷ input.old) input.new result }
 {
     let (moment, hook) = Field::read_from(alloc, input)?;
     Ok(Change::PutHook { moment, hook })
 }
 
-#[tactic(auto, unfolding(crate::specs::Changes::change_format, crate::specs::Changes::later_format))]
+#[tactic(auto, unfolding(crate::specs::Changes::change_spelling, crate::specs::Changes::later_spelling))]
 fn read_drop_hook(alloc: Global, input: &mut Cursor) -> Result<Change, ReadFault>
-    ensures { Gives change_format (13 ∷ input.old) input.new result }
+    ensures { GivesField change_spelling (13 ∷ input.old) input.new result }
 {
     let (moment, url) = Field::read_from(alloc, input)?;
     Ok(Change::DropHook { moment, url })
@@ -248,8 +248,8 @@ fn moment_of(change: &Change) -> u64
 
 /// Writes two fields, one after the other.
 fn write_both<A: Field, B: Field>(first: &A, second: &B, out: &mut Text) -> Result<(), Memory>
-    requires { (pair A.format B.format).asks (first.now, second.now) }
-    ensures { OnOk result (Wrote (pair A.format B.format) out.old (first.now, second.now) out.new) }
+    requires { (pair A.spelling B.spelling).asks (first.now, second.now) }
+    ensures { OnOk result (Wrote (pair A.spelling B.spelling) out.old (first.now, second.now) out.new) }
 {
     first.write_to(out)?;
     second.write_to(out)?;

@@ -1,9 +1,9 @@
 //! One trait for every value that stands in a change or a row, so that options and lists of them are
 //! read and written once.
 ghost use Rattle.std.specs.Prelude.{◌≡◌, OnOk};
-ghost use Rattle.field_codec.specs.Format.{Format, pair, optional};
-ghost use Rattle.field_codec.specs.Leaves.{u64_format, u128_format, bool_format, ts_format, text_format, range_format};
-ghost use Rattle.field_codec.specs.Reading.{Gives, Wrote};
+ghost use Rattle.field_codec.specs.Spelling.{Spelling, pair, optional};
+ghost use Rattle.field_codec.specs.Leaves.{u64_spelling, u128_spelling, bool_spelling, ts_spelling, text_spelling, range_spelling};
+ghost use Rattle.field_codec.specs.Reading.{GivesField, Wrote};
 
 use disk_trait::{Memory, Text};
 use field_codec::{
@@ -13,22 +13,22 @@ use field_codec::{
 use std::alloc::Global;
 use time_range::{TimeRange, Ts};
 
-/// A value with a format.
+/// A value with a spelling.
 pub(crate) trait Field: Drop + Sized {
-    ghost format: { Format Self };
+    ghost spelling: { Spelling Self };
 
     /// Reads the value at the front.
     fn read_from(alloc: Global, input: &mut Cursor) -> Result<Self, ReadFault>
-        ensures { Gives format input.old input.new result };
+        ensures { GivesField spelling input.old input.new result };
 
     /// Writes the value at the end. After an error the text is any.
     fn write_to(&self, out: &mut Text) -> Result<(), Memory>
-        requires { format.asks self.now }
-        ensures { OnOk result (Wrote format out.old self.now out.new) };
+        requires { spelling.asks self.now }
+        ensures { OnOk result (Wrote spelling out.old self.now out.new) };
 }
 
 impl Field for u64 {
-    ghost format = { u64_format };
+    ghost spelling = { u64_spelling };
 
     fn read_from(_alloc: Global, input: &mut Cursor) -> Result<u64, ReadFault> {
         Ok(input.u64_field()?)
@@ -40,7 +40,7 @@ impl Field for u64 {
 }
 
 impl Field for u128 {
-    ghost format = { u128_format };
+    ghost spelling = { u128_spelling };
 
     fn read_from(_alloc: Global, input: &mut Cursor) -> Result<u128, ReadFault> {
         Ok(input.u128_field()?)
@@ -52,7 +52,7 @@ impl Field for u128 {
 }
 
 impl Field for bool {
-    ghost format = { bool_format };
+    ghost spelling = { bool_spelling };
 
     fn read_from(_alloc: Global, input: &mut Cursor) -> Result<bool, ReadFault> {
         Ok(input.bool_field()?)
@@ -64,7 +64,7 @@ impl Field for bool {
 }
 
 impl Field for Ts {
-    ghost format = { ts_format };
+    ghost spelling = { ts_spelling };
 
     fn read_from(_alloc: Global, input: &mut Cursor) -> Result<Ts, ReadFault> {
         Ok(input.ts_field()?)
@@ -76,7 +76,7 @@ impl Field for Ts {
 }
 
 impl Field for TimeRange {
-    ghost format = { range_format };
+    ghost spelling = { range_spelling };
 
     fn read_from(_alloc: Global, input: &mut Cursor) -> Result<TimeRange, ReadFault> {
         Ok(input.range_field()?)
@@ -88,20 +88,20 @@ impl Field for TimeRange {
 }
 
 impl Field for Text {
-    ghost format = { text_format };
+    ghost spelling = { text_spelling };
 
     fn read_from(alloc: Global, input: &mut Cursor) -> Result<Text, ReadFault> {
         input.text_field(alloc)
     }
 
-    #[tactic(auto, unfolding(field_codec::specs::Leaves::text_format))]
+    #[tactic(auto, unfolding(field_codec::specs::Leaves::text_spelling))]
     fn write_to(&self, out: &mut Text) -> Result<(), Memory> {
         write_text(out, self)
     }
 }
 
 impl<A: Field, B: Field> Field for (A, B) {
-    ghost format = { pair A.format B.format };
+    ghost spelling = { pair A.spelling B.spelling };
 
     fn read_from(alloc: Global, input: &mut Cursor) -> Result<(A, B), ReadFault> {
         let first = A::read_from(alloc, input)?;
@@ -118,7 +118,7 @@ impl<A: Field, B: Field> Field for (A, B) {
 }
 
 impl<T: Field> Field for Option<T> {
-    ghost format = { optional T.format };
+    ghost spelling = { optional T.spelling };
 
     fn read_from(alloc: Global, input: &mut Cursor) -> Result<Option<T>, ReadFault> {
         let left = input.left();

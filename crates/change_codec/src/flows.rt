@@ -1,7 +1,7 @@
 //! The fields of a flow.
 ghost use Rattle.std.specs.Prelude.{◌≡◌, OnOk};
-ghost use Rattle.field_codec.specs.Reading.{Gives, Wrote};
-ghost use Rattle.change_codec.specs.Values.{flow_head_format, flow_texts_format, flow_rest_format, flow_format};
+ghost use Rattle.field_codec.specs.Reading.{GivesField, Wrote};
+ghost use Rattle.change_codec.specs.Values.{flow_head_spelling, flow_texts_spelling, flow_rest_spelling, flow_spelling};
 
 use crate::field::Field;
 use crate::values::{read_tags, write_tags};
@@ -15,9 +15,9 @@ type Head = (u128, (u128, (FormatKind, bool)));
 type Texts = (Option<Text>, (Option<Text>, (Option<Text>, Option<Text>)));
 
 impl Field for FlowBody {
-    ghost format = { flow_format };
+    ghost spelling = { flow_spelling };
 
-    #[tactic(auto, unfolding(crate::specs::Values::flow_format, crate::specs::Values::flow_head_format, crate::specs::Values::flow_texts_format))]
+    #[tactic(auto, unfolding(crate::specs::Values::flow_spelling, crate::specs::Values::flow_head_spelling, crate::specs::Values::flow_texts_spelling))]
     fn read_from(alloc: Global, input: &mut Cursor) -> Result<FlowBody, ReadFault> {
         let (id, (source, (format, read_only))) = Head::read_from(alloc, input)?;
         let (codec, (container, (label, description))) = Texts::read_from(alloc, input)?;
@@ -39,7 +39,7 @@ impl Field for FlowBody {
         })
     }
 
-    #[tactic(auto, unfolding(crate::specs::Values::flow_format, crate::specs::Values::flow_head_format, crate::specs::Values::flow_texts_format, crate::specs::Values::flow_rest_format))]
+    #[tactic(auto, unfolding(crate::specs::Values::flow_spelling, crate::specs::Values::flow_head_spelling, crate::specs::Values::flow_texts_spelling, crate::specs::Values::flow_rest_spelling))]
     fn write_to(&self, out: &mut Text) -> Result<(), Memory> {
         self.id.write_to(out)?;
         self.source.write_to(out)?;
@@ -63,9 +63,9 @@ type Rest = (
     (Option<u64>, (TagList, (MemberList, Option<Text>))),
 );
 
-#[tactic(auto, unfolding(crate::specs::Values::flow_rest_format))]
+#[tactic(auto, unfolding(crate::specs::Values::flow_rest_spelling))]
 fn read_rest(alloc: Global, input: &mut Cursor) -> Result<Rest, ReadFault>
-    ensures { Gives flow_rest_format input.old input.new result }
+    ensures { GivesField flow_rest_spelling input.old input.new result }
 {
     let max_bit_rate = Field::read_from(alloc, input)?;
     let avg_bit_rate = Field::read_from(alloc, input)?;

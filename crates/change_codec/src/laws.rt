@@ -1,11 +1,12 @@
 //! Laws of the spellings, which hold of all bytes.
-ghost use Rattle.std.specs.Prelude.{◌≡◌, ◌++◌, [], List, ℕ};
-ghost use Rattle.field_codec.specs.Format.{Spells};
+ghost use Rattle.std.specs.Prelude.{◌≡◌, ◌++◌, [], List, ℕ, Some, slice_get};
+ghost use Rattle.field_codec.specs.Spelling.{Spells};
 ghost use Rattle.field_codec.specs.Laws.{IsBytes};
 ghost use Rattle.change_codec.specs.Codec.{SpellsChange, ChangeFaultAt, RowFaultAt};
-ghost use Rattle.change_codec.specs.Rows.{row_format};
+ghost use Rattle.change_codec.specs.Rows.{row_spelling};
 ghost use Rattle.media_rows.specs.declared.change.Change.{Change};
 ghost use Rattle.media_rows.specs.declared.row.Row.{Row};
+ghost use Rattle.media_rows.specs.Snapshot.{kind_number};
 
 /// Bytes are the spelling of one change at most.
 pub fn changes_have_one_spelling()
@@ -16,7 +17,7 @@ pub fn changes_have_one_spelling()
 /// No spelling of a row is a proper prefix of another's.
 pub fn rows_are_no_prefixes()
     ensures { (text more : List ℕ) (a b : Row) →
-        Spells row_format text a → Spells row_format (text ++ more) b → more ≡ [] }
+        Spells row_spelling text a → Spells row_spelling (text ++ more) b → more ≡ [] }
 {}
 
 /// The fault of some bytes as a change has one place.
@@ -29,4 +30,9 @@ pub fn change_faults_have_one_place()
 pub fn row_faults_have_one_place()
     ensures { (bytes : List ℕ) (at other : ℕ) →
         IsBytes bytes → RowFaultAt bytes at → RowFaultAt bytes other → at ≡ other }
+{}
+
+/// The first byte of a row's spelling is the number of its kind.
+pub fn rows_begin_with_their_kinds()
+    ensures { (row : Row) → slice_get (row_spelling.spell row) 0 ≡ Some (kind_number row) }
 {}

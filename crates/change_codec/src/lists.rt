@@ -1,9 +1,9 @@
 //! Lists: the number of the items in 4 bytes, and the items.
 ghost use Rattle.std.specs.Prelude.{◌≡◌, OnOk, length};
 ghost use Rattle.std.specs.List.{AllByRecursion};
-ghost use Rattle.field_codec.specs.Format.{items};
+ghost use Rattle.field_codec.specs.Spelling.{items};
 ghost use Rattle.field_codec.specs.Leaves.{listed};
-ghost use Rattle.field_codec.specs.Reading.{Gives, Wrote};
+ghost use Rattle.field_codec.specs.Reading.{GivesField, Wrote};
 
 use crate::field::Field;
 use disk_trait::{Listed, Memory, Text};
@@ -11,7 +11,7 @@ use field_codec::{Cursor, ReadFault, write_u32};
 use std::alloc::Global;
 
 impl<T: Field> Field for Listed<T> {
-    ghost format = { listed T.format };
+    ghost spelling = { listed T.spelling };
 
     fn read_from(alloc: Global, input: &mut Cursor) -> Result<Listed<T>, ReadFault> {
         let count = input.u32_field()?;
@@ -32,7 +32,7 @@ fn read_items<T: Field>(
     count: u32,
     input: &mut Cursor,
 ) -> Result<Listed<T>, ReadFault>
-    ensures { Gives (items T.format count) input.old input.new result }
+    ensures { GivesField (items T.spelling count) input.old input.new result }
 {
     let mut list = Listed::new(alloc);
     for _ in 0..count {
@@ -42,8 +42,8 @@ fn read_items<T: Field>(
 }
 
 fn write_items<T: Field>(list: &[T], out: &mut Text) -> Result<(), Memory>
-    requires { AllByRecursion T.format.asks list.now }
-    ensures { OnOk result (Wrote (items T.format (length list.now)) out.old list.now out.new) }
+    requires { AllByRecursion T.spelling.asks list.now }
+    ensures { OnOk result (Wrote (items T.spelling (length list.now)) out.old list.now out.new) }
 {
     for item in list {
         item.write_to(out)?;

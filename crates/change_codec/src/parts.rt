@@ -1,8 +1,8 @@
 //! Parts of flows and of sources.
 ghost use Rattle.std.specs.Prelude.{◌≡◌, OnOk};
-ghost use Rattle.field_codec.specs.Format.{optional};
-ghost use Rattle.field_codec.specs.Reading.{Gives, Wrote};
-ghost use Rattle.change_codec.specs.Values.{named_tag, tag_part_format, flow_part_format, source_part_format};
+ghost use Rattle.field_codec.specs.Spelling.{optional};
+ghost use Rattle.field_codec.specs.Reading.{GivesField, Wrote};
+ghost use Rattle.change_codec.specs.Values.{named_tag, tag_part_spelling, flow_part_spelling, source_part_spelling};
 
 use crate::field::Field;
 use disk_trait::{Memory, Text};
@@ -11,9 +11,9 @@ use media_rows::{Part, Tag};
 use std::alloc::Global;
 
 impl Field for Part {
-    ghost format = { flow_part_format };
+    ghost spelling = { flow_part_spelling };
 
-    #[tactic(auto, unfolding(crate::specs::Values::flow_part_format))]
+    #[tactic(auto, unfolding(crate::specs::Values::flow_part_spelling))]
     fn read_from(alloc: Global, input: &mut Cursor) -> Result<Part, ReadFault> {
         let left = input.left();
         match input.first() {
@@ -31,7 +31,7 @@ impl Field for Part {
         }
     }
 
-    #[tactic(auto, unfolding(crate::specs::Values::flow_part_format))]
+    #[tactic(auto, unfolding(crate::specs::Values::flow_part_spelling))]
     fn write_to(&self, out: &mut Text) -> Result<(), Memory> {
         match self {
             Part::Tag(name, tag) => {
@@ -68,9 +68,9 @@ impl Field for Part {
 }
 
 /// Reads a part of a source: a tag, a label or a description.
-#[tactic(auto, unfolding(crate::specs::Values::source_part_format))]
+#[tactic(auto, unfolding(crate::specs::Values::source_part_spelling))]
 pub(crate) fn read_source_part(alloc: Global, input: &mut Cursor) -> Result<Part, ReadFault>
-    ensures { Gives source_part_format input.old input.new result }
+    ensures { GivesField source_part_spelling input.old input.new result }
 {
     let left = input.left();
     match input.first() {
@@ -86,17 +86,17 @@ pub(crate) fn read_source_part(alloc: Global, input: &mut Cursor) -> Result<Part
 
 /// Writes a part of a source, which is spelled as a flow's.
 pub(crate) fn write_source_part(part: &Part, out: &mut Text) -> Result<(), Memory>
-    requires { source_part_format.asks part.now }
-    ensures { OnOk result (Wrote source_part_format out.old part.now out.new) }
+    requires { source_part_spelling.asks part.now }
+    ensures { OnOk result (Wrote source_part_spelling out.old part.now out.new) }
 {
     part.write_to(out)?;
     Ok(())
 }
 
 /// Reads a tag's name, and the tag of that name where there is one.
-#[tactic(auto, unfolding(crate::specs::Values::tag_part_format))]
+#[tactic(auto, unfolding(crate::specs::Values::tag_part_spelling))]
 fn read_tag_part(alloc: Global, input: &mut Cursor) -> Result<(Text, Option<Tag>), ReadFault>
-    ensures { Gives tag_part_format input.old input.new result }
+    ensures { GivesField tag_part_spelling input.old input.new result }
 {
     let name = input.text_field(alloc)?;
     let tag = read_named(alloc, &name, input)?;
@@ -104,7 +104,7 @@ fn read_tag_part(alloc: Global, input: &mut Cursor) -> Result<(Text, Option<Tag>
 }
 
 fn read_named(alloc: Global, name: &Text, input: &mut Cursor) -> Result<Option<Tag>, ReadFault>
-    ensures { Gives (optional (named_tag name.now)) input.old input.new result }
+    ensures { GivesField (optional (named_tag name.now)) input.old input.new result }
 {
     let left = input.left();
     match input.first() {
@@ -115,7 +115,7 @@ fn read_named(alloc: Global, name: &Text, input: &mut Cursor) -> Result<Option<T
 }
 
 fn read_tag_of(alloc: Global, name: &Text, input: &mut Cursor) -> Result<Tag, ReadFault>
-    ensures { Gives (named_tag name.now) input.old input.new result }
+    ensures { GivesField (named_tag name.now) input.old input.new result }
 {
     let left = input.left();
     let tag = Tag::read_from(alloc, input)?;
@@ -125,10 +125,10 @@ fn read_tag_of(alloc: Global, name: &Text, input: &mut Cursor) -> Result<Tag, Re
     Ok(tag)
 }
 
-#[tactic(auto, unfolding(crate::specs::Values::tag_part_format))]
+#[tactic(auto, unfolding(crate::specs::Values::tag_part_spelling))]
 fn write_tag_part(name: &Text, tag: &Option<Tag>, out: &mut Text) -> Result<(), Memory>
-    requires { tag_part_format.asks (name.now, tag.now) }
-    ensures { OnOk result (Wrote tag_part_format out.old (name.now, tag.now) out.new) }
+    requires { tag_part_spelling.asks (name.now, tag.now) }
+    ensures { OnOk result (Wrote tag_part_spelling out.old (name.now, tag.now) out.new) }
 {
     name.write_to(out)?;
     write_named(name, tag, out)?;

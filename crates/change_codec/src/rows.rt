@@ -1,7 +1,7 @@
 //! The fields of each kind of row.
 ghost use Rattle.std.specs.Prelude.{◌≡◌, OnOk};
-ghost use Rattle.field_codec.specs.Reading.{Gives, Wrote};
-ghost use Rattle.change_codec.specs.Rows.{source_row_format, flow_row_format, state_format, object_row_format, segment_row_format, status_format, delete_row_format, hook_row_format, event_row_format};
+ghost use Rattle.field_codec.specs.Reading.{GivesField, Wrote};
+ghost use Rattle.change_codec.specs.Rows.{source_row_spelling, flow_row_spelling, state_spelling, object_row_spelling, segment_row_spelling, status_spelling, delete_row_spelling, hook_row_spelling, event_row_spelling};
 
 use crate::field::Field;
 use crate::values::{read_tags, write_tags};
@@ -14,9 +14,9 @@ use media_rows::{
 use std::alloc::Global;
 
 impl Field for SourceRow {
-    ghost format = { source_row_format };
+    ghost spelling = { source_row_spelling };
 
-    #[tactic(auto, unfolding(crate::specs::Rows::source_row_format))]
+    #[tactic(auto, unfolding(crate::specs::Rows::source_row_spelling))]
     fn read_from(alloc: Global, input: &mut Cursor) -> Result<SourceRow, ReadFault> {
         Ok(SourceRow {
             id: Field::read_from(alloc, input)?,
@@ -29,7 +29,7 @@ impl Field for SourceRow {
         })
     }
 
-    #[tactic(auto, unfolding(crate::specs::Rows::source_row_format))]
+    #[tactic(auto, unfolding(crate::specs::Rows::source_row_spelling))]
     fn write_to(&self, out: &mut Text) -> Result<(), Memory> {
         self.id.write_to(out)?;
         self.format.write_to(out)?;
@@ -43,9 +43,9 @@ impl Field for SourceRow {
 }
 
 impl Field for FlowRow {
-    ghost format = { flow_row_format };
+    ghost spelling = { flow_row_spelling };
 
-    #[tactic(auto, unfolding(crate::specs::Rows::flow_row_format))]
+    #[tactic(auto, unfolding(crate::specs::Rows::flow_row_spelling))]
     fn read_from(alloc: Global, input: &mut Cursor) -> Result<FlowRow, ReadFault> {
         Ok(FlowRow {
             body: Field::read_from(alloc, input)?,
@@ -55,7 +55,7 @@ impl Field for FlowRow {
         })
     }
 
-    #[tactic(auto, unfolding(crate::specs::Rows::flow_row_format))]
+    #[tactic(auto, unfolding(crate::specs::Rows::flow_row_spelling))]
     fn write_to(&self, out: &mut Text) -> Result<(), Memory> {
         self.body.write_to(out)?;
         self.created.write_to(out)?;
@@ -66,9 +66,9 @@ impl Field for FlowRow {
 }
 
 impl Field for ObjectState {
-    ghost format = { state_format };
+    ghost spelling = { state_spelling };
 
-    #[tactic(auto, unfolding(crate::specs::Rows::state_format))]
+    #[tactic(auto, unfolding(crate::specs::Rows::state_spelling))]
     fn read_from(alloc: Global, input: &mut Cursor) -> Result<ObjectState, ReadFault> {
         let left = input.left();
         match input.first() {
@@ -81,7 +81,7 @@ impl Field for ObjectState {
         }
     }
 
-    #[tactic(auto, unfolding(crate::specs::Rows::state_format))]
+    #[tactic(auto, unfolding(crate::specs::Rows::state_spelling))]
     fn write_to(&self, out: &mut Text) -> Result<(), Memory> {
         match self {
             ObjectState::Allocated => out.push(0)?,
@@ -99,9 +99,9 @@ impl Field for ObjectState {
 }
 
 impl Field for ObjectRow {
-    ghost format = { object_row_format };
+    ghost spelling = { object_row_spelling };
 
-    #[tactic(auto, unfolding(crate::specs::Rows::object_row_format))]
+    #[tactic(auto, unfolding(crate::specs::Rows::object_row_spelling))]
     fn read_from(alloc: Global, input: &mut Cursor) -> Result<ObjectRow, ReadFault> {
         let (serial, (id, (state, idle_since))) = Field::read_from(alloc, input)?;
         Ok(ObjectRow {
@@ -112,7 +112,7 @@ impl Field for ObjectRow {
         })
     }
 
-    #[tactic(auto, unfolding(crate::specs::Rows::object_row_format))]
+    #[tactic(auto, unfolding(crate::specs::Rows::object_row_spelling))]
     fn write_to(&self, out: &mut Text) -> Result<(), Memory> {
         self.serial.write_to(out)?;
         self.id.write_to(out)?;
@@ -123,9 +123,9 @@ impl Field for ObjectRow {
 }
 
 impl Field for SegmentRow {
-    ghost format = { segment_row_format };
+    ghost spelling = { segment_row_spelling };
 
-    #[tactic(auto, unfolding(crate::specs::Rows::segment_row_format))]
+    #[tactic(auto, unfolding(crate::specs::Rows::segment_row_spelling))]
     fn read_from(alloc: Global, input: &mut Cursor) -> Result<SegmentRow, ReadFault> {
         Ok(SegmentRow {
             flow: Field::read_from(alloc, input)?,
@@ -134,7 +134,7 @@ impl Field for SegmentRow {
         })
     }
 
-    #[tactic(auto, unfolding(crate::specs::Rows::segment_row_format))]
+    #[tactic(auto, unfolding(crate::specs::Rows::segment_row_spelling))]
     fn write_to(&self, out: &mut Text) -> Result<(), Memory> {
         self.flow.write_to(out)?;
         self.serial.write_to(out)?;
@@ -144,9 +144,9 @@ impl Field for SegmentRow {
 }
 
 impl Field for DeleteStatus {
-    ghost format = { status_format };
+    ghost spelling = { status_spelling };
 
-    #[tactic(auto, unfolding(crate::specs::Rows::status_format))]
+    #[tactic(auto, unfolding(crate::specs::Rows::status_spelling))]
     fn read_from(_alloc: Global, input: &mut Cursor) -> Result<DeleteStatus, ReadFault> {
         let left = input.left();
         match input.u8_field()? {
@@ -157,7 +157,7 @@ impl Field for DeleteStatus {
         }
     }
 
-    #[tactic(auto, unfolding(crate::specs::Rows::status_format))]
+    #[tactic(auto, unfolding(crate::specs::Rows::status_spelling))]
     fn write_to(&self, out: &mut Text) -> Result<(), Memory> {
         write_u8(out, self.number())?;
         Ok(())
@@ -165,9 +165,9 @@ impl Field for DeleteStatus {
 }
 
 impl Field for DeleteRow {
-    ghost format = { delete_row_format };
+    ghost spelling = { delete_row_spelling };
 
-    #[tactic(auto, unfolding(crate::specs::Rows::delete_row_format))]
+    #[tactic(auto, unfolding(crate::specs::Rows::delete_row_spelling))]
     fn read_from(alloc: Global, input: &mut Cursor) -> Result<DeleteRow, ReadFault> {
         Ok(DeleteRow {
             serial: Field::read_from(alloc, input)?,
@@ -180,7 +180,7 @@ impl Field for DeleteRow {
         })
     }
 
-    #[tactic(auto, unfolding(crate::specs::Rows::delete_row_format))]
+    #[tactic(auto, unfolding(crate::specs::Rows::delete_row_spelling))]
     fn write_to(&self, out: &mut Text) -> Result<(), Memory> {
         self.serial.write_to(out)?;
         self.flow.write_to(out)?;
@@ -194,9 +194,9 @@ impl Field for DeleteRow {
 }
 
 impl Field for HookRow {
-    ghost format = { hook_row_format };
+    ghost spelling = { hook_row_spelling };
 
-    #[tactic(auto, unfolding(crate::specs::Rows::hook_row_format))]
+    #[tactic(auto, unfolding(crate::specs::Rows::hook_row_spelling))]
     fn read_from(alloc: Global, input: &mut Cursor) -> Result<HookRow, ReadFault> {
         Ok(HookRow {
             serial: Field::read_from(alloc, input)?,
@@ -205,7 +205,7 @@ impl Field for HookRow {
         })
     }
 
-    #[tactic(auto, unfolding(crate::specs::Rows::hook_row_format))]
+    #[tactic(auto, unfolding(crate::specs::Rows::hook_row_spelling))]
     fn write_to(&self, out: &mut Text) -> Result<(), Memory> {
         self.serial.write_to(out)?;
         self.hook.write_to(out)?;
@@ -215,9 +215,9 @@ impl Field for HookRow {
 }
 
 impl Field for EventRow {
-    ghost format = { event_row_format };
+    ghost spelling = { event_row_spelling };
 
-    #[tactic(auto, unfolding(crate::specs::Rows::event_row_format))]
+    #[tactic(auto, unfolding(crate::specs::Rows::event_row_spelling))]
     fn read_from(alloc: Global, input: &mut Cursor) -> Result<EventRow, ReadFault> {
         Ok(EventRow {
             serial: Field::read_from(alloc, input)?,
@@ -229,7 +229,7 @@ impl Field for EventRow {
         })
     }
 
-    #[tactic(auto, unfolding(crate::specs::Rows::event_row_format))]
+    #[tactic(auto, unfolding(crate::specs::Rows::event_row_spelling))]
     fn write_to(&self, out: &mut Text) -> Result<(), Memory> {
         self.serial.write_to(out)?;
         self.hook.write_to(out)?;

@@ -1,8 +1,8 @@
 //! Rows: a kind, the length of the fields in 4 bytes, and the fields.
 ghost use Rattle.std.specs.Prelude.{◌≡◌, ◌∷◌, ◌++◌, [], OnOk};
 ghost use Rattle.field_codec.specs.Laws.{Lawful};
-ghost use Rattle.field_codec.specs.Reading.{Gives, Wrote};
-ghost use Rattle.change_codec.specs.Rows.{sized, row_format};
+ghost use Rattle.field_codec.specs.Reading.{GivesField, Wrote};
+ghost use Rattle.change_codec.specs.Rows.{sized, row_spelling};
 
 use crate::field::Field;
 use disk_trait::{Memory, Text};
@@ -10,9 +10,9 @@ use field_codec::{BadField, Cursor, ReadFault, write_u32};
 use media_rows::Row;
 use std::alloc::Global;
 
-#[tactic(auto, unfolding(crate::specs::Rows::row_format))]
+#[tactic(auto, unfolding(crate::specs::Rows::row_spelling))]
 pub(crate) fn read_row(alloc: Global, input: &mut Cursor) -> Result<Row, ReadFault>
-    ensures { Gives row_format input.old input.new result }
+    ensures { GivesField row_spelling input.old input.new result }
 {
     let left = input.left();
     match input.first() {
@@ -30,10 +30,10 @@ pub(crate) fn read_row(alloc: Global, input: &mut Cursor) -> Result<Row, ReadFau
     }
 }
 
-#[tactic(auto, unfolding(crate::specs::Rows::row_format))]
+#[tactic(auto, unfolding(crate::specs::Rows::row_spelling))]
 pub(crate) fn write_row(alloc: Global, row: &Row, out: &mut Text) -> Result<(), Memory>
-    requires { row_format.asks row.now }
-    ensures { OnOk result (Wrote row_format out.old row.now out.new) }
+    requires { row_spelling.asks row.now }
+    ensures { OnOk result (Wrote row_spelling out.old row.now out.new) }
 {
     match row {
         Row::Source(row) => write_sized(alloc, 1, row, out)?,
@@ -51,8 +51,8 @@ pub(crate) fn write_row(alloc: Global, row: &Row, out: &mut Text) -> Result<(), 
 /// Reads fields behind their length. The fields are read without regard to it, and it is compared
 /// with what they took.
 fn read_sized<T: Field>(alloc: Global, input: &mut Cursor) -> Result<T, ReadFault>
-    requires { Lawful T.format }
-    ensures { Gives (sized T.format) input.old input.new result }
+    requires { Lawful T.spelling }
+    ensures { GivesField (sized T.spelling) input.old input.new result }
 {
     let left = input.left();
     let size = input.u32_field()?;
@@ -66,9 +66,9 @@ fn read_sized<T: Field>(alloc: Global, input: &mut Cursor) -> Result<T, ReadFaul
 
 /// Writes a kind, and the fields behind their length.
 fn write_sized<T: Field>(alloc: Global, kind: u8, value: &T, out: &mut Text) -> Result<(), Memory>
-    requires lawful { Lawful T.format }
-    requires asks { (sized T.format).asks value.now }
-    ensures { OnOk result (Wrote (sized T.format) (out.old ++ kind ∷ []) value.now out.new) }
+    requires lawful { Lawful T.spelling }
+    requires asks { (sized T.spelling).asks value.now }
+    ensures { OnOk result (Wrote (sized T.spelling) (out.old ++ kind ∷ []) value.now out.new) }
 {
     let mut fields = Text::new(alloc);
     value.write_to(&mut fields)?;

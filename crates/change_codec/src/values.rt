@@ -1,7 +1,7 @@
 //! The values that stand in changes and rows: formats, events, statuses, tags, members, segments, hooks.
 ghost use Rattle.std.specs.Prelude.{◌≡◌, OnOk};
-ghost use Rattle.field_codec.specs.Reading.{Gives, Wrote};
-ghost use Rattle.change_codec.specs.Values.{kind_format, event_format, tag_format, is_rising, tags_format, member_format, segment_format, hook_format};
+ghost use Rattle.field_codec.specs.Reading.{GivesField, Wrote};
+ghost use Rattle.change_codec.specs.Values.{kind_spelling, event_spelling, tag_spelling, is_rising, tags_spelling, member_spelling, segment_spelling, hook_spelling};
 
 use crate::field::Field;
 use disk_trait::{Memory, Text};
@@ -10,9 +10,9 @@ use media_rows::{EventKind, FormatKind, Hook, Member, Segment, Tag, TagList, tex
 use std::alloc::Global;
 
 impl Field for FormatKind {
-    ghost format = { kind_format };
+    ghost spelling = { kind_spelling };
 
-    #[tactic(auto, unfolding(crate::specs::Values::kind_format))]
+    #[tactic(auto, unfolding(crate::specs::Values::kind_spelling))]
     fn read_from(_alloc: Global, input: &mut Cursor) -> Result<FormatKind, ReadFault> {
         let left = input.left();
         match input.u8_field()? {
@@ -25,7 +25,7 @@ impl Field for FormatKind {
         }
     }
 
-    #[tactic(auto, unfolding(crate::specs::Values::kind_format))]
+    #[tactic(auto, unfolding(crate::specs::Values::kind_spelling))]
     fn write_to(&self, out: &mut Text) -> Result<(), Memory> {
         write_u8(out, self.number())?;
         Ok(())
@@ -33,9 +33,9 @@ impl Field for FormatKind {
 }
 
 impl Field for EventKind {
-    ghost format = { event_format };
+    ghost spelling = { event_spelling };
 
-    #[tactic(auto, unfolding(crate::specs::Values::event_format))]
+    #[tactic(auto, unfolding(crate::specs::Values::event_spelling))]
     fn read_from(_alloc: Global, input: &mut Cursor) -> Result<EventKind, ReadFault> {
         let left = input.left();
         match input.u8_field()? {
@@ -51,7 +51,7 @@ impl Field for EventKind {
         }
     }
 
-    #[tactic(auto, unfolding(crate::specs::Values::event_format))]
+    #[tactic(auto, unfolding(crate::specs::Values::event_spelling))]
     fn write_to(&self, out: &mut Text) -> Result<(), Memory> {
         write_u8(out, self.number())?;
         Ok(())
@@ -59,9 +59,9 @@ impl Field for EventKind {
 }
 
 impl Field for Tag {
-    ghost format = { tag_format };
+    ghost spelling = { tag_spelling };
 
-    #[tactic(auto, unfolding(crate::specs::Values::tag_format))]
+    #[tactic(auto, unfolding(crate::specs::Values::tag_spelling))]
     fn read_from(alloc: Global, input: &mut Cursor) -> Result<Tag, ReadFault> {
         let left = input.left();
         let tag = Tag {
@@ -75,7 +75,7 @@ impl Field for Tag {
         Ok(tag)
     }
 
-    #[tactic(auto, unfolding(crate::specs::Values::tag_format))]
+    #[tactic(auto, unfolding(crate::specs::Values::tag_spelling))]
     fn write_to(&self, out: &mut Text) -> Result<(), Memory> {
         self.name.write_to(out)?;
         self.single.write_to(out)?;
@@ -85,9 +85,9 @@ impl Field for Tag {
 }
 
 /// Reads tags, which stand by rising name.
-#[tactic(auto, unfolding(crate::specs::Values::tags_format))]
+#[tactic(auto, unfolding(crate::specs::Values::tags_spelling))]
 pub(crate) fn read_tags(alloc: Global, input: &mut Cursor) -> Result<TagList, ReadFault>
-    ensures { Gives tags_format input.old input.new result }
+    ensures { GivesField tags_spelling input.old input.new result }
 {
     let left = input.left();
     let tags = TagList::read_from(alloc, input)?;
@@ -97,10 +97,10 @@ pub(crate) fn read_tags(alloc: Global, input: &mut Cursor) -> Result<TagList, Re
     Ok(tags)
 }
 
-#[tactic(auto, unfolding(crate::specs::Values::tags_format))]
+#[tactic(auto, unfolding(crate::specs::Values::tags_spelling))]
 pub(crate) fn write_tags(tags: &TagList, out: &mut Text) -> Result<(), Memory>
-    requires { tags_format.asks tags.now }
-    ensures { OnOk result (Wrote tags_format out.old tags.now out.new) }
+    requires { tags_spelling.asks tags.now }
+    ensures { OnOk result (Wrote tags_spelling out.old tags.now out.new) }
 {
     tags.write_to(out)?;
     Ok(())
@@ -119,9 +119,9 @@ fn are_rising(tags: &[Tag]) -> bool
 }
 
 impl Field for Member {
-    ghost format = { member_format };
+    ghost spelling = { member_spelling };
 
-    #[tactic(auto, unfolding(crate::specs::Values::member_format))]
+    #[tactic(auto, unfolding(crate::specs::Values::member_spelling))]
     fn read_from(alloc: Global, input: &mut Cursor) -> Result<Member, ReadFault> {
         Ok(Member {
             flow: Field::read_from(alloc, input)?,
@@ -129,7 +129,7 @@ impl Field for Member {
         })
     }
 
-    #[tactic(auto, unfolding(crate::specs::Values::member_format))]
+    #[tactic(auto, unfolding(crate::specs::Values::member_spelling))]
     fn write_to(&self, out: &mut Text) -> Result<(), Memory> {
         self.flow.write_to(out)?;
         self.role.write_to(out)?;
@@ -138,9 +138,9 @@ impl Field for Member {
 }
 
 impl Field for Segment {
-    ghost format = { segment_format };
+    ghost spelling = { segment_spelling };
 
-    #[tactic(auto, unfolding(crate::specs::Values::segment_format))]
+    #[tactic(auto, unfolding(crate::specs::Values::segment_spelling))]
     fn read_from(alloc: Global, input: &mut Cursor) -> Result<Segment, ReadFault> {
         Ok(Segment {
             object: Field::read_from(alloc, input)?,
@@ -153,7 +153,7 @@ impl Field for Segment {
         })
     }
 
-    #[tactic(auto, unfolding(crate::specs::Values::segment_format))]
+    #[tactic(auto, unfolding(crate::specs::Values::segment_spelling))]
     fn write_to(&self, out: &mut Text) -> Result<(), Memory> {
         self.object.write_to(out)?;
         self.range.write_to(out)?;
@@ -167,9 +167,9 @@ impl Field for Segment {
 }
 
 impl Field for Hook {
-    ghost format = { hook_format };
+    ghost spelling = { hook_spelling };
 
-    #[tactic(auto, unfolding(crate::specs::Values::hook_format))]
+    #[tactic(auto, unfolding(crate::specs::Values::hook_spelling))]
     fn read_from(alloc: Global, input: &mut Cursor) -> Result<Hook, ReadFault> {
         Ok(Hook {
             url: Field::read_from(alloc, input)?,
@@ -181,7 +181,7 @@ impl Field for Hook {
         })
     }
 
-    #[tactic(auto, unfolding(crate::specs::Values::hook_format))]
+    #[tactic(auto, unfolding(crate::specs::Values::hook_spelling))]
     fn write_to(&self, out: &mut Text) -> Result<(), Memory> {
         self.url.write_to(out)?;
         self.events.write_to(out)?;

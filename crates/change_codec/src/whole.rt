@@ -44,8 +44,8 @@ pub fn decode_change(alloc: Global, bytes: &[u8]) -> Result<Change, CodecFault>
 /// Reads a value that takes all of the bytes.
 #[tactic(auto, using(crate::proofs::CodecLemmas::bytes_remain))]
 fn read_all<T: Field>(alloc: Global, bytes: &[u8]) -> Result<T, ReadFault>
-    requires { Lawful T.format }
-    ensures { ReadsWhole T.format bytes.now result }
+    requires { Lawful T.spelling }
+    ensures { ReadsWhole T.spelling bytes.now result }
 {
     let mut input = Cursor::new(bytes);
     let value = T::read_from(alloc, &mut input)?;

@@ -3,7 +3,7 @@ use Rattle.std.proofs.Common.{◌≡◌, ◌+◌, ℕ, List, ◌++◌, length, t
 use Rattle.std.proofs.lemmas.Bool.{cases_lt}
 use Rattle.std.proofs.lemmas.List.{drop_at, length-take, get_or-drop, get_or-take, get_or_past}
 use Rattle.field_codec.specs.Laws.{IsBytes}
-use Rattle.field_codec.specs.Format.{◌>>=◌}
+use Rattle.field_codec.specs.Spelling.{◌>>=◌}
 
 -- ---- bytes
 

@@ -4,8 +4,8 @@ use Rattle.std.specs.Prelude.{◌==◌, nat_lt, Bool, true, false, if◌then◌e
 use Rattle.std.proofs.lemmas.Bool.{ltb-false, le-ltb, eqb-true}
 use Rattle.std.proofs.lemmas.List.{take_at, drop_at, take-append-drop, length-take}
 use Rattle.disk_trait.specs.Numbers.{u32_bytes}
-use Rattle.field_codec.specs.Format.{Format, followed, items}
-use Rattle.field_codec.specs.Leaves.{number_at, u32_of, u8_format, u32_format, mark_of, mark_number, bool_format, numbered, one_of, text_at, text_spelling, IsShort, text_format, HasFew, listed}
+use Rattle.field_codec.specs.Spelling.{Spelling, followed, items}
+use Rattle.field_codec.specs.Leaves.{number_at, u32_of, u8_spelling, u32_spelling, mark_of, mark_number, bool_spelling, with_number, one_of, text_at, counted_text, IsShort, text_spelling, HasFew, listed}
 use Rattle.field_codec.specs.Laws.{IsBytes, Lawful}
 use Rattle.field_codec.proofs.Combined.{leaf_lawful, NarrowLaws, narrowed_lawful, followed_lawful}
 use Rattle.field_codec.proofs.Many.{items_lawful}
@@ -32,25 +32,25 @@ mark_again : (b : Bool) → mark_of (mark_number b) ≡ Some b
 mark_again true = refl
 mark_again false = refl
 
-pub bool_lawful : Lawful bool_format
-unfolding bool_format
+pub bool_lawful : Lawful bool_spelling
+unfolding bool_spelling
 bool_lawful =
-    narrowed_lawful mark_of mark_number (λ b. Unit {0}) (λ b. Unit {0}) u8_format
+    narrowed_lawful mark_of mark_number (λ b. Unit {0}) (λ b. Unit {0}) u8_spelling
     (record { is = λ n b fits e. (mark_is n b e, tt); again = λ b fits has. mark_again b; writable = λ b fits has. tt }) u8_lawful
 
 -- ---- one of some values
 
-numbered_is : {A : Type 0} (number_of : A → ℕ) (values : List A) (n : ℕ) (x : A) → numbered number_of values n ≡ Some x → number_of x ≡ n
+numbered_is : {A : Type 0} (number_of : A → ℕ) (values : List A) (n : ℕ) (x : A) → with_number number_of values n ≡ Some x → number_of x ≡ n
 numbered_is number_of [] n x e = absurd cc
 numbered_is number_of (y ∷ ys) n x e =
-    elim (chosen (n == number_of y) (Some y) (numbered number_of ys n) (Some x) e) [
+    elim (chosen (n == number_of y) (Some y) (with_number number_of ys n) (Some x) e) [
       | inl this ↦ let same : y ≡ x = some_is y x (Some y) refl this.1 in ap number_of (sym same) ∙ sym (eqb-true n (number_of y) this.0)
       | inr other ↦ numbered_is number_of ys n x other.1
     ]
 
-pub one_of_lawful : {A : Type 0} (number_of : A → ℕ) (values : List A) → ((x : A) → numbered number_of values (number_of x) ≡ Some x) → Lawful (one_of number_of values)
+pub one_of_lawful : {A : Type 0} (number_of : A → ℕ) (values : List A) → ((x : A) → with_number number_of values (number_of x) ≡ Some x) → Lawful (one_of number_of values)
 one_of_lawful number_of values all =
-    narrowed_lawful (numbered number_of values) number_of (λ x. Unit {0}) (λ x. Unit {0}) u8_format
+    narrowed_lawful (with_number number_of values) number_of (λ x. Unit {0}) (λ x. Unit {0}) u8_spelling
     (record { is = λ n x fits e. (numbered_is number_of values n x e, tt); again = λ x fits has. all x; writable = λ x fits has. tt }) u8_lawful
 
 -- ---- texts
@@ -78,26 +78,26 @@ text_some (Some n) text rest e =
       parts = rw (← text-is, ← rest-is) (sym (take-append-drop n.0 n.1));
     }
 
-pub text_takes : (bytes text rest : List ℕ) → IsBytes bytes → text_at (number_at 4 u32_of bytes) ≡ Some (text, rest) → IsShort text × (bytes ≡ text_spelling text ++ rest)
+pub text_takes : (bytes text rest : List ℕ) → IsBytes bytes → text_at (number_at 4 u32_of bytes) ≡ Some (text, rest) → IsShort text × (bytes ≡ counted_text text ++ rest)
 text_takes bytes text rest is e =
     let t = text_some (number_at 4 u32_of bytes) text rest e in
     let n = number_takes 4 (2 ^ 32) u32_bytes u32_of wide32 bytes t.size t.bytes is t.number in
     let parts : bytes ≡ u32_bytes (length text) ++ (text ++ rest) = n.1 ∙ ap₂ (λ (k : ℕ) (more : List ℕ). u32_bytes k ++ more) (sym t.len) t.parts in
     (omega (arith, n.0, t.len), parts ∙ sym (append_assoc (u32_bytes (length text)) text rest))
 
-pub text_again : (text rest : List ℕ) → IsShort text → text_at (number_at 4 u32_of (text_spelling text ++ rest)) ≡ Some (text, rest)
+pub text_again : (text rest : List ℕ) → IsShort text → text_at (number_at 4 u32_of (counted_text text ++ rest)) ≡ Some (text, rest)
 text_again text rest short =
     let long : nat_lt (length (text ++ rest)) (length text) ≡ false = le-ltb _ _ (omega (arith, length-append text rest)) in
     rw (append_assoc (u32_bytes (length text)) text rest, number_again 4 (2 ^ 32) u32_bytes u32_of wide32 (length text) (text ++ rest) short, long, take_at text rest (length text) refl, drop_at text rest (length text) refl) refl
 
-pub text_lawful : Lawful text_format
-unfolding text_format
-text_lawful = leaf_lawful text_spelling IsShort IsShort (λ bytes. text_at (number_at 4 u32_of bytes)) (record { takes = text_takes; again = text_again }) (λ text short. short)
+pub text_lawful : Lawful text_spelling
+unfolding text_spelling
+text_lawful = leaf_lawful counted_text IsShort IsShort (λ bytes. text_at (number_at 4 u32_of bytes)) (record { takes = text_takes; again = text_again }) (λ text short. short)
 
 -- ---- lists
 
-listed_laws : {A : Type 0} (f : Format A)
-    → NarrowLaws (λ (x : ℕ × List A). Some x.1) (λ xs. (length xs, xs)) (λ xs. Unit {0}) HasFew (followed u32_format (items f)).fits
+listed_laws : {A : Type 0} (f : Spelling A)
+    → NarrowLaws (λ (x : ℕ × List A). Some x.1) (λ xs. (length xs, xs)) (λ xs. Unit {0}) HasFew (followed u32_spelling (items f)).fits
 listed_laws {A = A} f = record {
   is = λ x xs fits e.
       let same : x.1 ≡ xs = some_is x.1 xs (Some x.1) refl e in
@@ -106,7 +106,7 @@ listed_laws {A = A} f = record {
   writable = λ xs fits has. u32_below (length xs) fits.0;
 }
 
-pub listed_lawful : {A : Type 0} (f : Format A) → Lawful f → Lawful (listed f)
+pub listed_lawful : {A : Type 0} (f : Spelling A) → Lawful f → Lawful (listed f)
 listed_lawful f law =
-    narrowed_lawful (λ x. Some x.1) (λ xs. (length xs, xs)) (λ xs. Unit {0}) HasFew (followed u32_format (items f)) (listed_laws f)
-    (followed_lawful u32_format (items f) u32_lawful (λ count. items_lawful f count law))
+    narrowed_lawful (λ x. Some x.1) (λ xs. (length xs, xs)) (λ xs. Unit {0}) HasFew (followed u32_spelling (items f)) (listed_laws f)
+    (followed_lawful u32_spelling (items f) u32_lawful (λ count. items_lawful f count law))

@@ -6,7 +6,7 @@ use Rattle.std.proofs.lemmas.List.{take_at, drop_at, take-append-drop, length-ta
 use Rattle.std.proofs.lemmas.Nat.{be_bytes_4, be_bytes_8, from_be_bytes-to_be_bytes_4, from_be_bytes-to_be_bytes_8}
 use Rattle.disk_trait.specs.Numbers.{u32_bytes, u64_bytes, u128_bytes}
 use Rattle.disk_trait.proofs.NumberLemmas.{length-u64_bytes, length-u128_bytes, u128_of_halves}
-use Rattle.field_codec.specs.Leaves.{number, number_at, u8_bytes, u8_of, u32_of, u64_of, u128_of, u8_format, u32_format, u64_format, u128_format}
+use Rattle.field_codec.specs.Leaves.{number, number_at, u8_bytes, u8_of, u32_of, u64_of, u128_of, u8_spelling, u32_spelling, u64_spelling, u128_spelling}
 use Rattle.field_codec.specs.Laws.{IsBytes, Lawful}
 use Rattle.field_codec.proofs.Lawful.{IsBytes-take, IsBytes-drop}
 use Rattle.field_codec.proofs.Combined.{leaf_lawful}
@@ -109,22 +109,22 @@ number_lawful size limit bytes_of number_of wide =
     leaf_lawful bytes_of (λ n. n < limit) (λ n. Unit {0}) (number_at size number_of)
     (record { takes = number_takes size limit bytes_of number_of wide; again = number_again size limit bytes_of number_of wide }) (λ n lt. tt)
 
-pub u8_lawful : Lawful u8_format
-unfolding u8_format
+pub u8_lawful : Lawful u8_spelling
+unfolding u8_spelling
 u8_lawful = number_lawful 1 (2 ^ 8) u8_bytes u8_of wide8
 
-pub u32_lawful : Lawful u32_format
-unfolding u32_format
+pub u32_lawful : Lawful u32_spelling
+unfolding u32_spelling
 u32_lawful = number_lawful 4 (2 ^ 32) u32_bytes u32_of wide32
 
-pub u32_below : (n : ℕ) → u32_format.fits n → n < 2 ^ 32
-unfolding u32_format
+pub u32_below : (n : ℕ) → u32_spelling.fits n → n < 2 ^ 32
+unfolding u32_spelling
 u32_below n h = h
 
-pub u64_lawful : Lawful u64_format
-unfolding u64_format
+pub u64_lawful : Lawful u64_spelling
+unfolding u64_spelling
 u64_lawful = number_lawful 8 (2 ^ 64) u64_bytes u64_of wide64
 
-pub u128_lawful : Lawful u128_format
-unfolding u128_format
+pub u128_lawful : Lawful u128_spelling
+unfolding u128_spelling
 u128_lawful = number_lawful 16 (2 ^ 128) u128_bytes u128_of wide128

@@ -13,8 +13,8 @@ use Rattle.time_range.proofs.Theorems.{low_end-low_point, high_end-high_point}
 use Rattle.time_range.specs.declared.ranges.Span.{Span}
 use Rattle.time_range.specs.declared.ends.End.{End}
 use Rattle.time_range.specs.declared.ends.End.TheVariants.{Unbounded, Including, Excluding}
-use Rattle.field_codec.specs.Format.{nothing, pair, either, no_kind, optional}
-use Rattle.field_codec.specs.Leaves.{u128_format, nanos_of, ts_format, end_of, end_parts, end_format, span_of, ends_of, range_format}
+use Rattle.field_codec.specs.Spelling.{no_field, pair, either, no_kind, optional}
+use Rattle.field_codec.specs.Leaves.{u128_spelling, nanos_of, ts_spelling, end_with, end_parts, end_spelling, span_of, ends_of, range_spelling}
 use Rattle.field_codec.specs.Laws.{Lawful}
 use Rattle.field_codec.proofs.Combined.{narrowed_lawful, pair_lawful, via_lawful, nothing_lawful}
 use Rattle.field_codec.proofs.KindLaws.{no_kinds, one_kind, optional_lawful}
@@ -45,49 +45,49 @@ nanos_again z h =
     let back = to_z-of_z w128 z (fits_bits z h) in
     ap (λ (y : ℤ). if is_nanos y then Some y else None) back ∙ rw (test_from_nanos z h) refl
 
-pub ts_lawful : Lawful ts_format
-unfolding ts_format u128_format
+pub ts_lawful : Lawful ts_spelling
+unfolding ts_spelling u128_spelling
 ts_lawful =
-    narrowed_lawful nanos_of (cast_unsigned w128) IsNanos (λ n. Unit {0}) u128_format
+    narrowed_lawful nanos_of (cast_unsigned w128) IsNanos (λ n. Unit {0}) u128_spelling
     (record { is = λ bits z lt e. nanos_is bits z lt e; again = λ z lt h. nanos_again z h; writable = λ z lt h. tt }) u128_lawful
 
-pub ts_fits : (z : ℤ) → IsNanos z → ts_format.fits z
-unfolding ts_format u128_format
+pub ts_fits : (z : ℤ) → IsNanos z → ts_spelling.fits z
+unfolding ts_spelling u128_spelling
 ts_fits z h = (bits_below z h, h)
 
-pub nanos_fit : (z : ℤ) → ts_format.fits z → IsNanos z
-unfolding ts_format u128_format
+pub nanos_fit : (z : ℤ) → ts_spelling.fits z → IsNanos z
+unfolding ts_spelling u128_spelling
 nanos_fit z h = h.1
 
 -- ---- ends
 
-parts-end : (p : Unit {0} ⊎ (ℤ ⊎ (ℤ ⊎ ⊥))) → end_parts (end_of p) ≡ p
+parts-end : (p : Unit {0} ⊎ (ℤ ⊎ (ℤ ⊎ ⊥))) → end_parts (end_with p) ≡ p
 parts-end (inl tt) = refl
 parts-end (inr (inl t)) = refl
 parts-end (inr (inr (inl t))) = refl
 parts-end (inr (inr (inr x))) = absurd x
 
-end-parts : (e : End) → end_of (end_parts e) ≡ e
+end-parts : (e : End) → end_with (end_parts e) ≡ e
 end-parts Unbounded = refl
 end-parts (Including t) = refl
 end-parts (Excluding t) = refl
 
-pub end_lawful : Lawful end_format
-unfolding end_format
+pub end_lawful : Lawful end_spelling
+unfolding end_spelling
 end_lawful =
-    via_lawful end_of end_parts (either 0 nothing (either 1 ts_format (either 2 ts_format no_kind))) parts-end end-parts
-    (one_kind 0 1 nothing (either 1 ts_format (either 2 ts_format no_kind)) (omega arith) nothing_lawful
-    (one_kind 1 2 ts_format (either 2 ts_format no_kind) (omega arith) ts_lawful
-    (one_kind 2 3 ts_format no_kind (omega arith) ts_lawful (no_kinds 3)))).lawful
+    via_lawful end_with end_parts (either 0 no_field (either 1 ts_spelling (either 2 ts_spelling no_kind))) parts-end end-parts
+    (one_kind 0 1 no_field (either 1 ts_spelling (either 2 ts_spelling no_kind)) (omega arith) nothing_lawful
+    (one_kind 1 2 ts_spelling (either 2 ts_spelling no_kind) (omega arith) ts_lawful
+    (one_kind 2 3 ts_spelling no_kind (omega arith) ts_lawful (no_kinds 3)))).lawful
 
-pub end_within : (e : End) → end_format.fits e → IsEndWithin e
-unfolding end_format
+pub end_within : (e : End) → end_spelling.fits e → IsEndWithin e
+unfolding end_spelling
 end_within Unbounded h = tt
 end_within (Including t) h = nanos_fit t h
 end_within (Excluding t) h = nanos_fit t h
 
-pub end_fits : (e : End) → IsEndWithin e → end_format.fits e
-unfolding end_format
+pub end_fits : (e : End) → IsEndWithin e → end_spelling.fits e
+unfolding end_spelling
 end_fits Unbounded h = tt
 end_fits (Including t) h = ts_fits t h
 end_fits (Excluding t) h = ts_fits t h
@@ -133,7 +133,7 @@ high_point-high_end (Some p) = high_by p (int_eq (instant (half p)) p) refl
 abbrev span : Option ℤ → Option ℤ → Span
 span low high = record { low = low; high = high }
 
-range_is : (o : Option (End × End)) (r : Option Span) → (optional (pair end_format end_format)).fits o → span_of o ≡ Some r → (ends_of r ≡ o) × IsRange r
+range_is : (o : Option (End × End)) (r : Option Span) → (optional (pair end_spelling end_spelling)).fits o → span_of o ≡ Some r → (ends_of r ≡ o) × IsRange r
 range_is None None fits e = (refl, tt)
 range_is None (Some s) fits e = absurd cc
 range_is (Some ends) r fits e =
@@ -150,8 +150,8 @@ range_again (Some s) h =
     ap₂ (λ (a b : Option ℤ). if are_ordered a b then Some (Some (span a b)) else None) (low_point-low_end s.low) (high_point-high_end s.high)
     ∙ rw (test_from_order s.low s.high h.ordered) refl
 
-pub range_lawful : Lawful range_format
-unfolding range_format
+pub range_lawful : Lawful range_spelling
+unfolding range_spelling
 range_lawful =
-    narrowed_lawful span_of ends_of IsRange (λ r. Unit {0}) (optional (pair end_format end_format))
-    (record { is = range_is; again = λ r fits h. range_again r h; writable = λ r fits h. tt }) (optional_lawful (pair end_format end_format) (pair_lawful end_format end_format end_lawful end_lawful))
+    narrowed_lawful span_of ends_of IsRange (λ r. Unit {0}) (optional (pair end_spelling end_spelling))
+    (record { is = range_is; again = λ r fits h. range_again r h; writable = λ r fits h. tt }) (optional_lawful (pair end_spelling end_spelling) (pair_lawful end_spelling end_spelling end_lawful end_lawful))

@@ -1,24 +1,28 @@
--- What is true of each format: reading and writing agree with its meaning.
+-- What is true of each spelling: reading and writing agree with its meaning.
 use Rattle.std.specs.Prelude.{◌≡◌, ◌≤◌, ◌<◌, ℕ, List, ◌++◌, length, get_or, Ok, Err}
-use Rattle.field_codec.specs.Format.{Format, Begins}
+use Rattle.field_codec.specs.Spelling.{Spelling, SpellsFirst}
 
 -- each is a byte
 abbrev pub IsBytes : List ℕ → Type 0
 IsBytes bytes = (i : ℕ) → get_or bytes i 0 < 256
 
--- The members of a format agree: bytes are read exactly as they are spelled and exactly up to their fault, and
--- what is written is the spelling.
-pub record Lawful {A : Type 0} (f : Format A) : Type 0 where
+-- The members of a spelling agree: bytes are read exactly as they are spelled and exactly up to
+-- their fault, and what is written is the spelling.
+pub record Lawful {A : Type 0} (f : Spelling A) : Type 0 where
   -- what is read is spelled so
-  pub takes : (bytes : List ℕ) (x : A) (rest : List ℕ) → IsBytes bytes → f.read bytes ≡ Ok (x, rest) → Begins f bytes x rest
+  pub takes : (bytes : List ℕ) (x : A) (rest : List ℕ) → IsBytes bytes
+      → f.read bytes ≡ Ok (x, rest) → SpellsFirst f bytes x rest
   -- what is spelled so is read
   pub again : (x : A) (rest : List ℕ) → f.fits x → f.read (f.spell x ++ rest) ≡ Ok (x, rest)
   -- what is written stands behind what was there
   pub adds : (front : List ℕ) (x : A) → f.onto front x ≡ front ++ f.spell x
   -- reading ends exactly at the fault
-  pub faults : (bytes : List ℕ) (left : ℕ) → IsBytes bytes → f.read bytes ≡ Err left → f.faulty bytes left
-  pub ends : (bytes : List ℕ) (left : ℕ) → IsBytes bytes → f.faulty bytes left → f.read bytes ≡ Err left
+  pub faults : (bytes : List ℕ) (left : ℕ) → IsBytes bytes → f.read bytes ≡ Err left
+      → f.faulty bytes left
+  pub ends : (bytes : List ℕ) (left : ℕ) → IsBytes bytes → f.faulty bytes left
+      → f.read bytes ≡ Err left
   -- the place of a fault is in the bytes
-  pub within : (bytes : List ℕ) (left : ℕ) → IsBytes bytes → f.faulty bytes left → left ≤ length bytes
+  pub within : (bytes : List ℕ) (left : ℕ) → IsBytes bytes → f.faulty bytes left
+      → left ≤ length bytes
   -- what has a spelling can be written
   pub writable : (x : A) → f.fits x → f.asks x

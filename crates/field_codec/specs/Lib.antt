@@ -1,4 +1,4 @@
-pub mod Format
+pub mod Spelling
 pub mod Leaves
 pub mod Laws
 pub mod Reading

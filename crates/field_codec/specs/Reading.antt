@@ -1,6 +1,6 @@
--- What a reader or a writer of one field answers, by the field's format.
+-- What a reader or a writer of one field answers, by the field's spelling.
 use Rattle.std.specs.Prelude.{◌≡◌, ℕ, List, [], ◌∷◌, Option, Some, None, Result, Ok, Err}
-use Rattle.field_codec.specs.Format.{Format, Spells, WholeFault}
+use Rattle.field_codec.specs.Spelling.{Spelling, Spells, WholeFault}
 use Rattle.field_codec.specs.declared.fault.BadField.{BadField}
 use Rattle.field_codec.specs.declared.fault.ReadFault.{ReadFault}
 use Rattle.field_codec.specs.declared.fault.ReadFault.TheVariants as faults
@@ -10,24 +10,27 @@ abbrev pub Fails : {Y : Type 0} → ReadFault → Result Y ℕ → Type 0
 Fails faults.Memory read = Unit {0}
 Fails (faults.Bad field) read = read ≡ Err field.left
 
--- What a reader answers: the value that reading gives, with the bytes that are left unread, or its fault.
-abbrev pub Gives : {A : Type 0} → Format A → List ℕ → List ℕ → Result A ReadFault → Type 0
-Gives f old new (Ok x) = f.read old ≡ Ok (x, new)
-Gives f old new (Err e) = Fails e (f.read old)
+-- What a reader answers: the value that reading gives, with the bytes that are left unread, or its
+-- fault.
+abbrev pub GivesField : {A : Type 0} → Spelling A → List ℕ → List ℕ → Result A ReadFault → Type 0
+GivesField f old new (Ok x) = f.read old ≡ Ok (x, new)
+GivesField f old new (Err e) = Fails e (f.read old)
 
 -- The same of a reader that takes no memory.
-abbrev pub Finds : {A : Type 0} → Format A → List ℕ → List ℕ → Result A BadField → Type 0
+abbrev pub Finds : {A : Type 0} → Spelling A → List ℕ → List ℕ → Result A BadField → Type 0
 Finds f old new (Ok x) = f.read old ≡ Ok (x, new)
 Finds f old new (Err field) = f.read old ≡ Err field.left
 
--- What a reader of the whole of some bytes answers: the value that they spell, or where they are faulty.
-abbrev pub ReadsWhole : {A : Type 0} → Format A → List ℕ → Result A ReadFault → Type 0
+-- What a reader of the whole of some bytes answers: the value that they spell, or where they are
+-- faulty.
+abbrev pub ReadsWhole : {A : Type 0} → Spelling A → List ℕ → Result A ReadFault → Type 0
 ReadsWhole f bytes (Ok x) = Spells f bytes x
 ReadsWhole f bytes (Err faults.Memory) = Unit {0}
 ReadsWhole f bytes (Err (faults.Bad field)) = WholeFault f bytes field.left
 
 -- the value's spelling stands behind what was there, and the value has one
-pub record Wrote {A : Type 0} (f : Format A) (old : List ℕ) (value : A) (new : List ℕ) : Type 0 where
+pub record Wrote {A : Type 0} (f : Spelling A) (old : List ℕ) (value : A)
+    (new : List ℕ) : Type 0 where
   pub written : new ≡ f.onto old value
   pub fits : f.fits value
 

@@ -1,7 +1,7 @@
 //! Reading one field after another from the front of some bytes.
 ghost use Rattle.std.specs.Prelude.{◌≡◌, length, OnErr};
-ghost use Rattle.field_codec.specs.Leaves.{u8_format, u32_format, u64_format, u128_format, bool_format, ts_format, text_format, end_format, range_format};
-ghost use Rattle.field_codec.specs.Reading.{Finds, Gives, TakesFirst};
+ghost use Rattle.field_codec.specs.Leaves.{u8_spelling, u32_spelling, u64_spelling, u128_spelling, bool_spelling, ts_spelling, text_spelling, end_spelling, range_spelling};
+ghost use Rattle.field_codec.specs.Reading.{Finds, GivesField, TakesFirst};
 
 use crate::fault::{BadField, ReadFault};
 use disk_trait::{Text, numbers};
@@ -24,7 +24,7 @@ impl<'a> Model for Cursor<'a> {
 }
 
 impl<'a> Cursor<'a> {
-    /// Begins at the first byte.
+    /// SpellsFirst at the first byte.
     pub fn new(bytes: &'a [u8]) -> Cursor<'a>
         ensures { result ≡ bytes.now }
     {
@@ -59,17 +59,17 @@ impl<'a> Cursor<'a> {
     }
 
     /// A number of 1 byte.
-    #[tactic(auto, unfolding(crate::specs::Leaves::u8_format))]
+    #[tactic(auto, unfolding(crate::specs::Leaves::u8_spelling))]
     pub fn u8_field(&mut self) -> Result<u8, BadField>
-        ensures { Finds u8_format self.old self.new result }
+        ensures { Finds u8_spelling self.old self.new result }
     {
         self.first().ok_or(BadField { left: 0 })
     }
 
     /// A number of 4 bytes, as a length or a count.
-    #[tactic(auto, using(crate::proofs::ReadingLaws::u32_found), unfolding(crate::specs::Leaves::u32_format))]
+    #[tactic(auto, using(crate::proofs::ReadingLaws::u32_found), unfolding(crate::specs::Leaves::u32_spelling))]
     pub fn u32_field(&mut self) -> Result<u32, BadField>
-        ensures { Finds u32_format self.old self.new result }
+        ensures { Finds u32_spelling self.old self.new result }
     {
         if self.rest.len() < 4 {
             return Err(BadField {
@@ -82,9 +82,9 @@ impl<'a> Cursor<'a> {
     }
 
     /// A number of 8 bytes.
-    #[tactic(auto, using(crate::proofs::ReadingLaws::u64_found), unfolding(crate::specs::Leaves::u64_format))]
+    #[tactic(auto, using(crate::proofs::ReadingLaws::u64_found), unfolding(crate::specs::Leaves::u64_spelling))]
     pub fn u64_field(&mut self) -> Result<u64, BadField>
-        ensures { Finds u64_format self.old self.new result }
+        ensures { Finds u64_spelling self.old self.new result }
     {
         if self.rest.len() < 8 {
             return Err(BadField {
@@ -97,9 +97,9 @@ impl<'a> Cursor<'a> {
     }
 
     /// An id, or the bits of a timestamp, of 16 bytes.
-    #[tactic(auto, using(crate::proofs::ReadingLaws::u128_found), unfolding(crate::specs::Leaves::u128_format))]
+    #[tactic(auto, using(crate::proofs::ReadingLaws::u128_found), unfolding(crate::specs::Leaves::u128_spelling))]
     pub fn u128_field(&mut self) -> Result<u128, BadField>
-        ensures { Finds u128_format self.old self.new result }
+        ensures { Finds u128_spelling self.old self.new result }
     {
         if self.rest.len() < 16 {
             return Err(BadField {
@@ -112,9 +112,9 @@ impl<'a> Cursor<'a> {
     }
 
     /// A mark: 0 or 1.
-    #[tactic(auto, unfolding(crate::specs::Leaves::u8_format, crate::specs::Leaves::bool_format))]
+    #[tactic(auto, unfolding(crate::specs::Leaves::u8_spelling, crate::specs::Leaves::bool_spelling))]
     pub fn bool_field(&mut self) -> Result<bool, BadField>
-        ensures { Finds bool_format self.old self.new result }
+        ensures { Finds bool_spelling self.old self.new result }
     {
         let left = self.left();
         match self.first() {
@@ -125,9 +125,9 @@ impl<'a> Cursor<'a> {
     }
 
     /// A timestamp: its nanoseconds in 16 bytes, two's complement.
-    #[tactic(auto, unfolding(crate::specs::Leaves::ts_format))]
+    #[tactic(auto, unfolding(crate::specs::Leaves::ts_spelling))]
     pub fn ts_field(&mut self) -> Result<Ts, BadField>
-        ensures { Finds ts_format self.old self.new result }
+        ensures { Finds ts_spelling self.old self.new result }
     {
         let left = self.left();
         let bits = self.u128_field()?;
@@ -135,9 +135,9 @@ impl<'a> Cursor<'a> {
     }
 
     /// A text: the number of its bytes in 4 bytes, and these.
-    #[tactic(auto, using(crate::proofs::ReadingLaws::text_found, crate::proofs::ReadingLaws::text_short), unfolding(crate::specs::Leaves::text_format))]
+    #[tactic(auto, using(crate::proofs::ReadingLaws::text_found, crate::proofs::ReadingLaws::text_short), unfolding(crate::specs::Leaves::text_spelling))]
     pub fn text_field(&mut self, alloc: Global) -> Result<Text, ReadFault>
-        ensures { Gives text_format self.old self.new result }
+        ensures { GivesField text_spelling self.old self.new result }
     {
         let left = self.left();
         if left < 4 {
@@ -154,9 +154,9 @@ impl<'a> Cursor<'a> {
     }
 
     /// An end of a range: 0 open, 1 and a timestamp that is in the range, 2 and one that is not.
-    #[tactic(auto, unfolding(crate::specs::Leaves::end_format))]
+    #[tactic(auto, unfolding(crate::specs::Leaves::end_spelling))]
     pub fn end_field(&mut self) -> Result<End, BadField>
-        ensures { Finds end_format self.old self.new result }
+        ensures { Finds end_spelling self.old self.new result }
     {
         let left = self.left();
         match self.first() {
@@ -168,9 +168,9 @@ impl<'a> Cursor<'a> {
     }
 
     /// A range: 0 for never, or 1 and two ends that hold a point.
-    #[tactic(auto, unfolding(crate::specs::Leaves::range_format))]
+    #[tactic(auto, unfolding(crate::specs::Leaves::range_spelling))]
     pub fn range_field(&mut self) -> Result<TimeRange, BadField>
-        ensures { Finds range_format self.old self.new result }
+        ensures { Finds range_spelling self.old self.new result }
     {
         let left = self.left();
         match self.first() {

@@ -1,6 +1,6 @@
 //! Reading the fields of some bytes one after the other, with the place of each fault.
 ghost use Rattle.std.specs.Prelude.{◌≡◌, ◌≤◌, length, IfOk, OnErr, IsErrOf};
-ghost use Rattle.field_codec.specs.Leaves.{u8_format, u64_format, u128_format, bool_format, ts_format, text_format, range_format};
+ghost use Rattle.field_codec.specs.Leaves.{u8_spelling, u64_spelling, u128_spelling, bool_spelling, ts_spelling, text_spelling, range_spelling};
 ghost use Rattle.field_codec.specs.Answers.{Takes, IsFaultAt, OnBad};
 
 use crate::cursor::Cursor;
@@ -30,7 +30,7 @@ impl<'a> Model for Fields<'a> {
 }
 
 impl<'a> Fields<'a> {
-    /// Begins at the first byte, with all of them unread.
+    /// SpellsFirst at the first byte, with all of them unread.
     pub fn new(bytes: &'a [u8]) -> Fields<'a>
         ensures bytes { result.bytes ≡ bytes.now }
         ensures unread { result.rest ≡ bytes.now }
@@ -47,8 +47,8 @@ impl<'a> Fields<'a> {
 
     /// A number of 1 byte.
     pub fn u8_field(&mut self) -> Result<u8, CodecFault>
-        ensures ok { IfOk result (λ value. Takes u8_format self.old value self.new) }
-        ensures bad { OnBad result (IsFaultAt u8_format self.old) }
+        ensures ok { IfOk result (λ value. Takes u8_spelling self.old value self.new) }
+        ensures bad { OnBad result (IsFaultAt u8_spelling self.old) }
         ensures err { OnErr result (self.new ≡ self.old) }
         ensures never_memory { IsErrOf result CodecFault.Memory → ⊥ }
     {
@@ -65,8 +65,8 @@ impl<'a> Fields<'a> {
 
     /// A number of 8 bytes.
     pub fn u64_field(&mut self) -> Result<u64, CodecFault>
-        ensures ok { IfOk result (λ value. Takes u64_format self.old value self.new) }
-        ensures bad { OnBad result (IsFaultAt u64_format self.old) }
+        ensures ok { IfOk result (λ value. Takes u64_spelling self.old value self.new) }
+        ensures bad { OnBad result (IsFaultAt u64_spelling self.old) }
         ensures err { OnErr result (self.new ≡ self.old) }
         ensures never_memory { IsErrOf result CodecFault.Memory → ⊥ }
     {
@@ -83,8 +83,8 @@ impl<'a> Fields<'a> {
 
     /// An id, of 16 bytes.
     pub fn id_field(&mut self) -> Result<u128, CodecFault>
-        ensures ok { IfOk result (λ value. Takes u128_format self.old value self.new) }
-        ensures bad { OnBad result (IsFaultAt u128_format self.old) }
+        ensures ok { IfOk result (λ value. Takes u128_spelling self.old value self.new) }
+        ensures bad { OnBad result (IsFaultAt u128_spelling self.old) }
         ensures err { OnErr result (self.new ≡ self.old) }
         ensures never_memory { IsErrOf result CodecFault.Memory → ⊥ }
     {
@@ -101,8 +101,8 @@ impl<'a> Fields<'a> {
 
     /// A timestamp: its nanoseconds in 16 bytes, two's complement.
     pub fn ts_field(&mut self) -> Result<Ts, CodecFault>
-        ensures ok { IfOk result (λ value. Takes ts_format self.old value self.new) }
-        ensures bad { OnBad result (IsFaultAt ts_format self.old) }
+        ensures ok { IfOk result (λ value. Takes ts_spelling self.old value self.new) }
+        ensures bad { OnBad result (IsFaultAt ts_spelling self.old) }
         ensures err { OnErr result (self.new ≡ self.old) }
         ensures never_memory { IsErrOf result CodecFault.Memory → ⊥ }
     {
@@ -119,8 +119,8 @@ impl<'a> Fields<'a> {
 
     /// A mark: 0 or 1.
     pub fn bool_field(&mut self) -> Result<bool, CodecFault>
-        ensures ok { IfOk result (λ value. Takes bool_format self.old value self.new) }
-        ensures bad { OnBad result (IsFaultAt bool_format self.old) }
+        ensures ok { IfOk result (λ value. Takes bool_spelling self.old value self.new) }
+        ensures bad { OnBad result (IsFaultAt bool_spelling self.old) }
         ensures err { OnErr result (self.new ≡ self.old) }
         ensures never_memory { IsErrOf result CodecFault.Memory → ⊥ }
     {
@@ -137,8 +137,8 @@ impl<'a> Fields<'a> {
 
     /// A range: 0 for never, or 1 and two ends that hold a point.
     pub fn range_field(&mut self) -> Result<TimeRange, CodecFault>
-        ensures ok { IfOk result (λ value. Takes range_format self.old value self.new) }
-        ensures bad { OnBad result (IsFaultAt range_format self.old) }
+        ensures ok { IfOk result (λ value. Takes range_spelling self.old value self.new) }
+        ensures bad { OnBad result (IsFaultAt range_spelling self.old) }
         ensures err { OnErr result (self.new ≡ self.old) }
         ensures never_memory { IsErrOf result CodecFault.Memory → ⊥ }
     {
@@ -155,8 +155,8 @@ impl<'a> Fields<'a> {
 
     /// A text: the number of its bytes in 4 bytes, and these.
     pub fn text_field(&mut self, alloc: Global) -> Result<Text, CodecFault>
-        ensures ok { IfOk result (λ value. Takes text_format self.old value self.new) }
-        ensures bad { OnBad result (IsFaultAt text_format self.old) }
+        ensures ok { IfOk result (λ value. Takes text_spelling self.old value self.new) }
+        ensures bad { OnBad result (IsFaultAt text_spelling self.old) }
         ensures err { OnErr result (self.new ≡ self.old) }
     {
         let rest = self.unread();

@@ -1,5 +1,5 @@
 //! Fields in bytes: numbers, ids, timestamps, marks, texts and ranges, each with one spelling. The
-//! definitions put larger formats together from them; the crates above give rows and changes theirs.
+//! definitions put larger spellings together from them; the crates above give rows and changes theirs.
 #![tactic(auto)]
 
 mod cursor;

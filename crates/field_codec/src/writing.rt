@@ -3,7 +3,7 @@ ghost use Rattle.std.specs.Prelude.{◌≡◌, OnOk};
 ghost use Rattle.std.specs.Int.{w128, cast_unsigned};
 ghost use Rattle.time_range.specs.Points.{IsRange};
 ghost use Rattle.time_range.specs.Ends.{IsEndWithin};
-ghost use Rattle.field_codec.specs.Leaves.{IsShort, u8_format, u32_format, u64_format, u128_format, bool_format, ts_format, text_format, end_format, range_format};
+ghost use Rattle.field_codec.specs.Leaves.{IsShort, u8_spelling, u32_spelling, u64_spelling, u128_spelling, bool_spelling, ts_spelling, text_spelling, end_spelling, range_spelling};
 ghost use Rattle.field_codec.specs.Reading.{Wrote};
 
 use disk_trait::numbers::{u32_bytes, u64_bytes, u128_bytes};
@@ -11,41 +11,41 @@ use disk_trait::{Memory, Text};
 use time_range::{End, TimeRange, Ts};
 
 /// A number of 1 byte.
-#[tactic(auto, unfolding(crate::specs::Leaves::u8_format))]
+#[tactic(auto, unfolding(crate::specs::Leaves::u8_spelling))]
 pub fn write_u8(out: &mut Text, number: u8) -> Result<(), Memory>
-    ensures { OnOk result (Wrote u8_format out.old number out.new) }
+    ensures { OnOk result (Wrote u8_spelling out.old number out.new) }
 {
     out.push(number)
 }
 
 /// A number of 4 bytes.
-#[tactic(auto, unfolding(crate::specs::Leaves::u32_format))]
+#[tactic(auto, unfolding(crate::specs::Leaves::u32_spelling))]
 pub fn write_u32(out: &mut Text, number: u32) -> Result<(), Memory>
-    ensures { OnOk result (Wrote u32_format out.old number out.new) }
+    ensures { OnOk result (Wrote u32_spelling out.old number out.new) }
 {
     out.append(&u32_bytes(number))
 }
 
 /// A number of 8 bytes.
-#[tactic(auto, unfolding(crate::specs::Leaves::u64_format))]
+#[tactic(auto, unfolding(crate::specs::Leaves::u64_spelling))]
 pub fn write_u64(out: &mut Text, number: u64) -> Result<(), Memory>
-    ensures { OnOk result (Wrote u64_format out.old number out.new) }
+    ensures { OnOk result (Wrote u64_spelling out.old number out.new) }
 {
     out.append(&u64_bytes(number))
 }
 
 /// A number of 16 bytes.
-#[tactic(auto, unfolding(crate::specs::Leaves::u128_format))]
+#[tactic(auto, unfolding(crate::specs::Leaves::u128_spelling))]
 pub fn write_u128(out: &mut Text, number: u128) -> Result<(), Memory>
-    ensures { OnOk result (Wrote u128_format out.old number out.new) }
+    ensures { OnOk result (Wrote u128_spelling out.old number out.new) }
 {
     out.append(&u128_bytes(number))
 }
 
 /// A mark: 0 or 1.
-#[tactic(auto, unfolding(crate::specs::Leaves::u8_format, crate::specs::Leaves::bool_format))]
+#[tactic(auto, unfolding(crate::specs::Leaves::u8_spelling, crate::specs::Leaves::bool_spelling))]
 pub fn write_bool(out: &mut Text, mark: bool) -> Result<(), Memory>
-    ensures { OnOk result (Wrote bool_format out.old mark out.new) }
+    ensures { OnOk result (Wrote bool_spelling out.old mark out.new) }
 {
     write_u8(out, u8::from(mark))
 }
@@ -59,7 +59,7 @@ fn bits_of(ts: Ts) -> u128
 
 /// A timestamp: its nanoseconds in 16 bytes, two's complement.
 pub fn write_ts(out: &mut Text, ts: Ts) -> Result<(), Memory>
-    ensures { OnOk result (Wrote ts_format out.old ts out.new) }
+    ensures { OnOk result (Wrote ts_spelling out.old ts out.new) }
 {
     let _nanos = ts.nanos();
     write_u128(out, bits_of(ts))?;
@@ -69,7 +69,7 @@ pub fn write_ts(out: &mut Text, ts: Ts) -> Result<(), Memory>
 /// A text: the number of its bytes in 4 bytes, and these.
 pub fn write_text(out: &mut Text, text: &Text) -> Result<(), Memory>
     requires { IsShort text.now }
-    ensures { OnOk result (Wrote text_format out.old text.now out.new) }
+    ensures { OnOk result (Wrote text_spelling out.old text.now out.new) }
 {
     let bytes = text.bytes();
     out.append(&u32_bytes(bytes.len() as u32))?;
@@ -78,10 +78,10 @@ pub fn write_text(out: &mut Text, text: &Text) -> Result<(), Memory>
 }
 
 /// An end of a range: 0 open, 1 and a timestamp that is in the range, 2 and one that is not.
-#[tactic(auto, unfolding(crate::specs::Leaves::end_format))]
+#[tactic(auto, unfolding(crate::specs::Leaves::end_spelling))]
 pub fn write_end(out: &mut Text, end: End) -> Result<(), Memory>
     requires { IsEndWithin end }
-    ensures { OnOk result (Wrote end_format out.old end out.new) }
+    ensures { OnOk result (Wrote end_spelling out.old end out.new) }
 {
     match end {
         End::Unbounded => out.push(0),
@@ -98,7 +98,7 @@ pub fn write_end(out: &mut Text, end: End) -> Result<(), Memory>
 
 /// A range: 0 for never, or 1 and its two ends.
 pub fn write_range(out: &mut Text, range: &TimeRange) -> Result<(), Memory>
-    ensures { OnOk result (Wrote range_format out.old range.now out.new) }
+    ensures { OnOk result (Wrote range_spelling out.old range.now out.new) }
 {
     let _known = has_points(range);
     match range.ends() {

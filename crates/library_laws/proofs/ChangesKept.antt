@@ -199,7 +199,7 @@ delete_step_by library moment good at (Some request) is some most =
 
 add_keeps_good : (library : Library) (moment flow : ℕ) (posts : List Segment) → Good library → IsSound library (changes.AddSegments moment flow posts)
     → IsFree library flow
-    → posts_refusal library.objects library.segments flow library.next_serial posts ≡ None → Good (after (changes.AddSegments moment flow posts) library)
+    → posts_refusal library flow posts ≡ None → Good (after (changes.AddSegments moment flow posts) library)
 add_keeps_good library moment flow posts good sound free none =
     let events : List Happened = added_events library.catalog flow (posted flow library.next_serial posts) in
     let touched_one : Library = with_catalog (after_touch flow moment library.catalog) library in
@@ -236,8 +236,8 @@ changes_keep_good library (changes.Store moment object start size) good allowed 
     let parts = and_parts (is_none (keep_refusal (object_of object library.objects))) (is_free library.objects library.blocks (blocks_of size) start) allowed in
     storing_keeps_good library moment object start size good sound.at parts.1 sound.values
 changes_keep_good library (changes.AddSegments moment flow posts) good allowed sound =
-    let none = neither (change_refusal library flow) (posts_refusal library.objects library.segments flow library.next_serial posts)
-    (none_from (or_else (change_refusal library flow) (posts_refusal library.objects library.segments flow library.next_serial posts)) allowed) in
+    let none = neither (change_refusal library flow) (posts_refusal library flow posts)
+    (none_from (or_else (change_refusal library flow) (posts_refusal library flow posts)) allowed) in
     let free = is_free_flow library flow none.0 in
     add_keeps_good library moment flow posts good sound free none.1
 changes_keep_good library (changes.CutSegments moment flow range) good allowed sound =

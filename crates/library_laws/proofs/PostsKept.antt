@@ -10,14 +10,14 @@ use Rattle.media_rows.specs.declared.refusal.Refusal.TheVariants as refusals
 use Rattle.media_rows.specs.declared.request.DeleteRow.{DeleteRow}
 use Rattle.media_rows.specs.declared.segment.Segment.{Segment}
 use Rattle.media_rows.specs.declared.segment.SegmentRow.{SegmentRow}
-use Rattle.media_rows.specs.Answer.{overlap_refusal, posts_refusal}
+use Rattle.media_rows.specs.Answer.{overlap_refusal, posts_refusal, kept_behind, post_refusal, refusals_behind}
 use Rattle.media_rows.specs.Collections.{is_kept}
 use Rattle.media_rows.specs.Good.{Good, are_compatible, is_segment_good, is_request_good}
 use Rattle.media_rows.specs.Library.{Library, last_serial}
 use Rattle.media_rows.specs.Lists.{rises}
 use Rattle.media_rows.specs.Objects.{is_stored_object}
 use Rattle.media_rows.specs.Ranges.{overlaps, has_both_ends}
-use Rattle.media_rows.specs.Refusals.{when}
+use Rattle.media_rows.specs.Refusals.{when, first_refusal}
 use Rattle.media_rows.specs.Requests.{is_unfinished, is_deleting, done_count, done_kept}
 use Rattle.media_rows.specs.Segments.{segments_of, names_object, overlapping, starts_before, posted}
 use Rattle.library_laws.proofs.ListLemmas.{In, filter-In, in_order-In, list_all-In, list_all-from_In, list_any-from_In}
@@ -61,17 +61,41 @@ posts_step segments flow serial post e none =
       | inr bad ↦ absurd bad
     ])
 
-posts_compatible : (objects : List ObjectRow) (segments : List SegmentRow) (flow serial : ℕ) (posts : List Segment) → rises are_compatible segments ≡ true
-    → posts_refusal objects segments flow serial posts ≡ None
-    → rises are_compatible (segments ++ posted flow serial posts) ≡ true
-posts_compatible objects segments flow serial [] e none = ap (rises are_compatible) (append-nil segments) ∙ e
-posts_compatible objects segments flow serial (post ∷ later) e none =
-    let row : SegmentRow = record { flow = flow; serial = serial; segment = post } in
-    let outer = neither (when (not (is_stored_object objects post.object)) (refusals.NoObject post.object)) _ none in
-    let inner = neither (overlap_refusal (slice_get (overlapping segments flow post.range None) 0))
-    (posts_refusal objects (segments ++ row ∷ []) flow (serial + 1) later) outer.1 in
-    ap (rises are_compatible) (sym (append_assoc segments (row ∷ []) (posted flow (serial + 1) later)))
-    ∙ posts_compatible objects (segments ++ row ∷ []) flow (serial + 1) later (posts_step segments flow serial post e inner.0) inner.1
+-- a front with one segment more
+posted_more : (flow serial : ℕ) (front : List Segment) (post : Segment) (at : ℕ) → at ≡ serial + length front
+    → posted flow serial (front ++ post ∷ []) ≡ posted flow serial front ++ record { flow = flow; serial = at; segment = post } ∷ []
+posted_more flow serial [] post at e =
+    let first : serial ≡ at = omega (arith, e) in ap (λ n. (let row : SegmentRow = record { flow = flow; serial = n; segment = post } in row) ∷ []) first
+posted_more flow serial (x ∷ front) post at e =
+    ap (λ l. (let row : SegmentRow = record { flow = flow; serial = serial; segment = x } in row) ∷ l) (posted_more flow (serial + 1) front post at (omega (arith, e)))
+
+posts_compatible : (library : Library) (flow : ℕ) (front posts : List Segment) → rises are_compatible (kept_behind library flow front) ≡ true
+    → first_refusal (refusals_behind library flow front posts) ≡ None → rises are_compatible (kept_behind library flow (front ++ posts)) ≡ true
+posts_compatible library flow front [] e none = ap (λ l. rises are_compatible (kept_behind library flow l)) (append-nil front) ∙ e
+posts_compatible library flow front (post ∷ later) e none =
+    let at : ℕ = library.next_serial + length front in
+    let row : SegmentRow = record { flow = flow; serial = at; segment = post } in
+    let outer = neither (post_refusal library flow front post) (first_refusal (refusals_behind library flow (front ++ post ∷ []) later)) none in
+    let inner = neither (when (not (is_stored_object library.objects post.object)) (refusals.NoObject post.object))
+        (overlap_refusal (slice_get (overlapping (kept_behind library flow front) flow post.range None) 0)) outer.0 in
+    let one_more : kept_behind library flow (front ++ post ∷ []) ≡ kept_behind library flow front ++ row ∷ [] =
+    ap (λ l. library.segments ++ l) (posted_more flow library.next_serial front post at refl) ∙ sym (append_assoc library.segments (posted flow library.next_serial front) (row ∷ [])) in
+    ap (λ l. rises are_compatible (kept_behind library flow l)) (sym (append_assoc front (post ∷ []) later))
+    ∙ posts_compatible library flow (front ++ post ∷ []) later (ap (rises are_compatible) one_more ∙ posts_step (kept_behind library flow front) flow at post e inner.1) outer.1
+
+-- the objects of a post that isn't refused are stored
+all_stored : (library : Library) (flow : ℕ) (front posts : List Segment) → first_refusal (refusals_behind library flow front posts) ≡ None
+    → (post : Segment) → In post posts → is_stored_object library.objects post.object ≡ true
+all_stored library flow front [] none post here = absurd here
+all_stored library flow front (first ∷ later) none post here =
+    let outer = neither (post_refusal library flow front first) (first_refusal (refusals_behind library flow (front ++ first ∷ []) later)) none in
+    let inner = neither (when (not (is_stored_object library.objects first.object)) (refusals.NoObject first.object))
+        (overlap_refusal (slice_get (overlapping (kept_behind library flow front) flow first.range None) 0)) outer.0 in
+    elim here [
+      | inl same ↦ ap (λ (p : Segment). is_stored_object library.objects p.object) same
+          ∙ not-false (is_stored_object library.objects first.object) (not_when (not (is_stored_object library.objects first.object)) (refusals.NoObject first.object) inner.0)
+      | inr more ↦ all_stored library flow (front ++ first ∷ []) later outer.1 post more
+    ]
 
 -- what each new row is
 record IsPosted (objects : List ObjectRow) (flow : ℕ) (posts : List Segment) (row : SegmentRow) : Type 0 where
@@ -93,18 +117,13 @@ posted_step objects flow post later first row rows is (inl same) stored rest =
 posted_step objects flow post later first row rows is (inr more) stored rest =
     let r = rest more in record { under = r.under; among = inr r.among; stored = r.stored }
 
-posted_is : (objects : List ObjectRow) (segments : List SegmentRow) (flow serial : ℕ) (posts : List Segment) → posts_refusal objects segments flow serial posts
-    ≡ None
+posted_is : (objects : List ObjectRow) (flow serial : ℕ) (posts : List Segment) → ((post : Segment) → In post posts → is_stored_object objects post.object ≡ true)
     → (row : SegmentRow) → In row (posted flow serial posts) → IsPosted objects flow posts row
-posted_is objects segments flow serial [] none row here = absurd here
-posted_is objects segments flow serial (post ∷ later) none row here =
+posted_is objects flow serial [] stored row here = absurd here
+posted_is objects flow serial (post ∷ later) stored row here =
     let first : SegmentRow = record { flow = flow; serial = serial; segment = post } in
-    let outer = neither (when (not (is_stored_object objects post.object)) (refusals.NoObject post.object)) _ none in
-    let inner = neither (overlap_refusal (slice_get (overlapping segments flow post.range None) 0))
-    (posts_refusal objects (segments ++ first ∷ []) flow (serial + 1) later) outer.1 in
-    posted_step objects flow post later first row (posted flow (serial + 1) later) refl here
-    (not-false (is_stored_object objects post.object) (not_when (not (is_stored_object objects post.object)) (refusals.NoObject post.object) outer.0))
-    (posted_is objects (segments ++ first ∷ []) flow (serial + 1) later inner.1 row)
+    posted_step objects flow post later first row (posted flow (serial + 1) later) refl here (stored post (inl refl))
+    (posted_is objects flow (serial + 1) later (λ p more. stored p (inr more)) row)
 
 serials-posted : (flow serial : ℕ) (posts : List Segment) → map (λ row. row.serial) (posted flow serial posts) ≡ counted serial (length posts)
 serials-posted flow serial [] = refl
@@ -129,19 +148,19 @@ free_of requests flow none row here open_one deletes same =
 
 pub posts_keep_good : (library : Library) (flow : ℕ) (posts : List Segment) → Good library → is_kept library.catalog.flows flow ≡ true
     → is_deleting library.requests flow ≡ false
-    → list_all (λ post. has_both_ends post.range) posts ≡ true → posts_refusal library.objects library.segments flow library.next_serial posts ≡ None
+    → list_all (λ post. has_both_ends post.range) posts ≡ true → posts_refusal library flow posts ≡ None
     → library.next_serial + length posts ≤ last_serial
     → Good (with_posts flow posts library)
 posts_keep_good library flow posts good kept free ends none most =
     let names = Names-from library good.names in
     let new : List SegmentRow = posted flow library.next_serial posts in
-    let is = posted_is library.objects library.segments flow library.next_serial posts none in
+    let is = posted_is library.objects flow library.next_serial posts (all_stored library flow [] posts none) in
     let one = and_parts (rises are_compatible library.segments) (list_all (is_segment_good library.catalog.flows) library.segments) good.segments in
     let asked = and_parts (list_all (is_request_good library.catalog.flows library.segments) library.requests) (nat_le (done_count library.requests) done_kept)
     good.requests in
     let numbers = serials-posted flow library.next_serial posts in
     record {
-      segments = and_from _ _ (posts_compatible library.objects library.segments flow library.next_serial posts one.0 none)
+      segments = and_from _ _ (posts_compatible library flow [] posts (ap (rises are_compatible) (append-nil library.segments) ∙ one.0) none)
           (list_all-both (is_segment_good library.catalog.flows) library.segments new one.1
           (list_all-from_In (is_segment_good library.catalog.flows) new (λ row here.
           and_from (has_both_ends row.segment.range) (is_kept library.catalog.flows row.flow)

@@ -1,6 +1,7 @@
--- What the library answers to each command, and the change that it makes: the refusals of a command in their
--- order, and its reply where none stands. That a change doesn't fit the journal is no matter of the library,
--- and is added by the state above it. Our own profile of the Time-addressable Media Store.
+-- What the library answers to each command, and the change that it makes: the refusals of a command
+-- in their order, and its reply where none stands. That a change doesn't fit the journal is no
+-- matter of the library, and is added by the state above it. Our own profile of the
+-- Time-addressable Media Store.
 use Rattle.std.specs.Prelude.{ℕ, ◌+◌, ◌==◌, nat_le, List, [], ◌∷◌, ◌++◌, Bool, true, false, not, ◌||◌, Option, Some, None, is_some, Result, Ok, Err, if◌then◌else◌, map, length, slice_get, nat_eq, bytes_eq, codes, decimal}
 use Rattle.std.specs.List.{starts_with}
 use Rattle.time_range.specs.declared.ranges.Span.{Span}
@@ -27,9 +28,9 @@ use Rattle.media_rows.specs.Lists.{has_text, numbers_below, or_else}
 use Rattle.media_rows.specs.Objects.{object_of, is_stored_object, free_place, blocks_of, bytes_of}
 use Rattle.media_rows.specs.Outbox.{hook_of}
 use Rattle.media_rows.specs.Ranges.{eternity}
-use Rattle.media_rows.specs.Refusals.{when}
+use Rattle.media_rows.specs.Refusals.{when, first_refusal}
 use Rattle.media_rows.specs.Requests.{step_size, is_deleting, asked_row}
-use Rattle.media_rows.specs.Segments.{segments_of, overlapping, covered}
+use Rattle.media_rows.specs.Segments.{segments_of, overlapping, covered, posted}
 use Rattle.media_rows.specs.Views.{asked}
 
 -- ---- refusals
@@ -40,7 +41,8 @@ deleting_refusal library flow = when (is_deleting library.requests flow) refusal
 
 -- the flow is being deleted, isn't kept, or is read-only
 abbrev pub change_refusal : Library → ℕ → Option Refusal
-change_refusal library flow = or_else (deleting_refusal library flow) (flow_refusal library.catalog flow)
+change_refusal library flow =
+    or_else (deleting_refusal library flow) (flow_refusal library.catalog flow)
 
 -- ---- ids of new objects
 
@@ -54,7 +56,8 @@ made_id store serial = made_prefix store ++ decimal serial
 
 -- the ids of an allocation: the store's own for the next serials, or those that the client names
 abbrev pub wanted_ids : Library → Want → List (List ℕ)
-wanted_ids library (Count n) = map (λ i. made_id library.id (library.next_serial + i)) (numbers_below n)
+wanted_ids library (Count n) =
+    map (λ i. made_id library.id (library.next_serial + i)) (numbers_below n)
 wanted_ids library (Named ids) = ids
 
 -- a kept object has the id
@@ -64,7 +67,8 @@ is_kept_object library id = is_some (object_of id library.objects)
 -- a client may not name a kept object, nor an id that begins as those that the store makes
 abbrev pub is_taken : Library → Want → List ℕ → Bool
 is_taken library (Count n) id = is_kept_object library id
-is_taken library (Named ids) id = is_kept_object library id || starts_with nat_eq id (made_prefix library.id)
+is_taken library (Named ids) id =
+    is_kept_object library id || starts_with nat_eq id (made_prefix library.id)
 
 -- the first id that is taken, or that stands earlier in the list
 abbrev pub first_taken : (List ℕ → Bool) → List (List ℕ) → List (List ℕ) → Option (List ℕ)
@@ -79,19 +83,34 @@ taken_refusal (Some id) = Some (refusals.IdTaken id)
 
 -- ---- posts of segments
 
--- the refusal of a segment of a post, with the range of the kept segment that overlaps it and begins first
+-- the refusal of a segment of a post, with the range of the kept segment that overlaps it and
+-- begins first
 abbrev pub overlap_refusal : Option SegmentRow → Option Refusal
 overlap_refusal None = None
 overlap_refusal (Some row) = Some (refusals.Overlap row.segment.range)
 
--- For each segment of a post in order: its object isn't stored, or a kept segment of the flow overlaps it,
--- where the earlier ones of the post count as kept.
-abbrev pub posts_refusal : List ObjectRow → List SegmentRow → ℕ → ℕ → List Segment → Option Refusal
-posts_refusal objects segments flow serial [] = None
-posts_refusal objects segments flow serial (post ∷ later) =
-    or_else (when (not (is_stored_object objects post.object)) (refusals.NoObject post.object))
-    (or_else (overlap_refusal (slice_get (overlapping segments flow post.range None) 0))
-    (posts_refusal objects (segments ++ record { flow = flow; serial = serial; segment = post } ∷ []) flow (serial + 1) later))
+-- the segments that count as kept behind a front of a post: the library's, and those of the front
+abbrev pub kept_behind : Library → ℕ → List Segment → List SegmentRow
+kept_behind library flow front = library.segments ++ posted flow library.next_serial front
+
+-- the refusal of a segment behind a front of its post: its object isn't stored, or a segment of the
+-- flow that counts as kept overlaps it
+abbrev pub post_refusal : Library → ℕ → List Segment → Segment → Option Refusal
+post_refusal library flow front post =
+    or_else
+    (when (not (is_stored_object library.objects post.object)) (refusals.NoObject post.object))
+    (overlap_refusal
+    (slice_get (overlapping (kept_behind library flow front) flow post.range None) 0))
+
+-- the refusals of segments in order, each behind the front and the ones before it
+abbrev pub refusals_behind : Library → ℕ → List Segment → List Segment → List (Option Refusal)
+refusals_behind library flow front [] = []
+refusals_behind library flow front (post ∷ later) =
+    post_refusal library flow front post ∷ refusals_behind library flow (front ++ post ∷ []) later
+
+-- the first refusal that stands of a post, whose segments each have the earlier ones before them
+abbrev pub posts_refusal : Library → ℕ → List Segment → Option Refusal
+posts_refusal library flow posts = first_refusal (refusals_behind library flow [] posts)
 
 -- ---- the storing of an object
 
@@ -107,19 +126,23 @@ keep_refusal (Some row) = keep_state row.state
 
 -- ---- the refusal of each changing command
 
--- The first refusal that stands of a changing command. That the flow is being deleted comes before all that
--- the catalog refuses, and what the command brings is looked at last. An asking command has its refusals with
--- what it shows, and none here.
+-- The first refusal that stands of a changing command. That the flow is being deleted comes before
+-- all that the catalog refuses, and what the command brings is looked at last. An asking command
+-- has its refusals with what it shows, and none here.
 abbrev pub refusal_of : Library → Command → Option Refusal
-refusal_of library (commands.PutFlow body) = or_else (deleting_refusal library body.id) (put_refusal library.catalog body)
-refusal_of library (commands.SetFlow flow part) = or_else (deleting_refusal library flow) (set_refusal library.catalog flow part)
+refusal_of library (commands.PutFlow body) =
+    or_else (deleting_refusal library body.id) (put_refusal library.catalog body)
+refusal_of library (commands.SetFlow flow part) =
+    or_else (deleting_refusal library flow) (set_refusal library.catalog flow part)
 refusal_of library (commands.SetSource source part) = set_source_refusal library.catalog source part
 refusal_of library (commands.DropFlow flow) = change_refusal library flow
 refusal_of library (commands.Allocate flow want) =
-    or_else (change_refusal library flow) (taken_refusal (first_taken (is_taken library want) [] (wanted_ids library want)))
-refusal_of library (commands.Keep object start size) = keep_refusal (object_of object library.objects)
+    or_else (change_refusal library flow)
+    (taken_refusal (first_taken (is_taken library want) [] (wanted_ids library want)))
+refusal_of library (commands.Keep object start size) =
+    keep_refusal (object_of object library.objects)
 refusal_of library (commands.AddSegments flow posts) =
-    or_else (change_refusal library flow) (posts_refusal library.objects library.segments flow library.next_serial posts)
+    or_else (change_refusal library flow) (posts_refusal library flow posts)
 refusal_of library (commands.CutSegments flow range) = change_refusal library flow
 refusal_of library (commands.PutHook hook) = None
 refusal_of library (commands.DropHook url) = None
@@ -147,7 +170,8 @@ created_unless there = if there then replies.Done else replies.Created
 -- more segments than go at once: a delete request is made, and is the reply
 abbrev pub accepted_request : Library → ℕ → Option Span → Bool → ℕ → Outcome
 accepted_request library flow range delete_flow moment =
-    changed (replies.Accepted (asked_row flow range delete_flow library.next_serial moment)) (changes.AskDelete moment flow range delete_flow)
+    changed (replies.Accepted (asked_row flow range delete_flow library.next_serial moment))
+    (changes.AskDelete moment flow range delete_flow)
 
 -- a flow goes with at most so many segments as go at once
 abbrev pub accepted_drop : Library → ℕ → ℕ → Outcome
@@ -171,24 +195,31 @@ accepted_drop_hook library url moment =
     then changed replies.Done (changes.DropHook moment url)
     else unchanged replies.Done
 
--- the reply and the change of a changing command that nothing refuses; none for an asking command, which is
--- answered by what it shows
+-- the reply and the change of a changing command that nothing refuses; none for an asking command,
+-- which is answered by what it shows
 abbrev pub accepted : Library → Command → ℕ → Option Outcome
 accepted library (commands.PutFlow body) moment =
-    Some (changed (created_unless (is_some (flow_of body.id library.catalog.flows))) (changes.PutFlow moment body))
-accepted library (commands.SetFlow flow part) moment = Some (changed replies.Done (changes.SetFlow moment flow part))
+    Some
+    (changed (created_unless (is_some (flow_of body.id library.catalog.flows)))
+    (changes.PutFlow moment body))
+accepted library (commands.SetFlow flow part) moment =
+    Some (changed replies.Done (changes.SetFlow moment flow part))
 accepted library (commands.SetSource source part) moment =
     Some (changed replies.Done (changes.SetSource moment source part))
 accepted library (commands.DropFlow flow) moment = Some (accepted_drop library flow moment)
 accepted library (commands.Allocate flow want) moment =
-    let ids = wanted_ids library want in Some (changed (replies.CreatedObjects ids) (changes.Allocate moment flow ids))
+    let ids = wanted_ids library want in Some
+    (changed (replies.CreatedObjects ids) (changes.Allocate moment flow ids))
 accepted library (commands.Keep object start size) moment =
     Some (changed replies.Created (changes.Store moment object start size))
 accepted library (commands.AddSegments flow posts) moment =
     Some (changed replies.Created (changes.AddSegments moment flow posts))
-accepted library (commands.CutSegments flow range) moment = Some (accepted_cut library flow range moment)
+accepted library (commands.CutSegments flow range) moment =
+    Some (accepted_cut library flow range moment)
 accepted library (commands.PutHook hook) moment =
-    Some (changed (created_unless (is_some (hook_of hook.url library.outbox.hooks))) (changes.PutHook moment hook))
+    Some
+    (changed (created_unless (is_some (hook_of hook.url library.outbox.hooks)))
+    (changes.PutHook moment hook))
 accepted library (commands.DropHook url) moment = Some (accepted_drop_hook library url moment)
 accepted library asking moment = None
 
@@ -199,34 +230,38 @@ abbrev pub shown_reply : Result View Refusal → Reply
 shown_reply (Ok view) = replies.Shown view
 shown_reply (Err refusal) = replies.Refused refusal
 
--- The answer to a changing command: its refusal, which changes nothing, or what it makes. Each command that
--- shows nothing makes something, so the last line answers none.
+-- The answer to a changing command: its refusal, which changes nothing, or what it makes. Each
+-- command that shows nothing makes something, so the last line answers none.
 abbrev pub changing_answer : Option Refusal → Option Outcome → Outcome
 changing_answer (Some refusal) made = unchanged (replies.Refused refusal)
 changing_answer None (Some outcome) = outcome
 changing_answer None None = unchanged replies.Done
 
--- an asking command is answered by what it shows, and a changing one by its refusal or by what it makes
+-- an asking command is answered by what it shows, and a changing one by its refusal or by what it
+-- makes
 abbrev pub answer_by : Option (Result View Refusal) → Option Refusal → Option Outcome → Outcome
 answer_by None refusal made = changing_answer refusal made
 answer_by (Some shown) refusal made = unchanged (shown_reply shown)
 
 -- the answer to a command at a moment
 abbrev pub answer : Library → Command → ℕ → Outcome
-answer library command moment = answer_by (asked library command) (refusal_of library command) (accepted library command moment)
+answer library command moment =
+    answer_by (asked library command) (refusal_of library command) (accepted library command moment)
 
 -- ---- media, whose bytes stand beside the library
 
 -- an allocated object takes the bytes at the least free place, if there is one
 abbrev pub placed_put : Option ℕ → List ℕ → ℕ → ℕ → Outcome
 placed_put None object size moment = unchanged (replies.Refused refusals.MediaFull)
-placed_put (Some start) object size moment = changed replies.Created (changes.Store moment object start size)
+placed_put (Some start) object size moment =
+    changed replies.Created (changes.Store moment object start size)
 
 -- a stored object takes equal bytes and changes nothing
 abbrev pub stored_put : Bool → Outcome
 stored_put same = unchanged (if same then replies.Done else replies.Refused refusals.OtherBytes)
 
--- the answer by the state of the object: what an allocated one makes of the bytes, or what a stored one does
+-- the answer by the state of the object: what an allocated one makes of the bytes, or what a stored
+-- one does
 abbrev pub put_by_state : ObjectState → Outcome → Outcome → Outcome
 put_by_state Allocated first again = first
 put_by_state (Stored start size) first again = again
@@ -240,7 +275,8 @@ put_answer_by (Some row) first again = put_by_state row.state first again
 abbrev pub put_media_answer : Library → List (List ℕ) → List ℕ → List ℕ → ℕ → Outcome
 put_media_answer library held object bytes moment =
     put_answer_by (object_of object library.objects)
-    (placed_put (free_place library.objects library.blocks (blocks_of (length bytes))) object (length bytes) moment)
+    (placed_put (free_place library.objects library.blocks (blocks_of (length bytes)))
+    object (length bytes) moment)
     (stored_put (bytes_eq (bytes_of object library.objects held) bytes))
 
 -- the length of an object's bytes, where they are stored; an allocated object has none to give
@@ -248,7 +284,8 @@ abbrev pub media_of : ObjectState → Reply
 media_of Allocated = replies.Refused refusals.UnknownObject
 media_of (Stored start size) = replies.Media size
 
--- the same of an object that may be missing, where one that isn't kept is as unknown as one without bytes
+-- the same of an object that may be missing, where one that isn't kept is as unknown as one without
+-- bytes
 abbrev pub media_reply : Option ObjectRow → Reply
 media_reply None = replies.Refused refusals.UnknownObject
 media_reply (Some row) = media_of row.state

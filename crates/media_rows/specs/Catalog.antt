@@ -1,5 +1,5 @@
--- The catalog: sources and flows, each by rising id; what is said of them, and what each change of them
--- refuses and makes. Our own profile of the Time-addressable Media Store.
+-- The catalog: sources and flows, each by rising id; what is said of them, and what each change of
+-- them refuses and makes. Our own profile of the Time-addressable Media Store.
 use Rattle.std.specs.Prelude.{ℕ, ◌==◌, nat_lt, List, [], ◌∷◌, Bool, true, false, not, ◌&&◌, ◌||◌, Option, Some, None, is_none, if◌then◌else◌, filter, map, find, length, bytes_eq, codes}
 use Rattle.std.specs.List.{list_any}
 use Rattle.media_rows.specs.declared.flow.FormatKind.{FormatKind}
@@ -55,7 +55,8 @@ fits_format source flow = same_format flow source || same_format flow Multi
 
 -- ---- a flow that is put
 
--- whether the flow may stand under the source that it names: one that isn't kept takes the flow's format
+-- whether the flow may stand under the source that it names: one that isn't kept takes the flow's
+-- format
 abbrev pub fits_source : Option SourceRow → FlowBody → Bool
 fits_source None body = true
 fits_source (Some source) body = fits_format source.format body.format
@@ -69,19 +70,24 @@ abbrev pub missing_refusal : Option ℕ → Option Refusal
 missing_refusal None = None
 missing_refusal (Some id) = Some (refusals.CollectedMissing id)
 
--- the refusals of a collection in order: the first collected flow that is neither kept nor the flow itself,
--- then a flow that would reach itself
+-- the refusals of a collection in order: the first collected flow that is neither kept nor the flow
+-- itself, then a flow that would reach itself
 abbrev pub collection_refusals : List FlowRow → ℕ → List Member → List (Option Refusal)
 collection_refusals flows id members =
-    missing_refusal (first_missing flows id members) ∷ when (collects_itself flows id members) refusals.CollectsItself ∷ []
+    missing_refusal (first_missing flows id members)
+    ∷ when (collects_itself flows id members) refusals.CollectsItself ∷ []
 
--- the refusals of a PUT of a flow in order: of a new flow, another format than its source's; of a kept one,
--- read-only, then another source or format than before; and of both, those of the collection
+-- the refusals of a PUT of a flow in order: of a new flow, another format than its source's; of a
+-- kept one, read-only, then another source or format than before; and of both, those of the
+-- collection
 abbrev pub put_refusals : Option FlowRow → Catalog → FlowBody → List (Option Refusal)
 put_refusals None catalog body =
-    when (not (fits_source (source_of body.source catalog.sources) body)) refusals.SourceFormat ∷ collection_refusals catalog.flows body.id body.members
+    when (not (fits_source (source_of body.source catalog.sources) body)) refusals.SourceFormat
+    ∷ collection_refusals catalog.flows body.id body.members
 put_refusals (Some old) catalog body =
-    when old.body.read_only refusals.ReadOnly ∷ when (not (keeps_flow old.body body)) refusals.FlowChanged ∷ collection_refusals catalog.flows body.id body.members
+    when old.body.read_only refusals.ReadOnly
+    ∷ when (not (keeps_flow old.body body)) refusals.FlowChanged
+    ∷ collection_refusals catalog.flows body.id body.members
 
 -- the first refusal that stands of a PUT of a flow, be its id kept or new
 abbrev pub put_refusal : Catalog → FlowBody → Option Refusal
@@ -89,12 +95,23 @@ put_refusal catalog body = first_refusal (put_refusals (flow_of body.id catalog.
 
 -- the row of a flow that is put: a kept one keeps the moments of its making and of its segments
 abbrev pub put_row : Option FlowRow → FlowBody → ℕ → FlowRow
-put_row None body moment = record { body = body; created = moment; metadata_updated = moment; segments_updated = None }
-put_row (Some old) body moment = record { body = body; created = old.created; metadata_updated = moment; segments_updated = old.segments_updated }
+put_row None body moment =
+    record { body = body; created = moment; metadata_updated = moment; segments_updated = None }
+put_row (Some old) body moment =
+    record old { body = body; metadata_updated = moment }
 
 -- the source that a flow makes: with its format, and nothing said of it
 abbrev pub new_source : FlowBody → ℕ → SourceRow
-new_source body moment = record { id = body.source; format = body.format; label = None; description = None; tags = []; created = moment; updated = moment }
+new_source body moment =
+    record {
+      id = body.source;
+      format = body.format;
+      label = None;
+      description = None;
+      tags = [];
+      created = moment;
+      updated = moment;
+    }
 
 -- a source that isn't kept is made by the flow that names it, and a kept one stays as it is
 abbrev pub sources_after_put : Option SourceRow → List SourceRow → FlowBody → ℕ → List SourceRow
@@ -133,13 +150,19 @@ collects_nothing old new = (length new == 0) && (length old == 0)
 
 -- a part that a flow hasn't, and that is to be cleared
 abbrev pub flow_part_unset : FlowBody → Part → Option Refusal
-flow_part_unset body (parts.Tag name new) = when (clears_nothing (tag_of name body.tags) new) (refusals.NotSet (codes "tags"))
-flow_part_unset body (parts.Label new) = when (clears_nothing body.label new) (refusals.NotSet (codes "label"))
-flow_part_unset body (parts.Description new) = when (clears_nothing body.description new) (refusals.NotSet (codes "description"))
+flow_part_unset body (parts.Tag name new) =
+    when (clears_nothing (tag_of name body.tags) new) (refusals.NotSet (codes "tags"))
+flow_part_unset body (parts.Label new) =
+    when (clears_nothing body.label new) (refusals.NotSet (codes "label"))
+flow_part_unset body (parts.Description new) =
+    when (clears_nothing body.description new) (refusals.NotSet (codes "description"))
 flow_part_unset body (parts.ReadOnly new) = None
-flow_part_unset body (parts.Collection new) = when (collects_nothing body.members new) (refusals.NotSet (codes "flow_collection"))
-flow_part_unset body (parts.MaxBitRate new) = when (clears_nothing body.max_bit_rate new) (refusals.NotSet (codes "max_bit_rate"))
-flow_part_unset body (parts.AvgBitRate new) = when (clears_nothing body.avg_bit_rate new) (refusals.NotSet (codes "avg_bit_rate"))
+flow_part_unset body (parts.Collection new) =
+    when (collects_nothing body.members new) (refusals.NotSet (codes "flow_collection"))
+flow_part_unset body (parts.MaxBitRate new) =
+    when (clears_nothing body.max_bit_rate new) (refusals.NotSet (codes "max_bit_rate"))
+flow_part_unset body (parts.AvgBitRate new) =
+    when (clears_nothing body.avg_bit_rate new) (refusals.NotSet (codes "avg_bit_rate"))
 
 -- a read-only flow takes no part but its mark
 abbrev pub sets_mark : Part → Bool
@@ -161,16 +184,18 @@ part_refusals flows id (parts.Collection new) = collection_refusals flows id new
 part_refusals flows id (parts.MaxBitRate new) = []
 part_refusals flows id (parts.AvgBitRate new) = []
 
--- the refusals of a part of a flow in order: no such flow, read-only unless the part is the mark itself, the
--- clearing of what isn't set, and those of a collection
+-- the refusals of a part of a flow in order: no such flow, read-only unless the part is the mark
+-- itself, the clearing of what isn't set, and those of a collection
 abbrev pub set_refusals : Option FlowRow → List FlowRow → ℕ → Part → List (Option Refusal)
 set_refusals None flows id part = Some refusals.NoFlow ∷ []
 set_refusals (Some old) flows id part =
-    when (old.body.read_only && not (sets_mark part)) refusals.ReadOnly ∷ flow_part_unset old.body part ∷ part_refusals flows id part
+    when (old.body.read_only && not (sets_mark part)) refusals.ReadOnly
+    ∷ flow_part_unset old.body part ∷ part_refusals flows id part
 
 -- the first refusal that stands of a part of a flow
 abbrev pub set_refusal : Catalog → ℕ → Part → Option Refusal
-set_refusal catalog id part = first_refusal (set_refusals (flow_of id catalog.flows) catalog.flows id part)
+set_refusal catalog id part =
+    first_refusal (set_refusals (flow_of id catalog.flows) catalog.flows id part)
 
 -- what is said of a flow, with one part set or cleared; all other parts stay
 abbrev pub body_with : Part → FlowBody → FlowBody
@@ -192,7 +217,8 @@ set_row part moment row = record row { body = body_with part row.body; metadata_
 
 -- the catalog once a part of a flow was set; all other flows and the sources stay
 abbrev pub after_set : ℕ → Part → ℕ → Catalog → Catalog
-after_set id part moment catalog = record catalog { flows = with_flow id (set_row part moment) catalog.flows }
+after_set id part moment catalog =
+    record catalog { flows = with_flow id (set_row part moment) catalog.flows }
 
 -- ---- a part of a source
 
@@ -206,12 +232,15 @@ is_source_part (parts.Collection new) = false
 is_source_part (parts.MaxBitRate new) = false
 is_source_part (parts.AvgBitRate new) = false
 
--- A part that a source hasn't, and that is to be cleared. The parts that no source may have are never set, and
--- so are refused too where they bring a value.
+-- A part that a source hasn't, and that is to be cleared. The parts that no source may have are
+-- never set, and so are refused too where they bring a value.
 abbrev pub source_part_unset : SourceRow → Part → Option Refusal
-source_part_unset row (parts.Tag name new) = when (clears_nothing (tag_of name row.tags) new) (refusals.NotSet (codes "tags"))
-source_part_unset row (parts.Label new) = when (clears_nothing row.label new) (refusals.NotSet (codes "label"))
-source_part_unset row (parts.Description new) = when (clears_nothing row.description new) (refusals.NotSet (codes "description"))
+source_part_unset row (parts.Tag name new) =
+    when (clears_nothing (tag_of name row.tags) new) (refusals.NotSet (codes "tags"))
+source_part_unset row (parts.Label new) =
+    when (clears_nothing row.label new) (refusals.NotSet (codes "label"))
+source_part_unset row (parts.Description new) =
+    when (clears_nothing row.description new) (refusals.NotSet (codes "description"))
 source_part_unset row (parts.ReadOnly new) = Some (refusals.NotSet (codes "read_only"))
 source_part_unset row (parts.Collection new) = Some (refusals.NotSet (codes "flow_collection"))
 source_part_unset row (parts.MaxBitRate new) = Some (refusals.NotSet (codes "max_bit_rate"))
@@ -222,10 +251,11 @@ abbrev pub source_refusals : Option SourceRow → Part → List (Option Refusal)
 source_refusals None part = Some refusals.NoSource ∷ []
 source_refusals (Some old) part = source_part_unset old part ∷ []
 
--- The first refusal that stands of a part of a source. No flow keeps its source from this, be it read-only or
--- being deleted.
+-- The first refusal that stands of a part of a source. No flow keeps its source from this, be it
+-- read-only or being deleted.
 abbrev pub set_source_refusal : Catalog → ℕ → Part → Option Refusal
-set_source_refusal catalog id part = first_refusal (source_refusals (source_of id catalog.sources) part)
+set_source_refusal catalog id part =
+    first_refusal (source_refusals (source_of id catalog.sources) part)
 
 -- a source has tags, a label and a description alone
 abbrev pub source_with : Part → SourceRow → SourceRow
@@ -247,7 +277,8 @@ with_source id change sources = map (λ row. if row.id == id then change row els
 
 -- the catalog once a part of a source was set; all other sources and the flows stay
 abbrev pub after_set_source : ℕ → Part → ℕ → Catalog → Catalog
-after_set_source id part moment catalog = record catalog { sources = with_source id (set_source_row part moment) catalog.sources }
+after_set_source id part moment catalog =
+    record catalog { sources = with_source id (set_source_row part moment) catalog.sources }
 
 -- ---- segments that came or went, and a flow that goes
 
@@ -257,7 +288,8 @@ touched moment row = record row { segments_updated = Some moment }
 
 -- the catalog once segments came to a flow or went from it
 abbrev pub after_touch : ℕ → ℕ → Catalog → Catalog
-after_touch id moment catalog = record catalog { flows = with_flow id (touched moment) catalog.flows }
+after_touch id moment catalog =
+    record catalog { flows = with_flow id (touched moment) catalog.flows }
 
 -- no such flow is kept
 abbrev pub no_flow_refusal : Catalog → ℕ → Option Refusal

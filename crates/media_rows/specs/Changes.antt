@@ -1,5 +1,5 @@
--- What each change makes of a library, and what it makes happen. First come the changes of rows, with the next
--- serials in list order, and last the events of the change. Our own rules.
+-- What each change makes of a library, and what it makes happen. First come the changes of rows,
+-- with the next serials in list order, and last the events of the change. Our own rules.
 use Rattle.std.specs.Prelude.{ℕ, ◌+◌, ◌==◌, List, [], ◌∷◌, ◌++◌, Bool, ◌&&◌, Option, Some, None, if◌then◌else◌, length}
 use Rattle.time_range.specs.declared.ranges.Span.{Span}
 use Rattle.media_rows.specs.declared.change.Change.{Change}
@@ -26,16 +26,18 @@ use Rattle.media_rows.specs.Segments.{segments_of, covered, posted, without_segm
 abbrev pub remove_segments : List SegmentRow → ℕ → Library → Library
 remove_segments removed moment library = record library {
   segments = without_segments removed library.segments;
-  objects = idled library.segments (without_segments removed library.segments) moment library.objects;
+  objects = idled library.segments
+      (without_segments removed library.segments) moment library.objects;
 }
 
 -- segments came to a flow or went from it, if any did
 abbrev pub touch_flow : ℕ → List SegmentRow → ℕ → Library → Library
 touch_flow flow rows moment library =
-    if length rows == 0 then library else record library { catalog = after_touch flow moment library.catalog }
+    if length rows == 0
+    then library else record library { catalog = after_touch flow moment library.catalog }
 
--- a flow is gone, with its entries in collections, and with its source where that has no other flow; its
--- unfinished requests are done
+-- a flow is gone, with its entries in collections, and with its source where that has no other
+-- flow; its unfinished requests are done
 abbrev pub remove_flow : ℕ → ℕ → Library → Library
 remove_flow flow moment library = record library {
   catalog = after_drop flow library.catalog;
@@ -73,7 +75,8 @@ after_allocate moment ids library = record library {
 
 -- an allocated object has its bytes at a place from now on
 abbrev pub after_store : ℕ → List ℕ → ℕ → ℕ → Library → Library
-after_store moment object start size library = record library { objects = with_bytes object start size moment library.objects }
+after_store moment object start size library =
+    record library { objects = with_bytes object start size moment library.objects }
 
 -- the rows of a post, with rising serials in its order
 abbrev pub added_rows : ℕ → List Segment → Library → List SegmentRow
@@ -109,13 +112,16 @@ is_flow_gone request library = is_finished_by_step library.segments request && r
 -- the request after its segments went
 abbrev pub with_step : DeleteRow → ℕ → Library → Library
 with_step request moment library =
-    record library { requests = after_step request.serial (is_finished_by_step library.segments request) moment library.requests }
+    let finished = is_finished_by_step library.segments request in
+    record library { requests = after_step request.serial finished moment library.requests }
 
--- the first segments of the request go, and the flow with the last ones where the request deletes it
+-- the first segments of the request go, and the flow with the last ones where the request deletes
+-- it
 abbrev pub after_request_step : ℕ → DeleteRow → Library → Library
 after_request_step moment request library =
     let removed = removed_by_step library.segments request in
-    let touched : Library = touch_flow request.flow removed moment (with_step request moment library) in
+    let touched : Library = touch_flow request.flow removed moment
+    (with_step request moment library) in
     let stepped : Library = remove_segments removed moment touched in
     if is_flow_gone request library then remove_flow request.flow moment stepped else stepped
 
@@ -133,7 +139,8 @@ after_delete_step moment library = after_step_of (first_unfinished library.reque
 -- the first objects that are due go
 abbrev pub after_sweep : ℕ → Library → Library
 after_sweep moment library =
-    record library { objects = without_objects (swept_objects library.segments library.objects moment) library.objects }
+    let swept = swept_objects library.segments library.objects moment in
+    record library { objects = without_objects swept library.objects }
 
 -- a hook comes, with the next serial, in place of the one of its address
 abbrev pub after_hook : Hook → Library → Library
@@ -160,8 +167,8 @@ abbrev pub step_events : Option DeleteRow → Library → List Happened
 step_events None library = []
 step_events (Some request) library = request_step_events request library
 
--- What a change makes happen in a library, in order: to flows, to their segments and to sources. Of objects,
--- of requests that are made and of hooks no event tells.
+-- What a change makes happen in a library, in order: to flows, to their segments and to sources. Of
+-- objects, of requests that are made and of hooks no event tells.
 abbrev pub happened_in : Change → Library → List Happened
 happened_in (changes.PutFlow moment flow) library = put_events library.catalog flow
 happened_in (changes.SetFlow moment flow part) library = set_events library.catalog flow
@@ -175,7 +182,8 @@ happened_in (changes.AddSegments moment flow segments) library =
 happened_in (changes.CutSegments moment flow range) library =
     removed_events library.catalog flow (covered library.segments flow range)
 happened_in (changes.AskDelete moment flow range delete_flow) library = []
-happened_in (changes.DeleteStep moment) library = step_events (first_unfinished library.requests) library
+happened_in (changes.DeleteStep moment) library =
+    step_events (first_unfinished library.requests) library
 happened_in (changes.SweepStep moment) library = []
 happened_in (changes.PutHook moment hook) library = []
 happened_in (changes.DropHook moment url) library = []
@@ -186,13 +194,17 @@ happened_in (changes.DropHook moment url) library = []
 abbrev pub with_change : Change → Library → Library
 with_change (changes.PutFlow moment flow) library = after_put_flow moment flow library
 with_change (changes.SetFlow moment flow part) library = after_set_flow moment flow part library
-with_change (changes.SetSource moment source part) library = after_set_source_part moment source part library
+with_change (changes.SetSource moment source part) library =
+    after_set_source_part moment source part library
 with_change (changes.DropFlow moment flow) library = after_drop_flow moment flow library
 with_change (changes.Allocate moment flow objects) library = after_allocate moment objects library
-with_change (changes.Store moment object start size) library = after_store moment object start size library
-with_change (changes.AddSegments moment flow segments) library = after_add moment flow segments library
+with_change (changes.Store moment object start size) library =
+    after_store moment object start size library
+with_change (changes.AddSegments moment flow segments) library =
+    after_add moment flow segments library
 with_change (changes.CutSegments moment flow range) library = after_cut moment flow range library
-with_change (changes.AskDelete moment flow range delete_flow) library = after_ask moment flow range delete_flow library
+with_change (changes.AskDelete moment flow range delete_flow) library =
+    after_ask moment flow range delete_flow library
 with_change (changes.DeleteStep moment) library = after_delete_step moment library
 with_change (changes.SweepStep moment) library = after_sweep moment library
 with_change (changes.PutHook moment hook) library = after_hook hook library
@@ -216,4 +228,5 @@ moment_of (changes.DropHook moment url) = moment
 
 -- what a change makes of a library: its rows, and then its events with the serials behind theirs
 abbrev pub after : Change → Library → Library
-after change library = with_happened (happened_in change library) (moment_of change) (with_change change library)
+after change library =
+    with_happened (happened_in change library) (moment_of change) (with_change change library)

@@ -15,7 +15,8 @@ is_kept flows id = list_any (λ row. row.body.id == id) flows
 
 -- the first collected flow that is neither kept nor the flow itself
 abbrev pub first_missing : List FlowRow → ℕ → List Member → Option ℕ
-first_missing flows id members = find (λ to. not ((to == id) || is_kept flows to)) (member_ids members)
+first_missing flows id members =
+    find (λ to. not ((to == id) || is_kept flows to)) (member_ids members)
 
 -- the flows that one row collects, where it is among these
 abbrev pub collected_by_row : List ℕ → FlowRow → List ℕ
@@ -34,8 +35,8 @@ abbrev pub reached : ℕ → List FlowRow → List ℕ → List ℕ
 reached zero flows ids = ids
 reached (suc steps) flows ids = one_step flows (reached steps flows ids)
 
--- Whether a flow with these entries reaches itself through collections. As many steps as there are flows
--- are enough, which a law shows.
+-- Whether a flow with these entries reaches itself through collections. As many steps as there are
+-- flows are enough, which a law shows.
 abbrev pub collects_itself : List FlowRow → ℕ → List Member → Bool
 collects_itself flows id members = has_number id (reached (length flows) flows (member_ids members))
 
@@ -49,7 +50,8 @@ pub record Collects (flows : List FlowRow) (from to : ℕ) : Type 0 where
 -- a way through collections leads from one flow to another, or they are the same
 pub data Reaches (flows : List FlowRow) (to : ℕ) : ℕ → Type 0 where
   there : (from : ℕ) → from ≡ to → Reaches flows to from
-  through : (from next : ℕ) → Collects flows from next → Reaches flows to next → Reaches flows to from
+  through : (from next : ℕ) → Collects flows from next → Reaches flows to next
+      → Reaches flows to from
 
 -- a way leads from one of these entries to a flow
 pub record AnyReaches (flows : List FlowRow) (members : List Member) (to : ℕ) : Type 0 where
@@ -59,4 +61,6 @@ pub record AnyReaches (flows : List FlowRow) (members : List Member) (to : ℕ) 
 
 -- a row without its entries of a flow
 abbrev pub without_entries : ℕ → FlowRow → FlowRow
-without_entries id row = record row { body = record row.body { members = filter (λ m. not (m.flow == id)) row.body.members } }
+without_entries id row =
+    let left = filter (λ m. not (m.flow == id)) row.body.members in
+    record row { body = record row.body { members = left } }

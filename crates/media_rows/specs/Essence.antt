@@ -1,4 +1,5 @@
--- Texts, and the essence text of a flow: what its client says of the media, kept whole (our own rule).
+-- Texts, and the essence text of a flow: what its client says of the media, kept whole (our own
+-- rule).
 use Rattle.std.specs.Prelude.{ℕ, List, Bool, true, false, not, ◌&&◌, Option, Some, None, bytes_eq}
 use Rattle.std.specs.Str.{is_utf8}
 use Rattle.serde_json.specs.Data.{Data, null, boolean, number, string, array, object}
@@ -14,10 +15,11 @@ is_object (string s) = false
 is_object (array ds) = false
 is_object (object ms) = true
 
--- the value is an object, each of its numbers is a whole number of 64 bits, and its compact text, in which
--- each object has its keys in byte order, is this one
+-- the value is an object, each of its numbers is a whole number of 64 bits, and its compact text,
+-- in which each object has its keys in byte order, is this one
 abbrev pub is_essence_value : List ℕ → Data → Bool
-is_essence_value text value = is_object value && not (has_float value) && bytes_eq (compact_text value) text
+is_essence_value text value =
+    is_object value && not (has_float value) && bytes_eq (compact_text value) text
 
 -- the same of what was read, if anything was
 abbrev pub is_essence_read : List ℕ → Option Data → Bool

@@ -1,7 +1,8 @@
--- Formats, events and states of a request by number and by name: two are equal exactly where their numbers are.
--- The numbers are those of the file, which is our own rule. The names are those of bodies, queries and answers:
--- URNs of formats are NMOS's and TAMS's, and the names of events are our own profile's.
-use Rattle.std.specs.Prelude.{ℕ, Bool, true, false, List, codes}
+-- Formats, events and states of a request by number and by name: two are equal exactly where their
+-- numbers are. The numbers are those of the file, which is our own rule. The names are those of
+-- bodies, queries and answers: URNs of formats are NMOS's and TAMS's, and the names of events are
+-- our own profile's.
+use Rattle.std.specs.Prelude.{ℕ, Bool, true, false, List, [], ◌∷◌, codes}
 use Rattle.media_rows.specs.declared.flow.FormatKind.{FormatKind}
 use Rattle.media_rows.specs.declared.flow.FormatKind.TheVariants.{Video, Audio, DataEssence, Multi, Image}
 use Rattle.media_rows.specs.declared.event.EventKind.{EventKind}
@@ -33,6 +34,20 @@ abbrev pub status_number : DeleteStatus → ℕ
 status_number Created = 1
 status_number Started = 2
 status_number Done = 3
+
+-- each format
+abbrev pub all_formats : List FormatKind
+all_formats = Video ∷ Audio ∷ DataEssence ∷ Multi ∷ Image ∷ []
+
+-- each kind of event
+abbrev pub all_events : List EventKind
+all_events =
+    FlowCreated ∷ FlowUpdated ∷ FlowDeleted ∷ SegmentsAdded ∷ SegmentsDeleted
+    ∷ SourceCreated ∷ SourceUpdated ∷ SourceDeleted ∷ []
+
+-- each state of a delete request
+abbrev pub all_statuses : List DeleteStatus
+all_statuses = Created ∷ Started ∷ Done ∷ []
 
 -- ---- names
 

@@ -1,5 +1,5 @@
--- What is true of each library that the store comes to, in nine parts, each a test of the whole library. Our
--- own rules.
+-- What is true of each library that the store comes to, in nine parts, each a test of the whole
+-- library. Our own rules.
 use Rattle.std.specs.Prelude.{ℕ, ◌+◌, ◌==◌, nat_lt, nat_le, List, Bool, true, false, not, ◌&&◌, ◌||◌, IsTrue, Option, Some, None, map}
 use Rattle.std.specs.List.{list_any, list_all}
 use Rattle.std.specs.Str.{is_utf8}
@@ -39,31 +39,36 @@ is_segment_good flows row = has_both_ends row.segment.range && is_kept flows row
 
 -- segments of one flow never overlap; each is bounded, isn't never, and belongs to a kept flow
 abbrev pub are_segments_good : List FlowRow → List SegmentRow → Bool
-are_segments_good flows segments = each_pair are_compatible segments && list_all (is_segment_good flows) segments
+are_segments_good flows segments =
+    each_pair are_compatible segments && list_all (is_segment_good flows) segments
 
 -- ---- 2. references
 
 -- each object that a segment names is kept and stored
 abbrev pub are_references_good : List ObjectRow → List SegmentRow → Bool
-are_references_good objects segments = list_all (λ row. is_stored_object objects row.segment.object) segments
+are_references_good objects segments =
+    list_all (λ row. is_stored_object objects row.segment.object) segments
 
 -- ---- 3. extents
 
 -- an extent lies within the media blocks, and one without bytes begins at block 0
 abbrev pub is_extent_good : ℕ → ObjectState → Bool
 is_extent_good blocks Allocated = true
-is_extent_good blocks (Stored start size) = nat_le (start + blocks_of size) blocks && (nat_lt 0 size || (start == 0))
+is_extent_good blocks (Stored start size) =
+    nat_le (start + blocks_of size) blocks && (nat_lt 0 size || (start == 0))
 
 -- two states have no block in common
 abbrev pub are_states_apart : ObjectState → ObjectState → Bool
 are_states_apart Allocated other = true
 are_states_apart (Stored start size) Allocated = true
-are_states_apart (Stored start size) (Stored other_start other_size) = are_apart start (blocks_of size) other_start (blocks_of other_size)
+are_states_apart (Stored start size) (Stored other_start other_size) =
+    are_apart start (blocks_of size) other_start (blocks_of other_size)
 
 -- extents of stored objects are disjoint and lie within the media blocks
 abbrev pub are_extents_good : ℕ → List ObjectRow → Bool
 are_extents_good blocks objects =
-    each_pair (λ a b. are_states_apart a.state b.state) objects && list_all (λ row. is_extent_good blocks row.state) objects
+    each_pair (λ a b. are_states_apart a.state b.state) objects
+    && list_all (λ row. is_extent_good blocks row.state) objects
 
 -- ---- 4. names, serials and order
 
@@ -83,7 +88,8 @@ are_serials_in_order library =
 -- serials are at least 1, distinct over all lists, and below the next one, which has a limit
 abbrev pub are_serials_good : ℕ → List ℕ → Bool
 are_serials_good next serials =
-    are_distinct serials && list_all (λ serial. nat_le 1 serial && nat_lt serial next) serials && nat_le 1 next && nat_le next last_serial
+    are_distinct serials && list_all (λ serial. nat_le 1 serial && nat_lt serial next) serials
+    && nat_le 1 next && nat_le next last_serial
 
 -- sources and flows stand by rising id, and so each id once
 abbrev pub is_catalog_in_order : Catalog → Bool
@@ -116,14 +122,16 @@ fits_kept (Some source) row = fits_format source.format row.body.format
 -- and each source has a flow
 abbrev pub are_sources_good : Catalog → Bool
 are_sources_good catalog =
-    list_all (λ row. fits_kept (source_of row.body.source catalog.sources) row) catalog.flows && list_all (has_flow catalog.flows) catalog.sources
+    list_all (λ row. fits_kept (source_of row.body.source catalog.sources) row) catalog.flows
+    && list_all (has_flow catalog.flows) catalog.sources
 
 -- ---- 6. collections
 
 -- each flow that this one collects is kept, and no way through collections leads back to it
 abbrev pub is_collection_good : List FlowRow → FlowRow → Bool
 is_collection_good flows row =
-    list_all (is_kept flows) (member_ids row.body.members) && not (collects_itself flows row.body.id row.body.members)
+    list_all (is_kept flows) (member_ids row.body.members)
+    && not (collects_itself flows row.body.id row.body.members)
 
 -- each collected flow is kept, and no flow reaches itself
 abbrev pub are_collections_good : List FlowRow → Bool
@@ -133,14 +141,17 @@ are_collections_good flows = list_all (is_collection_good flows) flows
 
 -- each segment of the flow was there before the request
 abbrev pub is_after_segments : List SegmentRow → DeleteRow → Bool
-is_after_segments segments row = list_all (λ s. not (s.flow == row.flow) || nat_lt s.serial row.serial) segments
+is_after_segments segments row =
+    list_all (λ s. not (s.flow == row.flow) || nat_lt s.serial row.serial) segments
 
--- an unfinished request's flow is kept; one that deletes its flow has all of the line as its range, and was
--- asked for after each of the flow's segments
+-- an unfinished request's flow is kept; one that deletes its flow has all of the line as its range,
+-- and was asked for after each of the flow's segments
 abbrev pub is_request_good : List FlowRow → List SegmentRow → DeleteRow → Bool
 is_request_good flows segments row =
     not (is_unfinished row)
-    || (is_kept flows row.flow && (not row.delete_flow || (is_eternity row.range && is_after_segments segments row)))
+    ||
+    (is_kept flows row.flow
+    && (not row.delete_flow || (is_eternity row.range && is_after_segments segments row)))
 
 -- and at most 64 requests are done
 abbrev pub are_requests_good : List FlowRow → List SegmentRow → List DeleteRow → Bool
@@ -156,11 +167,14 @@ has_hook hooks event = list_any (λ row. row.serial == event.hook) hooks
 -- a hook has at most the most waiting events, and one with so many has failed
 abbrev pub is_hook_good : List EventRow → HookRow → Bool
 is_hook_good events row =
-    nat_le (waiting_count row.serial events) most_waiting && (nat_lt (waiting_count row.serial events) most_waiting || row.failed)
+    nat_le (waiting_count row.serial events) most_waiting
+    && (nat_lt (waiting_count row.serial events) most_waiting || row.failed)
 
 -- and each event's hook is kept
 abbrev pub is_outbox_good : Outbox → Bool
-is_outbox_good outbox = list_all (has_hook outbox.hooks) outbox.events && list_all (is_hook_good outbox.events) outbox.hooks
+is_outbox_good outbox =
+    list_all (has_hook outbox.hooks) outbox.events
+    && list_all (is_hook_good outbox.events) outbox.hooks
 
 -- ---- 9. texts and moments
 
@@ -181,13 +195,16 @@ is_member_text m = if_there is_utf8 m.role
 abbrev pub is_body_text : FlowBody → Bool
 is_body_text body =
     if_there is_utf8 body.codec && if_there is_utf8 body.container && if_there is_utf8 body.label
-    && if_there is_utf8 body.description && list_all is_tag_text body.tags && list_all is_member_text body.members
+    && if_there is_utf8 body.description && list_all is_tag_text body.tags
+    && list_all is_member_text body.members
     && if_there is_essence body.essence
 
--- a flow's texts are good, and so are the moments of its making, of its last change and of its segments
+-- a flow's texts are good, and so are the moments of its making, of its last change and of its
+-- segments
 abbrev pub is_flow_text : FlowRow → Bool
 is_flow_text row =
-    is_body_text row.body && is_moment row.created && is_moment row.metadata_updated && if_there is_moment row.segments_updated
+    is_body_text row.body && is_moment row.created && is_moment row.metadata_updated
+    && if_there is_moment row.segments_updated
 
 -- a source's texts are UTF-8, and the moments of its making and of its last change are moments
 abbrev pub is_source_text : SourceRow → Bool
@@ -205,14 +222,16 @@ is_request_text row = is_moment row.created && is_moment row.updated
 
 -- a hook's address is UTF-8, and so are the name and the value of its key, where they are there
 abbrev pub is_hook_text : HookRow → Bool
-is_hook_text row = is_utf8 row.hook.url && if_there is_utf8 row.hook.key_name && if_there is_utf8 row.hook.key_value
+is_hook_text row =
+    is_utf8 row.hook.url && if_there is_utf8 row.hook.key_name
+    && if_there is_utf8 row.hook.key_value
 
 -- an event has no text; when it happened is a moment
 abbrev pub is_event_text : EventRow → Bool
 is_event_text row = is_moment row.moment
 
--- Texts are UTF-8, object ids have their form, essence texts are such, and moments lie in their range. A
--- segment's own text is the id of a kept object, by part 2.
+-- Texts are UTF-8, object ids have their form, essence texts are such, and moments lie in their
+-- range. A segment's own text is the id of a kept object, by part 2.
 abbrev pub are_texts_good : Library → Bool
 are_texts_good library =
     list_all is_source_text library.catalog.sources

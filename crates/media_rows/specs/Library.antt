@@ -1,5 +1,6 @@
--- The library: what the store keeps, without the bytes of its objects, which stand beside it as a list along
--- the objects. Sources and flows stand by id and all else by serial, so equal libraries are equal lists.
+-- The library: what the store keeps, without the bytes of its objects, which stand beside it as a
+-- list along the objects. Sources and flows stand by id and all else by serial, so equal libraries
+-- are equal lists.
 use Rattle.std.specs.Prelude.{ℕ, List, [], ◌++◌, map}
 use Rattle.media_rows.specs.declared.event.Happened.{Happened}
 use Rattle.media_rows.specs.declared.object.ObjectRow.{ObjectRow}
@@ -8,8 +9,8 @@ use Rattle.media_rows.specs.declared.segment.SegmentRow.{SegmentRow}
 use Rattle.media_rows.specs.Catalog.{Catalog}
 use Rattle.media_rows.specs.Outbox.{Outbox, Posted, after_post}
 
--- the store's id, the number of its media blocks, its rows of each kind, and the serial that the next new row
--- of a kind with serials gets
+-- the store's id, the number of its media blocks, its rows of each kind, and the serial that the
+-- next new row of a kind with serials gets
 pub record Library : Type 0 where
   pub id : ℕ
   pub blocks : ℕ
@@ -44,7 +45,9 @@ with_posted posted library = record library { outbox = posted.outbox; next_seria
 -- the library once these things happened at a moment: their events wait, with the next serials
 abbrev pub with_happened : List Happened → ℕ → Library → Library
 with_happened happened moment library =
-    with_posted (after_post happened moment (record { outbox = library.outbox; next = library.next_serial })) library
+    with_posted
+    (after_post happened moment (record { outbox = library.outbox; next = library.next_serial }))
+    library
 
 -- all serials of a library
 abbrev pub serials_of : Library → List ℕ

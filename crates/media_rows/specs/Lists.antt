@@ -87,7 +87,8 @@ is_past (Some after) backwards key = if backwards then int_lt key after else int
 
 -- the items of a list by rising keys that lie behind the page's key, in the page's direction
 abbrev pub items_past : {X : Type 0} → (X → ℤ) → Page → List X → List X
-items_past key page xs = filter (λ x. is_past page.after page.reverse (key x)) (if page.reverse then reverse xs else xs)
+items_past key page xs =
+    filter (λ x. is_past page.after page.reverse (key x)) (if page.reverse then reverse xs else xs)
 
 -- the items of a page: the first so many of those
 abbrev pub page_items : {X : Type 0} → (X → ℤ) → Page → List X → List X
@@ -99,6 +100,9 @@ last_key key [] = None
 last_key key (x ∷ []) = Some (key x)
 last_key key (x ∷ y ∷ ys) = last_key key (y ∷ ys)
 
--- the key after which the next page begins: that of the page's last item, where a further item lies behind
+-- the key after which the next page begins: that of the page's last item, where a further item lies
+-- behind
 abbrev pub next_key : {X : Type 0} → (X → ℤ) → Page → List X → Option ℤ
-next_key key page xs = if nat_lt page.limit (length (items_past key page xs)) then last_key key (page_items key page xs) else None
+next_key key page xs =
+    if nat_lt page.limit (length (items_past key page xs))
+    then last_key key (page_items key page xs) else None

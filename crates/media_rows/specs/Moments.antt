@@ -1,5 +1,5 @@
--- Moments: whole seconds since 1970-01-01T00:00:00Z, and their text in the form of RFC 3339 with `Z`. The
--- calendar is the proleptic Gregorian one, and no day has a leap second.
+-- Moments: whole seconds since 1970-01-01T00:00:00Z, and their text in the form of RFC 3339 with
+-- `Z`. The calendar is the proleptic Gregorian one, and no day has a leap second.
 use Rattle.std.specs.Prelude.{ℕ, zero, suc, ◌+◌, ◌/◌, ◌%◌, List, [], ◌∷◌, ◌++◌, Bool, nat_lt, nat_le, if◌then◌else◌, pos}
 use Rattle.jiff_core.specs.Calendar.{days_in_month}
 
@@ -20,7 +20,8 @@ pub record CivilDate : Type 0 where
 -- the date of the day after
 abbrev pub next_date : CivilDate → CivilDate
 next_date d =
-    if nat_lt d.day (days_in_month (pos d.year) d.month) then record { year = d.year; month = d.month; day = d.day + 1 }
+    if nat_lt d.day (days_in_month (pos d.year) d.month)
+    then record { year = d.year; month = d.month; day = d.day + 1 }
     else if nat_lt d.month 12 then record { year = d.year; month = d.month + 1; day = 1 }
     else record { year = d.year + 1; month = 1; day = 1 }
 
@@ -35,12 +36,15 @@ two_digits n = (48 + n / 10) ∷ (48 + n % 10) ∷ []
 
 -- a date: the year in four digits, the month and the day in two, with hyphens between
 unfoldable pub date_text : CivilDate → List ℕ
-date_text d = two_digits (d.year / 100) ++ two_digits (d.year % 100) ++ 45 ∷ two_digits d.month ++ 45 ∷ two_digits d.day
+date_text d =
+    two_digits (d.year / 100) ++ two_digits (d.year % 100) ++ 45 ∷ two_digits d.month
+    ++ 45 ∷ two_digits d.day
 
 -- the time of a day behind its date, from the seconds since the day began
 unfoldable pub clock_text : ℕ → List ℕ
 clock_text seconds =
-    84 ∷ two_digits (seconds / 3600) ++ 58 ∷ two_digits (seconds / 60 % 60) ++ 58 ∷ two_digits (seconds % 60) ++ 90 ∷ []
+    84 ∷ two_digits (seconds / 3600) ++ 58 ∷ two_digits (seconds / 60 % 60)
+    ++ 58 ∷ two_digits (seconds % 60) ++ 90 ∷ []
 
 -- the text of a moment
 unfoldable pub moment_text : ℕ → List ℕ

@@ -1,5 +1,5 @@
--- Media objects by rising serial: what refers to them, where their bytes lie, which are due to be swept, and
--- what each change of them makes. Our own rules.
+-- Media objects by rising serial: what refers to them, where their bytes lie, which are due to be
+-- swept, and what each change of them makes. Our own rules.
 use Rattle.std.specs.Prelude.{ℕ, ◌+◌, ◌/◌, ◌==◌, nat_lt, nat_le, List, [], ◌∷◌, Bool, true, false, not, ◌&&◌, ◌||◌, Option, Some, None, if◌then◌else◌, filter, map, find, take, length, bytes_eq}
 use Rattle.std.specs.List.{list_any, list_all}
 use Rattle.media_rows.specs.declared.object.ObjectRow.{ObjectRow}
@@ -44,7 +44,8 @@ is_named segments object = list_any (λ row. bytes_eq row.segment.object object)
 
 -- the flows whose segments name the object, by rising id, each once
 abbrev pub flows_naming : List SegmentRow → List ℕ → List ℕ
-flows_naming segments object = placed_all nat_lt (map (λ row. row.flow) (references segments object))
+flows_naming segments object =
+    placed_all nat_lt (map (λ row. row.flow) (references segments object))
 
 -- ---- places of media blocks, each of 4,096 bytes
 
@@ -54,16 +55,19 @@ blocks_of bytes = (bytes + 4095) / 4096
 
 -- two places of so many blocks have no block in common
 abbrev pub are_apart : ℕ → ℕ → ℕ → ℕ → Bool
-are_apart start count other_start other_count = nat_le (start + count) other_start || nat_le (other_start + other_count) start
+are_apart start count other_start other_count =
+    nat_le (start + count) other_start || nat_le (other_start + other_count) start
 
 -- no stored object has a block of this place
 abbrev pub is_clear_of : ℕ → ℕ → ObjectState → Bool
 is_clear_of start count Allocated = true
-is_clear_of start count (Stored other_start size) = are_apart start count other_start (blocks_of size)
+is_clear_of start count (Stored other_start size) =
+    are_apart start count other_start (blocks_of size)
 
 -- the place lies within the media blocks and is free
 abbrev pub is_free : List ObjectRow → ℕ → ℕ → ℕ → Bool
-is_free objects blocks count start = nat_le (start + count) blocks && list_all (λ row. is_clear_of start count row.state) objects
+is_free objects blocks count start =
+    nat_le (start + count) blocks && list_all (λ row. is_clear_of start count row.state) objects
 
 -- the least free place for so many blocks, where there is one; no blocks are placed at 0
 abbrev pub free_place : List ObjectRow → ℕ → ℕ → Option ℕ
@@ -72,10 +76,13 @@ free_place objects blocks count =
 
 -- ---- what changes make
 
--- the rows of an allocation, without bytes and idle since this moment, with rising serials in list order
+-- the rows of an allocation, without bytes and idle since this moment, with rising serials in list
+-- order
 abbrev pub allocated_rows : ℕ → ℕ → List (List ℕ) → List ObjectRow
 allocated_rows serial moment [] = []
-allocated_rows serial moment (id ∷ later) = record { id = id; serial = serial; state = Allocated; idle_since = moment } ∷ allocated_rows (serial + 1) moment later
+allocated_rows serial moment (id ∷ later) =
+    record { id = id; serial = serial; state = Allocated; idle_since = moment }
+    ∷ allocated_rows (serial + 1) moment later
 
 -- an object with its bytes at a place, idle since this moment
 abbrev pub stored_row : ℕ → ℕ → ℕ → ObjectRow → ObjectRow
@@ -89,7 +96,8 @@ with_bytes id start size moment objects =
 -- an object that loses its last reference is idle since this moment
 abbrev pub idled_row : List SegmentRow → List SegmentRow → ℕ → ObjectRow → ObjectRow
 idled_row before after moment row =
-    if is_named before row.id && not (is_named after row.id) then record row { idle_since = moment } else row
+    if is_named before row.id
+    && not (is_named after row.id) then record row { idle_since = moment } else row
 
 -- the objects once segments went; an object that was named by none before stays as it was
 abbrev pub idled : List SegmentRow → List SegmentRow → ℕ → List ObjectRow → List ObjectRow
@@ -107,15 +115,18 @@ sweep_size = 16
 
 -- no segment names the object, and its time is over
 abbrev pub is_due : List SegmentRow → ℕ → ObjectRow → Bool
-is_due segments moment row = not (is_named segments row.id) && nat_le (row.idle_since + idle_time) moment
+is_due segments moment row =
+    not (is_named segments row.id) && nat_le (row.idle_since + idle_time) moment
 
 -- by idle moment, then by serial
 abbrev pub idles_before : ObjectRow → ObjectRow → Bool
-idles_before a b = nat_lt a.idle_since b.idle_since || ((a.idle_since == b.idle_since) && nat_lt a.serial b.serial)
+idles_before a b =
+    nat_lt a.idle_since b.idle_since || ((a.idle_since == b.idle_since) && nat_lt a.serial b.serial)
 
 -- the objects that are due, in the order in which they go
 abbrev pub due_objects : List SegmentRow → List ObjectRow → ℕ → List ObjectRow
-due_objects segments objects moment = in_order idles_before (filter (is_due segments moment) objects)
+due_objects segments objects moment =
+    in_order idles_before (filter (is_due segments moment) objects)
 
 -- the objects that the next sweep removes
 abbrev pub swept_objects : List SegmentRow → List ObjectRow → ℕ → List ObjectRow
@@ -123,7 +134,8 @@ swept_objects segments objects moment = take sweep_size (due_objects segments ob
 
 -- the objects without these, which are known by their serials
 abbrev pub without_objects : List ObjectRow → List ObjectRow → List ObjectRow
-without_objects gone objects = filter (λ row. not (list_any (λ other. other.serial == row.serial) gone)) objects
+without_objects gone objects =
+    filter (λ row. not (list_any (λ other. other.serial == row.serial) gone)) objects
 
 -- ---- the bytes of objects, which stand beside a library as a list along its objects
 
@@ -143,4 +155,5 @@ are_bytes_of (row ∷ rows) (bytes ∷ more) = fits_state row.state bytes && are
 abbrev pub bytes_of : List ℕ → List ObjectRow → List (List ℕ) → List ℕ
 bytes_of id [] all = []
 bytes_of id (row ∷ rows) [] = []
-bytes_of id (row ∷ rows) (bytes ∷ more) = if bytes_eq row.id id then bytes else bytes_of id rows more
+bytes_of id (row ∷ rows) (bytes ∷ more) =
+    if bytes_eq row.id id then bytes else bytes_of id rows more

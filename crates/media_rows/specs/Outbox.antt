@@ -1,5 +1,5 @@
--- The outbox: webhooks and the events that wait for them, each by rising serial. Our own profile of the
--- Time-addressable Media Store.
+-- The outbox: webhooks and the events that wait for them, each by rising serial. Our own profile of
+-- the Time-addressable Media Store.
 use Rattle.std.specs.Prelude.{ℕ, ◌+◌, ◌==◌, nat_le, List, [], ◌∷◌, ◌++◌, Bool, true, false, not, ◌&&◌, ◌||◌, Option, Some, None, filter, map, find, length, bytes_eq}
 use Rattle.std.specs.List.{list_any}
 use Rattle.media_rows.specs.declared.event.EventKind.{EventKind}
@@ -58,9 +58,9 @@ abbrev pub admits : Option (List ℕ) → ℕ → Bool
 admits None id = true
 admits (Some ids) id = has_number id ids
 
--- A hook takes what its list of events names. For an event of a flow its list of flows, where there is one,
--- has the flow; and for each event its list of sources, where there is one, has the source. A hook that has
--- failed takes nothing.
+-- A hook takes what its list of events names. For an event of a flow its list of flows, where there
+-- is one, has the flow; and for each event its list of sources, where there is one, has the source.
+-- A hook that has failed takes nothing.
 abbrev pub takes : Happened → HookRow → Bool
 takes happened row =
     not row.failed
@@ -84,30 +84,39 @@ event_row happened moment row serial = record {
 -- the events that one happening makes: one for each hook that takes it, with rising serials
 abbrev pub events_for : Happened → ℕ → ℕ → List HookRow → List EventRow
 events_for happened moment serial [] = []
-events_for happened moment serial (row ∷ later) = event_row happened moment row serial ∷ events_for happened moment (serial + 1) later
+events_for happened moment serial (row ∷ later) =
+    event_row happened moment row serial ∷ events_for happened moment (serial + 1) later
 
 -- the events of one happening for the hooks that take it, by rising serial of the hooks
 abbrev pub new_events : Happened → ℕ → ℕ → List HookRow → List EventRow
-new_events happened moment serial hooks = events_for happened moment serial (filter (takes happened) hooks)
+new_events happened moment serial hooks =
+    events_for happened moment serial (filter (takes happened) hooks)
 
 -- a hook for which the most events wait has failed
 abbrev pub marked : List EventRow → HookRow → HookRow
-marked events row = record row { failed = row.failed || nat_le most_waiting (waiting_count row.serial events) }
+marked events row =
+    record row { failed = row.failed || nat_le most_waiting (waiting_count row.serial events) }
 
 -- the outbox once these events wait too
 abbrev pub with_events : List EventRow → Outbox → Outbox
-with_events new outbox = record { hooks = map (marked (outbox.events ++ new)) outbox.hooks; events = outbox.events ++ new }
+with_events new outbox =
+    record {
+      hooks = map (marked (outbox.events ++ new)) outbox.hooks;
+      events = outbox.events ++ new;
+    }
 
 -- the outbox once one thing happened: its events wait, and hooks that are full have failed
 abbrev pub after_one : Happened → ℕ → ℕ → Outbox → Outbox
-after_one happened moment serial outbox = with_events (new_events happened moment serial outbox.hooks) outbox
+after_one happened moment serial outbox =
+    with_events (new_events happened moment serial outbox.hooks) outbox
 
 -- an outbox and the next serial
 pub record Posted : Type 0 where
   pub outbox : Outbox
   pub next : ℕ
 
--- happenings one after the other, each to the hooks by rising serial, with the next serials in that order
+-- happenings one after the other, each to the hooks by rising serial, with the next serials in that
+-- order
 abbrev pub after_post : List Happened → ℕ → Posted → Posted
 after_post [] moment posted = posted
 after_post (happened ∷ later) moment posted =
@@ -136,4 +145,7 @@ hook_row hook serial = record { serial = serial; hook = hook; failed = false }
 -- the hook in place of the one of its address, whose events go
 abbrev pub after_put_hook : Hook → ℕ → Outbox → Outbox
 after_put_hook hook serial outbox =
-    record (after_drop_hook hook.url outbox) { hooks = (after_drop_hook hook.url outbox).hooks ++ hook_row hook serial ∷ [] }
+    record
+    (after_drop_hook hook.url outbox) {
+      hooks = (after_drop_hook hook.url outbox).hooks ++ hook_row hook serial ∷ [];
+    }

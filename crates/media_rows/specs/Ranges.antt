@@ -1,5 +1,6 @@
--- Ranges as tests on their ends: whether two overlap, whether one covers another, and the least that covers
--- two. `Overlap`, `Covers` and what a hull is are defined on points by the crate of ranges; laws tie the two.
+-- Ranges as tests on their ends: whether two overlap, whether one covers another, and the least
+-- that covers two. `Overlap`, `Covers` and what a hull is are defined on points by the crate of
+-- ranges; laws tie the two.
 use Rattle.std.specs.Prelude.{ℤ, int_le, List, [], ◌∷◌, Bool, true, false, ◌&&◌, Option, Some, None, is_some, is_none}
 use Rattle.std.specs.Int.{int_min, int_max}
 use Rattle.time_range.specs.declared.ranges.Span.{Span}
@@ -28,7 +29,8 @@ overlaps (Some a) (Some b) = are_ordered a.low b.high && are_ordered b.low a.hig
 abbrev pub covers : Option Span → Option Span → Bool
 covers outer None = true
 covers None (Some inner) = false
-covers (Some outer) (Some inner) = reaches_down outer.low inner.low && reaches_up outer.high inner.high
+covers (Some outer) (Some inner) =
+    reaches_down outer.low inner.low && reaches_up outer.high inner.high
 
 -- the lower of two low ends, and the higher of two high ends, where an open end goes furthest
 abbrev pub lower : Option ℤ → Option ℤ → Option ℤ

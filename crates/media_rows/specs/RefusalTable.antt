@@ -1,6 +1,7 @@
--- The table of refusals: each one's number, its status as an answer (RFC 9110, section 15) and its name. The
--- numbers give the order in which those of one request are looked for, up to the library's own rules, whose order
--- each command has for itself. Our own profile of the Time-addressable Media Store.
+-- The table of refusals: each one's number, its status as an answer (RFC 9110, section 15) and its
+-- name. The numbers give the order in which those of one request are looked for, up to the
+-- library's own rules, whose order each command has for itself. Our own profile of the
+-- Time-addressable Media Store.
 use Rattle.std.specs.Prelude.{ℕ, List, codes}
 use Rattle.media_rows.specs.declared.refusal.Refusal.{Refusal}
 use Rattle.media_rows.specs.declared.refusal.Refusal.TheVariants as refusals

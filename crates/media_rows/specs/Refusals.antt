@@ -16,14 +16,15 @@ abbrev pub first_refusal : List (Option Refusal) → Option Refusal
 first_refusal [] = None
 first_refusal (refusal ∷ later) = or_else refusal (first_refusal later)
 
--- A change of a book gives the next value exactly where nothing is refused, and otherwise that refusal. Want
--- of memory may stand at any place.
+-- A change of a book gives the next value exactly where nothing is refused, and otherwise that
+-- refusal. Want of memory may stand at any place.
 abbrev pub IsChange : {T : Type 0} → Option Refusal → T → Result T BookFault → Type 0
 IsChange refusal next (Ok value) = (refusal ≡ None) × (value ≡ next)
 IsChange refusal next (Err (books.Refused why)) = refusal ≡ Some why
 IsChange refusal next (Err books.Memory) = Unit {0}
 
--- A book that is made from rows has just these where they are good, and is refused exactly where they aren't.
+-- A book that is made from rows has just these where they are good, and is refused exactly where
+-- they aren't.
 abbrev pub Restores : {T : Type 0} → Bool → T → Result T ApplyFault → Type 0
 Restores good rows (Ok value) = IsTrue good × (value ≡ rows)
 Restores good rows (Err faults.Refused) = IsFalse good

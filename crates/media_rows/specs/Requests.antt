@@ -36,7 +36,8 @@ first_unfinished requests = find is_unfinished requests
 
 -- an unfinished request deletes the flow
 abbrev pub is_deleting : List DeleteRow → ℕ → Bool
-is_deleting requests flow = list_any (λ row. is_unfinished row && row.delete_flow && (row.flow == flow)) requests
+is_deleting requests flow =
+    list_any (λ row. is_unfinished row && row.delete_flow && (row.flow == flow)) requests
 
 -- the number of done requests
 abbrev pub done_count : List DeleteRow → ℕ
@@ -46,7 +47,8 @@ done_count requests = length (filter (λ row. is_done row.status) requests)
 abbrev pub newest_done : List DeleteRow → List DeleteRow
 newest_done [] = []
 newest_done (row ∷ later) =
-    if is_done row.status && nat_le done_kept (done_count later) then newest_done later else row ∷ newest_done later
+    if is_done row.status
+    && nat_le done_kept (done_count later) then newest_done later else row ∷ newest_done later
 
 -- a request that is asked for
 abbrev pub asked_row : ℕ → Option Span → Bool → ℕ → ℕ → DeleteRow
@@ -62,10 +64,11 @@ asked_row flow range delete_flow serial moment = record {
 
 -- ---- a step
 
--- the segments on which a request works: those of its flow that its range covers and that were there before
--- it, by rising first point
+-- the segments on which a request works: those of its flow that its range covers and that were
+-- there before it, by rising first point
 abbrev pub requested : List SegmentRow → DeleteRow → List SegmentRow
-requested segments request = filter (λ row. nat_lt row.serial request.serial) (covered segments request.flow request.range)
+requested segments request =
+    filter (λ row. nat_lt row.serial request.serial) (covered segments request.flow request.range)
 
 -- those that its next step removes
 abbrev pub removed_by_step : List SegmentRow → DeleteRow → List SegmentRow
@@ -73,7 +76,8 @@ removed_by_step segments request = take step_size (requested segments request)
 
 -- those that its next step leaves
 abbrev pub left_by_step : List SegmentRow → DeleteRow → List SegmentRow
-left_by_step segments request = requested (without_segments (removed_by_step segments request) segments) request
+left_by_step segments request =
+    requested (without_segments (removed_by_step segments request) segments) request
 
 -- nothing is left of what was asked for
 abbrev pub is_finished_by_step : List SegmentRow → DeleteRow → Bool
@@ -81,17 +85,21 @@ is_finished_by_step segments request = length (left_by_step segments request) ==
 
 -- the request after the step
 abbrev pub stepped_row : Bool → ℕ → DeleteRow → DeleteRow
-stepped_row finished moment row = record row { status = if finished then Done else Started; updated = moment }
+stepped_row finished moment row =
+    record row { status = if finished then Done else Started; updated = moment }
 
--- the requests after a step of the one of a serial; of more done ones than are kept, those of least serial go
+-- the requests after a step of the one of a serial; of more done ones than are kept, those of least
+-- serial go
 abbrev pub after_step : ℕ → Bool → ℕ → List DeleteRow → List DeleteRow
 after_step serial finished moment requests =
-    newest_done (map (λ row. if row.serial == serial then stepped_row finished moment row else row) requests)
+    newest_done
+    (map (λ row. if row.serial == serial then stepped_row finished moment row else row) requests)
 
 -- the unfinished requests of a flow that goes become done
 abbrev pub ended_row : ℕ → ℕ → DeleteRow → DeleteRow
 ended_row flow moment row =
-    if is_unfinished row && (row.flow == flow) then record row { status = Done; updated = moment } else row
+    if is_unfinished row
+    && (row.flow == flow) then record row { status = Done; updated = moment } else row
 
 -- the requests once a flow goes; of more done ones than are kept, those of least serial go
 abbrev pub after_end : ℕ → ℕ → List DeleteRow → List DeleteRow

@@ -1,5 +1,5 @@
--- Segments of flows, by rising serial: which of them a question or a request means, and what a post adds.
--- Our own profile of the Time-addressable Media Store.
+-- Segments of flows, by rising serial: which of them a question or a request means, and what a post
+-- adds. Our own profile of the Time-addressable Media Store.
 use Rattle.std.specs.Prelude.{ℕ, ◌+◌, ◌==◌, nat_lt, ℤ, pos, int_lt, List, [], ◌∷◌, Bool, true, false, not, ◌&&◌, ◌||◌, Option, Some, None, unwrap_or, filter, map, bytes_eq}
 use Rattle.std.specs.List.{list_any}
 use Rattle.time_range.specs.Points.{low_of}
@@ -24,7 +24,8 @@ low_before (Some a) (Some b) = int_lt a b
 abbrev pub starts_before : SegmentRow → SegmentRow → Bool
 starts_before a b =
     low_before (low_of a.segment.range) (low_of b.segment.range)
-    || (not (low_before (low_of b.segment.range) (low_of a.segment.range)) && nat_lt a.serial b.serial)
+    ||
+    (not (low_before (low_of b.segment.range) (low_of a.segment.range)) && nat_lt a.serial b.serial)
 
 -- the segments of one flow, by rising serial
 abbrev pub segments_of : ℕ → List SegmentRow → List SegmentRow
@@ -38,20 +39,27 @@ names_object (Some object) row = bytes_eq row.segment.object object
 -- the segments of a flow that overlap a range and name the object, by rising first point
 abbrev pub overlapping : List SegmentRow → ℕ → Option Span → Option (List ℕ) → List SegmentRow
 overlapping segments flow range object =
-    in_order starts_before (filter (λ row. overlaps row.segment.range range && names_object object row) (segments_of flow segments))
+    in_order starts_before
+    (filter (λ row. overlaps row.segment.range range && names_object object row)
+    (segments_of flow segments))
 
--- a page of the segments of a flow that overlap a range and name the object, in the page's direction
-abbrev pub segment_page : List SegmentRow → ℕ → Option Span → Option (List ℕ) → Page → List SegmentRow
-segment_page segments flow range object page = page_items first_point page (overlapping segments flow range object)
+-- a page of the segments of a flow that overlap a range and name the object, in the page's
+-- direction
+abbrev pub segment_page : List SegmentRow → ℕ → Option Span → Option (List ℕ) → Page
+    → List SegmentRow
+segment_page segments flow range object page =
+    page_items first_point page (overlapping segments flow range object)
 
 -- the first point after which the next of these pages begins, where a further segment lies behind
 abbrev pub segment_next_key : List SegmentRow → ℕ → Option Span → Option (List ℕ) → Page → Option ℤ
-segment_next_key segments flow range object page = next_key first_point page (overlapping segments flow range object)
+segment_next_key segments flow range object page =
+    next_key first_point page (overlapping segments flow range object)
 
 -- the segments of a flow that a range wholly covers, by rising first point
 abbrev pub covered : List SegmentRow → ℕ → Option Span → List SegmentRow
 covered segments flow range =
-    in_order starts_before (filter (λ row. covers range row.segment.range) (segments_of flow segments))
+    in_order starts_before
+    (filter (λ row. covers range row.segment.range) (segments_of flow segments))
 
 -- the ranges of segments, one for each
 abbrev pub ranges_of : List SegmentRow → List (Option Span)
@@ -63,9 +71,11 @@ hull_of_segments segments = hull_of (ranges_of segments)
 
 -- the segments without these, which are known by their serials
 abbrev pub without_segments : List SegmentRow → List SegmentRow → List SegmentRow
-without_segments removed segments = filter (λ row. not (list_any (λ gone. gone.serial == row.serial) removed)) segments
+without_segments removed segments =
+    filter (λ row. not (list_any (λ gone. gone.serial == row.serial) removed)) segments
 
 -- the rows of a post: with rising serials from the next one on, in the post's order
 abbrev pub posted : ℕ → ℕ → List Segment → List SegmentRow
 posted flow serial [] = []
-posted flow serial (segment ∷ later) = record { flow = flow; serial = serial; segment = segment } ∷ posted flow (serial + 1) later
+posted flow serial (segment ∷ later) =
+    record { flow = flow; serial = serial; segment = segment } ∷ posted flow (serial + 1) later

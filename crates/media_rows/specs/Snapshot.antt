@@ -1,6 +1,6 @@
--- The rows of a library, in the order in which a snapshot has them: by kind, then sources and flows by id,
--- segments by flow and first point, and all else by serial; the next serial comes last. And the library of such
--- rows. Our own rules.
+-- The rows of a library, in the order in which a snapshot has them: by kind, then sources and flows
+-- by id, segments by flow and first point, and all else by serial; the next serial comes last. And
+-- the library of such rows. Our own rules.
 use Rattle.std.specs.Prelude.{ℕ, ℤ, None, ◌==◌, nat_lt, List, [], ◌∷◌, ◌++◌, Bool, ◌&&◌, ◌||◌, Option, map}
 use Rattle.time_range.specs.Points.{low_of}
 use Rattle.media_rows.specs.declared.event.EventRow.{EventRow}
@@ -58,10 +58,12 @@ abbrev pub row_before : Row → Row → Bool
 row_before a b =
     nat_lt (kind_number a) (kind_number b)
     || ((kind_number a == kind_number b)
-    && (nat_lt (place_number a) (place_number b) || ((place_number a == place_number b) && low_before (place_point a) (place_point b))))
+    &&
+    (nat_lt (place_number a) (place_number b)
+    || ((place_number a == place_number b) && low_before (place_point a) (place_point b))))
 
--- the rows of all that a library keeps; its id and the number of its media blocks follow from the file's
--- header
+-- the rows of all that a library keeps; its id and the number of its media blocks follow from the
+-- file's header
 abbrev pub rows_of : Library → List Row
 rows_of library =
     map rows.Source library.catalog.sources
@@ -95,13 +97,15 @@ with_hook_row row outbox = record outbox { hooks = row ∷ outbox.hooks }
 abbrev pub with_event_row : EventRow → Outbox → Outbox
 with_event_row row outbox = record outbox { events = row ∷ outbox.events }
 
--- A library with one row more, which stands before those of its kind. A segment comes to its place by serial,
--- since a snapshot has segments in another order.
+-- A library with one row more, which stands before those of its kind. A segment comes to its place
+-- by serial, since a snapshot has segments in another order.
 abbrev pub with_row : Row → Library → Library
-with_row (rows.Source row) library = record library { catalog = with_source_row row library.catalog }
+with_row (rows.Source row) library =
+    record library { catalog = with_source_row row library.catalog }
 with_row (rows.Flow row) library = record library { catalog = with_flow_row row library.catalog }
 with_row (rows.Object row) library = record library { objects = row ∷ library.objects }
-with_row (rows.Segment row) library = record library { segments = inserted older row library.segments }
+with_row (rows.Segment row) library =
+    record library { segments = inserted older row library.segments }
 with_row (rows.Request row) library = record library { requests = row ∷ library.requests }
 with_row (rows.Hook row) library = record library { outbox = with_hook_row row library.outbox }
 with_row (rows.Event row) library = record library { outbox = with_event_row row library.outbox }

@@ -1,5 +1,6 @@
--- What a command or a change itself brings, tested apart from what a library refuses: its texts, the ends of
--- its ranges, the ids of its objects, and the place of an object's bytes. Our own rules.
+-- What a command or a change itself brings, tested apart from what a library refuses: its texts,
+-- the ends of its ranges, the ids of its objects, and the place of an object's bytes. Our own
+-- rules.
 use Rattle.std.specs.Prelude.{ℕ, ◌==◌, nat_lt, List, Bool, true, false, not, ◌&&◌, ◌||◌, Option, Some, None}
 use Rattle.std.specs.List.{list_all}
 use Rattle.std.specs.Str.{is_utf8}
@@ -73,8 +74,8 @@ abbrev pub may_keep : Option ObjectRow → Bool → Bool
 may_keep None at_place = true
 may_keep (Some row) at_place = may_take row.state at_place
 
--- What a command brings is good. An object whose bytes are to be stored isn't stored yet, and where it is
--- allocated its place is the least free one.
+-- What a command brings is good. An object whose bytes are to be stored isn't stored yet, and where
+-- it is allocated its place is the least free one.
 abbrev pub is_good_command : Library → Command → Bool
 is_good_command library (commands.PutFlow body) = is_body_text body
 is_good_command library (commands.SetFlow flow part) = is_part_good part
@@ -103,8 +104,8 @@ is_good_command library (commands.Request serial) = true
 
 -- ---- a change
 
--- What a change brings is good. An object without bytes begins at block 0, and a request that deletes its flow
--- has all of the line as its range.
+-- What a change brings is good. An object without bytes begins at block 0, and a request that
+-- deletes its flow has all of the line as its range.
 abbrev pub has_good_values : Change → Bool
 has_good_values (changes.PutFlow moment flow) = is_body_text flow
 has_good_values (changes.SetFlow moment flow part) = is_part_good part
@@ -114,7 +115,8 @@ has_good_values (changes.Allocate moment flow ids) = list_all is_object_id ids
 has_good_values (changes.Store moment object start size) = nat_lt 0 size || (start == 0)
 has_good_values (changes.AddSegments moment flow posts) = are_posts_good posts
 has_good_values (changes.CutSegments moment flow range) = true
-has_good_values (changes.AskDelete moment flow range delete_flow) = not delete_flow || is_eternity range
+has_good_values (changes.AskDelete moment flow range delete_flow) =
+    not delete_flow || is_eternity range
 has_good_values (changes.DeleteStep moment) = true
 has_good_values (changes.SweepStep moment) = true
 has_good_values (changes.PutHook moment hook) = is_new_hook_good hook

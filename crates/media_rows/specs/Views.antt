@@ -75,9 +75,11 @@ passes_tags tags tests = list_all (passes_tag tags) tests
 -- a source has the format and the whole label that are asked for, and its tags pass
 abbrev pub passes_source : SourceFilter → SourceRow → Bool
 passes_source wanted row =
-    matches_format wanted.format row.format && matches_text wanted.label row.label && passes_tags row.tags wanted.tags
+    matches_format wanted.format row.format && matches_text wanted.label row.label
+    && passes_tags row.tags wanted.tags
 
--- a flow has the source, the format and the whole codec and label that are asked for, and its tags pass
+-- a flow has the source, the format and the whole codec and label that are asked for, and its tags
+-- pass
 abbrev pub passes_flow : FlowFilter → FlowRow → Bool
 passes_flow wanted row =
     matches_id wanted.source row.body.source
@@ -89,7 +91,8 @@ passes_flow wanted row =
 -- a segment of the flow overlaps the range, where one is asked for
 abbrev pub passes_range : List SegmentRow → Option (Option Span) → FlowRow → Bool
 passes_range segments None row = true
-passes_range segments (Some range) row = list_any (λ s. overlaps s.segment.range range) (segments_of row.body.id segments)
+passes_range segments (Some range) row =
+    list_any (λ s. overlaps s.segment.range range) (segments_of row.body.id segments)
 
 -- ---- lists
 
@@ -120,15 +123,18 @@ listed_sources library wanted = filter (passes_source wanted) library.catalog.so
 -- the flows that pass, with a segment in the range where one is asked for, by rising id
 abbrev pub listed_flows : Library → FlowFilter → Option (Option Span) → List FlowRow
 listed_flows library wanted range =
-    filter (λ row. passes_flow wanted row && passes_range library.segments range row) library.catalog.flows
+    filter
+    (λ row. passes_flow wanted row && passes_range library.segments range row) library.catalog.flows
 
 -- a flow with the hull of its segments
 abbrev pub shown_flow : List SegmentRow → FlowRow → FlowShown
-shown_flow segments row = record { row = row; hull = hull_of_segments (segments_of row.body.id segments) }
+shown_flow segments row =
+    record { row = row; hull = hull_of_segments (segments_of row.body.id segments) }
 
 -- a hook with the number of its waiting events
 abbrev pub shown_hook : Library → HookRow → HookShown
-shown_hook library row = record { row = row; waiting = waiting_count row.serial library.outbox.events }
+shown_hook library row =
+    record { row = row; waiting = waiting_count row.serial library.outbox.events }
 
 -- ---- parts
 
@@ -158,18 +164,22 @@ abbrev pub flow_part : FlowBody → PartName → Result View Refusal
 flow_part body (names.Tag name) = part_or (tag_part name (tag_of name body.tags)) (codes "tags")
 flow_part body names.Tags = Ok (views.AllTags body.tags)
 flow_part body names.Label = part_or (text_part parts.Label body.label) (codes "label")
-flow_part body names.Description = part_or (text_part parts.Description body.description) (codes "description")
+flow_part body names.Description =
+    part_or (text_part parts.Description body.description) (codes "description")
 flow_part body names.ReadOnly = Ok (views.OnePart (parts.ReadOnly body.read_only))
 flow_part body names.Collection = part_or (collection_part body.members) (codes "flow_collection")
-flow_part body names.MaxBitRate = part_or (rate_part parts.MaxBitRate body.max_bit_rate) (codes "max_bit_rate")
-flow_part body names.AvgBitRate = part_or (rate_part parts.AvgBitRate body.avg_bit_rate) (codes "avg_bit_rate")
+flow_part body names.MaxBitRate =
+    part_or (rate_part parts.MaxBitRate body.max_bit_rate) (codes "max_bit_rate")
+flow_part body names.AvgBitRate =
+    part_or (rate_part parts.AvgBitRate body.avg_bit_rate) (codes "avg_bit_rate")
 
 -- a source has tags, a label and a description alone
 abbrev pub source_part : SourceRow → PartName → Result View Refusal
 source_part row (names.Tag name) = part_or (tag_part name (tag_of name row.tags)) (codes "tags")
 source_part row names.Tags = Ok (views.AllTags row.tags)
 source_part row names.Label = part_or (text_part parts.Label row.label) (codes "label")
-source_part row names.Description = part_or (text_part parts.Description row.description) (codes "description")
+source_part row names.Description =
+    part_or (text_part parts.Description row.description) (codes "description")
 source_part row names.ReadOnly = Err (refusals.NotSet (codes "read_only"))
 source_part row names.Collection = Err (refusals.NotSet (codes "flow_collection"))
 source_part row names.MaxBitRate = Err (refusals.NotSet (codes "max_bit_rate"))
@@ -178,23 +188,27 @@ source_part row names.AvgBitRate = Err (refusals.NotSet (codes "avg_bit_rate"))
 -- ---- each asking command
 
 -- what is shown of something that is kept, or the refusal
-abbrev pub kept_or : {X : Type 0} → Refusal → (X → Result View Refusal) → Option X → Result View Refusal
+abbrev pub kept_or : {X : Type 0} → Refusal → (X → Result View Refusal) → Option X
+    → Result View Refusal
 kept_or refusal show None = Err refusal
 kept_or refusal show (Some kept) = show kept
 
 -- a page of a flow's segments, with the key of the next page
 abbrev pub shown_segments : Library → ℕ → SegmentFilter → Page → View
 shown_segments library flow wanted page =
-    views.Segments (segment_page library.segments flow wanted.range wanted.object page) (segment_next_key library.segments flow wanted.range wanted.object page)
+    views.Segments (segment_page library.segments flow wanted.range wanted.object page)
+    (segment_next_key library.segments flow wanted.range wanted.object page)
 
 -- a page of sources, with the key of the next page
 abbrev pub shown_sources : Page → List SourceRow → View
-shown_sources page rows = views.Sources (page_items source_key page rows) (next_key source_key page rows)
+shown_sources page rows =
+    views.Sources (page_items source_key page rows) (next_key source_key page rows)
 
 -- a page of flows, each with its hull, with the key of the next page
 abbrev pub shown_flows : Library → Page → List FlowRow → View
 shown_flows library page rows =
-    views.Flows (map (shown_flow library.segments) (page_items flow_key page rows)) (next_key flow_key page rows)
+    views.Flows (map (shown_flow library.segments) (page_items flow_key page rows))
+    (next_key flow_key page rows)
 
 -- an object with the flows whose segments name it, by rising id
 abbrev pub shown_object : Library → ObjectRow → View
@@ -218,15 +232,37 @@ is_asking asking = true
 abbrev pub asked : Library → Command → Option (Result View Refusal)
 asked library commands.Root = Some (Ok views.Root)
 asked library commands.Service = Some (Ok views.Service)
-asked library commands.Hooks = Some (Ok (views.Hooks (map (shown_hook library) library.outbox.hooks)))
-asked library (commands.Sources wanted page) = Some (Ok (shown_sources page (listed_sources library wanted)))
-asked library (commands.Source id) = Some (kept_or refusals.NoSource (λ row. Ok (views.Source row)) (source_of id library.catalog.sources))
-asked library (commands.SourcePart id name) = Some (kept_or refusals.NoSource (λ row. source_part row name) (source_of id library.catalog.sources))
-asked library (commands.Flows wanted range page) = Some (Ok (shown_flows library page (listed_flows library wanted range)))
-asked library (commands.Flow id) = Some (kept_or refusals.NoFlow (λ row. Ok (views.Flow (shown_flow library.segments row))) (flow_of id library.catalog.flows))
-asked library (commands.FlowPart id name) = Some (kept_or refusals.NoFlow (λ row. flow_part row.body name) (flow_of id library.catalog.flows))
-asked library (commands.Segments id wanted page) = Some (kept_or refusals.NoFlow (λ row. Ok (shown_segments library id wanted page)) (flow_of id library.catalog.flows))
-asked library (commands.Object id) = Some (kept_or refusals.UnknownObject (λ row. Ok (shown_object library row)) (object_of id library.objects))
+asked library commands.Hooks =
+    Some (Ok (views.Hooks (map (shown_hook library) library.outbox.hooks)))
+asked library (commands.Sources wanted page) =
+    Some (Ok (shown_sources page (listed_sources library wanted)))
+asked library (commands.Source id) =
+    Some
+    (kept_or refusals.NoSource (λ row. Ok (views.Source row))
+    (source_of id library.catalog.sources))
+asked library (commands.SourcePart id name) =
+    Some
+    (kept_or refusals.NoSource (λ row. source_part row name) (source_of id library.catalog.sources))
+asked library (commands.Flows wanted range page) =
+    Some (Ok (shown_flows library page (listed_flows library wanted range)))
+asked library (commands.Flow id) =
+    Some
+    (kept_or refusals.NoFlow (λ row. Ok (views.Flow (shown_flow library.segments row)))
+    (flow_of id library.catalog.flows))
+asked library (commands.FlowPart id name) =
+    Some
+    (kept_or refusals.NoFlow (λ row. flow_part row.body name) (flow_of id library.catalog.flows))
+asked library (commands.Segments id wanted page) =
+    Some
+    (kept_or refusals.NoFlow (λ row. Ok (shown_segments library id wanted page))
+    (flow_of id library.catalog.flows))
+asked library (commands.Object id) =
+    Some
+    (kept_or refusals.UnknownObject (λ row. Ok (shown_object library row))
+    (object_of id library.objects))
 asked library commands.Requests = Some (Ok (views.Requests library.requests))
-asked library (commands.Request serial) = Some (kept_or refusals.NoRequest (λ row. Ok (views.Request row)) (request_of serial library.requests))
+asked library (commands.Request serial) =
+    Some
+    (kept_or refusals.NoRequest (λ row. Ok (views.Request row))
+    (request_of serial library.requests))
 asked library changing = None

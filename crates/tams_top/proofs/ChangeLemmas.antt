@@ -4,18 +4,18 @@ use Rattle.disk_trait.specs.Numbers.{u32_bytes, u64_bytes, u128_bytes}
 use Rattle.disk_trait.proofs.NumberLemmas.{length-u32_bytes, length-u64_bytes, length-u128_bytes}
 use Rattle.media_rows.specs.declared.change.Change as media
 use Rattle.media_rows.specs.declared.flow.FlowBody.{FlowBody}
-use Rattle.field_codec.specs.Leaves.{u8_format, u32_format, u64_format, u128_format, bool_format, text_format}
+use Rattle.field_codec.specs.Leaves.{u8_spelling, u32_spelling, u64_spelling, u128_spelling, bool_spelling, text_spelling}
 use Rattle.field_codec.proofs.Wholes.{one_value}
-use Rattle.change_codec.specs.Values.{kind_format, tags_format, flow_head_format, flow_texts_format, flow_rest_format, flow_format}
-use Rattle.change_codec.specs.Changes.{change_format}
+use Rattle.change_codec.specs.Values.{kind_spelling, tags_spelling, flow_head_spelling, flow_texts_spelling, flow_rest_spelling, flow_spelling}
+use Rattle.change_codec.specs.Changes.{change_spelling}
 use Rattle.change_codec.specs.Codec.{SpellsChange, CanWriteChange}
 use Rattle.change_codec.proofs.ChangeLaws.{change_lawful}
 use Rattle.tams_top.specs.declared.change.Change.{Change}
 use Rattle.tams_top.specs.Change.{IsChange, change_text, media_change, plain_flow}
 
 -- numbers of their types have a spelling, and so does what is absent or empty
-has_spelling : (c : Change) → c.moment < 2 ^ 64 → c.flow < 2 ^ 128 → c.source < 2 ^ 128 → change_format.fits (media_change c)
-unfolding change_format flow_format flow_head_format flow_texts_format flow_rest_format u8_format u32_format u64_format u128_format kind_format bool_format tags_format
+has_spelling : (c : Change) → c.moment < 2 ^ 64 → c.flow < 2 ^ 128 → c.source < 2 ^ 128 → change_spelling.fits (media_change c)
+unfolding change_spelling flow_spelling flow_head_spelling flow_texts_spelling flow_rest_spelling u8_spelling u32_spelling u64_spelling u128_spelling kind_spelling bool_spelling tags_spelling
 has_spelling c moment flow source = (
   moment,
   (
@@ -31,7 +31,7 @@ pub can_write : (c : Change) → c.moment < 2 ^ 64 → c.flow < 2 ^ 128 → c.so
 can_write c moment flow source = change_lawful.writable (media_change c) (has_spelling c moment flow source)
 
 pub length-change_text : (c : Change) → length (change_text c) ≡ 58
-unfolding change_text change_format flow_format flow_head_format flow_texts_format flow_rest_format u8_format u32_format u64_format u128_format kind_format bool_format tags_format
+unfolding change_text change_spelling flow_spelling flow_head_spelling flow_texts_spelling flow_rest_spelling u8_spelling u32_spelling u64_spelling u128_spelling kind_spelling bool_spelling tags_spelling
 length-change_text c =
     simp (length-append, length-u32_bytes, length-u64_bytes, length-u128_bytes) refl
 
@@ -58,4 +58,4 @@ one_media_change a b e =
 -- bytes spell one change
 pub change_text-one : (a b : Change) → IsChange a → IsChange b → change_text a ≡ change_text b → a ≡ b
 change_text-one a b left right e =
-    one_media_change a b (one_value change_format change_lawful (change_text a) (media_change a) (media_change b) (spells _ a left refl) (spells _ b right e))
+    one_media_change a b (one_value change_spelling change_lawful (change_text a) (media_change a) (media_change b) (spells _ a left refl) (spells _ b right e))

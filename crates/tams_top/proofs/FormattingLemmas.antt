@@ -3,8 +3,8 @@ use Rattle.std.proofs.Common.{◌≡◌, ◌+◌, ◌⊎◌, ℕ, List, [], leng
 use Rattle.disk_trait.specs.Device.{Device, Left}
 use Rattle.disk_trait.specs.Calls.{Elapses, Unchanged}
 use Rattle.disk_trait.specs.Numbers.{u32_bytes, u64_bytes}
-use Rattle.field_codec.specs.Leaves.{u32_format, u64_format}
-use Rattle.change_codec.specs.Rows.{row_format}
+use Rattle.field_codec.specs.Leaves.{u32_spelling, u64_spelling}
+use Rattle.change_codec.specs.Rows.{row_spelling}
 use Rattle.media_journal.specs.declared.header.Header.{Header}
 use Rattle.media_journal.specs.File.{HasOpenHeader}
 use Rattle.media_journal.specs.JournalMoments.{IsNewStore, NoneOrNew}
@@ -13,7 +13,7 @@ use Rattle.tams_top.specs.Moments.{IsSettled}
 use Rattle.tams_top.specs.Running.{formatted_state}
 
 length-empty_rows : length empty_rows ≡ 13
-unfolding empty_rows row_format u32_format u64_format u32_bytes u64_bytes
+unfolding empty_rows row_spelling u32_spelling u64_spelling u32_bytes u64_bytes
 length-empty_rows = refl
 
 -- the new store stands for the empty library

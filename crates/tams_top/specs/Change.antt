@@ -4,7 +4,7 @@ use Rattle.media_rows.specs.declared.change.Change as media
 use Rattle.media_rows.specs.declared.change.Change.TheVariants.{PutFlow}
 use Rattle.media_rows.specs.declared.flow.FlowBody.{FlowBody}
 use Rattle.media_rows.specs.declared.flow.FormatKind.TheVariants.{Video}
-use Rattle.change_codec.specs.Changes.{change_format}
+use Rattle.change_codec.specs.Changes.{change_spelling}
 use Rattle.site_edge.specs.Clocks.{IsMoment}
 use Rattle.tams_top.specs.declared.change.Change.{Change}
 
@@ -32,7 +32,7 @@ media_change c = PutFlow c.moment (plain_flow c.flow c.source)
 
 -- its bytes, as the codec of changes spells them
 unfoldable pub change_text : Change → List ℕ
-change_text c = change_format.spell (media_change c)
+change_text c = change_spelling.spell (media_change c)
 
 -- the ids have 128 bits, and the moment is one up to the year 9999
 pub record IsChange (c : Change) : Type 0 where

@@ -1,7 +1,7 @@
 -- What the image of a store stands for.
 use Rattle.std.specs.Prelude.{◌≡◌, ◌-◌, ◌+◌, ◌*◌, ℕ, List, [], ◌∷◌, Some}
 use Rattle.media_rows.specs.declared.row.Row.TheVariants.{Numbers}
-use Rattle.change_codec.specs.Rows.{row_format}
+use Rattle.change_codec.specs.Rows.{row_spelling}
 use Rattle.media_journal.specs.declared.header.Header.{Header}
 use Rattle.media_journal.specs.declared.record.Record.{Record}
 use Rattle.media_journal.specs.File.{Reads, active_start}
@@ -13,7 +13,7 @@ use Rattle.tams_top.specs.Library.{applied, empty_library}
 
 -- the rows of the empty library: one row with the next serial, which is 1
 unfoldable pub empty_rows : List ℕ
-empty_rows = row_format.spell (Numbers 1)
+empty_rows = row_spelling.spell (Numbers 1)
 
 -- The records' payloads are changes, which take one library to another in order.
 abbrev pub Folds : List Record → Library → Library → Type 0

@@ -58,4 +58,5 @@ are_ordered low high = true
 
 -- the range of the points from a low end to a high end: never where they are not in order
 abbrev pub span_between : Option ℤ → Option ℤ → Option Span
-span_between low high = if are_ordered low high then Some (record { low = low; high = high }) else None
+span_between low high =
+    if are_ordered low high then Some (record { low = low; high = high }) else None

@@ -94,4 +94,5 @@ high_of (Some s) = s.high
 -- both ends of a range are within the limit once they are moved by this many nanoseconds
 abbrev pub StaysWithin : Option Span → ℤ → Type 0
 StaysWithin range by =
-    IfSome (low_of range) (λ a. IsLow (a +ℤ instant by)) × IfSome (high_of range) (λ b. IsHigh (b +ℤ instant by))
+    IfSome (low_of range) (λ a. IsLow (a +ℤ instant by))
+    × IfSome (high_of range) (λ b. IsHigh (b +ℤ instant by))

@@ -1,6 +1,6 @@
--- The value that a text spells, where it spells one within the limit: one for a timestamp's text and one
--- for a range's. They read byte by byte; a law says that they give exactly what `SpellsTs` and
--- `SpellsRange` relate to the text.
+-- The value that a text spells, where it spells one within the limit: one for a timestamp's text
+-- and one for a range's. They read byte by byte; a law says that they give exactly what `SpellsTs`
+-- and `SpellsRange` relate to the text.
 use Rattle.std.specs.Prelude.{◌≡◌, ℕ, ℤ, ◌↔◌, Bool, true, ◌&&◌, if◌then◌else◌, List, Option, Some, None}
 use Rattle.std.specs.Option.{option_and_then}
 use Rattle.time_range.specs.Points.{IsNanos, is_nanos, IsRange}
@@ -32,7 +32,8 @@ ts_in text = option_and_then ts_meant (ts_parts_in text)
 
 -- the function gives exactly what a text spells within the limit
 abbrev pub TsInIsSpelled : Type 0
-TsInIsSpelled = (text : List ℕ) (nanos : ℤ) → (ts_in text ≡ Some nanos) ↔ (SpellsTs text nanos × IsNanos nanos)
+TsInIsSpelled =
+    (text : List ℕ) (nanos : ℤ) → (ts_in text ≡ Some nanos) ↔ (SpellsTs text nanos × IsNanos nanos)
 
 -- ---- ranges
 
@@ -52,7 +53,8 @@ is_within (Single at) = is_nanos (ts_value at)
 is_within (Split first second) = is_stamp_within first && is_stamp_within second
 
 -- the range from one timestamp to another, each with the bracket beside it
-abbrev pub range_between : Option Bracket → Option TsParts → Option TsParts → Option Bracket → Option Span
+abbrev pub range_between : Option Bracket → Option TsParts → Option TsParts → Option Bracket
+    → Option Span
 range_between left first second right =
     span_between (low_point (meant_end left first)) (high_point (meant_end right second))
 
@@ -73,4 +75,5 @@ range_in text = option_and_then range_meant (range_parts_in text)
 -- the function gives exactly the range that a text spells within the limit
 abbrev pub RangeInIsSpelled : Type 0
 RangeInIsSpelled =
-    (text : List ℕ) (range : Option Span) → (range_in text ≡ Some range) ↔ (SpellsRange text range × IsRange range)
+    (text : List ℕ) (range : Option Span)
+    → (range_in text ≡ Some range) ↔ (SpellsRange text range × IsRange range)

@@ -37,7 +37,8 @@ IsStamp p = p.nanos < 10 ^ 9
 
 -- the nanoseconds that a timestamp's parts mean: the sign is that of the whole
 abbrev pub ts_value : TsParts → ℤ
-ts_value p = let size = pos (p.seconds * 1_000_000_000 + p.nanos) in if p.negative then neg_ℤ size else size
+ts_value p =
+    let size = pos (p.seconds * 1_000_000_000 + p.nanos) in if p.negative then neg_ℤ size else size
 
 -- the text spells this many nanoseconds, whether or not they are within the limit
 abbrev pub SpellsTs : List ℕ → ℤ → Type 0
@@ -100,8 +101,10 @@ meant_end None (Some p) = Including (ts_value p)
 -- ends, and where `_` stands a missing timestamp is an open end
 abbrev pub MeansBetween : Option Bracket → Middle → Option Bracket → Option Span → Type 0
 MeansBetween left Empty right range = range ≡ None
-MeansBetween left (Single at) right range = Between (meant_end left (Some at)) (meant_end right (Some at)) range
-MeansBetween left (Split first second) right range = Between (meant_end left first) (meant_end right second) range
+MeansBetween left (Single at) right range =
+    Between (meant_end left (Some at)) (meant_end right (Some at)) range
+MeansBetween left (Split first second) right range =
+    Between (meant_end left first) (meant_end right second) range
 
 -- the range that a text's parts mean
 abbrev pub Means : RangeParts → Option Span → Type 0
@@ -137,7 +140,8 @@ low_end (Some p) = if int_eq (instant (half p)) p then Including (half p) else E
 -- the end that a high point stands for: its instant, or the gap before one
 abbrev pub high_end : Option ℤ → End
 high_end None = Unbounded
-high_end (Some p) = if int_eq (instant (half p)) p then Including (half p) else Excluding (half p +ℤ pos 1)
+high_end (Some p) =
+    if int_eq (instant (half p)) p then Including (half p) else Excluding (half p +ℤ pos 1)
 
 -- the bracket that is printed beside an end: none beside an open one
 abbrev pub bracket_of : End → Option Bracket
@@ -154,7 +158,8 @@ stamp_of (Excluding t) = Some (canonical_ts t)
 -- what is printed between the brackets: one timestamp for one instant, and else two around `_`
 abbrev pub middle_of : End → End → Middle
 middle_of (Including a) (Including b) =
-    if int_eq a b then Single (canonical_ts a) else Split (Some (canonical_ts a)) (Some (canonical_ts b))
+    if int_eq a b
+    then Single (canonical_ts a) else Split (Some (canonical_ts a)) (Some (canonical_ts b))
 middle_of low high = Split (stamp_of low) (stamp_of high)
 
 -- the parts that are printed for a range: `()` for never

@@ -21,7 +21,8 @@ run next scan (byte ∷ bytes) = option_and_then (λ longer. run next longer byt
 -- the first byte that is refused stands at that place
 abbrev pub StopsAt : {S : Type 0} → (S → ℕ → Option S) → S → List ℕ → ℕ → Type 0
 StopsAt {S} next start text at =
-    (scan : S) × (at < length text) × (run next start (take at text) ≡ Some scan) × (next scan (slice_index text at) ≡ None)
+    (scan : S) × (at < length text) × (run next start (take at text) ≡ Some scan)
+    × (next scan (slice_index text at) ≡ None)
 
 -- a number, up to the largest `u64`
 abbrev pub capped : ℕ → ℕ
@@ -33,16 +34,20 @@ digit_of byte = if nat_le 48 byte && nat_le byte 57 then Some (byte - 48) else N
 
 -- one more byte of a timestamp: no digit follows a leading zero, nor a ninth digit of nanoseconds
 abbrev pub ts_next : (ℕ → ℕ) → TsScan → ℕ → Option TsScan
-ts_next cap Start byte = if byte == 45 then Some Signed else option_map (Seconds false) (digit_of byte)
+ts_next cap Start byte =
+    if byte == 45 then Some Signed else option_map (Seconds false) (digit_of byte)
 ts_next cap Signed byte = option_map (Seconds true) (digit_of byte)
 ts_next cap (Seconds negative seconds) byte =
     if byte == 58 then Some (Colon negative seconds)
-    else (if nat_lt 0 seconds then option_map (λ d. Seconds negative (cap (10 * seconds + d))) (digit_of byte) else None)
+    else
+    (if nat_lt 0 seconds then option_map (λ d. Seconds negative (cap (10 * seconds + d))) (digit_of byte) else None)
 ts_next cap (Colon negative seconds) byte =
-    option_map (λ d. Nanos (record { negative = negative; seconds = seconds; nanos = d })) (digit_of byte)
+    option_map (λ d. Nanos (record { negative = negative; seconds = seconds; nanos = d }))
+    (digit_of byte)
 ts_next cap (Nanos p) byte =
     if nat_lt 0 p.nanos && nat_lt p.nanos 100_000_000
-    then option_map (λ d. Nanos (record { negative = p.negative; seconds = p.seconds; nanos = 10 * p.nanos + d })) (digit_of byte)
+    then option_map
+    (λ d. Nanos (record { negative = p.negative; seconds = p.seconds; nanos = 10 * p.nanos + d })) (digit_of byte)
     else None
 
 -- the parts of what has been read, where it is a whole timestamp
@@ -60,33 +65,40 @@ right_bracket byte = if byte == 93 then Some Square else (if byte == 41 then Som
 
 -- the first byte behind the left bracket, if it is none that closes the range
 abbrev pub begun : (ℕ → ℕ) → Option Bracket → ℕ → Option RangeScan
-begun cap left byte = if byte == 95 then Some (Mark left None) else option_map (First left) (ts_next cap Start byte)
+begun cap left byte =
+    if byte == 95 then Some (Mark left None) else option_map (First left) (ts_next cap Start byte)
 
 -- one more byte of a range that is no right bracket
 abbrev pub longer : (ℕ → ℕ) → RangeScan → ℕ → Option RangeScan
-longer cap (Left None) byte = option_or (option_map (λ b. Left (Some b)) (left_bracket byte)) (begun cap None byte)
+longer cap (Left None) byte =
+    option_or (option_map (λ b. Left (Some b)) (left_bracket byte)) (begun cap None byte)
 longer cap (Left (Some bracket)) byte = begun cap (Some bracket) byte
 longer cap (First left first) byte =
     if byte == 95 then option_map (λ p. Mark left (Some p)) (stamp_read first)
     else option_map (First left) (ts_next cap first byte)
 longer cap (Mark left first) byte = option_map (Second left first) (ts_next cap Start byte)
-longer cap (Second left first second) byte = option_map (Second left first) (ts_next cap second byte)
+longer cap (Second left first second) byte =
+    option_map (Second left first) (ts_next cap second byte)
 longer cap (Right p) byte = None
 
 -- the parts of what has been read, where it is a whole range
 abbrev pub range_read : RangeScan → Option RangeParts
 range_read (Left left) = Some (record { left = left; middle = Empty; right = None })
-range_read (First left first) = option_map (λ p. record { left = left; middle = Single p; right = None }) (stamp_read first)
-range_read (Mark left first) = Some (record { left = left; middle = Split first None; right = None })
+range_read (First left first) =
+    option_map (λ p. record { left = left; middle = Single p; right = None }) (stamp_read first)
+range_read (Mark left first) =
+    Some (record { left = left; middle = Split first None; right = None })
 range_read (Second left first second) =
-    option_map (λ p. record { left = left; middle = Split first (Some p); right = None }) (stamp_read second)
+    option_map (λ p. record { left = left; middle = Split first (Some p); right = None })
+    (stamp_read second)
 range_read (Right p) = Some p
 
 -- a right bracket behind a range that has none yet
 abbrev pub closed : RangeParts → ℕ → Option RangeScan
 closed p byte =
     if is_some p.right then None
-    else option_map (λ b. Right (record { left = p.left; middle = p.middle; right = Some b })) (right_bracket byte)
+    else option_map (λ b. Right (record { left = p.left; middle = p.middle; right = Some b }))
+    (right_bracket byte)
 
 -- one more byte of a range
 abbrev pub range_next : (ℕ → ℕ) → RangeScan → ℕ → Option RangeScan

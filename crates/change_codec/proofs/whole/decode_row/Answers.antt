@@ -1,7 +1,7 @@
 use Rattle.std.proofs.Common.{ℕ, length, ◌-◌, ap₂, arith}
 use Rattle.media_rows.specs.declared.row.Row.{Row}
 use Rattle.field_codec.proofs.Wholes.{fault_within, less_left}
-use Rattle.change_codec.specs.Rows.{row_format}
+use Rattle.change_codec.specs.Rows.{row_spelling}
 use Rattle.change_codec.specs.Codec.{BeginsWithRow}
 use Rattle.change_codec.proofs.RowLaws.{row_lawful}
 use Rattle.change_codec.proofs.CodecLemmas.{row_read, one_row, row_fault, no_row}
@@ -9,11 +9,11 @@ use Rattle.change_codec.proofs.whole.decode_row.Goals as goal
 
 pub overflow_sub-result : goal.overflow_sub-result
 overflow_sub-result c =
-    rw c.left.ensures (less_left row_format row_lawful c.args.bytes.now c.read_row.new.input c.in-Ok.row (λ i. omega (arith, c.type_inv.bytes i)) (rw c.new-input.ensures at c.in-Ok.ensures))
+    rw c.left.ensures (less_left row_spelling row_lawful c.args.bytes.now c.read_row.new.input c.in-Ok.row (λ i. omega (arith, c.type_inv.bytes i)) (rw c.new-input.ensures at c.in-Ok.ensures))
 
 pub overflow_sub-result-in-Err-Bad : goal.overflow_sub-result-in-Err-Bad
 overflow_sub-result-in-Err-Bad c =
-    rw c.in-Err-Bad.field-0-is (fault_within row_format row_lawful c.args.bytes.now c.in-Err-Bad.field.left (λ i. omega (arith, c.type_inv.bytes i))
+    rw c.in-Err-Bad.field-0-is (fault_within row_spelling row_lawful c.args.bytes.now c.in-Err-Bad.field.left (λ i. omega (arith, c.type_inv.bytes i))
     (rw (c.in-Err-Bad.field-0-is, c.new-input.ensures) at c.in-Err-Bad.ensures))
 
 pub returns-in-Ok-clause-ok : goal.returns-in-Ok-clause-ok

@@ -1,18 +1,19 @@
--- Formats: how the values of a type are spelled in bytes, and where bytes that begin with no spelling are
--- faulty. A format is put together from smaller ones. Our own words.
+-- Spellings: how the values of a type are spelled in bytes, and where bytes that begin with no
+-- value's spelling are faulty. A spelling is put together from smaller ones. Our own words.
 use Rattle.std.proofs.Common.{inl, inr}
 use Rattle.std.specs.Prelude.{◌≡◌, ◌<◌, ◌==◌, ◌⊎◌, ℕ, zero, suc, Bool, true, if◌then◌else◌, List, [], ◌∷◌, ◌++◌, length, Option, Some, None, Result, Ok, Err}
 use Rattle.std.specs.List.{flat_map, AllByRecursion}
 
--- A place in bytes is said by the number of bytes that are left there. `spell`, `fits` and `faulty` are the
--- meaning; `onto` and `read` say how the bytes are written and read from the left, and are proved to agree.
-pub record Format (A : Type 0) : Type 1 where
+-- A place in bytes is said by the number of bytes that are left there. `spell`, `fits` and `faulty`
+-- are the meaning; `onto` and `read` say how the bytes are written and read from the left, and are
+-- proved to agree.
+pub record Spelling (A : Type 0) : Type 1 where
   -- the bytes of a value
   pub spell : A → List ℕ
   -- the value has a spelling
   pub fits : A → Type 0
-  -- the bytes begin with no spelling, and so many are left where the first faulty field begins that holds
-  -- no other faulty field
+  -- the bytes begin with no spelling, and so many are left where the first faulty field begins that
+  -- holds no other faulty field
   pub faulty : List ℕ → ℕ → Type 0
   -- what is asked of a value that is written; its type gives the rest of `fits`
   pub asks : A → Type 0
@@ -22,15 +23,17 @@ pub record Format (A : Type 0) : Type 1 where
   pub read : List ℕ → Result (A × List ℕ) ℕ
 
 -- the bytes are the spelling of the value and then the rest
-pub record Begins {A : Type 0} (f : Format A) (bytes : List ℕ) (value : A) (rest : List ℕ) : Type 0 where
+pub record SpellsFirst {A : Type 0} (f : Spelling A) (bytes : List ℕ) (value : A)
+    (rest : List ℕ) : Type 0 where
   pub fits : f.fits value
   pub parts : bytes ≡ f.spell value ++ rest
 
 -- the bytes begin with a spelling, and the value and the bytes behind it keep this
-pub record Behind {A : Type 0} (f : Format A) (bytes : List ℕ) (Keeps : A → List ℕ → Type 0) : Type 0 where
+pub record Behind {A : Type 0} (f : Spelling A) (bytes : List ℕ)
+    (Keeps : A → List ℕ → Type 0) : Type 0 where
   pub value : A
   pub rest : List ℕ
-  pub begins : Begins f bytes value rest
+  pub begins : SpellsFirst f bytes value rest
   pub keeps : Keeps value rest
 
 -- what a first reading gave goes on
@@ -51,7 +54,8 @@ found_or left None = Err left
 found_or left (Some x) = Ok x
 
 -- A field without parts is faulty at its own beginning.
-abbrev pub leaf : {A : Type 0} → (A → List ℕ) → (A → Type 0) → (A → Type 0) → (List ℕ → Option (A × List ℕ)) → Format A
+abbrev pub leaf : {A : Type 0} → (A → List ℕ) → (A → Type 0) → (A → Type 0)
+    → (List ℕ → Option (A × List ℕ)) → Spelling A
 leaf spell fits asks find = record {
   spell = spell;
   fits = fits;
@@ -62,8 +66,8 @@ leaf spell fits asks find = record {
 }
 
 -- nothing at all
-abbrev pub nothing : Format (Unit {0})
-nothing = record {
+abbrev pub no_field : Spelling (Unit {0})
+no_field = record {
   spell = λ x. [];
   fits = λ x. Unit {0};
   faulty = λ bytes left. ⊥;
@@ -74,8 +78,8 @@ nothing = record {
 
 -- ---- fields one after the other
 
--- A value, and one whose format may depend on it: the first one's fault comes first.
-abbrev pub followed : {A B : Type 0} → Format A → (A → Format B) → Format (A × B)
+-- A value, and one whose spelling may depend on it: the first one's fault comes first.
+abbrev pub followed : {A B : Type 0} → Spelling A → (A → Spelling B) → Spelling (A × B)
 followed f g = record {
   spell = λ x. f.spell x.0 ++ (g x.0).spell x.1;
   fits = λ x. f.fits x.0 × (g x.0).fits x.1;
@@ -86,13 +90,13 @@ followed f g = record {
 }
 
 -- two values, one after the other
-abbrev pub pair : {A B : Type 0} → Format A → Format B → Format (A × B)
+abbrev pub pair : {A B : Type 0} → Spelling A → Spelling B → Spelling (A × B)
 pair f g = followed f (λ x. g)
 
 -- ---- values of another type, and values that pass a test
 
 -- the same fields seen as a value of another type
-abbrev pub via : {A B : Type 0} → (A → B) → (B → A) → Format A → Format B
+abbrev pub via : {A B : Type 0} → (A → B) → (B → A) → Spelling A → Spelling B
 via to from f = record {
   spell = λ y. f.spell (from y);
   fits = λ y. f.fits (from y);
@@ -102,13 +106,15 @@ via to from f = record {
   read = λ bytes. f.read bytes >>= λ x. Ok (to x.0, x.1);
 }
 
--- Only some values stand for one of the other type. A value that stands for none is faulty at its own
--- beginning, where no field in it is.
-abbrev pub narrowed : {A B : Type 0} → (A → Option B) → (B → A) → (B → Type 0) → (B → Type 0) → Format A → Format B
+-- Only some values stand for one of the other type. A value that stands for none is faulty at its
+-- own beginning, where no field in it is.
+abbrev pub narrowed : {A B : Type 0} → (A → Option B) → (B → A) → (B → Type 0) → (B → Type 0)
+    → Spelling A → Spelling B
 narrowed to from fits asks f = record {
   spell = λ y. f.spell (from y);
   fits = λ y. f.fits (from y) × fits y;
-  faulty = λ bytes left. f.faulty bytes left ⊎ Behind f bytes (λ x rest. (to x ≡ None) × (left ≡ length bytes));
+  faulty = λ bytes left.
+      f.faulty bytes left ⊎ Behind f bytes (λ x rest. (to x ≡ None) × (left ≡ length bytes));
   asks = λ y. f.asks (from y) × asks y;
   onto = λ front y. f.onto front (from y);
   read = λ bytes. f.read bytes >>= λ x. found_or (length bytes) (to x.0) >>= λ y. Ok (y, x.1);
@@ -119,16 +125,19 @@ abbrev pub kept : {A : Type 0} → (A → Bool) → A → Option A
 kept test x = if test x then Some x else None
 
 -- a field with a test
-abbrev pub where_is : {A : Type 0} → (A → Bool) → Format A → Format A
+abbrev pub where_is : {A : Type 0} → (A → Bool) → Spelling A → Spelling A
 where_is test f = narrowed (kept test) (λ x. x) (λ x. test x ≡ true) (λ x. test x ≡ true) f
 
 -- ---- kinds
 
 -- how the bytes are read that begin with this kind, and how others are
-abbrev pub by_kind : {A B : Type 0} → ℕ → (List ℕ → Result (A × List ℕ) ℕ) → (List ℕ → Result (B × List ℕ) ℕ) → List ℕ → Result ((A ⊎ B) × List ℕ) ℕ
+abbrev pub by_kind : {A B : Type 0} → ℕ → (List ℕ → Result (A × List ℕ) ℕ)
+    → (List ℕ → Result (B × List ℕ) ℕ) → List ℕ → Result ((A ⊎ B) × List ℕ) ℕ
 by_kind kind first other [] = other [] >>= λ y. Ok (inr y.0, y.1)
 by_kind kind first other (b ∷ rest) =
-    if b == kind then (first rest >>= λ x. Ok (inl x.0, x.1)) else (other (b ∷ rest) >>= λ y. Ok (inr y.0, y.1))
+    if b == kind
+    then (first rest >>= λ x. Ok (inl x.0, x.1))
+    else (other (b ∷ rest) >>= λ y. Ok (inr y.0, y.1))
 
 -- what one of two kinds gives
 abbrev pub on_kind : {A B T : Type 0} → (A → T) → (B → T) → A ⊎ B → T
@@ -145,18 +154,20 @@ abbrev pub HasKind : ℕ → List ℕ → Type 0
 HasKind kind bytes = (rest : List ℕ) × (bytes ≡ kind ∷ rest)
 
 -- One byte of kind and what belongs to it, or a value of another kind.
-abbrev pub either : {A B : Type 0} → ℕ → Format A → Format B → Format (A ⊎ B)
+abbrev pub either : {A B : Type 0} → ℕ → Spelling A → Spelling B → Spelling (A ⊎ B)
 either kind f g = record {
   spell = on_kind (λ x. kind ∷ f.spell x) g.spell;
   fits = OfKind f.fits g.fits;
-  faulty = λ bytes left. ((rest : List ℕ) × (bytes ≡ kind ∷ rest) × f.faulty rest left) ⊎ ((HasKind kind bytes → ⊥) × g.faulty bytes left);
+  faulty = λ bytes left.
+      ((rest : List ℕ) × (bytes ≡ kind ∷ rest) × f.faulty rest left)
+      ⊎ ((HasKind kind bytes → ⊥) × g.faulty bytes left);
   asks = OfKind f.asks g.asks;
   onto = λ front. on_kind (λ x. f.onto (front ++ kind ∷ []) x) (λ y. g.onto front y);
   read = by_kind kind f.read g.read;
 }
 
 -- No value of the type has a spelling: no kind is left, and any bytes are faulty here.
-abbrev pub no_kind : {A : Type 0} → Format A
+abbrev pub no_kind : {A : Type 0} → Spelling A
 no_kind = record {
   spell = λ x. [];
   fits = λ x. ⊥;
@@ -178,15 +189,17 @@ option_parts None = inl tt
 option_parts (Some x) = inr (inl x)
 
 -- 0, or 1 and a value
-abbrev pub optional : {A : Type 0} → Format A → Format (Option A)
-optional f = via option_of option_parts (either 0 nothing (either 1 f no_kind))
+abbrev pub optional : {A : Type 0} → Spelling A → Spelling (Option A)
+optional f = via option_of option_parts (either 0 no_field (either 1 f no_kind))
 
 -- ---- so many values
 
 -- how so many values are read
-abbrev pub items_at : {A : Type 0} → (List ℕ → Result (A × List ℕ) ℕ) → ℕ → List ℕ → Result (List A × List ℕ) ℕ
+abbrev pub items_at : {A : Type 0} → (List ℕ → Result (A × List ℕ) ℕ) → ℕ → List ℕ
+    → Result (List A × List ℕ) ℕ
 items_at read zero bytes = Ok ([], bytes)
-items_at read (suc n) bytes = read bytes >>= λ x. items_at read n x.1 >>= λ xs. Ok (x.0 ∷ xs.0, xs.1)
+items_at read (suc n) bytes =
+    read bytes >>= λ x. items_at read n x.1 >>= λ xs. Ok (x.0 ∷ xs.0, xs.1)
 
 -- how values are written behind some bytes
 abbrev pub items_onto : {A : Type 0} → (List ℕ → A → List ℕ) → List ℕ → List A → List ℕ
@@ -194,7 +207,8 @@ items_onto onto front [] = front
 items_onto onto front (x ∷ xs) = items_onto onto (onto front x) xs
 
 -- fewer than so many items are spelled, and behind them the next one is faulty
-pub record ItemFault {A : Type 0} (f : Format A) (count : ℕ) (bytes : List ℕ) (left : ℕ) : Type 0 where
+pub record ItemFault {A : Type 0} (f : Spelling A) (count : ℕ) (bytes : List ℕ)
+    (left : ℕ) : Type 0 where
   pub items : List A
   pub rest : List ℕ
   pub fewer : length items < count
@@ -203,7 +217,7 @@ pub record ItemFault {A : Type 0} (f : Format A) (count : ℕ) (bytes : List ℕ
   pub fault : f.faulty rest left
 
 -- so many values, one after the other
-abbrev pub items : {A : Type 0} → Format A → ℕ → Format (List A)
+abbrev pub items : {A : Type 0} → Spelling A → ℕ → Spelling (List A)
 items f count = record {
   spell = flat_map f.spell;
   fits = λ xs. (length xs ≡ count) × AllByRecursion f.fits xs;
@@ -216,11 +230,12 @@ items f count = record {
 -- ---- the whole of some bytes
 
 -- the bytes are the spelling of a value and no more
-pub record Spells {A : Type 0} (f : Format A) (bytes : List ℕ) (value : A) : Type 0 where
+pub record Spells {A : Type 0} (f : Spelling A) (bytes : List ℕ) (value : A) : Type 0 where
   pub fits : f.fits value
   pub whole : bytes ≡ f.spell value
 
--- The bytes are no value's spelling: a field is faulty, or all are spelled and bytes remain, the first of
--- which is the place.
-abbrev pub WholeFault : {A : Type 0} → Format A → List ℕ → ℕ → Type 0
-WholeFault f bytes left = f.faulty bytes left ⊎ Behind f bytes (λ x rest. (rest ≡ [] → ⊥) × (left ≡ length rest))
+-- The bytes are no value's spelling: a field is faulty, or all are spelled and bytes remain, the
+-- first of which is the place.
+abbrev pub WholeFault : {A : Type 0} → Spelling A → List ℕ → ℕ → Type 0
+WholeFault f bytes left =
+    f.faulty bytes left ⊎ Behind f bytes (λ x rest. (rest ≡ [] → ⊥) × (left ≡ length rest))
