@@ -9,7 +9,7 @@ use Rattle.media_rows.specs.Catalog.{source_of, flow_of, source_before, flow_bef
 use Rattle.media_rows.specs.Collections.{without_entries}
 use Rattle.media_rows.specs.Lists.{are_distinct, in_order, placed, rises}
 use Rattle.media_rows.specs.Restoring.{can_restore_catalog, is_catalog_good}
-use Rattle.flow_book.specs.Order.{IsInOrder}
+use Rattle.flow_book.specs.Within.Order.{IsInOrder}
 use Rattle.flow_book.proofs.Orders.{and_parts, rises_filter, rises_map, rises_placed, in_order_rises}
 
 -- ---- ids stay

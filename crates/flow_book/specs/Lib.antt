@@ -1,6 +1,5 @@
-pub mod Answers
 pub mod Listing
-pub mod Order
+pub mod Within
 pub use Rattle.media_rows.specs.Catalog
 pub use Rattle.media_rows.specs.Refusals
 pub use Rattle.media_rows.specs.Restoring

@@ -34,7 +34,7 @@ pub struct FlowBook {
 
 impl Model for FlowBook {
     ghost use Rattle.media_rows.specs.Catalog.{Catalog};
-    ghost use Rattle.flow_book.specs.Order.{IsInOrder};
+    ghost use Rattle.flow_book.specs.Within.Order.{IsInOrder};
 
     ghost Value = { Catalog };
 

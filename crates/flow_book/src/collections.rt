@@ -5,7 +5,7 @@ ghost use Rattle.media_rows.specs.Catalog.{collection_refusals};
 ghost use Rattle.media_rows.specs.Collections.{collected_by, collects_itself, first_missing, is_kept, member_ids};
 ghost use Rattle.media_rows.specs.Lists.{has_number};
 ghost use Rattle.media_rows.specs.Refusals.{first_refusal};
-ghost use Rattle.flow_book.specs.Answers.{Computes};
+ghost use Rattle.flow_book.specs.Within.Answers.{Computes};
 
 use disk_trait::Memory;
 use media_rows::{FlowRow, Member, Refusal};

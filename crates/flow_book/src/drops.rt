@@ -2,7 +2,7 @@
 ghost use Rattle.std.specs.Prelude.{◌≡◌, ◌==◌, filter, not};
 ghost use Rattle.media_rows.specs.Catalog.{flows_after_drop, has_flow};
 ghost use Rattle.media_rows.specs.Collections.{without_entries};
-ghost use Rattle.flow_book.specs.Answers.{Computes};
+ghost use Rattle.flow_book.specs.Within.Answers.{Computes};
 
 use disk_trait::{Duplicate, Memory};
 use media_rows::{FlowList, FlowRow, Member, MemberList, SourceList, SourceRow};

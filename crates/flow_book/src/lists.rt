@@ -3,7 +3,7 @@ ghost use Rattle.std.specs.Prelude.{◌≡◌, option_copied};
 ghost use Rattle.media_rows.specs.Lists.{has_text};
 ghost use Rattle.media_rows.specs.Views.{has_value, matches_format, matches_id, matches_text, passes_flow, passes_source, passes_tag, passes_tags};
 ghost use Rattle.flow_book.specs.Listing.{flows_listed, is_behind, is_flow_listed, is_source_listed, sources_listed};
-ghost use Rattle.flow_book.specs.Answers.{Computes};
+ghost use Rattle.flow_book.specs.Within.Answers.{Computes};
 
 use crate::parts::{find_tag, has_tag, same_text};
 use crate::puts::same_format;

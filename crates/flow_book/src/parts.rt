@@ -3,7 +3,7 @@ ghost use Rattle.std.specs.Prelude.{◌≡◌, bytes_eq, filter, is_some, not, o
 ghost use Rattle.media_rows.specs.declared.refusal.Refusal.TheVariants as refusals;
 ghost use Rattle.media_rows.specs.Catalog.{body_with, clears_nothing, collects_nothing, flow_part_unset, sets_mark, source_part_unset, source_with, tag_of, tags_with};
 ghost use Rattle.media_rows.specs.Refusals.{when};
-ghost use Rattle.flow_book.specs.Answers.{Computes};
+ghost use Rattle.flow_book.specs.Within.Answers.{Computes};
 
 use crate::ordered::placed_row;
 use disk_trait::{Duplicate, Memory, Text};

@@ -3,7 +3,7 @@ ghost use Rattle.std.specs.Prelude.{◌≡◌, [], Some, None, option_copied};
 ghost use Rattle.media_rows.specs.Catalog.{Catalog, fits_format, fits_source, flow_before, flow_of, keeps_flow, new_source, put_refusal, put_refusals, put_row, same_format, source_of, sources_after_put};
 ghost use Rattle.media_rows.specs.Lists.{placed};
 ghost use Rattle.media_rows.specs.Refusals.{first_refusal};
-ghost use Rattle.flow_book.specs.Answers.{Computes, catalog_with};
+ghost use Rattle.flow_book.specs.Within.Answers.{Computes, catalog_with};
 
 use crate::collections::collection_refusal;
 use crate::looks::{find_flow, find_source};

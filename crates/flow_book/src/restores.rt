@@ -6,7 +6,7 @@ ghost use Rattle.media_rows.specs.Collections.{is_kept, member_ids};
 ghost use Rattle.media_rows.specs.Good.{are_collections_good, fits_kept, is_collection_good};
 ghost use Rattle.media_rows.specs.Lists.{are_distinct};
 ghost use Rattle.media_rows.specs.Restoring.{can_restore_catalog};
-ghost use Rattle.flow_book.specs.Answers.{Computes};
+ghost use Rattle.flow_book.specs.Within.Answers.{Computes};
 
 use crate::collections::{collects_itself, is_kept};
 use crate::drops::has_flow;

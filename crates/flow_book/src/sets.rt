@@ -2,7 +2,7 @@
 ghost use Rattle.std.specs.Prelude.{◌≡◌, ◌==◌, Some, if◌then◌else◌};
 ghost use Rattle.media_rows.specs.Catalog.{flow_of, part_refusals, set_refusals, set_row, set_source_row, source_of, source_refusals, touched, with_flow, with_source};
 ghost use Rattle.media_rows.specs.Refusals.{first_refusal};
-ghost use Rattle.flow_book.specs.Answers.{Computes};
+ghost use Rattle.flow_book.specs.Within.Answers.{Computes};
 
 use crate::collections::collection_refusal;
 use crate::looks::{find_flow, find_source};

@@ -1,0 +1,3 @@
+-- Words that the calls within this crate cite, and no other crate.
+pub mod Answers
+pub mod Order
