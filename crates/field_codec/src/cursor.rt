@@ -24,7 +24,7 @@ impl<'a> Model for Cursor<'a> {
 }
 
 impl<'a> Cursor<'a> {
-    /// SpellsFirst at the first byte.
+    /// Begins at the first byte.
     pub fn new(bytes: &'a [u8]) -> Cursor<'a>
         ensures { result ≡ bytes.now }
     {
