@@ -14,12 +14,12 @@ use Rattle.tams_top.specs.declared.connection.Ending.TheVariants.{Closed, Starve
 use Rattle.tams_top.specs.declared.store.Store.{Store}
 use Rattle.tams_top.specs.declared.request.Front.TheVariants.{Unbuilt}
 use Rattle.tams_top.specs.Answer.{body_fields, body_text, close_field, closes, is_final, response, status_line}
-use Rattle.tams_top.specs.Change.{IsChange}
+use Rattle.tams_top.specs.Change.{IsPutChange}
 use Rattle.tams_top.specs.Request.{BeginsWith, IsFront, request_text}
 use Rattle.tams_top.specs.Store.{State, StandsFor}
 use Rattle.tams_top.specs.Opening.{state_of}
 use Rattle.tams_top.specs.History as history
-use Rattle.tams_top.specs.History.{Last, Session, Taken, after, answer_text, answer_to, answers_of, changed, changes_in, changes_of, change_of, count_of, end_of, is_changing, most_requests, moments_of, requests_of, script_of, session_of, state_after, texts_of}
+use Rattle.tams_top.specs.History.{Last, Session, Taken, state_after_all, answer_text, answer_to, answers_of, changed, changes_in, changes_of, change_of, count_of, end_of, is_changing, most_requests, moments_of, requests_of, script_of, session_of, state_after, texts_of}
 use Rattle.tams_top.specs.Moments.{AllRight, Beginning, EachKeeps, Handles, told_before}
 use Rattle.tams_top.specs.Serving.{AreCounts, Counts, CountsAt, Ended, EndsAs, HandledAs, Reached, StandsAt, TurnAnswer, connection_of, ending_after, machine_ending}
 use Rattle.tams_top.proofs.HistoryLemmas.{after-push, answers-push, begun-push, begun_bound, changes-push, earlier_itself, flat_map-push, map-push, prefix_itself, prefix_longer, script-session}
@@ -43,7 +43,7 @@ eq_of : (a b : ℕ) → true ≡ (a == b) → a ≡ b
 eq_of a b e = eqb-true a b (sym e)
 
 -- The request that stands at the front of the unread bytes, and what answering it leaves at first.
-module _ (b : Beginning) (old mid new : Device) (given unread : List ℕ) (store next : Store) (n m : Counts) (t : Taken) (sound : IsDevice old) (mid_sound : IsDevice mid) (honest : old.honest ≡ true) (tells : old.tells ≡ true) (mid_honest : mid.honest ≡ true) (mid_shows : mid.shows ≡ true) (mid_tells : mid.tells ≡ true) (r : Reached b old given unread store n) (begins : BeginsWith unread t.put) (valid : IsChange (change_of t)) (few : n.requests < 1000000) (link : mid.link ≡ old.link) (time : Elapses (Handles (state_of store) (change_of t)) (Handles (state_of store) (change_of t)) old mid) (requests : m.requests ≡ n.requests + 1) where
+module _ (b : Beginning) (old mid new : Device) (given unread : List ℕ) (store next : Store) (n m : Counts) (t : Taken) (sound : IsDevice old) (mid_sound : IsDevice mid) (honest : old.honest ≡ true) (tells : old.tells ≡ true) (mid_honest : mid.honest ≡ true) (mid_shows : mid.shows ≡ true) (mid_tells : mid.tells ≡ true) (r : Reached b old given unread store n) (begins : BeginsWith unread t.put) (valid : IsPutChange (change_of t)) (few : n.requests < 1000000) (link : mid.link ≡ old.link) (time : Elapses (Handles (state_of store) (change_of t)) (Handles (state_of store) (change_of t)) old mid) (requests : m.requests ≡ n.requests + 1) where
   -- the requests so far, and with this one
   abbrev so_far : List Taken
   so_far = r.taken
@@ -52,7 +52,7 @@ module _ (b : Beginning) (old mid new : Device) (given unread : List ℕ) (store
   with_this = r.taken ++ t ∷ []
 
   abbrev state_now : State
-  state_now = after b.state r.taken
+  state_now = state_after_all b.state r.taken
 
   rest_is : drop 167 unread ≡ begins.rest
   rest_is =
@@ -70,8 +70,8 @@ module _ (b : Beginning) (old mid new : Device) (given unread : List ℕ) (store
       ∙ append_assoc b.given (moments_of so_far) (t.moment ∷ [])
       ∙ ap (λ xs. b.given ++ xs) (sym (map-push (λ (x : Taken). x.moment) so_far t))
 
-  all_valid : All (λ x. IsChange (change_of x)) with_this
-  all_valid = All-push (λ x. IsChange (change_of x)) so_far t r.valid valid
+  all_valid : All (λ x. IsPutChange (change_of x)) with_this
+  all_valid = All-push (λ x. IsPutChange (change_of x)) so_far t r.valid valid
 
   -- what the connection heard and was told before the answer
   told_so_far : mid.link.connections ≡ b.before ++ connection_of (texts_of with_this ++ drop 167 unread) (answers_of 0 b.state so_far) false false ∷ []

@@ -10,7 +10,7 @@ use Rattle.tams_top.specs.declared.words.Command.TheVariants.{Format}
 use Rattle.tams_top.specs.Words.{IsCommand}
 use Rattle.tams_top.specs.Completeness.{EndsByInput, IsAnswered, IsServedWhole, NoneRose}
 use Rattle.tams_top.specs.History.{Session, moments_of, requests_of}
-use Rattle.tams_top.specs.Running.{CommandEnds, EndsWithoutPeer, FaultCounts, FormatEnds, LinkFaults, OutcomeIs, Replayed, RunEnds, beginning, status_of}
+use Rattle.tams_top.specs.Running.{CommandEnds, EndsWithoutPeer, FaultCounts, FormattingEnds, LinkFaults, OutcomeIs, Replayed, RunEnds, beginning, status_of}
 use Rattle.tams_top.specs.Serving.{IsServed}
 use Rattle.tams_top.specs.Store.{State}
 use Rattle.tams_top.proofs.WordTheorems.{one_command}
@@ -72,7 +72,7 @@ served_whole from old new begun given o counts none fed (inr p) =
     inr (p.connections, p.given_is, came.0, came.1)
 
 -- `format` where no call of the disk failed
-formatted : (old new : Device) (h : Header) (o : Outcome) → FormatEnds old new h o → (o ≡ DiskFault → ⊥) → (status_of o ≡ 0) ⊎ ((status_of o ≡ 2) ⊎ (status_of o ≡ 4))
+formatted : (old new : Device) (h : Header) (o : Outcome) → FormattingEnds old new h o → (o ≡ DiskFault → ⊥) → (status_of o ≡ 0) ⊎ ((status_of o ≡ 2) ⊎ (status_of o ≡ 4))
 formatted old new h (Formatted blocks half media) ends held = inl refl
 formatted old new h AlreadyStore ends held = inr (inl refl)
 formatted old new h TooSmall ends held = inr (inl refl)

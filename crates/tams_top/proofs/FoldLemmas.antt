@@ -1,12 +1,12 @@
 -- Records that fold to a library, one after another.
 use Rattle.std.proofs.Common.{◌≡◌, ◌<◌, ◌+◌, ℕ, suc, List, [], ◌∷◌, ◌++◌, length, drop, get_or, Some, None, refl, sym, ap, ◌∙◌, subst, drop-cons, add-one}
 use Rattle.media_journal.specs.declared.record.Record.{Record}
-use Rattle.tams_top.specs.declared.change.Change.{Change}
+use Rattle.tams_top.specs.declared.change.PutChange.{PutChange}
 use Rattle.tams_top.specs.declared.library.Library.{Library}
 use Rattle.tams_top.specs.declared.store.StoreFault.{StoreFault}
 use Rattle.tams_top.specs.declared.store.StoreFault.TheVariants.{Damaged, Memory}
-use Rattle.tams_top.specs.Change.{IsChange, change_text}
-use Rattle.tams_top.specs.Library.{applied}
+use Rattle.tams_top.specs.Change.{IsPutChange, change_text}
+use Rattle.tams_top.specs.Library.{library_after}
 use Rattle.tams_top.specs.Store.{Folds, StepOf, IsRefused}
 use Rattle.tams_top.specs.Folding.{IsStepRefused, IsFoldRefused}
 use Rattle.tams_top.proofs.ChangeLemmas.{change_text-one}
@@ -15,7 +15,7 @@ use Rattle.tams_top.proofs.ChangeLemmas.{change_text-one}
 one_step : (r : Record) (from a b : Library) → StepOf r from a → StepOf r from b → b ≡ a
 one_step r from a b first second =
     let same : second.0 ≡ first.0 = change_text-one second.0 first.0 second.1 first.1 (sym second.2 ∙ first.2) in
-    let made : applied first.0 from ≡ Some b = subst (λ (c : Change). applied c from ≡ Some b) same second.3 in
+    let made : library_after first.0 from ≡ Some b = subst (λ (c : PutChange). library_after c from ≡ Some b) same second.3 in
     let e : Some b ≡ Some a = sym made ∙ first.3 in
     cc
 
@@ -43,10 +43,10 @@ turn_on rs i r empty from next to within is s on all =
     step_fold r (drop (i + 1) rs) from next to s (subst (λ (xs : List Record). Folds xs from to) (split_at rs i r within is) (on to all))
 
 -- a record whose change is refused makes nothing
-pub is_refused : (r : Record) (c : Change) (from : Library) → IsChange c → r.payload ≡ change_text c → None ≡ applied c from → IsRefused r from
+pub is_refused : (r : Record) (c : PutChange) (from : Library) → IsPutChange c → r.payload ≡ change_text c → None ≡ library_after c from → IsRefused r from
 is_refused r c from valid is none other next valid_other is_other made =
     let same : other ≡ c = change_text-one other c valid_other valid (sym is_other ∙ is) in
-    let e : None ≡ Some next = none ∙ subst (λ (x : Change). applied x from ≡ Some next) same made in
+    let e : None ≡ Some next = none ∙ subst (λ (x : PutChange). library_after x from ≡ Some next) same made in
     cc
 
 -- a record that is refused leaves no library

@@ -5,14 +5,14 @@ use Rattle.std.proofs.lemmas.Bool.{cases_lt, eqb-true, le-ltb, lt-ltb}
 use Rattle.std.proofs.lemmas.List.Elements.{All-cons, All-tail}
 use Rattle.disk_trait.specs.Device.{Device, IsDevice}
 use Rattle.media_journal.specs.declared.record.Record.{Record}
-use Rattle.tams_top.specs.declared.change.Change.{Change}
+use Rattle.tams_top.specs.declared.change.PutChange.{PutChange}
 use Rattle.tams_top.specs.declared.library.Flow.{Flow}
 use Rattle.tams_top.specs.declared.library.Library.{Library}
 use Rattle.tams_top.specs.declared.store.Store.{Store}
-use Rattle.tams_top.specs.Change.{IsChange}
-use Rattle.tams_top.specs.Library.{AreFlowsFrom, IsGood, IsGoodFlow, applied, empty_library, flow_of, placed, put_flow, with_flow}
+use Rattle.tams_top.specs.Change.{IsPutChange}
+use Rattle.tams_top.specs.Library.{AreFlowsFrom, IsGood, IsGoodFlow, library_after, empty_library, flow_of, flow_placed, put_flow, with_flow}
 use Rattle.tams_top.specs.Store.{Folds, State, StandsFor}
-use Rattle.tams_top.specs.History.{Last, Session, Taken, after, after_last, answer_to, change_of, changed, end_of, is_changing, requests_of, session_of, state_after, taken_last}
+use Rattle.tams_top.specs.History.{Last, Session, Taken, state_after_all, after_last, answer_to, change_of, changed, end_of, is_changing, requests_of, session_of, state_after, taken_last}
 use Rattle.tams_top.specs.History as history
 use Rattle.tams_top.specs.Moments.{EachKeeps}
 use Rattle.tams_top.specs.Running.{AllGood}
@@ -38,7 +38,7 @@ all_above m x (f ∷ fs) are above =
     rw passes (ap (λ gs. f ∷ gs) (all_above (f.id + 1) x fs are.2 (omega (arith, are.0, above))))
 
 -- a flow at its place
-placed_good : (m : ℕ) (x : Flow) (fs : List Flow) → AreFlowsFrom m fs → m ≤ x.id → IsGoodFlow x → AreFlowsFrom m (placed x fs)
+placed_good : (m : ℕ) (x : Flow) (fs : List Flow) → AreFlowsFrom m fs → m ≤ x.id → IsGoodFlow x → AreFlowsFrom m (flow_placed x fs)
 placed_good m x [] are least good = (least, good, tt)
 placed_good m x (f ∷ fs) are least good = elim (cases_lt f.id x.id) [
   | inl below ↦
@@ -72,7 +72,7 @@ found_good m id (g ∷ fs) f are e = found (g.id == id) refl e (found_good (g.id
     found false is some later = later some
 
 -- the flow that a put leaves
-put_good : (c : Change) (kept : Option Flow) (x : Flow) → IsChange c → ((f : Flow) → kept ≡ Some f → IsGoodFlow f) → put_flow c kept ≡ Some x → IsGoodFlow x
+put_good : (c : PutChange) (kept : Option Flow) (x : Flow) → IsPutChange c → ((f : Flow) → kept ≡ Some f → IsGoodFlow f) → put_flow c kept ≡ Some x → IsGoodFlow x
 put_good c None x is kept e =
     let same : record { id = c.flow; source = c.source; created = c.moment; updated = c.moment } ≡ x = let some : Some record { id = c.flow; source = c.source; created = c.moment; updated = c.moment } ≡ Some x = e in cc in
     subst IsGoodFlow same (record { id = is.flow; source = is.source; created = is.moment; updated = is.moment })
@@ -88,12 +88,12 @@ put_good c (Some old) x is kept e = made (old.source == c.source) e
 with_good : (library next : Library) (flow : Option Flow) → IsGood library → ((x : Flow) → flow ≡ Some x → IsGoodFlow x) → with_flow library flow ≡ Some next → IsGood next
 with_good library next None good flow e = absurd (let none : None ≡ Some next = e in cc)
 with_good library next (Some x) good flow e =
-    let same : record library { flows = placed x library.flows } ≡ next = let some : Some record library { flows = placed x library.flows } ≡ Some next = e in cc in
+    let same : record library { flows = flow_placed x library.flows } ≡ next = let some : Some record library { flows = flow_placed x library.flows } ≡ Some next = e in cc in
     subst IsGood same (placed_good 0 x library.flows good (omega arith) (flow x refl))
 
 -- a change that applies keeps a library good
-pub applied_good : (c : Change) (library next : Library) → IsChange c → IsGood library → applied c library ≡ Some next → IsGood next
-unfolding applied
+pub applied_good : (c : PutChange) (library next : Library) → IsPutChange c → IsGood library → library_after c library ≡ Some next → IsGood next
+unfolding library_after
 applied_good c library next is good e =
     with_good library next (put_flow c (flow_of c.flow library.flows)) good
     (λ x some. put_good c (flow_of c.flow library.flows) x is (λ f found. (found_good 0 c.flow library.flows f good found).0) some) e
@@ -110,14 +110,14 @@ stands_good image s stands = folds_good stands.records (empty_library stands.hea
 pub keeps_good : (d : Device) (s : Store) → IsDevice d → d.honest ≡ true → d.shows ≡ true → d.tells ≡ true → EachKeeps d s → IsGood s.library
 keeps_good d s sound honest shows tells keeps = folds_good keeps.records (empty_library keeps.header) s.library tt keeps.folds
 
-changed_good : (s : State) (c : Change) → IsChange c → IsGood s.library → IsGood (changed s c).library
-changed_good s c is good = made (applied c s.library) (λ next some. applied_good c s.library next is good some)
+changed_good : (s : State) (c : PutChange) → IsPutChange c → IsGood s.library → IsGood (changed s c).library
+changed_good s c is good = made (library_after c s.library) (λ next some. applied_good c s.library next is good some)
   where
     made : (o : Option Library) → ((next : Library) → o ≡ Some next → IsGood next) → IsGood (unwrap_or o s.library)
     made None next = good
     made (Some l) next = next l refl
 
-after_good : (s : State) (c : Change) → IsChange c → IsGood s.library → IsGood (state_after s c).library
+after_good : (s : State) (c : PutChange) → IsPutChange c → IsGood s.library → IsGood (state_after s c).library
 after_good s c is good = answered (is_changing (answer_to s c))
   where
     answered : (b : Bool) → IsGood (if b then changed s c else s).library
@@ -126,24 +126,24 @@ after_good s c is good = answered (is_changing (answer_to s c))
 
 -- requests of which each is a good one
 abbrev AreValid : List Taken → Type 0
-AreValid ts = All (λ t. IsChange (change_of t)) ts
+AreValid ts = All (λ t. IsPutChange (change_of t)) ts
 
-first_valid : (t : Taken) (ts : List Taken) → AreValid (t ∷ ts) → IsChange (change_of t)
+first_valid : (t : Taken) (ts : List Taken) → AreValid (t ∷ ts) → IsPutChange (change_of t)
 first_valid t ts all = all 0 t (omega arith)
 
 valid_front : (ts more : List Taken) → AreValid (ts ++ more) → AreValid ts
 valid_front [] more all = λ k t le. absurd (omega (arith, le))
 valid_front (t ∷ ts) more all =
-    All-cons (λ x. IsChange (change_of x)) t ts (first_valid t (ts ++ more) all) (valid_front ts more (All-tail (λ x. IsChange (change_of x)) t (ts ++ more) all))
+    All-cons (λ x. IsPutChange (change_of x)) t ts (first_valid t (ts ++ more) all) (valid_front ts more (All-tail (λ x. IsPutChange (change_of x)) t (ts ++ more) all))
 
 valid_behind : (ts more : List Taken) → AreValid (ts ++ more) → AreValid more
 valid_behind [] more all = all
-valid_behind (t ∷ ts) more all = valid_behind ts more (All-tail (λ x. IsChange (change_of x)) t (ts ++ more) all)
+valid_behind (t ∷ ts) more all = valid_behind ts more (All-tail (λ x. IsPutChange (change_of x)) t (ts ++ more) all)
 
-requests_good : (s : State) (ts : List Taken) → AreValid ts → IsGood s.library → IsGood (after s ts).library
+requests_good : (s : State) (ts : List Taken) → AreValid ts → IsGood s.library → IsGood (state_after_all s ts).library
 requests_good s [] all good = good
 requests_good s (t ∷ ts) all good =
-    requests_good (state_after s (change_of t)) ts (All-tail (λ x. IsChange (change_of x)) t ts all) (after_good s (change_of t) (first_valid t ts all) good)
+    requests_good (state_after s (change_of t)) ts (All-tail (λ x. IsPutChange (change_of x)) t ts all) (after_good s (change_of t) (first_valid t ts all) good)
 
 last_good : (s : State) (last : Option Last) → AreValid (taken_last last) → IsGood s.library → IsGood (after_last s last).library
 last_good s None all good = good
@@ -154,7 +154,7 @@ last_good s (Some (history.Stopped t false)) all good = good
 
 pub all_good : (from : State) (h : Session) → IsGood from.library → AreValid (requests_of h) → AllGood from h
 all_good from h good valid g (inl same) =
-    rw same (last_good (after from h.taken) h.last (valid_behind h.taken (taken_last h.last) valid) (requests_good from h.taken (valid_front h.taken (taken_last h.last) valid) good))
+    rw same (last_good (state_after_all from h.taken) h.last (valid_behind h.taken (taken_last h.last) valid) (requests_good from h.taken (valid_front h.taken (taken_last h.last) valid) good))
 all_good from h good valid g (inr part) =
     let front : AreValid g.taken = valid_front g.taken part.1.0 (subst AreValid part.1.1 (valid_front h.taken (taken_last h.last) valid)) in
     rw part.0 (requests_good from g.taken front good)

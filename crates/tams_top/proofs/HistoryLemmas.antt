@@ -6,16 +6,16 @@ use Rattle.std.specs.Prelude.{if◌then◌else◌}
 use Rattle.std.specs.List.{flat_map}
 use Rattle.site_edge.specs.Saying.{IsPrefix}
 use Rattle.tams_top.specs.declared.answer.Answer.TheVariants.{Replaced, FlowChanged, JournalFull}
-use Rattle.tams_top.specs.declared.change.Change.{Change}
+use Rattle.tams_top.specs.declared.change.PutChange.{PutChange}
 use Rattle.tams_top.specs.declared.library.Flow.{Flow}
 use Rattle.tams_top.specs.declared.library.Library.{Library}
-use Rattle.tams_top.specs.Library.{applied, flow_of, put_flow, with_flow}
+use Rattle.tams_top.specs.Library.{library_after, flow_of, put_flow, with_flow}
 use Rattle.tams_top.specs.Store.{State}
-use Rattle.tams_top.specs.History.{Taken, Last, Session, after, answer_by, answer_text, answer_to, answers_of, change_of, changes_of, count_of, fits, is_changing, script_of, session_of, state_after}
+use Rattle.tams_top.specs.History.{Taken, Last, Session, state_after_all, answer_by_kept, answer_text, answer_to, answers_of, change_of, changes_of, count_of, fits, is_changing, script_of, session_of, state_after}
 use Rattle.tams_top.specs.Moments.{IsEarlier, begun_in}
 
 -- an answer that comes with a change says that its record fits
-changing_fits : (kept : Option Flow) (source : ℕ) (room : Bool) → is_changing (answer_by kept source room) ≡ true → room ≡ true
+changing_fits : (kept : Option Flow) (source : ℕ) (room : Bool) → is_changing (answer_by_kept kept source room) ≡ true → room ≡ true
 changing_fits None source true e = refl
 changing_fits None source false e = e
 changing_fits (Some f) source true e = refl
@@ -26,7 +26,7 @@ changing_fits (Some f) source false e = kept (f.source == source) e
     kept false e = e
 
 -- and that the put of its flow isn't refused
-changing_put : (c : Change) (kept : Option Flow) (room : Bool) → is_changing (answer_by kept c.source room) ≡ true → (f : Flow) × (put_flow c kept ≡ Some f)
+changing_put : (c : PutChange) (kept : Option Flow) (room : Bool) → is_changing (answer_by_kept kept c.source room) ≡ true → (f : Flow) × (put_flow c kept ≡ Some f)
 changing_put c None room e = (_, refl)
 changing_put c (Some f) room e = kept (f.source == c.source) e
   where
@@ -34,11 +34,11 @@ changing_put c (Some f) room e = kept (f.source == c.source) e
     kept true e = (_, refl)
     kept false e = absurd (false≢true e)
 
-pub accepted_fits : (s : State) (c : Change) → is_changing (answer_to s c) ≡ true → fits s c ≡ true
+pub accepted_fits : (s : State) (c : PutChange) → is_changing (answer_to s c) ≡ true → fits s c ≡ true
 accepted_fits s c e = changing_fits (flow_of c.flow s.library.flows) c.source (fits s c) e
 
-pub accepted_applies : (s : State) (c : Change) → is_changing (answer_to s c) ≡ true → (next : Library) × (applied c s.library ≡ Some next)
-unfolding applied
+pub accepted_applies : (s : State) (c : PutChange) → is_changing (answer_to s c) ≡ true → (next : Library) × (library_after c s.library ≡ Some next)
+unfolding library_after
 accepted_applies s c e =
     let put = changing_put c (flow_of c.flow s.library.flows) (fits s c) e in
     (_, ap (with_flow s.library) put.1)
@@ -52,11 +52,11 @@ map-push f [] x = refl
 map-push f (y ∷ xs) x = ap (λ ys. f y ∷ ys) (map-push f xs x)
 
 -- the state, the answers and the changes behind one request more
-pub after-push : (s : State) (ts : List Taken) (t : Taken) → after s (ts ++ t ∷ []) ≡ state_after (after s ts) (change_of t)
+pub after-push : (s : State) (ts : List Taken) (t : Taken) → state_after_all s (ts ++ t ∷ []) ≡ state_after (state_after_all s ts) (change_of t)
 after-push s [] t = refl
 after-push s (u ∷ ts) t = after-push (state_after s (change_of u)) ts t
 
-pub answers-push : (n : ℕ) (s : State) (ts : List Taken) (t : Taken) → answers_of n s (ts ++ t ∷ []) ≡ answers_of n s ts ++ answer_text (n + length ts) (after s ts) t
+pub answers-push : (n : ℕ) (s : State) (ts : List Taken) (t : Taken) → answers_of n s (ts ++ t ∷ []) ≡ answers_of n s ts ++ answer_text (n + length ts) (state_after_all s ts) t
 answers-push n s [] t =
     let same : n + 0 ≡ n = omega arith in
     append-nil (answer_text n s t) ∙ ap (λ (m : ℕ). answer_text m s t) (sym same)
@@ -64,10 +64,10 @@ answers-push n s (u ∷ ts) t =
     let next = state_after s (change_of u) in
     let same : suc n + length ts ≡ n + length (u ∷ ts) = omega arith in
     ap (λ xs. answer_text n s u ++ xs) (answers-push (suc n) next ts t)
-    ∙ sym (append_assoc (answer_text n s u) (answers_of (suc n) next ts) (answer_text (suc n + length ts) (after next ts) t))
-    ∙ ap (λ (m : ℕ). (answer_text n s u ++ answers_of (suc n) next ts) ++ answer_text m (after next ts) t) same
+    ∙ sym (append_assoc (answer_text n s u) (answers_of (suc n) next ts) (answer_text (suc n + length ts) (state_after_all next ts) t))
+    ∙ ap (λ (m : ℕ). (answer_text n s u ++ answers_of (suc n) next ts) ++ answer_text m (state_after_all next ts) t) same
 
-pub changes-push : (s : State) (ts : List Taken) (t : Taken) → changes_of s (ts ++ t ∷ []) ≡ changes_of s ts + count_of (answer_to (after s ts) (change_of t))
+pub changes-push : (s : State) (ts : List Taken) (t : Taken) → changes_of s (ts ++ t ∷ []) ≡ changes_of s ts + count_of (answer_to (state_after_all s ts) (change_of t))
 changes-push s [] t = omega arith
 changes-push s (u ∷ ts) t = omega (arith, changes-push (state_after s (change_of u)) ts t)
 

@@ -13,7 +13,7 @@ use Rattle.uuid.specs.Text.{lower, parsed}
 use Rattle.uuid.proofs.TextLemmas.{by_index_length}
 use Rattle.uuid.proofs.RoundTrips.{parses_hyphenated, parse_gives}
 use Rattle.uuid.proofs.OrderLemmas.{from_be_bytes-to_be_bytes_16}
-use Rattle.tams_top.specs.Ids.{id_text}
+use Rattle.media_rows.specs.Ids.{id_text}
 use Rattle.tams_top.specs.Request.{BeginsWith, BehindHead, IsFront, IsHeadFront, IsLength, body_text, head_end, head_len, head_text, request_text}
 use Rattle.tams_top.specs.declared.request.FlowPut.{FlowPut}
 use Rattle.tams_top.specs.declared.request.Front.{Front}

@@ -7,14 +7,14 @@ use Rattle.site_edge.specs.Saying.{IsPrefix}
 use Rattle.media_journal.specs.Journal.{Position, Gives}
 use Rattle.media_journal.specs.declared.header.Header.{Header}
 use Rattle.media_journal.specs.declared.record.Record.{Record}
-use Rattle.tams_top.specs.declared.change.Change.{Change}
+use Rattle.tams_top.specs.declared.change.PutChange.{PutChange}
 use Rattle.tams_top.specs.declared.library.Library.{Library}
 use Rattle.tams_top.specs.declared.store.Store.{Store}
 use Rattle.tams_top.specs.Library.{empty_library}
 use Rattle.tams_top.specs.Store.{Folds, State, StandsFor, contents}
 use Rattle.media_journal.proofs.ReadingLemmas.{gives_reads}
 use Rattle.tams_top.specs.Opening.{state_of}
-use Rattle.tams_top.specs.History.{Taken, Last, Session, after, answered_last, answer_text, answer_to, answers_of, changed, changes_in, changes_of, end_of, is_changing, script_of, session_of}
+use Rattle.tams_top.specs.History.{Taken, Last, Session, state_after_all, answered_last, answer_text, answer_to, answers_of, changed, changes_in, changes_of, end_of, is_changing, script_of, session_of}
 use Rattle.tams_top.specs.Moments.{AllRight, Beginning, EachKeeps, Handles, IsEarlier, IsLeft, IsRight, begun_in, told_before}
 use Rattle.tams_top.proofs.HistoryLemmas.{answers-push, begun-push, earlier_last, earlier_push, map-push, prefix_length, prefix_longer, script-session}
 
@@ -42,7 +42,7 @@ stands_now d s p keeps could = stands_at p.image s.journal keeps.header keeps.re
 left_push : (from : State) (ts : List Taken) (t : Taken) (told image : List ℕ) → IsLeft from (session_of ts) told image → IsLeft from (session_of (ts ++ t ∷ [])) told image
 left_push from ts t told image l =
     let prefix : IsPrefix told (answers_of 0 from ts) = subst (IsPrefix told) (script-session from ts) l.prefix in
-    let longer = prefix_longer told (answers_of 0 from ts) (answer_text (0 + length ts) (after from ts) t) prefix in
+    let longer = prefix_longer told (answers_of 0 from ts) (answer_text (0 + length ts) (state_after_all from ts) t) prefix in
     record {
       earlier = l.earlier;
       is_earlier = earlier_push l.earlier ts t l.is_earlier;
@@ -105,7 +105,7 @@ told_now b c d p sound honest tells connections could =
     sound.told honest tells p could ∙ ap (map (λ (x : Connection). x.told)) connections ∙ map-push (λ (x : Connection). x.told) b.before c
 
 -- within an answer to a change: nothing more is told, and the image stands for the state before or after
-pub handles_right : (b : Beginning) (ts : List Taken) (h : Session) (c : Change) (q p : Left) → q.told ≡ told_before b ++ answers_of 0 b.state ts ∷ [] → IsEarlier (session_of ts) h → begun_in 0 b.state h.taken (answers_of 0 b.state ts) ≤ changes_of b.state ts → changes_of b.state ts ≤ changes_in b.state h → IsPrefix (answers_of 0 b.state ts) (script_of b.state h) → (is_changing (answer_to (after b.state ts) c) ≡ true → changed (after b.state ts) c ≡ end_of b.state h) → Handles (after b.state ts) c q p → IsRight b h p
+pub handles_right : (b : Beginning) (ts : List Taken) (h : Session) (c : PutChange) (q p : Left) → q.told ≡ told_before b ++ answers_of 0 b.state ts ∷ [] → IsEarlier (session_of ts) h → begun_in 0 b.state h.taken (answers_of 0 b.state ts) ≤ changes_of b.state ts → changes_of b.state ts ≤ changes_in b.state h → IsPrefix (answers_of 0 b.state ts) (script_of b.state h) → (is_changing (answer_to (state_after_all b.state ts) c) ≡ true → changed (state_after_all b.state ts) c ≡ end_of b.state h) → Handles (state_after_all b.state ts) c q p → IsRight b h p
 handles_right b ts h c q p told earlier begun few prefix made handles =
     inr (
       answers_of 0 b.state ts,

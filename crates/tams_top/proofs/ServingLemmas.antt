@@ -9,7 +9,7 @@ use Rattle.tams_top.specs.declared.connection.Ending.{Ending}
 use Rattle.tams_top.specs.declared.connection.Ending.TheVariants.{Complete, Cut, Unlinked}
 use Rattle.tams_top.specs.declared.store.Store.{Store}
 use Rattle.tams_top.specs.declared.request.Front.TheVariants.{More}
-use Rattle.tams_top.specs.Change.{IsChange}
+use Rattle.tams_top.specs.Change.{IsPutChange}
 use Rattle.tams_top.specs.Request.{IsFront}
 use Rattle.tams_top.specs.Store.{State, StandsFor}
 use Rattle.tams_top.specs.Opening.{state_of}
@@ -92,7 +92,7 @@ keeps_said ok bytes mid new s keeps call = record {
 }
 
 -- a connection that was served by a history and has ended
-pub ended_with : (b : Beginning) (d : Device) (given rest : List ℕ) (n : Counts) (ending : Ending) (h : Session) (c : Connection) → d.link.connections ≡ b.before ++ c ∷ [] → given ≡ b.given ++ moments_of (requests_of h) → c.heard ≡ texts_of (requests_of h) ++ rest → IsPrefix c.told (script_of b.state h) → (c.failed ≡ false → c.told ≡ script_of b.state h) → All (λ t. IsChange (change_of t)) (requests_of h) → length h.taken ≤ most_requests → EndsAs b.state c h rest ending → CountsAt b.state h n ending → StandsAt d.seen b.state h ending → AllRight b h d → Ended b d given n ending
+pub ended_with : (b : Beginning) (d : Device) (given rest : List ℕ) (n : Counts) (ending : Ending) (h : Session) (c : Connection) → d.link.connections ≡ b.before ++ c ∷ [] → given ≡ b.given ++ moments_of (requests_of h) → c.heard ≡ texts_of (requests_of h) ++ rest → IsPrefix c.told (script_of b.state h) → (c.failed ≡ false → c.told ≡ script_of b.state h) → All (λ t. IsPutChange (change_of t)) (requests_of h) → length h.taken ≤ most_requests → EndsAs b.state c h rest ending → CountsAt b.state h n ending → StandsAt d.seen b.state h ending → AllRight b h d → Ended b d given n ending
 ended_with b d given rest n ending h c connections given_is heard told whole valid few ends counts stands right = record {
   session = h;
   connection = c;

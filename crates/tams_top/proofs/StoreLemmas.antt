@@ -7,11 +7,11 @@ use Rattle.media_journal.specs.declared.record.Record.{Record}
 use Rattle.media_journal.specs.Journal.{Position, Gives, after_append}
 use Rattle.media_journal.specs.JournalMoments.{AppendEnds, EachGives, KeepsOrAdds, with_payload}
 use Rattle.disk_trait.proofs.Theorems.{elapses_weaker}
-use Rattle.tams_top.specs.declared.change.Change.{Change}
+use Rattle.tams_top.specs.declared.change.PutChange.{PutChange}
 use Rattle.tams_top.specs.declared.library.Library.{Library}
 use Rattle.tams_top.specs.declared.store.Store.{Store}
-use Rattle.tams_top.specs.Change.{IsChange, change_text}
-use Rattle.tams_top.specs.Library.{applied, empty_library}
+use Rattle.tams_top.specs.Change.{IsPutChange, change_text}
+use Rattle.tams_top.specs.Library.{library_after, empty_library}
 use Rattle.tams_top.specs.Store.{Folds, StandsFor, contents}
 use Rattle.tams_top.specs.History.{answer_to, changed, is_changing}
 use Rattle.tams_top.specs.Opening.{state_of}
@@ -20,17 +20,17 @@ use Rattle.tams_top.proofs.FoldLemmas.{fold_push}
 use Rattle.tams_top.proofs.RightLemmas.{stands_at, stands_now}
 
 -- the records with the one of a change fold to the library after it
-folds_more : (s : Store) (c : Change) (payload : List ℕ) (next : Library) (h : Header) (records : List Record) → IsChange c → payload ≡ change_text c → applied c s.library ≡ Some next → Folds records (empty_library h) s.library → Folds (with_payload s.journal payload (contents h records)).records (empty_library h) next
+folds_more : (s : Store) (c : PutChange) (payload : List ℕ) (next : Library) (h : Header) (records : List Record) → IsPutChange c → payload ≡ change_text c → library_after c s.library ≡ Some next → Folds records (empty_library h) s.library → Folds (with_payload s.journal payload (contents h records)).records (empty_library h) next
 folds_more s c payload next h records valid is applies folds =
     fold_push records _ (empty_library h) s.library next folds (c, valid, is, applies)
 
 -- an image with that record stands for the state after the change
-stands_more : (image : List ℕ) (s : Store) (c : Change) (payload : List ℕ) (next : Library) (h : Header) (records : List Record) → IsChange c → payload ≡ change_text c → applied c s.library ≡ Some next → Folds records (empty_library h) s.library → Gives image (after_append s.journal (length payload)) (with_payload s.journal payload (contents h records)) → StandsFor image (changed (state_of s) c)
+stands_more : (image : List ℕ) (s : Store) (c : PutChange) (payload : List ℕ) (next : Library) (h : Header) (records : List Record) → IsPutChange c → payload ≡ change_text c → library_after c s.library ≡ Some next → Folds records (empty_library h) s.library → Gives image (after_append s.journal (length payload)) (with_payload s.journal payload (contents h records)) → StandsFor image (changed (state_of s) c)
 stands_more image s c payload next h records valid is applies folds gives =
     let stands = stands_at image (after_append s.journal (length payload)) h (with_payload s.journal payload (contents h records)).records next gives (folds_more s c payload next h records valid is applies folds) in
     rw (applies, ← is) stands
 
-pub keeps_more : (d : Device) (s : Store) (p : Position) (c : Change) (payload : List ℕ) (next : Library) (keeps : EachKeeps d s) → IsChange c → payload ≡ change_text c → applied c s.library ≡ Some next → (new : Device) → EachGives new p (with_payload s.journal payload (contents keeps.header keeps.records)) → EachKeeps new (record { journal = p; library = next })
+pub keeps_more : (d : Device) (s : Store) (p : Position) (c : PutChange) (payload : List ℕ) (next : Library) (keeps : EachKeeps d s) → IsPutChange c → payload ≡ change_text c → library_after c s.library ≡ Some next → (new : Device) → EachGives new p (with_payload s.journal payload (contents keeps.header keeps.records)) → EachKeeps new (record { journal = p; library = next })
 keeps_more d s p c payload next keeps valid is applies new gives = record {
   header = keeps.header;
   records = (with_payload s.journal payload (contents keeps.header keeps.records)).records;
@@ -39,7 +39,7 @@ keeps_more d s p c payload next keeps valid is applies new gives = record {
 }
 
 -- an append's moments as those of the change
-pub handles_append : (ok : Bool) (old new : Device) (s : Store) (c : Change) (payload : List ℕ) (next : Library) (keeps : EachKeeps old s) → IsChange c → payload ≡ change_text c → applied c s.library ≡ Some next → is_changing (answer_to (state_of s) c) ≡ true → Elapses (KeepsOrAdds s.journal payload (contents keeps.header keeps.records)) (AppendEnds ok s.journal payload (contents keeps.header keeps.records)) old new → Elapses (Handles (state_of s) c) (Handles (state_of s) c) old new
+pub handles_append : (ok : Bool) (old new : Device) (s : Store) (c : PutChange) (payload : List ℕ) (next : Library) (keeps : EachKeeps old s) → IsPutChange c → payload ≡ change_text c → library_after c s.library ≡ Some next → is_changing (answer_to (state_of s) c) ≡ true → Elapses (KeepsOrAdds s.journal payload (contents keeps.header keeps.records)) (AppendEnds ok s.journal payload (contents keeps.header keeps.records)) old new → Elapses (Handles (state_of s) c) (Handles (state_of s) c) old new
 handles_append ok old new s c payload next keeps valid is applies accepted time =
     elapses_weaker _ _ _ _ old new time (λ q p could step. either q p step) (λ q p could left step. ends ok q p step)
   where
@@ -60,7 +60,7 @@ handles_append ok old new s c payload next keeps valid is applies accepted time 
     ends false q p step = either q p step
 
 -- where nothing was called
-pub handles_nothing : (d : Device) (s : Store) (c : Change) → EachKeeps d s → Elapses (Handles (state_of s) c) (Handles (state_of s) c) d d
+pub handles_nothing : (d : Device) (s : Store) (c : PutChange) → EachKeeps d s → Elapses (Handles (state_of s) c) (Handles (state_of s) c) d d
 handles_nothing d s c keeps = record {
   later = omega arith;
   now = λ p left. (p, left, record { told = refl; image = inl (stands_now d s p keeps left) });

@@ -1,7 +1,8 @@
 -- Words spell at most one command.
 use Rattle.std.proofs.Common.{◌≡◌, ◌<◌, ◌^◌, ◌∙◌, ℕ, List, Some, sym, arith}
 use Rattle.std.proofs.lemmas.Fmt.{decimal_injective}
-use Rattle.tams_top.specs.Words.{IsNumber, IsFormat, IsReplay, IsCommand, id_of}
+use Rattle.tams_top.specs.Words.{IsNumber, IsFormat, IsReplay, IsCommand}
+use Rattle.media_rows.specs.Ids.{id_of}
 use Rattle.tams_top.specs.declared.words.Command.{Command}
 use Rattle.tams_top.specs.declared.words.Command.TheVariants.{Format, Replay}
 

@@ -6,7 +6,7 @@ use Rattle.media_rows.specs.declared.flow.FlowBody.{FlowBody}
 use Rattle.media_rows.specs.declared.flow.FormatKind.TheVariants.{Video}
 use Rattle.change_codec.specs.Changes.{change_spelling}
 use Rattle.site_edge.specs.Clocks.{IsMoment}
-use Rattle.tams_top.specs.declared.change.Change.{Change}
+use Rattle.tams_top.specs.declared.change.PutChange.{PutChange}
 
 -- the video flow of an id and a source, with no other member
 abbrev pub plain_flow : ℕ → ℕ → FlowBody
@@ -27,15 +27,15 @@ plain_flow flow source = record {
 }
 
 -- the put of it, as a change of the media library
-abbrev pub media_change : Change → media.Change
+abbrev pub media_change : PutChange → media.Change
 media_change c = PutFlow c.moment (plain_flow c.flow c.source)
 
 -- its bytes, as the codec of changes spells them
-unfoldable pub change_text : Change → List ℕ
+unfoldable pub change_text : PutChange → List ℕ
 change_text c = change_spelling.spell (media_change c)
 
 -- the ids have 128 bits, and the moment is one up to the year 9999
-pub record IsChange (c : Change) : Type 0 where
+pub record IsPutChange (c : PutChange) : Type 0 where
   pub moment : IsMoment c.moment
   pub flow : c.flow < 2 ^ 128
   pub source : c.source < 2 ^ 128

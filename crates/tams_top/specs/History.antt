@@ -3,29 +3,29 @@ use Rattle.std.specs.Prelude.{◌+◌, ◌-◌, ◌==◌, ℕ, suc, Bool, true, 
 use Rattle.std.specs.List.{flat_map}
 use Rattle.tams_top.specs.declared.answer.Answer.{Answer}
 use Rattle.tams_top.specs.declared.answer.Answer.TheVariants.{Created, Replaced, FlowChanged, JournalFull, NotBuilt, NoMemory, DiskFault}
-use Rattle.tams_top.specs.declared.change.Change.{Change}
+use Rattle.tams_top.specs.declared.change.PutChange.{PutChange}
 use Rattle.tams_top.specs.declared.library.Flow.{Flow}
 use Rattle.tams_top.specs.declared.request.FlowPut.{FlowPut}
 use Rattle.tams_top.specs.Answer.{response}
 use Rattle.tams_top.specs.Change.{change_text}
-use Rattle.tams_top.specs.Library.{applied, flow_of}
+use Rattle.tams_top.specs.Library.{library_after, flow_of}
 use Rattle.tams_top.specs.Request.{request_text}
 use Rattle.tams_top.specs.Store.{State}
 
 -- The record of a change fits the room: beside its payload it has a gate, four bytes of length and the
 -- next gate.
-abbrev pub fits : State → Change → Bool
+abbrev pub fits : State → PutChange → Bool
 fits s c = nat_le (length (change_text c) + 6) s.room
 
 -- What the machine answers to a put, by the flow that is kept under its id and whether its record fits.
 -- A refusal by what is kept comes before one by the room.
-abbrev pub answer_by : Option Flow → ℕ → Bool → Answer
-answer_by None source room = if room then Created else JournalFull
-answer_by (Some kept) source room = if kept.source == source then (if room then Replaced else JournalFull) else FlowChanged
+abbrev pub answer_by_kept : Option Flow → ℕ → Bool → Answer
+answer_by_kept None source room = if room then Created else JournalFull
+answer_by_kept (Some kept) source room = if kept.source == source then (if room then Replaced else JournalFull) else FlowChanged
 
 -- the machine's answer to a put in a state
-abbrev pub answer_to : State → Change → Answer
-answer_to s c = answer_by (flow_of c.flow s.library.flows) c.source (fits s c)
+abbrev pub answer_to : State → PutChange → Answer
+answer_to s c = answer_by_kept (flow_of c.flow s.library.flows) c.source (fits s c)
 
 -- whether an answer comes with a change of the library
 abbrev pub is_changing : Answer → Bool
@@ -38,11 +38,11 @@ is_changing NoMemory = false
 is_changing DiskFault = false
 
 -- the state after a change: its record takes the payload and five bytes more from the room
-abbrev pub changed : State → Change → State
-changed s c = record { library = unwrap_or (applied c s.library) s.library; room = s.room - (length (change_text c) + 5) }
+abbrev pub changed : State → PutChange → State
+changed s c = record { library = unwrap_or (library_after c s.library) s.library; room = s.room - (length (change_text c) + 5) }
 
 -- the state after the machine's answer to a put
-abbrev pub state_after : State → Change → State
+abbrev pub state_after : State → PutChange → State
 state_after s c = if is_changing (answer_to s c) then changed s c else s
 
 -- a request that was taken at a moment
@@ -51,7 +51,7 @@ pub record Taken : Type 0 where
   pub moment : ℕ
 
 -- the change of a request that was taken
-abbrev pub change_of : Taken → Change
+abbrev pub change_of : Taken → PutChange
 change_of t = record { moment = t.moment; flow = t.put.flow; source = t.put.source }
 
 -- the bytes that requests spell
@@ -63,9 +63,9 @@ abbrev pub moments_of : List Taken → List ℕ
 moments_of = map (λ t. t.moment)
 
 -- the state after the machine answered these requests in order
-abbrev pub after : State → List Taken → State
-after s [] = s
-after s (t ∷ ts) = after (state_after s (change_of t)) ts
+abbrev pub state_after_all : State → List Taken → State
+state_after_all s [] = s
+state_after_all s (t ∷ ts) = state_after_all (state_after s (change_of t)) ts
 
 -- the number of changes that come with an answer
 abbrev pub count_of : Answer → ℕ
@@ -139,7 +139,7 @@ script_of from h = answers_of 0 from h.taken ++ answered_last h.last
 
 -- the state to which it leads
 abbrev pub end_of : State → Session → State
-end_of from h = after_last (after from h.taken) h.last
+end_of from h = after_last (state_after_all from h.taken) h.last
 
 -- the number of its answers
 abbrev pub answers_in : Session → ℕ

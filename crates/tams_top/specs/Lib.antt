@@ -1,4 +1,3 @@
-pub mod Ids
 pub mod Words
 pub mod Request
 pub mod Change

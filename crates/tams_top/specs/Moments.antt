@@ -6,7 +6,7 @@ use Rattle.site_edge.specs.Saying.{IsPrefix}
 use Rattle.media_journal.specs.declared.header.Header.{Header}
 use Rattle.media_journal.specs.declared.record.Record.{Record}
 use Rattle.media_journal.specs.JournalMoments.{EachGives}
-use Rattle.tams_top.specs.declared.change.Change.{Change}
+use Rattle.tams_top.specs.declared.change.PutChange.{PutChange}
 use Rattle.tams_top.specs.declared.store.Store.{Store}
 use Rattle.tams_top.specs.Library.{empty_library}
 use Rattle.tams_top.specs.Store.{Folds, State, StandsFor, contents}
@@ -79,6 +79,6 @@ pub record AllRight (b : Beginning) (h : Session) (d : Device) : Type 0 where
 
 -- What answering a change may do to what a crash leaves: it tells nothing, and the image stands for the
 -- state before it, or after it where the machine accepts it.
-pub record Handles (s : State) (c : Change) (old new : Left) : Type 0 where
+pub record Handles (s : State) (c : PutChange) (old new : Left) : Type 0 where
   pub told : new.told ≡ old.told
   pub image : StandsFor new.image s ⊎ ((is_changing (answer_to s c) ≡ true) × StandsFor new.image (changed s c))

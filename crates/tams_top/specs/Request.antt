@@ -2,7 +2,7 @@
 use Rattle.std.specs.Prelude.{◌≡◌, ◌<◌, ◌≤◌, ◌^◌, ◌⊎◌, ℕ, suc, List, [], ◌∷◌, ◌++◌, length, take, drop, codes, Option, Some, None, option_map, nat_eq, if◌then◌else◌}
 use Rattle.std.specs.List.{starts_with}
 use Rattle.std.specs.Fmt.{decimal}
-use Rattle.tams_top.specs.Ids.{id_text}
+use Rattle.media_rows.specs.Ids.{id_text}
 use Rattle.tams_top.specs.declared.request.Head.{Head}
 use Rattle.tams_top.specs.declared.request.FlowPut.{FlowPut}
 use Rattle.tams_top.specs.declared.request.HeadFront.{HeadFront}

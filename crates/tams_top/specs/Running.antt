@@ -200,19 +200,19 @@ pub record IsMade (old new : Device) (h : Header) (blocks half media : ℕ) : Ty
   pub stands : old.shows ≡ true → StandsFor new.seen (formatted_state h)
 
 -- the ends of `format`, each with its cause
-abbrev pub FormatEnds : Device → Device → Header → Outcome → Type 0
-FormatEnds old new h (Formatted blocks half media) = IsMade old new h blocks half media
-FormatEnds old new h AlreadyStore = (old.shows ≡ true → HasOpenHeader old.seen) × Untouched old new
-FormatEnds old new h TooSmall =
+abbrev pub FormattingEnds : Device → Device → Header → Outcome → Type 0
+FormattingEnds old new h (Formatted blocks half media) = IsMade old new h blocks half media
+FormattingEnds old new h AlreadyStore = (old.shows ≡ true → HasOpenHeader old.seen) × Untouched old new
+FormattingEnds old new h TooSmall =
     (old.shows ≡ true → (¬ (HasOpenHeader old.seen)) × (¬ (FitsStore h (length old.seen) empty_rows))) × Untouched old new
-FormatEnds old new h DiskFault = Unit {0}
-FormatEnds old new h NoMemory = Unit {0}
-FormatEnds old new h (Served requests changes) = ⊥
-FormatEnds old new h Cut = ⊥
-FormatEnds old new h BadWords = ⊥
-FormatEnds old new h NotStore = ⊥
-FormatEnds old new h (Damaged at) = ⊥
-FormatEnds old new h LinkFault = ⊥
+FormattingEnds old new h DiskFault = Unit {0}
+FormattingEnds old new h NoMemory = Unit {0}
+FormattingEnds old new h (Served requests changes) = ⊥
+FormattingEnds old new h Cut = ⊥
+FormattingEnds old new h BadWords = ⊥
+FormattingEnds old new h NotStore = ⊥
+FormattingEnds old new h (Damaged at) = ⊥
+FormattingEnds old new h LinkFault = ⊥
 
 -- What a crash at each moment of a run of `format` leaves of an honest device that had no store, with
 -- nothing pending: no store, or the new one. Once it was made nothing is pending.
@@ -223,7 +223,7 @@ pub record FormatMoments (old new : Device) (h : Header) (o : Outcome) : Type 0 
 -- the ends of a command
 abbrev pub CommandEnds : Device → Device → Bool → List ℕ → List ℕ → Outcome → Command → Type 0
 CommandEnds old new clock begun given o (Format path blocks half id) =
-    FormatEnds old new record { blocks = blocks; half = half; id = id } o
+    FormattingEnds old new record { blocks = blocks; half = half; id = id } o
     × FormatMoments old new record { blocks = blocks; half = half; id = id } o
 CommandEnds old new clock begun given o (Replay path base) = ReplayEnds old new clock begun given o
 

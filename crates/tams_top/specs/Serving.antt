@@ -6,19 +6,19 @@ use Rattle.site_edge.specs.Links.{change_last}
 use Rattle.site_edge.specs.Saying.{IsPrefix}
 use Rattle.tams_top.specs.declared.answer.Answer.{Answer}
 use Rattle.tams_top.specs.declared.answer.Answer.TheVariants as answers
-use Rattle.tams_top.specs.declared.change.Change.{Change}
+use Rattle.tams_top.specs.declared.change.PutChange.{PutChange}
 use Rattle.tams_top.specs.declared.connection.Ending.{Ending}
 use Rattle.tams_top.specs.declared.connection.Ending.TheVariants.{Complete, Cut, Closed, Starved, Stopped, Unlinked}
 use Rattle.tams_top.specs.declared.fault.MakeFault.{MakeFault}
 use Rattle.tams_top.specs.declared.fault.MakeFault.TheVariants as making
 use Rattle.tams_top.specs.declared.store.Store.{Store}
 use Rattle.tams_top.specs.declared.request.Front.TheVariants.{More, Unbuilt}
-use Rattle.tams_top.specs.Change.{IsChange}
+use Rattle.tams_top.specs.Change.{IsPutChange}
 use Rattle.tams_top.specs.Request.{IsFront}
 use Rattle.tams_top.specs.Store.{State, StandsFor}
 use Rattle.tams_top.specs.Opening.{state_of}
 use Rattle.tams_top.specs.Moments.{Beginning, AllRight, EachKeeps, Handles, TellsAll}
-use Rattle.tams_top.specs.History.{Taken, Session, answer_to, is_changing, changed, state_after, change_of, texts_of, moments_of, after, changes_of, most_requests, answers_of, requests_of, script_of, session_of, end_of, answers_in, changes_in}
+use Rattle.tams_top.specs.History.{Taken, Session, answer_to, is_changing, changed, state_after, change_of, texts_of, moments_of, state_after_all, changes_of, most_requests, answers_of, requests_of, script_of, session_of, end_of, answers_in, changes_in}
 use Rattle.tams_top.specs.History as history
 
 -- a connection that heard and was told these bytes, its marks, and no other
@@ -45,7 +45,7 @@ EndsAs from c h rest Cut = (c.ended ≡ true) × (c.failed ≡ false) × (h.last
 EndsAs from c h rest Closed = (c.failed ≡ false) × IsClosed h rest
 EndsAs from c h rest Starved = (t : Taken) × (h.last ≡ Some (history.Starved t))
 EndsAs from c h rest Stopped =
-    (t : Taken) × (h.last ≡ Some (history.Stopped t true)) × (is_changing (answer_to (after from h.taken) (change_of t)) ≡ true)
+    (t : Taken) × (h.last ≡ Some (history.Stopped t true)) × (is_changing (answer_to (state_after_all from h.taken) (change_of t)) ≡ true)
 EndsAs from c h rest Unlinked = (c.failed ≡ true) × ((h.last ≡ None) ⊎ ((h.last ≡ Some history.Refused) × IsFront rest Unbuilt))
 
 -- A connection was served, from a state, by this history: it heard the texts of its requests and a rest,
@@ -55,14 +55,14 @@ pub record IsServed (from : State) (c : Connection) (h : Session) (ending : Endi
   pub heard : c.heard ≡ texts_of (requests_of h) ++ rest
   pub told : IsPrefix c.told (script_of from h)
   pub whole : c.failed ≡ false → c.told ≡ script_of from h
-  pub valid : All (λ t. IsChange (change_of t)) (requests_of h)
+  pub valid : All (λ t. IsPutChange (change_of t)) (requests_of h)
   pub few : length h.taken ≤ most_requests
   pub ends : EndsAs from c h rest ending
 
 -- The state for which the file stands when a connection has ended: the last one of its history. Where
 -- the disk failed while a record was written, it may be the one before.
 abbrev pub StandsAt : List ℕ → State → Session → Ending → Type 0
-StandsAt image from h Stopped = StandsFor image (end_of from h) ⊎ StandsFor image (after from h.taken)
+StandsAt image from h Stopped = StandsFor image (end_of from h) ⊎ StandsFor image (state_after_all from h.taken)
 StandsAt image from h Complete = StandsFor image (end_of from h)
 StandsAt image from h Cut = StandsFor image (end_of from h)
 StandsAt image from h Closed = StandsFor image (end_of from h)
@@ -79,11 +79,11 @@ pub record AreCounts (from : State) (h : Session) (n : Counts) : Type 0 where
 -- crash now may leave gives the store's journal what the store keeps, and each crash since was right.
 pub record Reached (b : Beginning) (d : Device) (given unread : List ℕ) (store : Store) (n : Counts) : Type 0 where
   pub taken : List Taken
-  pub state : state_of store ≡ after b.state taken
+  pub state : state_of store ≡ state_after_all b.state taken
   pub keeps : EachKeeps d store
   pub right : AllRight b (session_of taken) d
   pub given_is : given ≡ b.given ++ moments_of taken
-  pub valid : All (λ t. IsChange (change_of t)) taken
+  pub valid : All (λ t. IsPutChange (change_of t)) taken
   pub requests : n.requests ≡ length taken
   pub changes : n.changes ≡ changes_of b.state taken
   pub connections : d.link.connections ≡ b.before ++ connection_of (texts_of taken ++ unread) (answers_of 0 b.state taken) false false ∷ []
@@ -158,14 +158,14 @@ handle_held answers.NoMemory = true
 handle_held answers.DiskFault = false
 
 -- the answer to a change was made: it is the machine's, and the store has the state after it
-pub record IsHandled (d : Device) (old new : Store) (c : Change) (a : Answer) : Type 0 where
+pub record IsHandled (d : Device) (old new : Store) (c : PutChange) (a : Answer) : Type 0 where
   pub answer : a ≡ answer_to (state_of old) c
   pub state : state_of new ≡ state_after (state_of old) c
   pub keeps : EachKeeps d new
 
 -- What a store has made of a change, by its answer. Want of memory comes before any call of the disk, and
 -- leaves the state. A disk fault comes only where the record of a change was being written.
-abbrev pub HandledAs : Device → Device → Store → Store → Change → Answer → Type 0
+abbrev pub HandledAs : Device → Device → Store → Store → PutChange → Answer → Type 0
 HandledAs before now old new c answers.Created = IsHandled now old new c answers.Created
 HandledAs before now old new c answers.Replaced = IsHandled now old new c answers.Replaced
 HandledAs before now old new c answers.FlowChanged = IsHandled now old new c answers.FlowChanged
@@ -176,7 +176,7 @@ HandledAs before now old new c answers.NoMemory =
 HandledAs before now old new c answers.DiskFault = is_changing (answer_to (state_of old) c) ≡ true
 
 -- the same, and what a crash within it may leave
-pub record Handled (before now : Device) (old new : Store) (c : Change) (a : Answer) : Type 0 where
+pub record Handled (before now : Device) (old new : Store) (c : PutChange) (a : Answer) : Type 0 where
   pub time : Elapses (Handles (state_of old) c) (Handles (state_of old) c) before now
   pub done : HandledAs before now old new c a
 
@@ -199,10 +199,10 @@ ending_after answers.JournalFull said last = machine_ending said last
 
 -- More bytes of the last connection were heard behind the unread ones, or its end was.
 abbrev pub HeardMore : Device → Device → List ℕ → List ℕ → ℕ → Type 0
-HeardMore old new before after zero =
-    (after ≡ before) × (new.link.connections ≡ change_last (λ c. record c { ended = true }) old.link.connections)
-HeardMore old new before after (suc n) =
-    (bytes : List ℕ) × (length bytes ≡ suc n) × (after ≡ before ++ bytes)
+HeardMore old new before state_after_all zero =
+    (state_after_all ≡ before) × (new.link.connections ≡ change_last (λ c. record c { ended = true }) old.link.connections)
+HeardMore old new before state_after_all (suc n) =
+    (bytes : List ℕ) × (length bytes ≡ suc n) × (state_after_all ≡ before ++ bytes)
     × (new.link.connections ≡ change_last (λ c. record c { heard = c.heard ++ bytes }) old.link.connections)
 
 -- A connection that is being served goes on, after so many turns: no call failed, each turn took a request

@@ -6,10 +6,10 @@ use Rattle.media_journal.specs.declared.header.Header.{Header}
 use Rattle.media_journal.specs.declared.record.Record.{Record}
 use Rattle.media_journal.specs.File.{Reads, active_start}
 use Rattle.media_journal.specs.Journal.{Contents}
-use Rattle.tams_top.specs.declared.change.Change.{Change}
+use Rattle.tams_top.specs.declared.change.PutChange.{PutChange}
 use Rattle.tams_top.specs.declared.library.Library.{Library}
-use Rattle.tams_top.specs.Change.{IsChange, change_text}
-use Rattle.tams_top.specs.Library.{applied, empty_library}
+use Rattle.tams_top.specs.Change.{IsPutChange, change_text}
+use Rattle.tams_top.specs.Library.{library_after, empty_library}
 
 -- the rows of the empty library: one row with the next serial, which is 1
 unfoldable pub empty_rows : List ℕ
@@ -19,7 +19,7 @@ empty_rows = row_spelling.spell (Numbers 1)
 abbrev pub Folds : List Record → Library → Library → Type 0
 Folds [] from to = to ≡ from
 Folds (r ∷ rs) from to =
-    (c : Change) × IsChange c × (r.payload ≡ change_text c) × ((next : Library) × (applied c from ≡ Some next) × Folds rs next to)
+    (c : PutChange) × IsPutChange c × (r.payload ≡ change_text c) × ((next : Library) × (library_after c from ≡ Some next) × Folds rs next to)
 
 -- what a half of a store holds whose rows are those of the empty library
 abbrev pub contents : Header → List Record → Contents
@@ -42,8 +42,8 @@ pub record StandsFor (image : List ℕ) (s : State) : Type 0 where
 
 -- what a record makes of a library
 abbrev pub StepOf : Record → Library → Library → Type 0
-StepOf r from next = (c : Change) × IsChange c × (r.payload ≡ change_text c) × (applied c from ≡ Some next)
+StepOf r from next = (c : PutChange) × IsPutChange c × (r.payload ≡ change_text c) × (library_after c from ≡ Some next)
 
 -- a record makes nothing of a library: its payload is no change, or its change is refused
 abbrev pub IsRefused : Record → Library → Type 0
-IsRefused r from = (c : Change) (next : Library) → IsChange c → r.payload ≡ change_text c → applied c from ≡ Some next → ⊥
+IsRefused r from = (c : PutChange) (next : Library) → IsPutChange c → r.payload ≡ change_text c → library_after c from ≡ Some next → ⊥

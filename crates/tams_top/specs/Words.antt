@@ -1,9 +1,8 @@
 -- The words of a command line, without the program's name, and the commands that they spell.
-use Rattle.std.specs.Prelude.{◌≡◌, ◌≢◌, ◌≤◌, ◌*◌, ◌-◌, ◌⊎◌, ℕ, List, [], ◌∷◌, length, slice_index, codes, Option, Some, None, option_map, nat_eq, IsTrue, All}
+use Rattle.std.specs.Prelude.{◌≡◌, ◌≢◌, ◌≤◌, ◌*◌, ◌-◌, ◌⊎◌, ℕ, List, [], ◌∷◌, length, slice_index, codes, Option, Some, None, nat_eq, IsTrue, All}
 use Rattle.std.specs.List.{starts_with}
 use Rattle.std.specs.Fmt.{decimal}
-use Rattle.std.specs.Int.{w128, from_be_bytes}
-use Rattle.uuid.specs.Text.{parsed}
+use Rattle.media_rows.specs.Ids.{id_of}
 use Rattle.tams_top.specs.declared.words.Command.{Command}
 use Rattle.tams_top.specs.declared.words.Command.TheVariants.{Format, Replay}
 use Rattle.tams_top.specs.declared.words.Wanted.{Wanted}
@@ -19,10 +18,6 @@ pub record IsNumber (most : ℕ) (word : List ℕ) (n : ℕ) : Type 0 where
   pub text : word ≡ decimal n
   pub least : 1 ≤ n
   pub fits : n ≤ most
-
--- the id that a word spells, in any of the four forms of a UUID's text
-unfoldable pub id_of : List ℕ → Option ℕ
-id_of word = option_map (from_be_bytes w128) (parsed word)
 
 -- a printed character of ASCII but for the quote, `<` and `>`
 pub record IsBaseByte (c : ℕ) : Type 0 where

@@ -1,8 +1,8 @@
 //! A change of the library, and its bytes.
 ghost use Rattle.std.specs.Prelude.{◌≡◌, ◌↔◌, IfOk, IfSome, IsNone, IsTrue};
 ghost use Rattle.site_edge.specs.Clocks.{IsMoment};
-ghost use Rattle.tams_top.specs.Change.{IsChange, change_text, media_change, plain_flow};
-ghost use Rattle.tams_top.specs.declared.change.Change.{Change};
+ghost use Rattle.tams_top.specs.Change.{IsPutChange, change_text, media_change, plain_flow};
+ghost use Rattle.tams_top.specs.declared.change.PutChange.{PutChange};
 
 use change_codec::{CodecFault, decode_change, encode_change};
 use disk_trait::{Memory, Text};
@@ -12,7 +12,7 @@ use std::alloc::Global;
 
 /// The put of a video flow at a moment.
 #[derive(Clone, Copy, Debug, PartialEq, Eq)]
-pub struct Change {
+pub struct PutChange {
     /// Whole seconds since 1970-01-01T00:00:00Z.
     pub moment: u64,
     pub flow: u128,
@@ -22,7 +22,7 @@ pub struct Change {
 /// How many bytes each change has.
 pub(crate) const CHANGE_LEN: u64 = 58;
 
-impl Change {
+impl PutChange {
     /// The change in bytes.
     #[tactic(auto, using(crate::proofs::ChangeLemmas::can_write, crate::proofs::ChangeLemmas::spelled))]
     pub fn bytes(&self, alloc: Global) -> Result<Text, Memory>
@@ -58,11 +58,11 @@ impl Change {
 
 /// The change that these bytes spell, if there is one.
 #[tactic(auto, using(crate::proofs::ChangeLemmas::spelled))]
-pub(crate) fn read_change(alloc: Global, bytes: &[u8]) -> Result<Option<Change>, Memory>
+pub(crate) fn read_change(alloc: Global, bytes: &[u8]) -> Result<Option<PutChange>, Memory>
     ensures found { IfOk result (λ found. IfSome found
-        (λ c. IsChange c × (bytes.now ≡ change_text c))) }
+        (λ c. IsPutChange c × (bytes.now ≡ change_text c))) }
     ensures none { IfOk result (λ found. IsNone found
-        → (c : Change) → IsChange c → bytes.now ≡ change_text c → ⊥) }
+        → (c : PutChange) → IsPutChange c → bytes.now ≡ change_text c → ⊥) }
 {
     match decode_change(alloc, bytes) {
         Ok(change) => Ok(plain_put(&change)),
@@ -72,10 +72,10 @@ pub(crate) fn read_change(alloc: Global, bytes: &[u8]) -> Result<Option<Change>,
 }
 
 /// The change of the media library, if it is the put of a video flow without further members.
-fn plain_put(change: &media_rows::Change) -> Option<Change>
-    ensures found { IfSome result (λ c. IsChange c × (change.now ≡ media_change c)) }
+fn plain_put(change: &media_rows::Change) -> Option<PutChange>
+    ensures found { IfSome result (λ c. IsPutChange c × (change.now ≡ media_change c)) }
     ensures none { IsNone result
-        → (c : Change) → IsChange c → change.now ≡ media_change c → ⊥ }
+        → (c : PutChange) → IsPutChange c → change.now ≡ media_change c → ⊥ }
 {
     match change {
         media_rows::Change::PutFlow { moment, flow } if is_plain(flow) => {
@@ -86,8 +86,8 @@ fn plain_put(change: &media_rows::Change) -> Option<Change>
 }
 
 /// The put at this moment, if it is one up to the year 9999.
-fn put_at(moment: u64, flow: u128, source: u128) -> Option<Change>
-    ensures found { IfSome result IsChange }
+fn put_at(moment: u64, flow: u128, source: u128) -> Option<PutChange>
+    ensures found { IfSome result IsPutChange }
     ensures is { IfSome result
         (λ c. c ≡ record { moment = moment; flow = flow; source = source }) }
     ensures none { IsNone result → ¬ (IsMoment moment) }
@@ -95,7 +95,7 @@ fn put_at(moment: u64, flow: u128, source: u128) -> Option<Change>
     if moment > LAST_MOMENT {
         return None;
     }
-    Some(Change {
+    Some(PutChange {
         moment,
         flow,
         source,

@@ -7,16 +7,14 @@ ghost use Rattle.tams_top.specs.declared.request.Front.TheVariants.{More, Unbuil
 ghost use Rattle.tams_top.specs.declared.store.Store.{Store};
 
 use crate::answer::Answer;
-use crate::request::{Front, read_front};
+use crate::request::{Front, REQUEST, read_front};
 use crate::store::Store;
-use crate::tally::Tally;
+use crate::tally::{MOST_REQUESTS, Tally};
 use crate::unread::Unread;
-use crate::{Change, FlowPut};
+use crate::{FlowPut, PutChange};
+use media_journal::BLOCK;
 use site_edge::{Clock, LinkFailed, Site};
 use std::alloc::Global;
-
-/// The bytes of a whole request.
-const REQUEST: usize = 167;
 
 /// More turns than a connection has: each takes one of its requests, of at most 1,000,000, or hears at
 /// least one byte.
@@ -65,22 +63,22 @@ fn take_put<X: Site, C: Clock>(
     put: FlowPut,
 ) -> Option<Ending>
     requires begins { IsFront unread.old (Whole put) }
-    requires whole { 167 ≤ length unread.old }
-    requires few { tally.old.requests < 1000000 }
-    requires device { 4096 * store.old.journal.blocks ≤ (X.device site.old).size }
+    requires whole { REQUEST ≤ length unread.old }
+    requires few { tally.old.requests < MOST_REQUESTS }
+    requires device { BLOCK * store.old.journal.blocks ≤ (X.device site.old).size }
     requires under_way { (X.device site.old).link.under_way ≡ true }
     ensures calls { SiteCalls result (X.device site.old) (X.device site.new) }
     ensures blocks { store.new.journal.blocks ≡ store.old.journal.blocks }
     ensures clock { C.tells clock.new ≡ true → C.tells clock.old ≡ true }
-    ensures unread { length unread.new + 167 ≡ length unread.old }
+    ensures unread { length unread.new + REQUEST ≡ length unread.old }
     ensures requests { tally.new.requests ≡ tally.old.requests + 1 }
-    ensures few { IsNone result → tally.new.requests < 1000000 }
+    ensures few { IsNone result → tally.new.requests < MOST_REQUESTS }
     ensures goes { TellsAll (X.device site.old) (C.tells clock.new) → (b : Beginning)
         → Reached b (X.device site.old) (C.given clock.old) unread.old store.old tally.old
         → TurnAnswer b (X.device site.new) (C.given clock.new) unread.new store.new tally.new
         result }
 {
-    let change = Change {
+    let change = PutChange {
         moment: clock.now(),
         flow: put.flow,
         source: put.source,
@@ -95,7 +93,7 @@ fn take_put<X: Site, C: Clock>(
 
 /// Answers what isn't built, which ends the connection.
 fn refuse<X: Site>(site: &mut X, tally: &mut Tally) -> Ending
-    requires few { tally.old.requests < 1000000 }
+    requires few { tally.old.requests < MOST_REQUESTS }
     requires under_way { (X.device site.old).link.under_way ≡ true }
     ensures calls { SiteCalls (Some result) (X.device site.old) (X.device site.new) }
     ensures ended { (clock : Bool) → TellsAll (X.device site.old) clock
@@ -113,7 +111,7 @@ fn refuse<X: Site>(site: &mut X, tally: &mut Tally) -> Ending
 /// Hears more of the peer's bytes behind the unread ones.
 fn hear_more<X: Site>(site: &mut X, unread: &mut Unread, tally: &Tally) -> Option<Ending>
     requires more { IsFront unread.old More }
-    requires few { tally.now.requests < 1000000 }
+    requires few { tally.now.requests < MOST_REQUESTS }
     requires under_way { (X.device site.old).link.under_way ≡ true }
     ensures calls { SiteCalls result (X.device site.old) (X.device site.new) }
     ensures grows { IsNone result → length unread.old < length unread.new }
@@ -143,13 +141,13 @@ fn take_turn<X: Site, C: Clock>(
     unread: &mut Unread,
     tally: &mut Tally,
 ) -> Option<Ending>
-    requires few { tally.old.requests < 1000000 }
-    requires device { 4096 * store.old.journal.blocks ≤ (X.device site.old).size }
+    requires few { tally.old.requests < MOST_REQUESTS }
+    requires device { BLOCK * store.old.journal.blocks ≤ (X.device site.old).size }
     requires under_way { (X.device site.old).link.under_way ≡ true }
     ensures calls { SiteCalls result (X.device site.old) (X.device site.new) }
     ensures blocks { store.new.journal.blocks ≡ store.old.journal.blocks }
     ensures clock { C.tells clock.new ≡ true → C.tells clock.old ≡ true }
-    ensures few { IsNone result → tally.new.requests < 1000000 }
+    ensures few { IsNone result → tally.new.requests < MOST_REQUESTS }
     ensures within { length unread.old ≤ 1130496 }
     ensures moves { IsNone result → 168 * tally.old.requests + length unread.old
         < 168 * tally.new.requests + length unread.new }
@@ -176,7 +174,7 @@ pub(crate) fn serve<X: Site, C: Clock>(
 ) -> Ending
     requires empty { unread.old ≡ [] }
     requires none { tally.old ≡ record { requests = 0; changes = 0 } }
-    requires device { 4096 * store.old.journal.blocks ≤ (X.device site.old).size }
+    requires device { BLOCK * store.old.journal.blocks ≤ (X.device site.old).size }
     requires under_way { (X.device site.old).link.under_way ≡ true }
     ensures calls { SiteCalls (Some result) (X.device site.old) (X.device site.new) }
     ensures clock { C.tells clock.new ≡ true → C.tells clock.old ≡ true }

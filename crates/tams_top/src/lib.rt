@@ -15,7 +15,7 @@ mod top;
 mod unread;
 mod words;
 
-pub use crate::change::Change;
+pub use crate::change::PutChange;
 pub use crate::request::FlowPut;
 pub use crate::top::run;
 pub use crate::words::{Command, Wanted, devices};

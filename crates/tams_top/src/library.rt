@@ -1,8 +1,8 @@
 //! The library in memory: plain lists, which a change copies.
 ghost use Rattle.std.specs.Prelude.{◌≡◌, ◌*◌, ◌+◌, ◌≤◌, IfOk, filter, nat_lt};
-ghost use Rattle.tams_top.specs.Library.{applied, empty_library, flow_of, placed, put_flow};
+ghost use Rattle.tams_top.specs.Library.{library_after, empty_library, flow_of, flow_placed, put_flow};
 
-use crate::Change;
+use crate::PutChange;
 use disk_trait::{Listed, Memory};
 use media_journal::Header;
 use std::alloc::{AllocError, Global};
@@ -50,10 +50,10 @@ impl Library {
             .find(|flow| flow.id == id)
     }
 
-    #[tactic(auto, unfolding(crate::specs::Library::applied))]
+    #[tactic(auto, unfolding(crate::specs::Library::library_after))]
     /// The library after this change, or none where it is refused. This one stays.
-    pub(crate) fn after(&self, alloc: Global, change: &Change) -> Result<Option<Library>, Memory>
-        ensures { IfOk result (λ next. next ≡ applied change.now self.now) }
+    pub(crate) fn after(&self, alloc: Global, change: &PutChange) -> Result<Option<Library>, Memory>
+        ensures { IfOk result (λ next. next ≡ library_after change.now self.now) }
     {
         let Some(flow) = flow_after(change, self.flow(change.flow)) else {
             return Ok(None);
@@ -67,7 +67,7 @@ impl Library {
 }
 
 /// The flow that a put leaves where this one was kept, or none where the put is refused.
-fn flow_after(change: &Change, kept: Option<Flow>) -> Option<Flow>
+fn flow_after(change: &PutChange, kept: Option<Flow>) -> Option<Flow>
     ensures { result ≡ put_flow change.now kept }
 {
     match kept {
@@ -87,7 +87,7 @@ fn flow_after(change: &Change, kept: Option<Flow>) -> Option<Flow>
 
 /// The flows with one at its place by rising id, instead of the one of its id.
 fn with_flow(alloc: Global, flows: &[Flow], flow: Flow) -> Result<FlowList, Memory>
-    ensures { IfOk result (λ list. list ≡ placed flow flows.now) }
+    ensures { IfOk result (λ list. list ≡ flow_placed flow flows.now) }
 {
     let mut list = flows_below(alloc, flows, flow.id)?;
     let above = flows_above(alloc, flows, flow.id)?;

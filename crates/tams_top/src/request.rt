@@ -1,7 +1,7 @@
 //! Requests from the bytes of a connection.
 ghost use Rattle.std.specs.Prelude.{◌≡◌, ◌<◌, ◌≤◌, ◌^◌, ◌++◌, ◌↔◌, ℕ, IfSome, IsNone, IsTrue, length, take, drop};
 ghost use Rattle.std.specs.Fmt.{decimal};
-ghost use Rattle.tams_top.specs.Ids.{id_text};
+ghost use Rattle.media_rows.specs.Ids.{id_text};
 ghost use Rattle.tams_top.specs.Request.{BehindHead, IsFront, IsHead, IsHeadFront, IsLength, body_text, head_len};
 ghost use Rattle.tams_top.specs.declared.request.Front.{Front};
 ghost use Rattle.tams_top.specs.declared.request.FlowPut.{FlowPut};
@@ -50,6 +50,9 @@ pub(crate) enum Front {
 /// A head ends within so many bytes.
 const HEAD_LIMIT: usize = 16_384;
 
+/// The bytes of a whole request.
+pub(crate) const REQUEST: usize = 167;
+
 /// A body has at most so many bytes.
 const BODY_LIMIT: u64 = 1_048_576;
 
@@ -59,7 +62,7 @@ const LINE_SIZE: usize = 74;
 /// What stands at the front of these bytes.
 pub(crate) fn read_front(bytes: &[u8]) -> Front
     ensures front { IsFront bytes.now result }
-    ensures whole { (put : FlowPut) → result ≡ Front.Whole put → 167 ≤ length bytes.now }
+    ensures whole { (put : FlowPut) → result ≡ Front.Whole put → REQUEST ≤ length bytes.now }
 {
     match read_head_front(bytes) {
         HeadFront::More => Front::More,

@@ -5,17 +5,17 @@ ghost use Rattle.media_journal.specs.Answers.{not_disk};
 ghost use Rattle.media_journal.specs.Opening.{IsOpened};
 ghost use Rattle.tams_top.specs.Store.{Folds, StepOf, empty_rows};
 ghost use Rattle.tams_top.specs.Folding.{IsFoldRefused, IsStepRefused, PartAnswer};
-ghost use Rattle.tams_top.specs.History.{answer_by};
+ghost use Rattle.tams_top.specs.History.{answer_by_kept};
 ghost use Rattle.tams_top.specs.Opening.{StoreAnswer};
 
-use crate::Change;
+use crate::PutChange;
 use crate::answer::Answer;
 use crate::change::{CHANGE_LEN, read_change};
 use crate::fault::MakeFault;
 use crate::library::{Flow, Library};
 use disk_trait::{Disk, Memory, same_bytes};
 use media_journal::{
-    AppendFault, Frame, Header, Journal, JournalFault, Opened, Record, open_journal,
+    AppendFault, BLOCK, Frame, Header, Journal, JournalFault, Opened, Record, open_journal,
 };
 use std::alloc::Global;
 
@@ -27,17 +27,17 @@ pub(crate) struct Store {
 }
 
 impl Store {
-    ghost use Rattle.tams_top.specs.Change.{IsChange};
+    ghost use Rattle.tams_top.specs.Change.{IsPutChange};
     ghost use Rattle.tams_top.specs.History.{answer_to, changed, fits, is_changing};
     ghost use Rattle.tams_top.specs.Moments.{EachKeeps, Handles};
     ghost use Rattle.tams_top.specs.Opening.{state_of};
     ghost use Rattle.tams_top.specs.Serving.{Handled, handle_held, make_held};
 
     /// What the library machine answers to a change.
-    pub(crate) fn answer_to(&self, change: &Change) -> Answer
+    pub(crate) fn answer_to(&self, change: &PutChange) -> Answer
         ensures { result ≡ answer_to (state_of self.now) change.now }
     {
-        answer_by(
+        answer_by_kept(
             self.library.flow(change.flow),
             change.source,
             self.has_room(),
@@ -46,16 +46,21 @@ impl Store {
 
     /// Whether the record of a change fits the room: all changes have the same length.
     fn has_room(&self) -> bool
-        ensures { (c : Change) → result ≡ fits (state_of self.now) c }
+        ensures { (c : PutChange) → result ≡ fits (state_of self.now) c }
     {
         CHANGE_LEN + 6 <= self.journal.room()
     }
 
     /// Answers a change, which is made where the machine accepts it. After `DiskFault` the store must be
     /// opened again.
-    pub(crate) fn handle<D: Disk>(&mut self, alloc: Global, disk: &mut D, change: &Change) -> Answer
-        requires valid { IsChange change.now }
-        requires device { 4096 * self.old.journal.blocks ≤ (D.device disk.old).size }
+    pub(crate) fn handle<D: Disk>(
+        &mut self,
+        alloc: Global,
+        disk: &mut D,
+        change: &PutChange,
+    ) -> Answer
+        requires valid { IsPutChange change.now }
+        requires device { BLOCK * self.old.journal.blocks ≤ (D.device disk.old).size }
         ensures calls { DiskCalls (handle_held result) (D.device disk.old) (D.device disk.new) }
         ensures blocks { self.new.journal.blocks ≡ self.old.journal.blocks }
         ensures handled { (D.device disk.old).honest ≡ true → (D.device disk.old).shows ≡ true
@@ -75,16 +80,16 @@ impl Store {
 
     /// Makes a change that the machine accepts: its record is on the disk before the library has it. All
     /// memory is taken before the first write.
-    #[tactic(auto, unfolding(crate::specs::Library::applied))]
+    #[tactic(auto, unfolding(crate::specs::Library::library_after))]
     fn make<D: Disk>(
         &mut self,
         alloc: Global,
         disk: &mut D,
-        change: &Change,
+        change: &PutChange,
     ) -> Result<(), MakeFault>
         requires accepted { is_changing (answer_to (state_of self.old) change.now) ≡ true }
-        requires valid { IsChange change.now }
-        requires device { 4096 * self.old.journal.blocks ≤ (D.device disk.old).size }
+        requires valid { IsPutChange change.now }
+        requires device { BLOCK * self.old.journal.blocks ≤ (D.device disk.old).size }
         ensures calls { DiskCalls (make_held result) (D.device disk.old) (D.device disk.new) }
         ensures starved { IsErrOf result MakeFault.Memory → disk.new ≡ disk.old }
         ensures err { OnErr result (self.new ≡ self.old) }
@@ -115,8 +120,8 @@ impl Store {
 
 /// What the machine answers to a put, by the flow that is kept under its id, the source that it names and
 /// whether its record fits.
-fn answer_by(kept: Option<Flow>, source: u128, fits: bool) -> Answer
-    ensures { result ≡ answer_by kept source fits }
+fn answer_by_kept(kept: Option<Flow>, source: u128, fits: bool) -> Answer
+    ensures { result ≡ answer_by_kept kept source fits }
 {
     match kept {
         Some(flow) if flow.source != source => Answer::FlowChanged,
@@ -160,7 +165,7 @@ impl From<StoreFault> for JournalFault {
 /// Opens the store of a device.
 pub(crate) fn open_store<D: Disk>(alloc: Global, disk: &mut D) -> Result<Store, JournalFault>
     ensures reads { DiskReads (not_disk result) (D.device disk.old) (D.device disk.new) }
-    ensures within { IfOk result (λ s. 4096 * s.journal.blocks ≤ (D.device disk.new).size) }
+    ensures within { IfOk result (λ s. BLOCK * s.journal.blocks ≤ (D.device disk.new).size) }
     ensures answer { (D.device disk.old).shows ≡ true
         → StoreAnswer (D.device disk.old).seen result }
 {

@@ -7,7 +7,7 @@ use crate::answer::Answer;
 use std::marker::Model;
 
 /// A connection ends after the answer to its request of this number.
-const MOST_REQUESTS: u64 = 1_000_000;
+pub(crate) const MOST_REQUESTS: u64 = 1_000_000;
 
 /// How many requests of a connection were answered, and how many of the answers came with a change.
 #[derive(Drop)]
@@ -39,7 +39,7 @@ impl Tally {
 
     /// Counts an answer.
     pub(crate) fn count(&mut self, answer: Answer)
-        requires { self.old.requests < 1000000 }
+        requires { self.old.requests < MOST_REQUESTS }
         ensures requests { self.new.requests ≡ self.old.requests + 1 }
         ensures changes { self.new.changes ≡ self.old.changes + count_of answer }
     {
@@ -51,7 +51,7 @@ impl Tally {
 
     /// Whether the last request that a connection may have was answered.
     pub(crate) fn is_full(&self) -> bool
-        ensures { result ≡ (self.now.requests == 1000000) }
+        ensures { result ≡ (self.now.requests == MOST_REQUESTS) }
     {
         self.requests == MOST_REQUESTS
     }

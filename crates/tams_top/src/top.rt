@@ -5,7 +5,7 @@ ghost use Rattle.disk_trait.specs.Device.{Left};
 ghost use Rattle.media_journal.specs.File.{HasOpenHeader};
 ghost use Rattle.tams_top.specs.Completeness.{IsServedWhole, NoneRose};
 ghost use Rattle.tams_top.specs.Moments.{IsSettled};
-ghost use Rattle.tams_top.specs.Running.{ConnectEnds, FaultCounts, FormatEnds, FormatMoments, IsNoCommand, IsReplayFrom, OutcomeBy, beginning, RefusedFor, ReplayEnds, Replayed, RunEnds, TakesPart, Untouched, formatted_state, line_of, status_of};
+ghost use Rattle.tams_top.specs.Running.{ConnectEnds, FaultCounts, FormattingEnds, FormatMoments, IsNoCommand, IsReplayFrom, OutcomeBy, beginning, RefusedFor, ReplayEnds, Replayed, RunEnds, TakesPart, Untouched, formatted_state, line_of, status_of};
 ghost use Rattle.tams_top.specs.Store.{State, StandsFor};
 ghost use Rattle.tams_top.specs.Words.{IsCommand};
 ghost use Rattle.tams_top.specs.declared.outcome.Outcome.{Outcome};
@@ -19,7 +19,7 @@ use crate::tally::Tally;
 use crate::unread::Unread;
 use crate::words::{Command, read_words};
 use disk_trait::{Memory, TextList};
-use media_journal::{FormatFault, JournalFault, format_device};
+use media_journal::{BLOCK, FormatFault, JournalFault, MOST_BLOCKS, MOST_HALF, format_device};
 use site_edge::{Clock, LinkFailed, Sink, Site};
 use std::alloc::Global;
 
@@ -134,10 +134,10 @@ fn outcome_of<X: Site, C: Clock>(
 /// Makes an empty store of the site's device.
 fn format<X: Site>(alloc: Global, site: &mut X, blocks: u64, half: u64, id: u128) -> Outcome
     requires some_half { 1 ≤ half }
-    requires half { half ≤ 65536 }
-    requires blocks { blocks ≤ 1073741824 }
+    requires half { half ≤ MOST_HALF }
+    requires blocks { blocks ≤ MOST_BLOCKS }
     ensures counts { FaultCounts (X.device site.old) (X.device site.new) result }
-    ensures ends { FormatEnds (X.device site.old) (X.device site.new)
+    ensures ends { FormattingEnds (X.device site.old) (X.device site.new)
         record { blocks = blocks; half = half; id = id } result }
     ensures moments { FormatMoments (X.device site.old) (X.device site.new)
         record { blocks = blocks; half = half; id = id } result }
@@ -183,7 +183,7 @@ fn connect<X: Site, C: Clock>(
     unread: &mut Unread,
 ) -> Outcome
     requires empty { unread.old ≡ [] }
-    requires device { 4096 * store.old.journal.blocks ≤ (X.device site.old).size }
+    requires device { BLOCK * store.old.journal.blocks ≤ (X.device site.old).size }
     ensures counts { FaultCounts (X.device site.old) (X.device site.new) result }
     ensures ends { ConnectEnds store.old (X.device site.old) (X.device site.new) (C.tells clock.new)
         (C.given clock.old) (C.given clock.new) result }

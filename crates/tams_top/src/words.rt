@@ -1,13 +1,13 @@
 //! The words of the command line, and what the program opens for them.
 ghost use Rattle.std.specs.Prelude.{◌≡◌, ◌∷◌, [], ◌↔◌, ℕ, All, IfOk, IfSome, IsNone, IsTrue};
-ghost use Rattle.tams_top.specs.Words.{IsPlain, IsNumber, id_of, IsBaseByte, HasScheme, IsBase, FormIs, IsCommand, WantedFor};
+ghost use Rattle.tams_top.specs.Words.{IsPlain, IsNumber, IsBaseByte, HasScheme, IsBase, FormIs, IsCommand, WantedFor};
 ghost use Rattle.tams_top.specs.declared.words.Command.{Command};
 
 use disk_trait::{Memory, Text, TextList, same_bytes};
 use media_journal::{BLOCK, MOST_BLOCKS, MOST_HALF};
+use media_rows::read_id;
 use std::alloc::Global;
 use std::str;
-use uuid::Uuid;
 
 /// Bytes of the shortest address, and of the longest.
 const LEAST_BASE: usize = 8;
@@ -148,16 +148,6 @@ fn read_number(word: &[u8], most: u64) -> Option<u64>
     match text.parse::<u64>() {
         Ok(number) if number <= most => Some(number),
         _ => None,
-    }
-}
-
-/// The id that a word is, in any of the four forms of a UUID's text.
-fn read_id(word: &[u8]) -> Option<u128>
-    ensures { result ≡ id_of word.now }
-{
-    match Uuid::try_parse_ascii(word) {
-        Ok(id) => Some(id.as_u128()),
-        Err(_) => None,
     }
 }
 

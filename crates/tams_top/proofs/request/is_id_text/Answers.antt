@@ -1,7 +1,7 @@
 -- What was printed is the text of the id.
 use Rattle.std.proofs.Common.{◌≡◌, ◌∙◌, ap}
 use Rattle.uuid.specs.Text.{hyphenated_text, lower}
-use Rattle.tams_top.specs.Ids.{id_text}
+use Rattle.media_rows.specs.Ids.{id_text}
 use Rattle.tams_top.proofs.request.is_id_text.Goals as goal
 
 pub returns : goal.returns

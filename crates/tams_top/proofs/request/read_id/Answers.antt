@@ -1,7 +1,7 @@
 -- The text of an id parses to the bytes of its number.
 use Rattle.std.proofs.Common.{◌≡◌, ◌∙◌, true, sym, ap}
 use Rattle.std.specs.Int.{w128, to_be_bytes}
-use Rattle.tams_top.specs.Ids.{id_text}
+use Rattle.media_rows.specs.Ids.{id_text}
 use Rattle.tams_top.proofs.RequestLemmas.{id_read, parse_gives_id}
 use Rattle.tams_top.proofs.request.read_id.Goals as goal
 
