@@ -1,6 +1,6 @@
 -- What formatting doesn't write.
 use Rattle.std.proofs.Common.{◌≡◌, ◌≤◌, ◌+◌, ◌∙◌, ℕ, refl, subst, sym, arith, zero-add}
-use Rattle.disk_trait.specs.Device.{Device, Left, may_leave}
+use Rattle.disk_trait.specs.Device.{Device, Left}
 use Rattle.disk_trait.specs.Calls.{Elapses, TornWrite, Unchanged}
 use Rattle.disk_trait.proofs.Theorems.{elapses_along, elapses_weaker}
 use Rattle.disk_trait.proofs.TornLemmas.{bytes_before, bytes_behind, torn_wider}
