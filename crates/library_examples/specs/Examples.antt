@@ -3,8 +3,7 @@ use Rattle.std.specs.Prelude.{ℕ, ◌+◌, ◌*◌, pos, ◌-ℤ◌, List, [], 
 use Rattle.time_range.specs.declared.ranges.Span.{Span}
 use Rattle.media_rows.specs.declared.change.Change.{Change}
 use Rattle.media_rows.specs.declared.change.Change.TheVariants as changes
-use Rattle.media_rows.specs.declared.event.EventKind.{EventKind}
-use Rattle.media_rows.specs.declared.event.EventKind.TheVariants.{FlowCreated, FlowUpdated, FlowDeleted, SegmentsAdded, SegmentsDeleted, SourceCreated, SourceUpdated, SourceDeleted}
+use Rattle.media_rows.specs.declared.event.EventKind.TheVariants.{FlowCreated}
 use Rattle.media_rows.specs.declared.event.EventRow.{EventRow}
 use Rattle.media_rows.specs.declared.flow.FlowBody.{FlowBody}
 use Rattle.media_rows.specs.declared.flow.FormatKind.{FormatKind}
@@ -15,6 +14,7 @@ use Rattle.media_rows.specs.declared.part.Part.{Part}
 use Rattle.media_rows.specs.declared.part.Part.TheVariants as parts
 use Rattle.media_rows.specs.declared.segment.Segment.{Segment}
 use Rattle.media_rows.specs.Changes.{after}
+use Rattle.media_rows.specs.Formats.{all_events}
 use Rattle.media_rows.specs.Library.{Library, empty_library}
 use Rattle.media_rows.specs.Lists.{numbers_below}
 use Rattle.media_rows.specs.Outbox.{Outbox}
@@ -126,17 +126,11 @@ abbrev pub shared : Library
 shared = after_all
     (post (pieces 1) ∷ put 0 second_flow ∷ changes.AddSegments 0 second_flow (pieces 1) ∷ []) stored
 
--- each kind of event
-abbrev pub every_kind : List EventKind
-every_kind =
-    FlowCreated ∷ FlowUpdated ∷ FlowDeleted ∷ SegmentsAdded
-    ∷ SegmentsDeleted ∷ SourceCreated ∷ SourceUpdated ∷ SourceDeleted ∷ []
-
 -- a hook of an address that takes every kind of event, of these flows alone where a list is given
 abbrev pub hook : List ℕ → Option (List ℕ) → Hook
 hook url flows = record {
   url = url;
-  events = every_kind;
+  events = all_events;
   key_name = None;
   key_value = None;
   flow_ids = flows;

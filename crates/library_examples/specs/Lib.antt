@@ -8,3 +8,4 @@ pub mod WorkedGood
 pub mod WorkedEvents
 pub mod WorkedTurns
 pub mod WorkedRows
+pub mod WorkedNames

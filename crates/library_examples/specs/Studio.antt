@@ -17,9 +17,10 @@ use Rattle.media_rows.specs.declared.request.DeleteStatus.TheVariants.{Started, 
 use Rattle.media_rows.specs.declared.segment.SegmentRow.{SegmentRow}
 use Rattle.media_rows.specs.declared.source.SourceRow.{SourceRow}
 use Rattle.media_rows.specs.Catalog.{Catalog}
+use Rattle.media_rows.specs.Formats.{all_events}
 use Rattle.media_rows.specs.Library.{Library}
 use Rattle.media_rows.specs.Ranges.{eternity}
-use Rattle.library_examples.specs.Examples.{first_flow, second_flow, one_source, body, body_of, member, piece, piece_of, seconds, every_kind}
+use Rattle.library_examples.specs.Examples.{first_flow, second_flow, one_source, body, body_of, member, piece, piece_of, seconds}
 
 -- the id of the third flow, whose text ends in `f3`
 abbrev pub third_flow : ℕ
@@ -186,7 +187,7 @@ one_hook = record {
   serial = 10;
   hook = record {
     url = codes "http://one/";
-    events = every_kind;
+    events = all_events;
     key_name = Some (codes "key");
     key_value = Some (codes "secret");
     flow_ids = Some (first_flow ∷ []);

@@ -9,7 +9,7 @@ use Rattle.media_rows.specs.Lists.{rises, numbers_below}
 use Rattle.media_rows.specs.Ranges.{eternity}
 use Rattle.media_rows.specs.Requests.{newest_done, asked_row}
 use Rattle.media_rows.specs.Restoring.{catalog_of, can_restore_catalog, can_restore_requests}
-use Rattle.media_rows.specs.Snapshot.{rows_of, row_before, kind_number}
+use Rattle.media_rows.specs.Snapshot.{library_of, rows_of, row_before, kind_number}
 use Rattle.library_examples.specs.Examples.{first_flow, one_source, nothing, seconds, shared, listen}
 use Rattle.library_examples.specs.Studio.{left_source, bare_source, main_flow, sound_flow, both_flow, object_a, object_b, object_c, later_piece, early_piece, third_piece, last_piece, open_request, done_request, one_hook, two_hook, event, studio}
 use Rattle.media_rows.specs.declared.row.Row.TheVariants as rows
@@ -57,6 +57,15 @@ pub record SnapshotsHaveAll : Type 0 where
       ∷ rows.Numbers 15 ∷ []
   pub studio_rises : rises row_before (rows_of studio) ≡ true
   pub empty : rows_of nothing ≡ rows.Numbers 1 ∷ []
+
+-- Rows make the library that they are of, each row at its place alone.
+pub record LibrariesAreMade : Type 0 where
+  pub whole : library_of 1 46 (rows_of studio) ≡ studio
+  pub none : library_of 1 46 [] ≡ nothing
+  pub hook : (library_of 1 46 (rows.Hook two_hook ∷ [])).outbox.hooks ≡ two_hook ∷ []
+  pub event_row : (library_of 1 46 (rows.Event (event 12 10 FlowUpdated 241 None 141) ∷ [])).outbox.events
+      ≡ event 12 10 FlowUpdated 241 None 141 ∷ []
+  pub serial : (library_of 1 46 (rows.Numbers 15 ∷ [])).next_serial ≡ 15
 
 -- ---- books
 

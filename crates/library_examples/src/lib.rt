@@ -5,6 +5,7 @@
 
 mod events;
 mod good;
+mod names;
 mod refusals;
 mod replies;
 mod rows;
@@ -18,6 +19,7 @@ pub use crate::good::{
     bad_segments, bad_sources, bad_texts, changes_are_allowed, changes_are_sound,
     changes_are_tested, commands_are_good, examples_are_good,
 };
+pub use crate::names::{names_are_spelled, numbers_run, pages_have_limits, refusals_are_named};
 pub use crate::refusals::{
     bytes_are_kept_once, collections_are_tested, collections_come_last, deleting_stands,
     flows_are_kept, ids_are_taken, multi_fits, other_parts_are_of_flows, posts_are_tested,
@@ -28,7 +30,7 @@ pub use crate::replies::{
     bytes_stand_beside, cuts_cover, ids_are_made, many_are_asked_for, media_are_kept,
     places_are_found, replies_are_given,
 };
-pub use crate::rows::{done_ones_stay, rows_are_kept, snapshots_have_all};
+pub use crate::rows::{done_ones_stay, libraries_are_made, rows_are_kept, snapshots_have_all};
 pub use crate::stamps::{
     flow_stamps, idle_moments, parts_are_set, request_stamps, rows_are_made, source_stamps,
 };
