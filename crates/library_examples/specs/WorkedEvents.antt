@@ -122,7 +122,8 @@ pub record TwoHooksHear : Type 0 where
   pub hull_of_the_added : map (λ row. row.range) (after (changes.AddSegments 208 first_flow
       (piece 50 60 ∷ piece 40 45 ∷ [])) quiet).outbox.events ≡ Some (seconds 40 60) ∷ []
   pub failed_hears_nothing :
-      map (λ row. row.hook) (after (changes.SetFlow 203 first_flow new_label) one_failed).outbox.events
+      map (λ row. row.hook)
+      (after (changes.SetFlow 203 first_flow new_label) one_failed).outbox.events
       ≡ 11 ∷ []
 
 -- ---- a hook with 1,000 waiting events

@@ -311,7 +311,8 @@ pub record ChangesAreAllowed : Type 0 where
 abbrev pub keep : ℕ → ℕ → Bool
 keep start size = is_good_command studio (commands.Keep (codes "c") start size)
 
--- A command brings good texts, ranges and ids. Bytes come to the least free place for them, of an object that isn't stored.
+-- A command brings good texts, ranges and ids. Bytes come to the least free place for them, of an
+-- object that isn't stored.
 pub record CommandsAreGood : Type 0 where
   pub least_place : keep 3 5 ≡ true
   pub other_free_place : keep 4 5 ≡ false
@@ -321,31 +322,52 @@ pub record CommandsAreGood : Type 0 where
   pub no_place : keep 3 180225 ≡ false
   pub stored_object : is_good_command studio (commands.Keep (codes "a") 3 5) ≡ false
   pub unknown_object : is_good_command studio (commands.Keep (codes "z") 3 5) ≡ true
-  pub bad_body : is_good_command studio (commands.PutFlow (record main_body { label = Some no_text })) ≡ false
-  pub bad_part : is_good_command studio (commands.SetFlow first_flow (parts.Label (Some no_text))) ≡ false
-  pub bad_source_part : is_good_command studio (commands.SetSource one_source (parts.Label (Some no_text))) ≡ false
-  pub bad_ids : is_good_command studio (commands.Allocate first_flow (Named (codes "d e" ∷ []))) ≡ false
+  pub bad_body :
+      is_good_command studio (commands.PutFlow (record main_body { label = Some no_text }))
+      ≡ false
+  pub bad_part : is_good_command studio (commands.SetFlow first_flow (parts.Label (Some no_text)))
+      ≡ false
+  pub bad_source_part :
+      is_good_command studio (commands.SetSource one_source (parts.Label (Some no_text)))
+      ≡ false
+  pub bad_ids : is_good_command studio (commands.Allocate first_flow (Named (codes "d e" ∷ [])))
+      ≡ false
   pub made_ids : is_good_command studio (commands.Allocate first_flow (Count 5)) ≡ true
-  pub unbounded : is_good_command studio (commands.AddSegments first_flow (record (piece 0 1) { range = eternity } ∷ [])) ≡ false
+  pub unbounded :
+      is_good_command studio
+      (commands.AddSegments first_flow (record (piece 0 1) { range = eternity } ∷ []))
+      ≡ false
   pub any_cut : is_good_command studio (commands.CutSegments first_flow eternity) ≡ true
-  pub bad_hook : is_good_command studio (commands.PutHook (record one_hook.hook { url = no_text })) ≡ false
+  pub bad_hook : is_good_command studio (commands.PutHook (record one_hook.hook { url = no_text }))
+      ≡ false
   pub good_hook : is_good_command studio (commands.PutHook one_hook.hook) ≡ true
 
--- A change brings the same, but for the place, which is tested with what is allowed. A request that deletes its flow has all of the line, and the serials don't end.
+-- A change brings the same, but for the place, which is tested with what is allowed. A request that
+-- deletes its flow has all of the line, and the serials don't end.
 pub record ChangesAreSound : Type 0 where
-  pub bad_body : has_good_values (changes.PutFlow 5 (record main_body { label = Some no_text })) ≡ false
+  pub bad_body : has_good_values (changes.PutFlow 5 (record main_body { label = Some no_text }))
+      ≡ false
   pub bad_part : has_good_values (changes.SetFlow 5 first_flow (parts.Label (Some no_text))) ≡ false
-  pub bad_source_part : has_good_values (changes.SetSource 5 one_source (parts.Label (Some no_text))) ≡ false
+  pub bad_source_part :
+      has_good_values (changes.SetSource 5 one_source (parts.Label (Some no_text)))
+      ≡ false
   pub bad_ids : has_good_values (changes.Allocate 5 first_flow (codes "d" ∷ [] ∷ [])) ≡ false
   pub any_place : has_good_values (changes.Store 5 (codes "c") 9 1) ≡ true
   pub no_bytes : has_good_values (changes.Store 5 (codes "c") 9 0) ≡ false
-  pub unbounded : has_good_values (changes.AddSegments 5 first_flow (record (piece 0 1) { range = None } ∷ [])) ≡ false
+  pub unbounded :
+      has_good_values (changes.AddSegments 5 first_flow (record (piece 0 1) { range = None } ∷ []))
+      ≡ false
   pub whole_line : has_good_values (changes.AskDelete 5 first_flow eternity true) ≡ true
   pub part_with_flow : has_good_values (changes.AskDelete 5 first_flow (seconds 0 9) true) ≡ false
   pub part_alone : has_good_values (changes.AskDelete 5 first_flow (seconds 0 9) false) ≡ true
-  pub bad_hook : has_good_values (changes.PutHook 5 (record one_hook.hook { url = no_text })) ≡ false
+  pub bad_hook : has_good_values (changes.PutHook 5 (record one_hook.hook { url = no_text }))
+      ≡ false
   pub sound : is_sound studio (changes.DeleteStep 253402300799) ≡ true
   pub no_moment : is_sound studio (changes.DeleteStep 253402300800) ≡ false
   pub bad_values : is_sound studio (changes.Store 5 (codes "c") 9 0) ≡ false
-  pub last_serial_left : is_sound (record stored { next_serial = 9223372036854775806 }) (allocate (codes "b")) ≡ true
-  pub no_serial_left : is_sound (record stored { next_serial = 9223372036854775807 }) (allocate (codes "b")) ≡ false
+  pub last_serial_left :
+      is_sound (record stored { next_serial = 9223372036854775806 }) (allocate (codes "b"))
+      ≡ true
+  pub no_serial_left :
+      is_sound (record stored { next_serial = 9223372036854775807 }) (allocate (codes "b"))
+      ≡ false

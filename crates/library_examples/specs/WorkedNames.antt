@@ -25,7 +25,8 @@ pub record NamesAreSpelled : Type 0 where
       ≡ codes "flows/created" ∷ codes "flows/updated" ∷ codes "flows/deleted"
       ∷ codes "flows/segments_added" ∷ codes "flows/segments_deleted"
       ∷ codes "sources/created" ∷ codes "sources/updated" ∷ codes "sources/deleted" ∷ []
-  pub statuses : map status_name all_statuses ≡ codes "created" ∷ codes "started" ∷ codes "done" ∷ []
+  pub statuses : map status_name all_statuses
+      ≡ codes "created" ∷ codes "started" ∷ codes "done" ∷ []
   pub hook_started : hook_status_name false ≡ codes "started"
   pub hook_failed : hook_status_name true ≡ codes "error"
 

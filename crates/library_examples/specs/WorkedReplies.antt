@@ -178,18 +178,22 @@ archive = record { library = two_objects; held = their_bytes }
 abbrev pub held_after : Change → List ℕ → List (List ℕ)
 held_after change came = (archive_after change came archive).held
 
--- A question is a command, bytes to keep, or bytes to give. A change leaves the bytes of the objects that stay; those that come are of the object that it stores.
+-- A question is a command, bytes to keep, or bytes to give. A change leaves the bytes of the
+-- objects that stay; those that come are of the object that it stores.
 pub record BytesStandBeside : Type 0 where
   pub fits : is_held archive ≡ true
   pub too_short : is_held (record archive { held = codes "xy" ∷ [] ∷ [] }) ≡ false
   pub too_many : is_held (record archive { held = codes "xyz" ∷ [] ∷ [] ∷ [] }) ≡ false
   pub unstored : is_held (record archive { held = codes "xyz" ∷ codes "q" ∷ [] }) ≡ false
-  pub command : answer_to archive (asks (commands.DropFlow 99)) 5 ≡ leaves (replies.Refused refusals.NoFlow)
+  pub command : answer_to archive (asks (commands.DropFlow 99)) 5
+      ≡ leaves (replies.Refused refusals.NoFlow)
   pub put : answer_to archive (puts (codes "b") (codes "q")) 5
       ≡ gives replies.Created (changes.Store 5 (codes "b") 1 1)
   pub get : answer_to archive (gets (codes "a")) 5 ≡ leaves (replies.Media 3)
-  pub no_get : answer_to archive (gets (codes "b")) 5 ≡ leaves (replies.Refused refusals.UnknownObject)
-  pub bytes_come : held_after (changes.Store 5 (codes "b") 1 1) (codes "q") ≡ codes "xyz" ∷ codes "q" ∷ []
+  pub no_get : answer_to archive (gets (codes "b")) 5
+      ≡ leaves (replies.Refused refusals.UnknownObject)
+  pub bytes_come : held_after (changes.Store 5 (codes "b") 1 1) (codes "q")
+      ≡ codes "xyz" ∷ codes "q" ∷ []
   pub bytes_stay : held_after (changes.DropFlow 5 first_flow) (codes "q") ≡ codes "xyz" ∷ [] ∷ []
   pub objects_come : held_after (allocate (codes "c")) [] ≡ codes "xyz" ∷ [] ∷ [] ∷ []
   pub objects_go : held_after (changes.SweepStep 86400) [] ≡ []

@@ -63,7 +63,8 @@ pub record LibrariesAreMade : Type 0 where
   pub whole : library_of 1 46 (rows_of studio) ≡ studio
   pub none : library_of 1 46 [] ≡ nothing
   pub hook : (library_of 1 46 (rows.Hook two_hook ∷ [])).outbox.hooks ≡ two_hook ∷ []
-  pub event_row : (library_of 1 46 (rows.Event (event 12 10 FlowUpdated 241 None 141) ∷ [])).outbox.events
+  pub event_row :
+      (library_of 1 46 (rows.Event (event 12 10 FlowUpdated 241 None 141) ∷ [])).outbox.events
       ≡ event 12 10 FlowUpdated 241 None 141 ∷ []
   pub serial : (library_of 1 46 (rows.Numbers 15 ∷ [])).next_serial ≡ 15
 

@@ -76,7 +76,8 @@ pub record FlowStamps : Type 0 where
       ≡ same_stamps ++ (202, 202, None) ∷ []
   pub part_set : flow_stamps (studio_after (changes.SetFlow 203 first_flow new_label))
       ≡ (111, 203, Some 113) ∷ other_stamps
-  pub source_set : flow_stamps (studio_after (changes.SetSource 204 one_source new_label)) ≡ same_stamps
+  pub source_set : flow_stamps (studio_after (changes.SetSource 204 one_source new_label))
+      ≡ same_stamps
   pub dropped : flow_stamps (studio_after (changes.DropFlow 205 first_flow)) ≡ other_stamps
   pub allocated : flow_stamps (studio_after (changes.Allocate 206 first_flow (codes "d" ∷ [])))
       ≡ same_stamps

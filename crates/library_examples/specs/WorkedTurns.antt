@@ -60,7 +60,8 @@ behind_all = asked_row first_flow eternity false 100 0
 -- which the first removes 32, and a segment that was posted after it stays.
 pub record DeletesInSteps : Type 0 where
   pub at_once : length (covered (with_pieces 33).segments first_flow (seconds 0 32)) ≡ 32
-  pub one_left : segment_serials (after (changes.CutSegments 0 first_flow (seconds 0 32)) (with_pieces 33))
+  pub one_left :
+      segment_serials (after (changes.CutSegments 0 first_flow (seconds 0 32)) (with_pieces 33))
       ≡ 34 ∷ []
   pub request : numbers ask_all ≡ (35, 1) ∷ []
   pub due : turn ask_all 7 ≡ Some (changes.DeleteStep 7)

@@ -163,12 +163,14 @@ pub record SourcesAreListed : Type 0 where
   pub all : passing_sources any_source ≡ one_source ∷ other_source ∷ []
   pub by_format : passing_sources (record any_source { format = Some Audio }) ≡ other_source ∷ []
   pub no_format : passing_sources (record any_source { format = Some Multi }) ≡ []
-  pub by_label : passing_sources (record any_source { label = Some (codes "left") }) ≡ one_source ∷ []
+  pub by_label : passing_sources (record any_source { label = Some (codes "left") })
+      ≡ one_source ∷ []
   pub part_of_label : passing_sources (record any_source { label = Some (codes "lef") }) ≡ []
   pub by_value :
       passing_sources (record any_source { tags = Equals (codes "place") (codes "stage") ∷ [] })
       ≡ one_source ∷ []
-  pub no_value : passing_sources (record any_source { tags = Equals (codes "place") (codes "x") ∷ [] })
+  pub no_value :
+      passing_sources (record any_source { tags = Equals (codes "place") (codes "x") ∷ [] })
       ≡ []
   pub with_tag : passing_sources (record any_source { tags = Exists (codes "place") true ∷ [] })
       ≡ one_source ∷ []
@@ -208,7 +210,8 @@ pub record FlowsAreListed : Type 0 where
   pub part_of_codec : passing_flows (record any_flow { codec = Some (codes "aa") }) ≡ []
   pub by_label : passing_flows (record any_flow { label = Some (codes "both") }) ≡ third_flow ∷ []
   pub no_label : passing_flows (record any_flow { label = Some (codes "x") }) ≡ []
-  pub by_value : passing_flows (tagged (Equals (codes "place") (codes "stage") ∷ [])) ≡ first_flow ∷ []
+  pub by_value : passing_flows (tagged (Equals (codes "place") (codes "stage") ∷ []))
+      ≡ first_flow ∷ []
   pub no_value : passing_flows (tagged (Equals (codes "place") (codes "7") ∷ [])) ≡ []
   pub both_tests :
       passing_flows
