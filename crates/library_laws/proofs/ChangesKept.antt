@@ -43,7 +43,7 @@ use Rattle.library_laws.proofs.OutboxKept.{next_grows, happened_keeps_good}
 
 -- ---- what is_none tells
 
-none_from : {X : Type 0} (o : Option X) → is_none o ≡ true → o ≡ None
+pub none_from : {X : Type 0} (o : Option X) → is_none o ≡ true → o ≡ None
 none_from None e = refl
 none_from (Some x) e = absurd (false≢true e)
 

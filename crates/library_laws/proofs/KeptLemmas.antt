@@ -3,7 +3,7 @@ use Rattle.std.proofs.Common.{◌≡◌, ◌⊎◌, inl, inr, ℕ, zero, suc, �
 use Rattle.std.specs.Prelude.{◌==◌, nat_le, bytes_eq}
 use Rattle.std.specs.Cmp.Lexicographic.{bytes_decides}
 use Rattle.std.specs.List.{list_all}
-use Rattle.std.proofs.lemmas.Bool.{and_parts, and_from, ltb-true, leb-true, lt-ltb, le-leb, ne_eqb, not_from_false}
+use Rattle.std.proofs.lemmas.Bool.{false≢true, and_parts, and_from, ltb-true, leb-true, lt-ltb, le-leb, ne_eqb, not_from_false}
 use Rattle.media_rows.specs.Lists.{rises, are_distinct, placed}
 use Rattle.media_rows.specs.Good.{are_serials_good}
 use Rattle.media_rows.specs.Library.{last_serial}
@@ -342,3 +342,13 @@ fewer_requests next o s r r₂ h e sub is =
     Serials-Sub next (o ++ s ++ r₂ ++ h ++ e) (o ++ s ++ r ++ h ++ e)
     (Sub-append (o ++ s ++ r₂ ++ h) (o ++ s ++ r ++ h) e e (Sub-append (o ++ s ++ r₂) (o ++ s ++ r) h h
     (Sub-append (o ++ s) (o ++ s) r₂ r (Sub-same (o ++ s)) sub) (Sub-same h)) (Sub-same e)) is
+
+-- ---- the arms of a choice
+
+pub chosen : {X : Type 0} (b : Bool) (x y : X) → b ≡ true → cond b x y ≡ x
+chosen true x y e = refl
+chosen false x y e = absurd (false≢true e)
+
+pub passed : {X : Type 0} (b : Bool) (x y : X) → b ≡ false → cond b x y ≡ y
+passed true x y e = absurd (false≢true (sym e))
+passed false x y e = refl

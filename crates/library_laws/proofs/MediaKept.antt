@@ -23,19 +23,11 @@ use Rattle.library_laws.specs.MediaLaws.{IsGoodArchive, BytesFit, BytesStay, Tak
 use Rattle.library_laws.proofs.AppliesLemmas.{answers_apply, zero_or_more}
 use Rattle.library_laws.proofs.ChangesKept.{changes_apply}
 use Rattle.library_laws.proofs.FirstBytes.{first_bytes_stay, same_id, allocated_one}
-use Rattle.library_laws.proofs.KeptLemmas.{same_text, text_same}
+use Rattle.library_laws.proofs.KeptLemmas.{chosen, passed, same_text, text_same}
 use Rattle.library_laws.proofs.ListLemmas.{In, In-map, map-In, find-In, list_all-In, In-from_Contains}
 use Rattle.library_laws.proofs.ObjectsCome.{Came, kept, made, stored, came}
 use Rattle.library_laws.proofs.OutboxKept.{Names-from}
 use Rattle.library_laws.proofs.PlaceLemmas.{places_are_least}
-
-chosen : {X : Type 0} (b : Bool) (x y : X) → b ≡ true → cond b x y ≡ x
-chosen true x y e = refl
-chosen false x y e = absurd (false≢true e)
-
-passed : {X : Type 0} (b : Bool) (x y : X) → b ≡ false → cond b x y ≡ y
-passed true x y e = absurd (false≢true (sym e))
-passed false x y e = refl
 
 -- ---- bytes along objects
 

@@ -77,7 +77,7 @@ posts_compatible library flow front (post ∷ later) e none =
     let row : SegmentRow = record { flow = flow; serial = at; segment = post } in
     let outer = neither (post_refusal library flow front post) (first_refusal (refusals_behind library flow (front ++ post ∷ []) later)) none in
     let inner = neither (when (not (is_stored_object library.objects post.object)) (refusals.NoObject post.object))
-        (overlap_refusal (slice_get (overlapping (kept_behind library flow front) flow post.range None) 0)) outer.0 in
+    (overlap_refusal (slice_get (overlapping (kept_behind library flow front) flow post.range None) 0)) outer.0 in
     let one_more : kept_behind library flow (front ++ post ∷ []) ≡ kept_behind library flow front ++ row ∷ [] =
     ap (λ l. library.segments ++ l) (posted_more flow library.next_serial front post at refl) ∙ sym (append_assoc library.segments (posted flow library.next_serial front) (row ∷ [])) in
     ap (λ l. rises are_compatible (kept_behind library flow l)) (sym (append_assoc front (post ∷ []) later))
@@ -90,7 +90,7 @@ all_stored library flow front [] none post here = absurd here
 all_stored library flow front (first ∷ later) none post here =
     let outer = neither (post_refusal library flow front first) (first_refusal (refusals_behind library flow (front ++ first ∷ []) later)) none in
     let inner = neither (when (not (is_stored_object library.objects first.object)) (refusals.NoObject first.object))
-        (overlap_refusal (slice_get (overlapping (kept_behind library flow front) flow first.range None) 0)) outer.0 in
+    (overlap_refusal (slice_get (overlapping (kept_behind library flow front) flow first.range None) 0)) outer.0 in
     elim here [
       | inl same ↦ ap (λ (p : Segment). is_stored_object library.objects p.object) same
           ∙ not-false (is_stored_object library.objects first.object) (not_when (not (is_stored_object library.objects first.object)) (refusals.NoObject first.object) inner.0)

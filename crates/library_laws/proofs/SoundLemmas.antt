@@ -38,8 +38,8 @@ use Rattle.library_laws.specs.ChangeLaws.{AppliedIsSound, AppliesIsTested}
 use Rattle.library_laws.specs.Laws.{IsSound}
 use Rattle.library_laws.proofs.AnswerLemmas.{neither}
 use Rattle.library_laws.proofs.CatalogKept.{BodyTexts, BodyTexts-from, RowTexts-from}
-use Rattle.library_laws.proofs.ChangesKept.{good_is_tested, changes_keep_good}
-use Rattle.library_laws.proofs.KeptLemmas.{list_all-parts}
+use Rattle.library_laws.proofs.ChangesKept.{none_from, good_is_tested, changes_keep_good}
+use Rattle.library_laws.proofs.KeptLemmas.{chosen, list_all-parts}
 use Rattle.library_laws.proofs.ListLemmas.{In, In-back, map-In, find-In, list_all-In}
 use Rattle.library_laws.proofs.OutboxKept.{Names-from, Texts-from}
 
@@ -48,18 +48,9 @@ use Rattle.library_laws.proofs.OutboxKept.{Names-from, Texts-from}
 placed-has : {X : Type 0} (less : X → X → Bool) (x : X) (xs : List X) → In x (placed less x xs)
 placed-has less x xs = In-back (filter (λ y. less y x) xs) (x ∷ filter (λ y. less x y) xs) x (inl refl)
 
-none_from : {X : Type 0} (o : Option X) → is_none o ≡ true → o ≡ None
-none_from None e = refl
-none_from (Some x) e = absurd (false≢true e)
-
 put_body : (o : Option FlowRow) (body : FlowBody) (moment : ℕ) → (put_row o body moment).body ≡ body
 put_body None body moment = refl
 put_body (Some old) body moment = refl
-
--- a row of an id that is mapped by it
-chosen : {X : Type 0} (b : Bool) (x y : X) → b ≡ true → cond b x y ≡ x
-chosen true x y e = refl
-chosen false x y e = absurd (false≢true e)
 
 -- ---- a part
 
