@@ -13,14 +13,14 @@ use Rattle.tams_top.specs.declared.connection.Ending.{Ending}
 use Rattle.tams_top.specs.declared.connection.Ending.TheVariants.{Closed, Starved, Stopped, Unlinked}
 use Rattle.tams_top.specs.declared.store.Store.{Store}
 use Rattle.tams_top.specs.declared.request.Front.TheVariants.{Unbuilt}
-use Rattle.tams_top.specs.Answer.{body_fields, body_text, close_field, closes, is_final, response, status_line}
+use Rattle.tams_top.specs.Answer.{body_fields, answer_body, close_field, closes, is_final, response, status_line}
 use Rattle.tams_top.specs.Change.{IsPutChange}
 use Rattle.tams_top.specs.Request.{BeginsWith, IsFront, request_text}
 use Rattle.tams_top.specs.Store.{State, StandsFor}
 use Rattle.tams_top.specs.Opening.{state_of}
 use Rattle.tams_top.specs.History as history
-use Rattle.tams_top.specs.History.{Last, Session, Taken, state_after_all, answer_text, answer_to, answers_of, changed, changes_in, changes_of, change_of, count_of, end_of, is_changing, most_requests, moments_of, requests_of, script_of, session_of, state_after, texts_of}
-use Rattle.tams_top.specs.Moments.{AllRight, Beginning, EachKeeps, Handles, told_before}
+use Rattle.tams_top.specs.History.{Last, Session, Taken, state_after_all, answer_text, put_answer, answers_of, with_put, changes_in, changes_of, change_of, count_of, end_of, is_changing, most_requests, moments_of, taken_of, script_of, session_of, state_after, texts_of}
+use Rattle.tams_top.specs.Moments.{AllRight, Beginning, EachKeeps, Handles, told_first}
 use Rattle.tams_top.specs.Serving.{AreCounts, Counts, CountsAt, Ended, EndsAs, HandledAs, Reached, StandsAt, TurnAnswer, connection_of, ending_after, machine_ending}
 use Rattle.tams_top.proofs.HistoryLemmas.{after-push, answers-push, begun-push, begun_bound, changes-push, earlier_itself, flat_map-push, map-push, prefix_itself, prefix_longer, script-session}
 use Rattle.tams_top.proofs.RequestLemmas.{length-request_text}
@@ -34,7 +34,7 @@ not_false false e = sym e
 -- after some answers a connection always ends
 final_response : (a : Answer) (last : Bool) → is_final a ≡ true → response a true ≡ response a last
 unfolding response
-final_response a last final = ap (λ (closing : Bool). status_line a ++ (body_fields a ++ (close_field closing ++ (codes "\r\n" ++ body_text a)))) (closing true final ∙ sym (closing last final))
+final_response a last final = ap (λ (closing : Bool). status_line a ++ (body_fields a ++ (close_field closing ++ (codes "\r\n" ++ answer_body a)))) (closing true final ∙ sym (closing last final))
   where
     closing : (l : Bool) → is_final a ≡ true → closes a l ≡ true
     closing l e = ap (λ (f : Bool). if f then true else l) e
@@ -79,10 +79,10 @@ module _ (b : Beginning) (old mid new : Device) (given unread : List ℕ) (store
       ap (λ (l : Link). l.connections) link ∙ r.connections
       ∙ ap (λ (heard : List ℕ). b.before ++ connection_of heard (answers_of 0 b.state so_far) false false ∷ []) heard_is
 
-  told_old : (q : Left) → may_leave old q → q.told ≡ told_before b ++ answers_of 0 b.state so_far ∷ []
+  told_old : (q : Left) → may_leave old q → q.told ≡ told_first b ++ answers_of 0 b.state so_far ∷ []
   told_old q could = told_now b _ old q sound honest tells r.connections could
 
-  told_mid : (q : Left) → may_leave mid q → q.told ≡ told_before b ++ answers_of 0 b.state so_far ∷ []
+  told_mid : (q : Left) → may_leave mid q → q.told ≡ told_first b ++ answers_of 0 b.state so_far ∷ []
   told_mid q could = told_now b _ mid q mid_sound mid_honest mid_tells told_so_far could
 
   time_now : Elapses (Handles state_now (change_of t)) (Handles state_now (change_of t)) old mid
@@ -92,8 +92,8 @@ module _ (b : Beginning) (old mid new : Device) (given unread : List ℕ) (store
   end_is : end_of b.state (session_of with_this) ≡ state_after state_now (change_of t)
   end_is = after-push b.state so_far t
 
-  made_is : is_changing (answer_to state_now (change_of t)) ≡ true → changed state_now (change_of t) ≡ end_of b.state (session_of with_this)
-  made_is accepted = sym (end_is ∙ ap (λ (made : Bool). if made then changed state_now (change_of t) else state_now) accepted)
+  made_is : is_changing (put_answer state_now (change_of t)) ≡ true → with_put state_now (change_of t) ≡ end_of b.state (session_of with_this)
+  made_is accepted = sym (end_is ∙ ap (λ (made : Bool). if made then with_put state_now (change_of t) else state_now) accepted)
 
   script_is : script_of b.state (session_of with_this) ≡ answers_of 0 b.state so_far ++ answer_text (0 + length so_far) state_now t
   script_is = script-session b.state with_this ∙ answers-push 0 b.state so_far t
@@ -109,7 +109,7 @@ module _ (b : Beginning) (old mid new : Device) (given unread : List ℕ) (store
       made_is step)
 
   -- the history by another last answer
-  right_other : (last : Last) → (is_changing (answer_to state_now (change_of t)) ≡ true → changed state_now (change_of t) ≡ end_of b.state (record { taken = so_far; last = Some last })) → AllRight b (record { taken = so_far; last = Some last }) mid
+  right_other : (last : Last) → (is_changing (put_answer state_now (change_of t)) ≡ true → with_put state_now (change_of t) ≡ end_of b.state (record { taken = so_far; last = Some last })) → AllRight b (record { taken = so_far; last = Some last }) mid
   right_other last made =
       all_over b (record { taken = so_far; last = Some last }) _ _ old mid (all_last b so_far last old r.right) time_now (λ q p could step.
       handles_right b so_far (record { taken = so_far; last = Some last }) (change_of t) q p (told_old q could)
@@ -120,9 +120,9 @@ module _ (b : Beginning) (old mid new : Device) (given unread : List ℕ) (store
       made step)
 
   -- What the machine's answer leads to.
-  module _ (a : Answer) (said last : Bool) (new_sound : IsDevice new) (answer_is : a ≡ answer_to (state_of store) (change_of t)) (last_is : last ≡ (m.requests == most_requests)) (changes : m.changes ≡ n.changes + count_of a) (state_is : state_of next ≡ state_after (state_of store) (change_of t)) (keeps : EachKeeps mid next) (call : LinkCall (Tells false (response a last)) (Tells said (response a last)) said mid new) (saying : Said said (response a last) mid new) where
-    answer_now : a ≡ answer_to state_now (change_of t)
-    answer_now = answer_is ∙ ap (λ (s : State). answer_to s (change_of t)) r.state
+  module _ (a : Answer) (said last : Bool) (new_sound : IsDevice new) (answer_is : a ≡ put_answer (state_of store) (change_of t)) (last_is : last ≡ (m.requests == most_requests)) (changes : m.changes ≡ n.changes + count_of a) (state_is : state_of next ≡ state_after (state_of store) (change_of t)) (keeps : EachKeeps mid next) (call : LinkCall (Tells false (response a last)) (Tells said (response a last)) said mid new) (saying : Said said (response a last) mid new) where
+    answer_now : a ≡ put_answer state_now (change_of t)
+    answer_now = answer_is ∙ ap (λ (s : State). put_answer s (change_of t)) r.state
 
     text_is : response a last ≡ answer_text (0 + length so_far) state_now t
     text_is =
@@ -180,7 +180,7 @@ module _ (b : Beginning) (old mid new : Device) (given unread : List ℕ) (store
     -- it has ended
     ended_machine : (ending : Ending) → (AreCounts b.state (session_of with_this) m → CountsAt b.state (session_of with_this) m ending) → EndsAs b.state (connection_of (texts_of with_this ++ drop 167 unread) told_new.told false (not said)) (session_of with_this) (drop 167 unread) ending → (StandsFor new.seen (end_of b.state (session_of with_this)) → StandsAt new.seen b.state (session_of with_this) ending) → Ended b new (given ++ t.moment ∷ []) m ending
     ended_machine ending count ends at =
-        let all : requests_of (session_of with_this) ≡ with_this = append-nil with_this in
+        let all : taken_of (session_of with_this) ≡ with_this = append-nil with_this in
         ended_with b new (given ++ t.moment ∷ []) (drop 167 unread) m ending (session_of with_this) (connection_of (texts_of with_this ++ drop 167 unread) told_new.told false (not said)) told_new.connections
         (moments_is ∙ ap (λ (ts : List Taken). b.given ++ moments_of ts) (sym all))
         (ap (λ (ts : List Taken). texts_of ts ++ drop 167 unread) (sym all))
@@ -194,7 +194,7 @@ module _ (b : Beginning) (old mid new : Device) (given unread : List ℕ) (store
         right_new
 
   -- by whether it was said whole and was the last answer that the connection may have
-  pub machine_goes : (a : Answer) (said last : Bool) (new_sound : IsDevice new) → a ≡ answer_to (state_of store) (change_of t) → last ≡ (m.requests == most_requests) → m.changes ≡ n.changes + count_of a → state_of next ≡ state_after (state_of store) (change_of t) → EachKeeps mid next → LinkCall (Tells false (response a last)) (Tells said (response a last)) said mid new → Said said (response a last) mid new → TurnAnswer b new (given ++ t.moment ∷ []) (drop 167 unread) next m (machine_ending said last)
+  pub machine_goes : (a : Answer) (said last : Bool) (new_sound : IsDevice new) → a ≡ put_answer (state_of store) (change_of t) → last ≡ (m.requests == most_requests) → m.changes ≡ n.changes + count_of a → state_of next ≡ state_after (state_of store) (change_of t) → EachKeeps mid next → LinkCall (Tells false (response a last)) (Tells said (response a last)) said mid new → Said said (response a last) mid new → TurnAnswer b new (given ++ t.moment ∷ []) (drop 167 unread) next m (machine_ending said last)
   machine_goes a false last new_sound answer_is last_is changes state_is keeps call saying =
       ended_machine a false last new_sound answer_is last_is changes state_is keeps call saying Unlinked (λ _. tt) (refl, inl refl) (λ stands. stands)
   machine_goes a true true new_sound answer_is last_is changes state_is keeps call saying =
@@ -205,7 +205,7 @@ module _ (b : Beginning) (old mid new : Device) (given unread : List ℕ) (store
 
   -- What another last answer of the request leads to: a history with it, which each image stands for or is
   -- one change behind.
-  module _ (a : Answer) (said last : Bool) (h_last : Last) (answered : history.answered_last (Some h_last) ≡ response a last) (with_request : requests_of (record { taken = so_far; last = Some h_last }) ≡ with_this) (right_mid : AllRight b (record { taken = so_far; last = Some h_last }) mid) (stands_mid : (q : Left) → may_leave mid q → StandsLast b.state (record { taken = so_far; last = Some h_last }) q.image) (call : LinkCall (Tells false (response a last)) (Tells said (response a last)) said mid new) (saying : Said said (response a last) mid new) where
+  module _ (a : Answer) (said last : Bool) (h_last : Last) (answered : history.answered_last (Some h_last) ≡ response a last) (with_request : taken_of (record { taken = so_far; last = Some h_last }) ≡ with_this) (right_mid : AllRight b (record { taken = so_far; last = Some h_last }) mid) (stands_mid : (q : Left) → may_leave mid q → StandsLast b.state (record { taken = so_far; last = Some h_last }) q.image) (call : LinkCall (Tells false (response a last)) (Tells said (response a last)) said mid new) (saying : Said said (response a last) mid new) where
     script_other : script_of b.state (record { taken = so_far; last = Some h_last }) ≡ answers_of 0 b.state so_far ++ response a last
     script_other = ap (λ xs. answers_of 0 b.state so_far ++ xs) answered
 
@@ -248,10 +248,10 @@ module _ (b : Beginning) (old mid new : Device) (given unread : List ℕ) (store
   stopped = record { taken = so_far; last = Some (history.Stopped t true) }
 
   -- a disk fault: each image stands for the state before the change or after it
-  stopped_goes : (said last : Bool) → IsDevice new → is_changing (answer_to (state_of store) (change_of t)) ≡ true → LinkCall (Tells false (response answers.DiskFault last)) (Tells said (response answers.DiskFault last)) said mid new → Said said (response answers.DiskFault last) mid new → Ended b new (given ++ t.moment ∷ []) m Stopped
+  stopped_goes : (said last : Bool) → IsDevice new → is_changing (put_answer (state_of store) (change_of t)) ≡ true → LinkCall (Tells false (response answers.DiskFault last)) (Tells said (response answers.DiskFault last)) said mid new → Said said (response answers.DiskFault last) mid new → Ended b new (given ++ t.moment ∷ []) m Stopped
   unfolding stopped
   stopped_goes said last new_sound accepted call saying =
-      let changing : is_changing (answer_to state_now (change_of t)) ≡ true = subst (λ (s : State). is_changing (answer_to s (change_of t)) ≡ true) r.state accepted in
+      let changing : is_changing (put_answer state_now (change_of t)) ≡ true = subst (λ (s : State). is_changing (put_answer s (change_of t)) ≡ true) r.state accepted in
       let honest_now = call.same.honest ∙ mid_honest in
       let read = call.time.now (as_read new) (new_sound.itself honest_now (call.same.shows ∙ mid_shows) (call.same.tells ∙ mid_tells)) in
       let image = (time_now.now read.0 read.1).2.image in
@@ -297,7 +297,7 @@ module _ (b : Beginning) (old new : Device) (given unread : List ℕ) (store : S
   refused_ends : (ending : Ending) (told : Told b new (texts_of r.taken ++ unread) (script_of b.state refused) said) → EndsAs b.state (connection_of (texts_of r.taken ++ unread) told.told false (not said)) refused unread ending → (AreCounts b.state refused m → CountsAt b.state refused m ending) → (StandsFor new.seen (end_of b.state refused) → StandsAt new.seen b.state refused ending) → Ended b new given m ending
   unfolding refused
   refused_ends ending told ends count at =
-      let all : requests_of refused ≡ r.taken = append-nil r.taken in
+      let all : taken_of refused ≡ r.taken = append-nil r.taken in
       ended_with b new given unread m ending refused (connection_of (texts_of r.taken ++ unread) told.told false (not said)) told.connections
       (r.given_is ∙ ap (λ (ts : List Taken). b.given ++ moments_of ts) (sym all))
       (ap (λ (ts : List Taken). texts_of ts ++ unread) (sym all))

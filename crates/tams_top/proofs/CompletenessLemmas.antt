@@ -9,8 +9,8 @@ use Rattle.tams_top.specs.declared.outcome.Outcome.TheVariants.{Formatted, Serve
 use Rattle.tams_top.specs.declared.words.Command.TheVariants.{Format}
 use Rattle.tams_top.specs.Words.{IsCommand}
 use Rattle.tams_top.specs.Completeness.{EndsByInput, IsAnswered, IsServedWhole, NoneRose}
-use Rattle.tams_top.specs.History.{Session, moments_of, requests_of}
-use Rattle.tams_top.specs.Running.{CommandEnds, EndsWithoutPeer, FaultCounts, FormattingEnds, LinkFaults, OutcomeIs, Replayed, RunEnds, beginning, status_of}
+use Rattle.tams_top.specs.History.{Session, moments_of, taken_of}
+use Rattle.tams_top.specs.Running.{CommandEnds, EndsWithoutPeer, FaultCounts, FormatRunEnds, LinkFaults, OutcomeIs, Replayed, RunEnds, beginning, status_of}
 use Rattle.tams_top.specs.Serving.{IsServed}
 use Rattle.tams_top.specs.Store.{State}
 use Rattle.tams_top.proofs.WordTheorems.{one_command}
@@ -23,7 +23,7 @@ module _ (old new : Device) (o : Outcome) (counts : FaultCounts old new o) (none
   no_link is = none.link ((subst (λ (p : Outcome). LinkFaults p old.link.faults new.link.faults) is counts.link).1)
 
   -- a connection by how it ended
-  answered : (from : State) (c : Connection) (h : Session) (ending : Ending) → (status_of o ≡ 4 → ⊥) → IsServed from c h ending → OutcomeIs from h ending o → IsAnswered from c (moments_of (requests_of h)) (status_of o)
+  answered : (from : State) (c : Connection) (h : Session) (ending : Ending) → (status_of o ≡ 4 → ⊥) → IsServed from c h ending → OutcomeIs from h ending o → IsAnswered from c (moments_of (taken_of h)) (status_of o)
   answered from c h ending fed served is = record {
     session = h;
     rest = served.rest;
@@ -66,13 +66,13 @@ no_peer_came old new (Damaged at) counts none fed ends = absurd ends
 -- the run by its history
 pub served_whole : (from : State) (old new : Device) (begun given : List ℕ) (o : Outcome) → FaultCounts old new o → NoneRose old new → (status_of o ≡ 4 → ⊥) → Replayed (beginning from old begun) new given o → IsServedWhole from old new begun given (status_of o)
 served_whole from old new begun given o counts none fed (inl p) =
-    inl (p.connection, moments_of (requests_of p.session), p.connections, p.given_is, answered old new o counts none from p.connection p.session p.ending fed p.served p.outcome)
+    inl (p.connection, moments_of (taken_of p.session), p.connections, p.given_is, answered old new o counts none from p.connection p.session p.ending fed p.served p.outcome)
 served_whole from old new begun given o counts none fed (inr p) =
     let came = no_peer_came old new o counts none fed p.ends in
     inr (p.connections, p.given_is, came.0, came.1)
 
 -- `format` where no call of the disk failed
-formatted : (old new : Device) (h : Header) (o : Outcome) → FormattingEnds old new h o → (o ≡ DiskFault → ⊥) → (status_of o ≡ 0) ⊎ ((status_of o ≡ 2) ⊎ (status_of o ≡ 4))
+formatted : (old new : Device) (h : Header) (o : Outcome) → FormatRunEnds old new h o → (o ≡ DiskFault → ⊥) → (status_of o ≡ 0) ⊎ ((status_of o ≡ 2) ⊎ (status_of o ≡ 4))
 formatted old new h (Formatted blocks half media) ends held = inl refl
 formatted old new h AlreadyStore ends held = inr (inl refl)
 formatted old new h TooSmall ends held = inr (inl refl)

@@ -12,25 +12,25 @@ use Rattle.tams_top.specs.Words.{IsCommand}
 use Rattle.tams_top.specs.Store.{State, StandsFor, empty_rows}
 use Rattle.tams_top.specs.Opening.{StandsForNone}
 use Rattle.tams_top.specs.Moments.{IsSettled}
-use Rattle.tams_top.specs.Running.{CommandEnds, FormattingEnds, IsReplayFrom, RefusedFor, ReplayCause, Replayed, ReplayEnds, RunEnds, Untouched, beginning, formatted_state, status_of}
+use Rattle.tams_top.specs.Running.{CommandEnds, FormatRunEnds, IsReplayFrom, RefusedFor, ReplayCause, Replayed, ReplayEnds, RunEnds, Untouched, beginning, formatted_state, status_of}
 use Rattle.tams_top.proofs.FormattingLemmas.{untouched_bare}
 use Rattle.tams_top.proofs.RunningLemmas.{no_store, unopened}
 use Rattle.tams_top.proofs.WordTheorems.{one_command}
 
 module _ (old new : Device) (h : Header) where
-  format_refused : (o : Outcome) → FormattingEnds old new h o → status_of o ≡ 2 → Untouched old new × (old.shows ≡ true → HasOpenHeader old.seen ⊎ ¬ (FitsStore h (length old.seen) empty_rows))
+  format_refused : (o : Outcome) → FormatRunEnds old new h o → status_of o ≡ 2 → Untouched old new × (old.shows ≡ true → HasOpenHeader old.seen ⊎ ¬ (FitsStore h (length old.seen) empty_rows))
   format_refused AlreadyStore ends s = (ends.1, λ shows. inl (ends.0 shows))
   format_refused TooSmall ends s = (ends.1, λ shows. inr ((ends.0 shows).1))
   format_refused NotStore ends s = absurd ends
   format_refused (Damaged at) ends s = absurd ends
   format_refused _ ends s = absurd (omega (arith, s))
 
-  format_done : (o : Outcome) → FormattingEnds old new h o → status_of o ≡ 0 → old.shows ≡ true → StandsFor new.seen (formatted_state h)
+  format_done : (o : Outcome) → FormatRunEnds old new h o → status_of o ≡ 0 → old.shows ≡ true → StandsFor new.seen (formatted_state h)
   format_done (Formatted blocks half media) ends s = ends.stands
   format_done (Served requests changes) ends s = absurd ends
   format_done _ ends s = absurd (omega (arith, s))
 
-  format_only : (o : Outcome) → FormattingEnds old new h o → old.shows ≡ true → HasOpenHeader old.seen ⊎ ¬ (FitsStore h (length old.seen) empty_rows) → (status_of o ≡ 2) ⊎ ((status_of o ≡ 3) ⊎ (status_of o ≡ 4))
+  format_only : (o : Outcome) → FormatRunEnds old new h o → old.shows ≡ true → HasOpenHeader old.seen ⊎ ¬ (FitsStore h (length old.seen) empty_rows) → (status_of o ≡ 2) ⊎ ((status_of o ≡ 3) ⊎ (status_of o ≡ 4))
   format_only (Formatted blocks half media) ends shows cause =
       absurd (elim cause [ inl header ↦ ends.none shows header | inr misfit ↦ misfit (ends.fits shows) ])
   format_only AlreadyStore ends shows cause = inl refl

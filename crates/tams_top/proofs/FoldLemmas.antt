@@ -8,7 +8,7 @@ use Rattle.tams_top.specs.declared.store.StoreFault.TheVariants.{Damaged, Memory
 use Rattle.tams_top.specs.Change.{IsPutChange, change_text}
 use Rattle.tams_top.specs.Library.{library_after}
 use Rattle.tams_top.specs.Store.{Folds, StepOf, IsRefused}
-use Rattle.tams_top.specs.Folding.{IsStepRefused, IsFoldRefused}
+use Rattle.tams_top.specs.Within.Folding.{IsStepRefused, IsFoldRefused}
 use Rattle.tams_top.proofs.ChangeLemmas.{change_text-one}
 
 -- a record makes one library

@@ -10,9 +10,9 @@ use Rattle.tams_top.specs.declared.library.Flow.{Flow}
 use Rattle.tams_top.specs.declared.library.Library.{Library}
 use Rattle.tams_top.specs.declared.store.Store.{Store}
 use Rattle.tams_top.specs.Change.{IsPutChange}
-use Rattle.tams_top.specs.Library.{AreFlowsFrom, IsGood, IsGoodFlow, library_after, empty_library, flow_of, flow_placed, put_flow, with_flow}
+use Rattle.tams_top.specs.Library.{AreFlowsFrom, IsGood, IsGoodFlow, library_after, formatted_library, kept_flow, flow_placed, put_flow, with_flow_put}
 use Rattle.tams_top.specs.Store.{Folds, State, StandsFor}
-use Rattle.tams_top.specs.History.{Last, Session, Taken, state_after_all, after_last, answer_to, change_of, changed, end_of, is_changing, requests_of, session_of, state_after, taken_last}
+use Rattle.tams_top.specs.History.{Last, Session, Taken, state_after_all, after_last, put_answer, change_of, with_put, end_of, is_changing, taken_of, session_of, state_after, taken_last}
 use Rattle.tams_top.specs.History as history
 use Rattle.tams_top.specs.Moments.{EachKeeps}
 use Rattle.tams_top.specs.Running.{AllGood}
@@ -61,11 +61,11 @@ placed_good m x (f ∷ fs) are least good = elim (cases_lt f.id x.id) [
 ]
 
 -- the flow of an id is one of the flows
-found_good : (m id : ℕ) (fs : List Flow) (f : Flow) → AreFlowsFrom m fs → flow_of id fs ≡ Some f → IsGoodFlow f × (f.id ≡ id)
+found_good : (m id : ℕ) (fs : List Flow) (f : Flow) → AreFlowsFrom m fs → kept_flow id fs ≡ Some f → IsGoodFlow f × (f.id ≡ id)
 found_good m id [] f are e = absurd (let none : None ≡ Some f = e in cc)
 found_good m id (g ∷ fs) f are e = found (g.id == id) refl e (found_good (g.id + 1) id fs f are.2)
   where
-    found : (b : Bool) → b ≡ (g.id == id) → cond b (Some g) (flow_of id fs) ≡ Some f → (flow_of id fs ≡ Some f → IsGoodFlow f × (f.id ≡ id)) → IsGoodFlow f × (f.id ≡ id)
+    found : (b : Bool) → b ≡ (g.id == id) → cond b (Some g) (kept_flow id fs) ≡ Some f → (kept_flow id fs ≡ Some f → IsGoodFlow f × (f.id ≡ id)) → IsGoodFlow f × (f.id ≡ id)
     found true is some later =
         let same : g ≡ f = let e : Some g ≡ Some f = some in cc in
         (subst IsGoodFlow same are.1, subst (λ (x : Flow). x.id ≡ id) same (eqb-true g.id id (sym is)))
@@ -85,7 +85,7 @@ put_good c (Some old) x is kept e = made (old.source == c.source) e
         subst IsGoodFlow same (record { id = good.id; source = good.source; created = good.created; updated = is.moment })
     made false none = absurd (let e : None ≡ Some x = none in cc)
 
-with_good : (library next : Library) (flow : Option Flow) → IsGood library → ((x : Flow) → flow ≡ Some x → IsGoodFlow x) → with_flow library flow ≡ Some next → IsGood next
+with_good : (library next : Library) (flow : Option Flow) → IsGood library → ((x : Flow) → flow ≡ Some x → IsGoodFlow x) → with_flow_put library flow ≡ Some next → IsGood next
 with_good library next None good flow e = absurd (let none : None ≡ Some next = e in cc)
 with_good library next (Some x) good flow e =
     let same : record library { flows = flow_placed x library.flows } ≡ next = let some : Some record library { flows = flow_placed x library.flows } ≡ Some next = e in cc in
@@ -95,8 +95,8 @@ with_good library next (Some x) good flow e =
 pub applied_good : (c : PutChange) (library next : Library) → IsPutChange c → IsGood library → library_after c library ≡ Some next → IsGood next
 unfolding library_after
 applied_good c library next is good e =
-    with_good library next (put_flow c (flow_of c.flow library.flows)) good
-    (λ x some. put_good c (flow_of c.flow library.flows) x is (λ f found. (found_good 0 c.flow library.flows f good found).0) some) e
+    with_good library next (put_flow c (kept_flow c.flow library.flows)) good
+    (λ x some. put_good c (kept_flow c.flow library.flows) x is (λ f found. (found_good 0 c.flow library.flows f good found).0) some) e
 
 -- so a library is good to which records fold
 folds_good : (rs : List Record) (from to : Library) → IsGood from → Folds rs from to → IsGood to
@@ -105,23 +105,23 @@ folds_good (r ∷ rs) from to good all =
     folds_good rs all.3.0 to (applied_good all.0 from all.3.0 all.1 good all.3.1) all.3.2
 
 pub stands_good : (image : List ℕ) (s : State) → StandsFor image s → IsGood s.library
-stands_good image s stands = folds_good stands.records (empty_library stands.header) s.library tt stands.folds
+stands_good image s stands = folds_good stands.records (formatted_library stands.header) s.library tt stands.folds
 
 pub keeps_good : (d : Device) (s : Store) → IsDevice d → d.honest ≡ true → d.shows ≡ true → d.tells ≡ true → EachKeeps d s → IsGood s.library
-keeps_good d s sound honest shows tells keeps = folds_good keeps.records (empty_library keeps.header) s.library tt keeps.folds
+keeps_good d s sound honest shows tells keeps = folds_good keeps.records (formatted_library keeps.header) s.library tt keeps.folds
 
-changed_good : (s : State) (c : PutChange) → IsPutChange c → IsGood s.library → IsGood (changed s c).library
-changed_good s c is good = made (library_after c s.library) (λ next some. applied_good c s.library next is good some)
+with_put_good : (s : State) (c : PutChange) → IsPutChange c → IsGood s.library → IsGood (with_put s c).library
+with_put_good s c is good = made (library_after c s.library) (λ next some. applied_good c s.library next is good some)
   where
     made : (o : Option Library) → ((next : Library) → o ≡ Some next → IsGood next) → IsGood (unwrap_or o s.library)
     made None next = good
     made (Some l) next = next l refl
 
 after_good : (s : State) (c : PutChange) → IsPutChange c → IsGood s.library → IsGood (state_after s c).library
-after_good s c is good = answered (is_changing (answer_to s c))
+after_good s c is good = answered (is_changing (put_answer s c))
   where
-    answered : (b : Bool) → IsGood (if b then changed s c else s).library
-    answered true = changed_good s c is good
+    answered : (b : Bool) → IsGood (if b then with_put s c else s).library
+    answered true = with_put_good s c is good
     answered false = good
 
 -- requests of which each is a good one
@@ -149,10 +149,10 @@ last_good : (s : State) (last : Option Last) → AreValid (taken_last last) → 
 last_good s None all good = good
 last_good s (Some history.Refused) all good = good
 last_good s (Some (history.Starved t)) all good = good
-last_good s (Some (history.Stopped t true)) all good = changed_good s (change_of t) (first_valid t [] all) good
+last_good s (Some (history.Stopped t true)) all good = with_put_good s (change_of t) (first_valid t [] all) good
 last_good s (Some (history.Stopped t false)) all good = good
 
-pub all_good : (from : State) (h : Session) → IsGood from.library → AreValid (requests_of h) → AllGood from h
+pub all_good : (from : State) (h : Session) → IsGood from.library → AreValid (taken_of h) → AllGood from h
 all_good from h good valid g (inl same) =
     rw same (last_good (state_after_all from h.taken) h.last (valid_behind h.taken (taken_last h.last) valid) (requests_good from h.taken (valid_front h.taken (taken_last h.last) valid) good))
 all_good from h good valid g (inr part) =

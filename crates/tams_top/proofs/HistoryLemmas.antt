@@ -9,9 +9,9 @@ use Rattle.tams_top.specs.declared.answer.Answer.TheVariants.{Replaced, FlowChan
 use Rattle.tams_top.specs.declared.change.PutChange.{PutChange}
 use Rattle.tams_top.specs.declared.library.Flow.{Flow}
 use Rattle.tams_top.specs.declared.library.Library.{Library}
-use Rattle.tams_top.specs.Library.{library_after, flow_of, put_flow, with_flow}
+use Rattle.tams_top.specs.Library.{library_after, kept_flow, put_flow, with_flow_put}
 use Rattle.tams_top.specs.Store.{State}
-use Rattle.tams_top.specs.History.{Taken, Last, Session, state_after_all, answer_by_kept, answer_text, answer_to, answers_of, change_of, changes_of, count_of, fits, is_changing, script_of, session_of, state_after}
+use Rattle.tams_top.specs.History.{Taken, Last, Session, state_after_all, answer_by_kept, answer_text, put_answer, answers_of, change_of, changes_of, count_of, fits, is_changing, script_of, session_of, state_after}
 use Rattle.tams_top.specs.Moments.{IsEarlier, begun_in}
 
 -- an answer that comes with a change says that its record fits
@@ -34,14 +34,14 @@ changing_put c (Some f) room e = kept (f.source == c.source) e
     kept true e = (_, refl)
     kept false e = absurd (false≢true e)
 
-pub accepted_fits : (s : State) (c : PutChange) → is_changing (answer_to s c) ≡ true → fits s c ≡ true
-accepted_fits s c e = changing_fits (flow_of c.flow s.library.flows) c.source (fits s c) e
+pub accepted_fits : (s : State) (c : PutChange) → is_changing (put_answer s c) ≡ true → fits s c ≡ true
+accepted_fits s c e = changing_fits (kept_flow c.flow s.library.flows) c.source (fits s c) e
 
-pub accepted_applies : (s : State) (c : PutChange) → is_changing (answer_to s c) ≡ true → (next : Library) × (library_after c s.library ≡ Some next)
+pub accepted_applies : (s : State) (c : PutChange) → is_changing (put_answer s c) ≡ true → (next : Library) × (library_after c s.library ≡ Some next)
 unfolding library_after
 accepted_applies s c e =
-    let put = changing_put c (flow_of c.flow s.library.flows) (fits s c) e in
-    (_, ap (with_flow s.library) put.1)
+    let put = changing_put c (kept_flow c.flow s.library.flows) (fits s c) e in
+    (_, ap (with_flow_put s.library) put.1)
 
 -- one more at the end of what is joined or mapped
 pub flat_map-push : {A : Type 0} (f : A → List ℕ) (xs : List A) (x : A) → flat_map f (xs ++ x ∷ []) ≡ flat_map f xs ++ f x
@@ -67,7 +67,7 @@ answers-push n s (u ∷ ts) t =
     ∙ sym (append_assoc (answer_text n s u) (answers_of (suc n) next ts) (answer_text (suc n + length ts) (state_after_all next ts) t))
     ∙ ap (λ (m : ℕ). (answer_text n s u ++ answers_of (suc n) next ts) ++ answer_text m (state_after_all next ts) t) same
 
-pub changes-push : (s : State) (ts : List Taken) (t : Taken) → changes_of s (ts ++ t ∷ []) ≡ changes_of s ts + count_of (answer_to (state_after_all s ts) (change_of t))
+pub changes-push : (s : State) (ts : List Taken) (t : Taken) → changes_of s (ts ++ t ∷ []) ≡ changes_of s ts + count_of (put_answer (state_after_all s ts) (change_of t))
 changes-push s [] t = omega arith
 changes-push s (u ∷ ts) t = omega (arith, changes-push (state_after s (change_of u)) ts t)
 
@@ -87,7 +87,7 @@ begun-push n s (u ∷ ts) t (x ∷ told) le =
     let front = answer_text n s u in
     let less : length (drop (length front) (x ∷ told)) ≤ length (answers_of (suc n) (state_after s (change_of u)) ts) =
     omega (arith, le, length-drop (length front) (x ∷ told), length-append front (answers_of (suc n) (state_after s (change_of u)) ts)) in
-    ap (λ (m : ℕ). count_of (answer_to s (change_of u)) + m) (begun-push (suc n) (state_after s (change_of u)) ts t (drop (length front) (x ∷ told)) less)
+    ap (λ (m : ℕ). count_of (put_answer s (change_of u)) + m) (begun-push (suc n) (state_after s (change_of u)) ts t (drop (length front) (x ∷ told)) less)
 
 -- prefixes
 pub prefix_itself : (text : List ℕ) → IsPrefix text text

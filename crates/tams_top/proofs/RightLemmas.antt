@@ -10,12 +10,12 @@ use Rattle.media_journal.specs.declared.record.Record.{Record}
 use Rattle.tams_top.specs.declared.change.PutChange.{PutChange}
 use Rattle.tams_top.specs.declared.library.Library.{Library}
 use Rattle.tams_top.specs.declared.store.Store.{Store}
-use Rattle.tams_top.specs.Library.{empty_library}
+use Rattle.tams_top.specs.Library.{formatted_library}
 use Rattle.tams_top.specs.Store.{Folds, State, StandsFor, contents}
 use Rattle.media_journal.proofs.ReadingLemmas.{gives_reads}
 use Rattle.tams_top.specs.Opening.{state_of}
-use Rattle.tams_top.specs.History.{Taken, Last, Session, state_after_all, answered_last, answer_text, answer_to, answers_of, changed, changes_in, changes_of, end_of, is_changing, script_of, session_of}
-use Rattle.tams_top.specs.Moments.{AllRight, Beginning, EachKeeps, Handles, IsEarlier, IsLeft, IsRight, begun_in, told_before}
+use Rattle.tams_top.specs.History.{Taken, Last, Session, state_after_all, answered_last, answer_text, put_answer, answers_of, with_put, changes_in, changes_of, end_of, is_changing, script_of, session_of}
+use Rattle.tams_top.specs.Moments.{AllRight, Beginning, EachKeeps, Handles, IsEarlier, IsLeft, IsRight, begun_in, told_first}
 use Rattle.tams_top.proofs.HistoryLemmas.{answers-push, begun-push, earlier_last, earlier_push, map-push, prefix_length, prefix_longer, script-session}
 
 -- the last connection is the one that changes
@@ -25,7 +25,7 @@ change_last-push f (y ∷ []) x = refl
 change_last-push f (y ∷ z ∷ xs) x = ap (λ ys. y ∷ ys) (change_last-push f (z ∷ xs) x)
 
 -- what an image gives a journal stands for the state of what its records fold to
-pub stands_at : (image : List ℕ) (p : Position) (h : Header) (records : List Record) (library : Library) → Gives image p (contents h records) → Folds records (empty_library h) library → StandsFor image (record { library = library; room = p.room })
+pub stands_at : (image : List ℕ) (p : Position) (h : Header) (records : List Record) (library : Library) → Gives image p (contents h records) → Folds records (formatted_library h) library → StandsFor image (record { library = library; room = p.room })
 stands_at image p h records library gives folds = record {
   header = h;
   gate = p.gate;
@@ -100,12 +100,12 @@ keeps_quiet old new s keeps time = record {
 }
 
 -- what a crash now leaves told, where the last connection was told this
-pub told_now : (b : Beginning) (c : Connection) (d : Device) (p : Left) → IsDevice d → d.honest ≡ true → d.tells ≡ true → d.link.connections ≡ b.before ++ c ∷ [] → may_leave d p → p.told ≡ told_before b ++ c.told ∷ []
+pub told_now : (b : Beginning) (c : Connection) (d : Device) (p : Left) → IsDevice d → d.honest ≡ true → d.tells ≡ true → d.link.connections ≡ b.before ++ c ∷ [] → may_leave d p → p.told ≡ told_first b ++ c.told ∷ []
 told_now b c d p sound honest tells connections could =
     sound.told honest tells p could ∙ ap (map (λ (x : Connection). x.told)) connections ∙ map-push (λ (x : Connection). x.told) b.before c
 
 -- within an answer to a change: nothing more is told, and the image stands for the state before or after
-pub handles_right : (b : Beginning) (ts : List Taken) (h : Session) (c : PutChange) (q p : Left) → q.told ≡ told_before b ++ answers_of 0 b.state ts ∷ [] → IsEarlier (session_of ts) h → begun_in 0 b.state h.taken (answers_of 0 b.state ts) ≤ changes_of b.state ts → changes_of b.state ts ≤ changes_in b.state h → IsPrefix (answers_of 0 b.state ts) (script_of b.state h) → (is_changing (answer_to (state_after_all b.state ts) c) ≡ true → changed (state_after_all b.state ts) c ≡ end_of b.state h) → Handles (state_after_all b.state ts) c q p → IsRight b h p
+pub handles_right : (b : Beginning) (ts : List Taken) (h : Session) (c : PutChange) (q p : Left) → q.told ≡ told_first b ++ answers_of 0 b.state ts ∷ [] → IsEarlier (session_of ts) h → begun_in 0 b.state h.taken (answers_of 0 b.state ts) ≤ changes_of b.state ts → changes_of b.state ts ≤ changes_in b.state h → IsPrefix (answers_of 0 b.state ts) (script_of b.state h) → (is_changing (put_answer (state_after_all b.state ts) c) ≡ true → with_put (state_after_all b.state ts) c ≡ end_of b.state h) → Handles (state_after_all b.state ts) c q p → IsRight b h p
 handles_right b ts h c q p told earlier begun few prefix made handles =
     inr (
       answers_of 0 b.state ts,

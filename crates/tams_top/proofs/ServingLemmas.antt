@@ -13,8 +13,8 @@ use Rattle.tams_top.specs.Change.{IsPutChange}
 use Rattle.tams_top.specs.Request.{IsFront}
 use Rattle.tams_top.specs.Store.{State, StandsFor}
 use Rattle.tams_top.specs.Opening.{state_of}
-use Rattle.tams_top.specs.History.{Session, Taken, answers_of, changes_in, changes_of, change_of, end_of, most_requests, moments_of, requests_of, script_of, session_of, texts_of}
-use Rattle.tams_top.specs.Moments.{AllRight, Beginning, EachKeeps, IsEarlier, IsRight, told_before}
+use Rattle.tams_top.specs.History.{Session, Taken, answers_of, changes_in, changes_of, change_of, end_of, most_requests, moments_of, taken_of, script_of, session_of, texts_of}
+use Rattle.tams_top.specs.Moments.{AllRight, Beginning, EachKeeps, IsEarlier, IsRight, told_first}
 use Rattle.tams_top.specs.Serving.{AreCounts, Counts, CountsAt, Ended, EndsAs, HeardMore, Reached, StandsAt, connection_of}
 use Rattle.tams_top.proofs.HistoryLemmas.{begun_bound, prefix_itself, script-session}
 use Rattle.tams_top.proofs.RightLemmas.{all_over, all_quiet, change_last-push, keeps_quiet, stands_now}
@@ -63,13 +63,13 @@ pub record StandsLast (from : State) (h : Session) (image : List ℕ) : Type 0 w
   pub all_made : changes_of from h.taken ≤ changes_in from earlier
 
 -- so it stays right while an answer is being said
-says_right : (b : Beginning) (h : Session) (answers bytes : List ℕ) (q p : Left) → q.told ≡ told_before b ++ answers ∷ [] → StandsLast b.state h q.image → script_of b.state h ≡ answers ++ bytes → Tells false bytes q p → IsRight b h p
+says_right : (b : Beginning) (h : Session) (answers bytes : List ℕ) (q p : Left) → q.told ≡ told_first b ++ answers ∷ [] → StandsLast b.state h q.image → script_of b.state h ≡ answers ++ bytes → Tells false bytes q p → IsRight b h p
 says_right b h answers bytes q p told stands script says =
     let sent = says.told.0 in
     let prefix = says.told.1.prefix in
     inr (
       answers ++ sent,
-      says.told.2 ∙ ap (change_last (λ (t : List ℕ). t ++ sent)) told ∙ change_last-push (λ (t : List ℕ). t ++ sent) (told_before b) answers,
+      says.told.2 ∙ ap (change_last (λ (t : List ℕ). t ++ sent)) told ∙ change_last-push (λ (t : List ℕ). t ++ sent) (told_first b) answers,
       record {
         earlier = stands.earlier;
         is_earlier = stands.is_earlier;
@@ -79,7 +79,7 @@ says_right b h answers bytes q p told stands script says =
       },
     )
 
-pub all_said : (ok : Bool) (b : Beginning) (h : Session) (answers bytes : List ℕ) (mid new : Device) → AllRight b h mid → ((q : Left) → may_leave mid q → q.told ≡ told_before b ++ answers ∷ []) → ((q : Left) → may_leave mid q → StandsLast b.state h q.image) → script_of b.state h ≡ answers ++ bytes → LinkCall (Tells false bytes) (Tells ok bytes) ok mid new → AllRight b h new
+pub all_said : (ok : Bool) (b : Beginning) (h : Session) (answers bytes : List ℕ) (mid new : Device) → AllRight b h mid → ((q : Left) → may_leave mid q → q.told ≡ told_first b ++ answers ∷ []) → ((q : Left) → may_leave mid q → StandsLast b.state h q.image) → script_of b.state h ≡ answers ++ bytes → LinkCall (Tells false bytes) (Tells ok bytes) ok mid new → AllRight b h new
 all_said ok b h answers bytes mid new right told stands script call =
     all_over b h (Tells false bytes) (Tells ok bytes) mid new right call.time (λ q p could says. says_right b h answers bytes q p (told q could) (stands q could) script says)
 
@@ -92,7 +92,7 @@ keeps_said ok bytes mid new s keeps call = record {
 }
 
 -- a connection that was served by a history and has ended
-pub ended_with : (b : Beginning) (d : Device) (given rest : List ℕ) (n : Counts) (ending : Ending) (h : Session) (c : Connection) → d.link.connections ≡ b.before ++ c ∷ [] → given ≡ b.given ++ moments_of (requests_of h) → c.heard ≡ texts_of (requests_of h) ++ rest → IsPrefix c.told (script_of b.state h) → (c.failed ≡ false → c.told ≡ script_of b.state h) → All (λ t. IsPutChange (change_of t)) (requests_of h) → length h.taken ≤ most_requests → EndsAs b.state c h rest ending → CountsAt b.state h n ending → StandsAt d.seen b.state h ending → AllRight b h d → Ended b d given n ending
+pub ended_with : (b : Beginning) (d : Device) (given rest : List ℕ) (n : Counts) (ending : Ending) (h : Session) (c : Connection) → d.link.connections ≡ b.before ++ c ∷ [] → given ≡ b.given ++ moments_of (taken_of h) → c.heard ≡ texts_of (taken_of h) ++ rest → IsPrefix c.told (script_of b.state h) → (c.failed ≡ false → c.told ≡ script_of b.state h) → All (λ t. IsPutChange (change_of t)) (taken_of h) → length h.taken ≤ most_requests → EndsAs b.state c h rest ending → CountsAt b.state h n ending → StandsAt d.seen b.state h ending → AllRight b h d → Ended b d given n ending
 ended_with b d given rest n ending h c connections given_is heard told whole valid few ends counts stands right = record {
   session = h;
   connection = c;
@@ -135,7 +135,7 @@ module _ (b : Beginning) (old new : Device) (given unread : List ℕ) (store : S
   ended_unanswered : (ending : Ending) (ended failed : Bool) → (AreCounts b.state (session_of r.taken) n → CountsAt b.state (session_of r.taken) n ending) → new.link.connections ≡ b.before ++ connection_of (texts_of r.taken ++ unread) (answers_of 0 b.state r.taken) ended failed ∷ [] → EndsAs b.state (connection_of (texts_of r.taken ++ unread) (answers_of 0 b.state r.taken) ended failed) (session_of r.taken) unread ending → (StandsFor new.seen (end_of b.state (session_of r.taken)) → StandsAt new.seen b.state (session_of r.taken) ending) → Ended b new given n ending
   ended_unanswered ending ended failed count connections ends at =
       let whole = sym (script-session b.state r.taken) in
-      let all : requests_of (session_of r.taken) ≡ r.taken = append-nil r.taken in
+      let all : taken_of (session_of r.taken) ≡ r.taken = append-nil r.taken in
       let stands : StandsFor new.seen (end_of b.state (session_of r.taken)) = subst (StandsFor new.seen) r.state (stands_read new store after_sound honest shows tells (keeps_quiet old new store r.keeps time)) in
       ended_with b new given unread n ending (session_of r.taken) (connection_of (texts_of r.taken ++ unread) (answers_of 0 b.state r.taken) ended failed) connections
       (r.given_is ∙ ap (λ (ts : List Taken). b.given ++ moments_of ts) (sym all))

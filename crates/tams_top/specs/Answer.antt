@@ -1,5 +1,5 @@
--- What a request is answered, and the bytes of its response: a line, fields, an empty line and a body
--- (RFC 9112, section 2.1).
+-- What a request is answered, and the bytes of its response: a line, fields, an empty line and a
+-- body (RFC 9112, section 2.1).
 use Rattle.std.specs.Prelude.{ℕ, Bool, true, false, List, [], ◌++◌, codes, if◌then◌else◌}
 use Rattle.tams_top.specs.declared.answer.Answer.{Answer}
 use Rattle.tams_top.specs.declared.answer.Answer.TheVariants.{Created, Replaced, FlowChanged, JournalFull, NotBuilt, NoMemory, DiskFault}
@@ -25,14 +25,14 @@ body_fields NoMemory = codes "Content-Length: 0\r\n"
 body_fields DiskFault = codes "Content-Length: 0\r\n"
 
 -- the refusal's name in JSON, or nothing
-abbrev pub body_text : Answer → List ℕ
-body_text Created = []
-body_text Replaced = []
-body_text FlowChanged = codes "{\"type\":\"FlowChanged\"}"
-body_text JournalFull = codes "{\"type\":\"JournalFull\"}"
-body_text NotBuilt = codes "{\"type\":\"NotBuilt\"}"
-body_text NoMemory = []
-body_text DiskFault = []
+abbrev pub answer_body : Answer → List ℕ
+answer_body Created = []
+answer_body Replaced = []
+answer_body FlowChanged = codes "{\"type\":\"FlowChanged\"}"
+answer_body JournalFull = codes "{\"type\":\"JournalFull\"}"
+answer_body NotBuilt = codes "{\"type\":\"NotBuilt\"}"
+answer_body NoMemory = []
+answer_body DiskFault = []
 
 -- the answers after which a connection always ends
 abbrev pub is_final : Answer → Bool
@@ -55,4 +55,5 @@ closes a last = if is_final a then true else last
 
 -- the response that says an answer
 unfoldable pub response : Answer → Bool → List ℕ
-response a last = status_line a ++ (body_fields a ++ (close_field (closes a last) ++ (codes "\r\n" ++ body_text a)))
+response a last = status_line a ++ (body_fields a
+    ++ (close_field (closes a last) ++ (codes "\r\n" ++ answer_body a)))

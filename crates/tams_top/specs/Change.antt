@@ -1,4 +1,5 @@
--- Changes: the put of a video flow without further members, as a change of the media library and in bytes.
+-- Changes: the put of a video flow without further members, as a change of the media library and in
+-- bytes.
 use Rattle.std.specs.Prelude.{◌<◌, ◌^◌, ℕ, List, [], false, None}
 use Rattle.media_rows.specs.declared.change.Change as media
 use Rattle.media_rows.specs.declared.change.Change.TheVariants.{PutFlow}

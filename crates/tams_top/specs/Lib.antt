@@ -6,8 +6,7 @@ pub mod Store
 pub mod Answer
 pub mod History
 pub mod Opening
-pub mod Folding
-pub mod Unread
+pub mod Within
 pub mod Moments
 pub mod Serving
 pub mod Running

@@ -7,7 +7,7 @@ use Rattle.media_journal.specs.declared.fault.JournalFault.TheVariants.{NotStore
 use Rattle.media_journal.specs.Journal.{Gives}
 use Rattle.media_journal.specs.Opening.{IsStore}
 use Rattle.tams_top.specs.declared.store.Store.{Store}
-use Rattle.tams_top.specs.Library.{empty_library}
+use Rattle.tams_top.specs.Library.{formatted_library}
 use Rattle.tams_top.specs.Store.{Folds, State, StandsFor, contents}
 
 -- the state of a store
@@ -19,7 +19,7 @@ pub record Keeps (image : List ℕ) (s : Store) : Type 0 where
   pub header : Header
   pub records : List Record
   pub gives : Gives image s.journal (contents header records)
-  pub folds : Folds records (empty_library header) s.library
+  pub folds : Folds records (formatted_library header) s.library
 
 -- the image stands for no state
 abbrev pub StandsForNone : List ℕ → Type 0

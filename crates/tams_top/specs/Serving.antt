@@ -1,4 +1,5 @@
--- How a connection is served: what it heard and was told by its history, from its beginning to its end.
+-- How a connection is served: what it heard and was told by its history, from its beginning to its
+-- end.
 use Rattle.std.specs.Prelude.{◌≡◌, ◌≢◌, ◌≤◌, ◌<◌, ◌+◌, ◌*◌, ◌⊎◌, ℕ, zero, suc, Bool, true, false, List, [], ◌∷◌, ◌++◌, length, All, Option, Some, None, Result, Ok, Err, if◌then◌else◌}
 use Rattle.disk_trait.specs.Device.{Device, Connection}
 use Rattle.disk_trait.specs.Calls.{SameDevice, IsCounted, Rose, Elapses, Unchanged}
@@ -18,12 +19,13 @@ use Rattle.tams_top.specs.Request.{IsFront}
 use Rattle.tams_top.specs.Store.{State, StandsFor}
 use Rattle.tams_top.specs.Opening.{state_of}
 use Rattle.tams_top.specs.Moments.{Beginning, AllRight, EachKeeps, Handles, TellsAll}
-use Rattle.tams_top.specs.History.{Taken, Session, answer_to, is_changing, changed, state_after, change_of, texts_of, moments_of, state_after_all, changes_of, most_requests, answers_of, requests_of, script_of, session_of, end_of, answers_in, changes_in}
+use Rattle.tams_top.specs.History.{Taken, Session, put_answer, is_changing, with_put, state_after, change_of, texts_of, moments_of, state_after_all, changes_of, most_requests, answers_of, taken_of, script_of, session_of, end_of, answers_in, changes_in}
 use Rattle.tams_top.specs.History as history
 
 -- a connection that heard and was told these bytes, its marks, and no other
 abbrev pub connection_of : List ℕ → List ℕ → Bool → Bool → Connection
-connection_of heard told ended failed = record { heard = heard; ended = ended; failed = failed; told = told }
+connection_of heard told ended failed =
+    record { heard = heard; ended = ended; failed = failed; told = told }
 
 -- How many requests were answered, and how many of the answers came with a change.
 pub record Counts : Type 0 where
@@ -36,33 +38,39 @@ IsClosed h rest =
     ((h.last ≡ Some history.Refused) × IsFront rest Unbuilt)
     ⊎ ((h.last ≡ None) × (length h.taken ≡ most_requests))
 
--- What stands behind the requests of a connection, its marks, and its last answer, by how it ended. It
--- ended behind a whole request; within one; with an answer; for want of memory; with a disk fault while
--- a record was written; or with a link fault.
+-- What stands behind the requests of a connection, its marks, and its last answer, by how it ended.
+-- It ended behind a whole request; within one; with an answer; for want of memory; with a disk
+-- fault while a record was written; or with a link fault.
 abbrev pub EndsAs : State → Connection → Session → List ℕ → Ending → Type 0
-EndsAs from c h rest Complete = (c.ended ≡ true) × (c.failed ≡ false) × (h.last ≡ None) × (rest ≡ [])
-EndsAs from c h rest Cut = (c.ended ≡ true) × (c.failed ≡ false) × (h.last ≡ None) × (rest ≢ []) × IsFront rest More
+EndsAs from c h rest Complete =
+    (c.ended ≡ true) × (c.failed ≡ false) × (h.last ≡ None) × (rest ≡ [])
+EndsAs from c h rest Cut =
+    (c.ended ≡ true) × (c.failed ≡ false) × (h.last ≡ None) × (rest ≢ []) × IsFront rest More
 EndsAs from c h rest Closed = (c.failed ≡ false) × IsClosed h rest
 EndsAs from c h rest Starved = (t : Taken) × (h.last ≡ Some (history.Starved t))
 EndsAs from c h rest Stopped =
-    (t : Taken) × (h.last ≡ Some (history.Stopped t true)) × (is_changing (answer_to (state_after_all from h.taken) (change_of t)) ≡ true)
-EndsAs from c h rest Unlinked = (c.failed ≡ true) × ((h.last ≡ None) ⊎ ((h.last ≡ Some history.Refused) × IsFront rest Unbuilt))
+    (t : Taken) × (h.last ≡ Some (history.Stopped t true))
+    × (is_changing (put_answer (state_after_all from h.taken) (change_of t)) ≡ true)
+EndsAs from c h rest Unlinked =
+    (c.failed ≡ true) × ((h.last ≡ None) ⊎ ((h.last ≡ Some history.Refused) × IsFront rest Unbuilt))
 
--- A connection was served, from a state, by this history: it heard the texts of its requests and a rest,
--- and was told the script of their answers, or a prefix of it where a call of its link failed.
+-- A connection was served, from a state, by this history: it heard the texts of its requests and a
+-- rest, and was told the script of their answers, or a prefix of it where a call of its link
+-- failed.
 pub record IsServed (from : State) (c : Connection) (h : Session) (ending : Ending) : Type 0 where
   pub rest : List ℕ
-  pub heard : c.heard ≡ texts_of (requests_of h) ++ rest
+  pub heard : c.heard ≡ texts_of (taken_of h) ++ rest
   pub told : IsPrefix c.told (script_of from h)
   pub whole : c.failed ≡ false → c.told ≡ script_of from h
-  pub valid : All (λ t. IsPutChange (change_of t)) (requests_of h)
+  pub valid : All (λ t. IsPutChange (change_of t)) (taken_of h)
   pub few : length h.taken ≤ most_requests
   pub ends : EndsAs from c h rest ending
 
--- The state for which the file stands when a connection has ended: the last one of its history. Where
--- the disk failed while a record was written, it may be the one before.
+-- The state for which the file stands when a connection has ended: the last one of its history.
+-- Where the disk failed while a record was written, it may be the one before.
 abbrev pub StandsAt : List ℕ → State → Session → Ending → Type 0
-StandsAt image from h Stopped = StandsFor image (end_of from h) ⊎ StandsFor image (state_after_all from h.taken)
+StandsAt image from h Stopped =
+    StandsFor image (end_of from h) ⊎ StandsFor image (state_after_all from h.taken)
 StandsAt image from h Complete = StandsFor image (end_of from h)
 StandsAt image from h Cut = StandsFor image (end_of from h)
 StandsAt image from h Closed = StandsFor image (end_of from h)
@@ -74,10 +82,12 @@ pub record AreCounts (from : State) (h : Session) (n : Counts) : Type 0 where
   pub requests : n.requests ≡ answers_in h
   pub changes : n.changes ≡ changes_in from h
 
--- A connection has come so far since the run began: it heard the texts of the requests that were answered
--- and the unread bytes, each request took one moment, and it was told their answers; each image that a
--- crash now may leave gives the store's journal what the store keeps, and each crash since was right.
-pub record Reached (b : Beginning) (d : Device) (given unread : List ℕ) (store : Store) (n : Counts) : Type 0 where
+-- A connection has come so far since the run began: it heard the texts of the requests that were
+-- answered and the unread bytes, each request took one moment, and it was told their answers; each
+-- image that a crash now may leave gives the store's journal what the store keeps, and each crash
+-- since was right.
+pub record Reached (b : Beginning) (d : Device) (given unread : List ℕ) (store : Store)
+    (n : Counts) : Type 0 where
   pub taken : List Taken
   pub state : state_of store ≡ state_after_all b.state taken
   pub keeps : EachKeeps d store
@@ -86,7 +96,8 @@ pub record Reached (b : Beginning) (d : Device) (given unread : List ℕ) (store
   pub valid : All (λ t. IsPutChange (change_of t)) taken
   pub requests : n.requests ≡ length taken
   pub changes : n.changes ≡ changes_of b.state taken
-  pub connections : d.link.connections ≡ b.before ++ connection_of (texts_of taken ++ unread) (answers_of 0 b.state taken) false false ∷ []
+  pub connections : d.link.connections ≡ b.before
+      ++ connection_of (texts_of taken ++ unread) (answers_of 0 b.state taken) false false ∷ []
 
 -- the same of an end whose outcome has numbers
 abbrev pub CountsAt : State → Session → Counts → Ending → Type 0
@@ -98,23 +109,25 @@ CountsAt from h n Stopped = Unit {0}
 CountsAt from h n Unlinked = Unit {0}
 
 -- The connection has ended, by one history.
-pub record Ended (b : Beginning) (d : Device) (given : List ℕ) (n : Counts) (ending : Ending) : Type 0 where
+pub record Ended (b : Beginning) (d : Device) (given : List ℕ) (n : Counts)
+    (ending : Ending) : Type 0 where
   pub session : Session
   pub connection : Connection
   pub connections : d.link.connections ≡ b.before ++ connection ∷ []
-  pub given_is : given ≡ b.given ++ moments_of (requests_of session)
+  pub given_is : given ≡ b.given ++ moments_of (taken_of session)
   pub served : IsServed b.state connection session ending
   pub counts : CountsAt b.state session n ending
   pub stands : StandsAt d.seen b.state session ending
   pub right : AllRight b session d
 
 -- what one turn of serving a connection leads to: it goes on, or it has ended
-abbrev pub TurnAnswer : Beginning → Device → List ℕ → List ℕ → Store → Counts → Option Ending → Type 0
+abbrev pub TurnAnswer : Beginning → Device → List ℕ → List ℕ → Store → Counts → Option Ending
+    → Type 0
 TurnAnswer b d given unread store n None = Reached b d given unread store n
 TurnAnswer b d given unread store n (Some ending) = Ended b d given n ending
 
--- What a connection that goes on or ended in some way leaves of the count of link faults. Where it ended
--- for want of memory or with a disk fault, its last answer may have failed to be said.
+-- What a connection that goes on or ended in some way leaves of the count of link faults. Where it
+-- ended for want of memory or with a disk fault, its last answer may have failed to be said.
 abbrev pub LinkCount : Option Ending → ℕ → ℕ → Type 0
 LinkCount None before now = now ≡ before
 LinkCount (Some Complete) before now = now ≡ before
@@ -159,12 +172,13 @@ handle_held answers.DiskFault = false
 
 -- the answer to a change was made: it is the machine's, and the store has the state after it
 pub record IsHandled (d : Device) (old new : Store) (c : PutChange) (a : Answer) : Type 0 where
-  pub answer : a ≡ answer_to (state_of old) c
+  pub answer : a ≡ put_answer (state_of old) c
   pub state : state_of new ≡ state_after (state_of old) c
   pub keeps : EachKeeps d new
 
--- What a store has made of a change, by its answer. Want of memory comes before any call of the disk, and
--- leaves the state. A disk fault comes only where the record of a change was being written.
+-- What a store has made of a change, by its answer. Want of memory comes before any call of the
+-- disk, and leaves the state. A disk fault comes only where the record of a change was being
+-- written.
 abbrev pub HandledAs : Device → Device → Store → Store → PutChange → Answer → Type 0
 HandledAs before now old new c answers.Created = IsHandled now old new c answers.Created
 HandledAs before now old new c answers.Replaced = IsHandled now old new c answers.Replaced
@@ -173,10 +187,11 @@ HandledAs before now old new c answers.JournalFull = IsHandled now old new c ans
 HandledAs before now old new c answers.NotBuilt = ⊥
 HandledAs before now old new c answers.NoMemory =
     (state_of new ≡ state_of old) × EachKeeps now new × Elapses Unchanged Unchanged before now
-HandledAs before now old new c answers.DiskFault = is_changing (answer_to (state_of old) c) ≡ true
+HandledAs before now old new c answers.DiskFault = is_changing (put_answer (state_of old) c) ≡ true
 
 -- the same, and what a crash within it may leave
-pub record Handled (before now : Device) (old new : Store) (c : PutChange) (a : Answer) : Type 0 where
+pub record Handled (before now : Device) (old new : Store) (c : PutChange)
+    (a : Answer) : Type 0 where
   pub time : Elapses (Handles (state_of old) c) (Handles (state_of old) c) before now
   pub done : HandledAs before now old new c a
 
@@ -186,8 +201,8 @@ machine_ending false last = Some Unlinked
 machine_ending true true = Some Closed
 machine_ending true false = None
 
--- how an answer ends its connection, if it does, by whether it was said whole and is the last one that
--- the connection may have
+-- how an answer ends its connection, if it does, by whether it was said whole and is the last one
+-- that the connection may have
 abbrev pub ending_after : Answer → Bool → Bool → Option Ending
 ending_after answers.NoMemory said last = Some Starved
 ending_after answers.DiskFault said last = Some Stopped
@@ -200,18 +215,25 @@ ending_after answers.JournalFull said last = machine_ending said last
 -- More bytes of the last connection were heard behind the unread ones, or its end was.
 abbrev pub HeardMore : Device → Device → List ℕ → List ℕ → ℕ → Type 0
 HeardMore old new before state_after_all zero =
-    (state_after_all ≡ before) × (new.link.connections ≡ change_last (λ c. record c { ended = true }) old.link.connections)
+    (state_after_all ≡ before)
+    × (new.link.connections ≡ change_last (λ c. record c { ended = true }) old.link.connections)
 HeardMore old new before state_after_all (suc n) =
     (bytes : List ℕ) × (length bytes ≡ suc n) × (state_after_all ≡ before ++ bytes)
-    × (new.link.connections ≡ change_last (λ c. record c { heard = c.heard ++ bytes }) old.link.connections)
+    × (new.link.connections ≡ change_last (λ c. record c {
+      heard = c.heard
+          ++ bytes;
+    }) old.link.connections)
 
--- A connection that is being served goes on, after so many turns: no call failed, each turn took a request
--- or heard a byte, and the connection has come so far from wherever it had come at first.
-pub record GoesOn (first now : Device) (tells_first tells_now : Bool) (given_first given : List ℕ) (store_first store : Store) (unread : List ℕ) (n : Counts) (turns : ℕ) : Type 0 where
+-- A connection that is being served goes on, after so many turns: no call failed, each turn took a
+-- request or heard a byte, and the connection has come so far from wherever it had come at first.
+pub record GoesOn (first now : Device) (tells_first tells_now : Bool) (given_first given : List ℕ)
+    (store_first store : Store) (unread : List ℕ) (n : Counts) (turns : ℕ) : Type 0 where
   pub calls : SiteCalls None first now
   pub blocks : store.journal.blocks ≡ store_first.journal.blocks
   pub clock : tells_now ≡ true → tells_first ≡ true
   pub few : n.requests < 1000000
   pub moved : turns ≤ 168 * n.requests + length unread
   pub most : turns ≤ 169130496
-  pub reached : TellsAll first tells_now → (b : Beginning) → Reached b first given_first [] store_first (record { requests = 0; changes = 0 }) → Reached b now given unread store n
+  pub reached : TellsAll first tells_now → (b : Beginning)
+      → Reached b first given_first [] store_first (record { requests = 0; changes = 0 })
+      → Reached b now given unread store n

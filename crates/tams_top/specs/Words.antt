@@ -30,7 +30,8 @@ pub record IsBaseByte (c : ℕ) : Type 0 where
 -- the word begins with one of the two schemes
 abbrev pub HasScheme : List ℕ → Type 0
 HasScheme word =
-    IsTrue (starts_with nat_eq word (codes "http://")) ⊎ IsTrue (starts_with nat_eq word (codes "https://"))
+    IsTrue (starts_with nat_eq word (codes "http://"))
+    ⊎ IsTrue (starts_with nat_eq word (codes "https://"))
 
 -- the word is an address that paths are put behind, so it does not end in `/`
 pub record IsBase (word : List ℕ) : Type 0 where
@@ -70,8 +71,8 @@ abbrev pub FormIs : List (List ℕ) → Option Command → Type 0
 FormIs words (Some command) = HasForm words command
 FormIs words None = (command : Command) → HasForm words command → ⊥
 
--- What the program opens for these words: a file of a length in bytes for `format`, a file that is there
--- for `replay`, and nothing for words that are no command.
+-- What the program opens for these words: a file of a length in bytes for `format`, a file that is
+-- there for `replay`, and nothing for words that are no command.
 abbrev pub WantedFor : List (List ℕ) → Wanted → Type 0
 WantedFor words Nothing = (command : Command) → IsCommand words command → ⊥
 WantedFor words (Plain path) = (base : List ℕ) × IsCommand words (Replay path base)

@@ -1,6 +1,6 @@
 //! The library in memory: plain lists, which a change copies.
 ghost use Rattle.std.specs.Prelude.{◌≡◌, ◌*◌, ◌+◌, ◌≤◌, IfOk, filter, nat_lt};
-ghost use Rattle.tams_top.specs.Library.{library_after, empty_library, flow_of, flow_placed, put_flow};
+ghost use Rattle.tams_top.specs.Library.{library_after, formatted_library, kept_flow, flow_placed, put_flow};
 
 use crate::PutChange;
 use disk_trait::{Listed, Memory};
@@ -30,7 +30,7 @@ impl Library {
     /// The empty library of a file with this header.
     pub(crate) fn empty(alloc: Global, header: Header) -> Library
         requires { 2 * header.half + 3 ≤ header.blocks }
-        ensures { result ≡ empty_library header }
+        ensures { result ≡ formatted_library header }
     {
         Library {
             id: header.id,
@@ -41,7 +41,7 @@ impl Library {
 
     /// The kept flow of this id.
     pub(crate) fn flow(&self, id: u128) -> Option<Flow>
-        ensures { result ≡ flow_of id self.now.flows }
+        ensures { result ≡ kept_flow id self.now.flows }
     {
         self.flows
             .items()
@@ -61,7 +61,7 @@ impl Library {
         Ok(Some(Library {
             id: self.id,
             blocks: self.blocks,
-            flows: with_flow(alloc, self.flows.items(), flow)?,
+            flows: with_flow_put(alloc, self.flows.items(), flow)?,
         }))
     }
 }
@@ -86,7 +86,7 @@ fn flow_after(change: &PutChange, kept: Option<Flow>) -> Option<Flow>
 }
 
 /// The flows with one at its place by rising id, instead of the one of its id.
-fn with_flow(alloc: Global, flows: &[Flow], flow: Flow) -> Result<FlowList, Memory>
+fn with_flow_put(alloc: Global, flows: &[Flow], flow: Flow) -> Result<FlowList, Memory>
     ensures { IfOk result (λ list. list ≡ flow_placed flow flows.now) }
 {
     let mut list = flows_below(alloc, flows, flow.id)?;

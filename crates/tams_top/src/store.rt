@@ -4,7 +4,7 @@ ghost use Rattle.disk_trait.specs.Calls.{DiskCalls, DiskReads, Elapses};
 ghost use Rattle.media_journal.specs.Answers.{not_disk};
 ghost use Rattle.media_journal.specs.Opening.{IsOpened};
 ghost use Rattle.tams_top.specs.Store.{Folds, StepOf, empty_rows};
-ghost use Rattle.tams_top.specs.Folding.{IsFoldRefused, IsStepRefused, PartAnswer};
+ghost use Rattle.tams_top.specs.Within.Folding.{IsFoldRefused, IsStepRefused, PartAnswer};
 ghost use Rattle.tams_top.specs.History.{answer_by_kept};
 ghost use Rattle.tams_top.specs.Opening.{StoreAnswer};
 
@@ -28,14 +28,14 @@ pub(crate) struct Store {
 
 impl Store {
     ghost use Rattle.tams_top.specs.Change.{IsPutChange};
-    ghost use Rattle.tams_top.specs.History.{answer_to, changed, fits, is_changing};
+    ghost use Rattle.tams_top.specs.History.{put_answer, with_put, fits, is_changing};
     ghost use Rattle.tams_top.specs.Moments.{EachKeeps, Handles};
     ghost use Rattle.tams_top.specs.Opening.{state_of};
     ghost use Rattle.tams_top.specs.Serving.{Handled, handle_held, make_held};
 
     /// What the library machine answers to a change.
-    pub(crate) fn answer_to(&self, change: &PutChange) -> Answer
-        ensures { result ≡ answer_to (state_of self.now) change.now }
+    pub(crate) fn put_answer(&self, change: &PutChange) -> Answer
+        ensures { result ≡ put_answer (state_of self.now) change.now }
     {
         answer_by_kept(
             self.library.flow(change.flow),
@@ -67,7 +67,7 @@ impl Store {
             → EachKeeps (D.device disk.old) self.old
             → Handled (D.device disk.old) (D.device disk.new) self.old self.new change.now result }
     {
-        let answer = self.answer_to(change);
+        let answer = self.put_answer(change);
         if !answer.is_changing() {
             return answer;
         }
@@ -87,14 +87,14 @@ impl Store {
         disk: &mut D,
         change: &PutChange,
     ) -> Result<(), MakeFault>
-        requires accepted { is_changing (answer_to (state_of self.old) change.now) ≡ true }
+        requires accepted { is_changing (put_answer (state_of self.old) change.now) ≡ true }
         requires valid { IsPutChange change.now }
         requires device { BLOCK * self.old.journal.blocks ≤ (D.device disk.old).size }
         ensures calls { DiskCalls (make_held result) (D.device disk.old) (D.device disk.new) }
         ensures starved { IsErrOf result MakeFault.Memory → disk.new ≡ disk.old }
         ensures err { OnErr result (self.new ≡ self.old) }
         ensures blocks { self.new.journal.blocks ≡ self.old.journal.blocks }
-        ensures state { OnOk result (state_of self.new ≡ changed (state_of self.old) change.now) }
+        ensures state { OnOk result (state_of self.new ≡ with_put (state_of self.old) change.now) }
         ensures keeps { (D.device disk.old).honest ≡ true → (D.device disk.old).shows ≡ true
             → EachKeeps (D.device disk.old) self.old
             → OnOk result (EachKeeps (D.device disk.new) self.new) }
@@ -150,9 +150,9 @@ impl From<Memory> for StoreFault {
 }
 
 impl From<StoreFault> for JournalFault {
-    ghost use Rattle.tams_top.specs.Folding.{as_journal_fault};
+    ghost use Rattle.tams_top.specs.Within.Folding.{as_opening_fault};
 
-    ghost from_gives = { λ fault e. e ≡ as_journal_fault fault };
+    ghost from_gives = { λ fault e. e ≡ as_opening_fault fault };
 
     fn from(fault: StoreFault) -> Self {
         match fault {

@@ -5,7 +5,7 @@ ghost use Rattle.disk_trait.specs.Device.{Left};
 ghost use Rattle.media_journal.specs.File.{HasOpenHeader};
 ghost use Rattle.tams_top.specs.Completeness.{IsServedWhole, NoneRose};
 ghost use Rattle.tams_top.specs.Moments.{IsSettled};
-ghost use Rattle.tams_top.specs.Running.{ConnectEnds, FaultCounts, FormattingEnds, FormatMoments, IsNoCommand, IsReplayFrom, OutcomeBy, beginning, RefusedFor, ReplayEnds, Replayed, RunEnds, TakesPart, Untouched, formatted_state, line_of, status_of};
+ghost use Rattle.tams_top.specs.Running.{ConnectEnds, FaultCounts, FormatRunEnds, FormatMoments, IsNoCommand, IsReplayFrom, OutcomeBy, beginning, RefusedFor, ReplayEnds, Replayed, RunEnds, TakesPart, Untouched, formatted_state, line_of, status_of};
 ghost use Rattle.tams_top.specs.Store.{State, StandsFor};
 ghost use Rattle.tams_top.specs.Words.{IsCommand};
 ghost use Rattle.tams_top.specs.declared.outcome.Outcome.{Outcome};
@@ -137,7 +137,7 @@ fn format<X: Site>(alloc: Global, site: &mut X, blocks: u64, half: u64, id: u128
     requires half { half ≤ MOST_HALF }
     requires blocks { blocks ≤ MOST_BLOCKS }
     ensures counts { FaultCounts (X.device site.old) (X.device site.new) result }
-    ensures ends { FormattingEnds (X.device site.old) (X.device site.new)
+    ensures ends { FormatRunEnds (X.device site.old) (X.device site.new)
         record { blocks = blocks; half = half; id = id } result }
     ensures moments { FormatMoments (X.device site.old) (X.device site.new)
         record { blocks = blocks; half = half; id = id } result }

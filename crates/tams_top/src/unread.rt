@@ -24,7 +24,7 @@ pub(crate) struct Unread {
 
 impl Model for Unread {
     ghost use Rattle.std.specs.Prelude.{◌≡◌, ◌≤◌, List, ℕ, drop, take, vec_len};
-    ghost use Rattle.tams_top.specs.Unread.{IsBuffer};
+    ghost use Rattle.tams_top.specs.Within.Unread.{IsBuffer};
 
     ghost Value = { List ℕ };
 

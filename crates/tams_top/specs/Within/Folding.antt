@@ -27,6 +27,6 @@ PartAnswer image (Err (Damaged at)) = StandsForNone image
 PartAnswer image (Err Memory) = Unit {0}
 
 -- such a fault as one of opening a journal
-abbrev pub as_journal_fault : StoreFault → JournalFault
-as_journal_fault (Damaged at) = journal.Damaged at
-as_journal_fault Memory = journal.Memory
+abbrev pub as_opening_fault : StoreFault → JournalFault
+as_opening_fault (Damaged at) = journal.Damaged at
+as_opening_fault Memory = journal.Memory
