@@ -13,7 +13,7 @@ module _ {X : Type 0} where
   all_append P (x ∷ l) r hl hr = (hl.0, all_append P l r hl.1 hr)
 
   -- what holds of all holds of those that are kept, and each of these passes the test
-  all_kept : (P : X → Type 0) (test : X → Bool) (xs : List X) → AllByRecursion P xs → AllByRecursion P (filter test xs)
+  pub all_kept : (P : X → Type 0) (test : X → Bool) (xs : List X) → AllByRecursion P xs → AllByRecursion P (filter test xs)
   all_kept P test [] h = tt
   all_kept P test (x ∷ xs) h = by (test x) (all_kept P test xs h.1)
     where
@@ -21,7 +21,7 @@ module _ {X : Type 0} where
       by true rest = (h.0, rest)
       by false rest = rest
 
-  each_passes : (test : X → Bool) (xs : List X) → AllByRecursion (λ x. test x ≡ true) (filter test xs)
+  pub each_passes : (test : X → Bool) (xs : List X) → AllByRecursion (λ x. test x ≡ true) (filter test xs)
   each_passes test [] = tt
   each_passes test (x ∷ xs) = by (test x) refl (each_passes test xs)
     where
@@ -30,7 +30,7 @@ module _ {X : Type 0} where
       by false e rest = rest
 
 module _ {V : Type 0} where
-  rising_kept : (test : ℤ × V → Bool) (ps : List (ℤ × V)) → IsRising ps → IsRising (filter test ps)
+  pub rising_kept : (test : ℤ × V → Bool) (ps : List (ℤ × V)) → IsRising ps → IsRising (filter test ps)
   rising_kept test [] h = tt
   rising_kept test (p ∷ ps) h = by (test p) (rising_kept test ps h.1)
     where

@@ -1,6 +1,6 @@
 mod Heights
 mod Forks
-mod Rising
+pub mod Rising
 mod Changed
 mod Looked
 mod Walked

@@ -1,0 +1,4 @@
+mod Reach
+mod Meeting
+mod Changed
+mod Hull

@@ -1,0 +1,2 @@
+-- What only proofs need: the pairs of a first point and a segment below an index.
+pub mod Keyed

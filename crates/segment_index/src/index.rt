@@ -1,0 +1,120 @@
+//! The index and its public calls.
+ghost use Rattle.std.specs.Prelude.{◌≡◌, ◌+◌, ◌-◌, ◌*◌, ◌^◌, ◌≤◌, ◌++◌, [], IfOk, IsTrue, length, min, option_copied};
+ghost use Rattle.media_rows.specs.Ranges.{has_both_ends};
+ghost use Rattle.media_rows.specs.Segments.{hull_of_segments};
+ghost use Rattle.shared_tree.specs.Pairs.{digits};
+ghost use Rattle.segment_index.specs.Answers.{Adds, without_start};
+ghost use Rattle.segment_index.specs.Within.Keyed.{segment_or};
+
+use crate::AddFault;
+use crate::points::{first_met, first_point, first_segment, last_point, last_segment};
+use disk_trait::Memory;
+use media_rows::{SegmentRow, range_hull};
+use shared_tree::{Steps, Version};
+use std::alloc::Global;
+use std::marker::{Brand, Model};
+use std::rc::Rc;
+use std::sync::ledger::{Blank, Ledger};
+use time_range::TimeRange;
+
+/// The segments of one flow, no two of which overlap. Contracts see them by rising first point. A change
+/// makes a new index and leaves this one as it is. Points are in half nanoseconds.
+#[derive(Drop)]
+pub struct SegmentIndex {
+    rows: Version<SegmentRow>,
+}
+
+impl Model for SegmentIndex {
+    ghost use Rattle.std.specs.Prelude.{List};
+    ghost use Rattle.media_rows.specs.declared.segment.SegmentRow.{SegmentRow};
+    ghost use Rattle.shared_tree.specs.Pairs.{values};
+    ghost use Rattle.segment_index.specs.Within.Keyed.{IsIndex};
+
+    ghost Value = { List SegmentRow };
+
+    ghost view = { λ i. values i.rows };
+
+    ghost invariant = { λ i. IsIndex i.rows };
+}
+
+impl SegmentIndex {
+    /// An index without segments. It takes no memory.
+    pub fn empty() -> SegmentIndex
+        ensures { result ≡ [] }
+    {
+        SegmentIndex {
+            rows: Version::empty(),
+        }
+    }
+
+    /// The same index once more.
+    pub fn share(&self) -> Result<SegmentIndex, Memory>
+        ensures { IfOk result (λ index. index ≡ self.now) }
+    {
+        Ok(SegmentIndex {
+            rows: self.rows.share()?,
+        })
+    }
+
+    /// The number of segments, or the last value of a `u64` where there are more.
+    pub fn len(&self) -> u64
+        ensures { result ≡ min (length self.now) (2 ^ 64 - 1) }
+    {
+        self.rows.len()
+    }
+
+    /// The least range that covers all segments, and never where there are none.
+    pub fn hull(&self) -> TimeRange
+        ensures { result ≡ hull_of_segments self.now }
+    {
+        match first_segment::<Brand>(&self.rows, Blank::new(1)) {
+            Some(first) => {
+                let last = last_segment::<Brand>(&self.rows, Blank::new(1));
+                range_hull(&first.segment.range, &segment_or(last, first).segment.range)
+            }
+            None => TimeRange::never(),
+        }
+    }
+
+    /// Adds a segment that is bounded at both ends. It is refused exactly where a kept one overlaps it, with
+    /// the range of the first such by first point.
+    pub fn add<L: Ledger>(
+        &self,
+        alloc: Global,
+        row: Rc<SegmentRow>,
+        steps: &mut Steps<L>,
+    ) -> Result<SegmentIndex, AddFault>
+        requires bounded { IsTrue (has_both_ends row.value.segment.range) }
+        ensures answer { Adds self.now row.value result }
+        ensures cost { steps.new ≤ steps.old + 6 * (digits (length self.now) + 1) }
+    {
+        let low = first_point(row.as_ref());
+        let high = last_point(row.as_ref());
+        match first_met(&self.rows, &low, &high, steps) {
+            Some(kept) => Err(AddFault::Overlap(kept.segment.range)),
+            None => Ok(SegmentIndex {
+                rows: self.rows.with(alloc, low, row)?,
+            }),
+        }
+    }
+
+    /// Leaves out the segment that begins at this point, if there is one.
+    pub fn remove(&self, alloc: Global, low: i128) -> Result<SegmentIndex, Memory>
+        ensures { IfOk result (λ index. index ≡ without_start low self.now) }
+    {
+        self.rows.keys_rise();
+        Ok(SegmentIndex {
+            rows: self.rows.without(alloc, low)?,
+        })
+    }
+}
+
+/// A segment, or another one where there is none.
+fn segment_or<'a>(row: Option<&'a SegmentRow>, other: &'a SegmentRow) -> &'a SegmentRow
+    ensures { result.now ≡ segment_or (option_copied row.entry) other.now }
+{
+    match row {
+        Some(row) => row,
+        None => other,
+    }
+}
