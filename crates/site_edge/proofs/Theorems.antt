@@ -29,10 +29,10 @@ pub keeps_told_torn : (at n : ℕ) → KeepsTold (TornWrite at n)
 keeps_told_torn at n old new torn = torn.told
 
 -- a prefix of a text is one of a longer text
-prefix_longer : (front text more : List ℕ) → IsPrefix front text → IsPrefix front (text ++ more)
+pub prefix_longer : (front text more : List ℕ) → IsPrefix front text → IsPrefix front (text ++ more)
 prefix_longer front text more is = (is.0 ++ more, ap (λ s. s ++ more) is.1 ∙ append_assoc front is.0 more)
 
-prefixes_longer : (told said : List (List ℕ)) (more : List ℕ) → ArePrefixes told said → ArePrefixes told (said_also more said)
+pub prefixes_longer : (told said : List (List ℕ)) (more : List ℕ) → ArePrefixes told said → ArePrefixes told (said_also more said)
 prefixes_longer [] said more are = tt
 prefixes_longer (t ∷ told) [] more are = absurd are
 prefixes_longer (t ∷ []) (s ∷ []) more are = (prefix_longer t s more are.0, tt)
@@ -40,20 +40,20 @@ prefixes_longer (t ∷ u ∷ told) (s ∷ []) more are = absurd are.1
 prefixes_longer (t ∷ told) (s ∷ r ∷ said) more are = (are.0, prefixes_longer told (r ∷ said) more are.1)
 
 -- prefixes, and one more connection behind them
-prefixes_push : (told said : List (List ℕ)) (t s : List ℕ) → length told ≡ length said → ArePrefixes told said → IsPrefix t s
+pub prefixes_push : (told said : List (List ℕ)) (t s : List ℕ) → length told ≡ length said → ArePrefixes told said → IsPrefix t s
     → ArePrefixes (told ++ t ∷ []) (said ++ s ∷ [])
 prefixes_push [] [] t s same are is = (is, tt)
 prefixes_push [] (r ∷ said) t s same are is = absurd (omega (arith, same))
 prefixes_push (u ∷ told) [] t s same are is = absurd are
 prefixes_push (u ∷ told) (r ∷ said) t s same are is = (are.0, prefixes_push told said t s (omega (arith, same)) are.1 is)
 
-change_last_push : {A : Type 0} (f : A → A) (xs : List A) (x : A) → change_last f (xs ++ x ∷ []) ≡ xs ++ f x ∷ []
+pub change_last_push : {A : Type 0} (f : A → A) (xs : List A) (x : A) → change_last f (xs ++ x ∷ []) ≡ xs ++ f x ∷ []
 change_last_push f [] x = refl
 change_last_push f (y ∷ []) x = refl
 change_last_push f (y ∷ z ∷ xs) x = ap (λ ys. y ∷ ys) (change_last_push f (z ∷ xs) x)
 
 -- the last connection was told a prefix of the bytes more
-prefixes_told : (told said : List (List ℕ)) (bytes sent : List ℕ) → Sends false bytes sent → IsToldToLast told said
+pub prefixes_told : (told said : List (List ℕ)) (bytes sent : List ℕ) → Sends false bytes sent → IsToldToLast told said
     → ArePrefixes (change_last (λ t. t ++ sent) told) (said_also bytes said)
 prefixes_told told said bytes sent sends is =
     let more : IsPrefix (is.last ++ sent) (is.last ++ bytes) =
@@ -63,7 +63,7 @@ prefixes_told told said bytes sent sends is =
     rw (told_now, said_now) (prefixes_push is.told_before is.said_before (is.last ++ sent) (is.last ++ bytes) is.same_length is.prefixes more)
 
 -- or all of them
-told_whole : (told said : List (List ℕ)) (bytes : List ℕ) → IsToldToLast told said → IsToldToLast (change_last (λ t. t ++ bytes) told) (said_also bytes said)
+pub told_whole : (told said : List (List ℕ)) (bytes : List ℕ) → IsToldToLast told said → IsToldToLast (change_last (λ t. t ++ bytes) told) (said_also bytes said)
 told_whole told said bytes is = record {
   told_before = is.told_before;
   said_before = is.said_before;
@@ -75,7 +75,7 @@ told_whole told said bytes is = record {
 }
 
 -- all that was told is a prefix of what was said, the last connection's too
-prefixes_of_whole : (told said : List (List ℕ)) → IsToldToLast told said → ArePrefixes told said
+pub prefixes_of_whole : (told said : List (List ℕ)) → IsToldToLast told said → ArePrefixes told said
 prefixes_of_whole told said is =
     rw (is.told_is, is.said_is) (prefixes_push is.told_before is.said_before is.last is.last is.same_length is.prefixes ([], sym (append-nil is.last)))
 
@@ -128,7 +128,7 @@ prefixes_over_says step done ok first second t said old told written new keeps l
     prefixes_over_say ok second t (said_also first said) written new (omega (arith, le_told, call.time.later)) two after_call
 
 -- one more connection on both sides
-push_length : (told said : List (List ℕ)) (t s : List ℕ) → length told ≡ length said → length (told ++ t ∷ []) ≡ length (said ++ s ∷ [])
+pub push_length : (told said : List (List ℕ)) (t s : List ℕ) → length told ≡ length said → length (told ++ t ∷ []) ≡ length (said ++ s ∷ [])
 push_length [] [] t s same = refl
 push_length [] (r ∷ said) t s same = absurd (omega (arith, same))
 push_length (u ∷ told) [] t s same = absurd (omega (arith, same))
@@ -137,17 +137,17 @@ push_length (u ∷ told) (r ∷ said) t s same =
     cc
 
 -- prefixes of what was said stay such where one more connection may have begun
-prefixes_more : (told said : List (List ℕ)) (s : List ℕ) → ArePrefixes told said → ArePrefixes told (said ++ s ∷ [])
+pub prefixes_more : (told said : List (List ℕ)) (s : List ℕ) → ArePrefixes told said → ArePrefixes told (said ++ s ∷ [])
 prefixes_more [] said s are = tt
 prefixes_more (t ∷ told) [] s are = absurd are
 prefixes_more (t ∷ told) (r ∷ said) s are = (are.0, prefixes_more told said s are.1)
 
 -- as many connections were told as there was something said on
-told_length : (told said : List (List ℕ)) → IsToldToLast told said → length told ≡ length said
+pub told_length : (told said : List (List ℕ)) → IsToldToLast told said → length told ≡ length said
 told_length told said is = rw (is.told_is, is.said_is) (push_length is.told_before is.said_before is.last is.last is.same_length)
 
 -- and so where the last one was told only a part
-part_length : (told said : List (List ℕ)) (bytes sent : List ℕ) → IsToldToLast told said
+pub part_length : (told said : List (List ℕ)) (bytes sent : List ℕ) → IsToldToLast told said
     → length (change_last (λ t. t ++ sent) told) ≡ length (said_also bytes said)
 part_length told said bytes sent is =
     let told_now = ap (change_last (λ t. t ++ sent)) is.told_is ∙ change_last_push (λ t. t ++ sent) is.told_before is.last in

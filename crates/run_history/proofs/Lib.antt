@@ -1,0 +1,4 @@
+pub mod Pieces
+pub mod Pairs
+pub mod Invariant
+pub mod Growth

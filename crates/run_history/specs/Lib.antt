@@ -1,0 +1,7 @@
+pub mod Machine
+pub mod Steps
+pub mod Sessions
+pub mod Traces
+pub mod Runs
+pub mod Laws
+pub mod Worked

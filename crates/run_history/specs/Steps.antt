@@ -1,0 +1,196 @@
+-- The steps of a connection, and what each tells and changes.
+use Rattle.std.specs.Prelude.{◌≡◌, ◌≢◌, ◌+◌, ◌⊎◌, ℕ, Bool, true, false, List, [], ◌∷◌, ◌++◌, length, Option, Some, None, option_to_list, option_map, unwrap_or, if◌then◌else◌}
+use Rattle.run_history.specs.Machine.{Machine, Refusal}
+
+-- a request that was taken: its bytes, what they spell, and the moment that it took
+pub record Ask (Request : Type 0) : Type 0 where
+  pub text : List ℕ
+  pub request : Request
+  pub moment : ℕ
+
+-- the turn behind an answer was made, or skipped for want of memory
+pub data Turned : Type 0 where
+  Made : Turned
+  Skipped : Turned
+
+-- Where the disk failed: before an answer had begun, within one, or in the turn behind it; and
+-- whether the record of a change was being written then.
+pub data Failure : Type 0 where
+  BeforeAnswer : (writing : Bool) → Failure
+  InAnswer : Failure
+  InTurn : (writing : Bool) → Failure
+
+-- One step of a connection.
+-- `Answered`: a request had its interim, its answer and its change, and then its turn.
+-- `Refused`: the wire refused what stands there.
+-- `Starved`: there was no memory for a request; the state stays and the connection ends.
+-- `Stopped`: the disk failed, which ends the run.
+-- `Cut`: the input or the link ended within a request, which had its interim at most, and perhaps a
+-- moment.
+pub data Step (Request : Type 0) : Type 0 where
+  Answered : (ask : Ask Request) (turned : Turned) → Step Request
+  Refused : (text : List ℕ) (refusal : Refusal) → Step Request
+  Starved : (ask : Ask Request) → Step Request
+  Stopped : (ask : Ask Request) (failure : Failure) → Step Request
+  Cut : (text : List ℕ) (interim : Option (List ℕ)) (moment : Option ℕ) → Step Request
+
+-- What a connection is told: an interim, or a reply with the number of the run's changes up to it,
+-- its own among them.
+pub data Piece : Type 0 where
+  Interim : (bytes : List ℕ) → Piece
+  Reply : (bytes : List ℕ) (made : ℕ) → Piece
+
+-- how far a run has come: the number of its changes, and the state after them
+pub record Stage (State : Type 0) : Type 0 where
+  pub made : ℕ
+  pub state : State
+
+-- the bytes of a piece
+abbrev pub piece_bytes : Piece → List ℕ
+piece_bytes (Interim bytes) = bytes
+piece_bytes (Reply bytes made) = bytes
+
+-- what a step comes to: what it tells, its changes, each as the state after it, and the moments that
+-- it took
+pub record Effect (State : Type 0) : Type 0 where
+  pub pieces : List Piece
+  pub changes : List State
+  pub moments : List ℕ
+
+-- an interim, where there is one
+abbrev pub interim_pieces : Option (List ℕ) → List Piece
+interim_pieces interim = option_to_list (option_map Interim interim)
+
+-- an interim, where there is one, and a reply behind so many changes
+abbrev pub told_pieces : Option (List ℕ) → List ℕ → ℕ → List Piece
+told_pieces interim reply made = interim_pieces interim ++ Reply reply made ∷ []
+
+-- something that was done, where it was
+abbrev pub where_done : {A : Type 0} → Bool → Option A → List A
+where_done done x = if done then option_to_list x else []
+
+-- whether a turn was made
+abbrev pub is_made : Turned → Bool
+is_made Made = true
+is_made Skipped = false
+
+-- A request that was answered, and the change of the turn behind it where it was made.
+abbrev pub answered : {State Request : Type 0} → Machine State Request → Stage State → Ask Request
+    → Bool → Effect State
+answered m at ask turned =
+    let reply = m.answer ask.request ask.moment at.state in
+    let turn = m.turn ask.moment (unwrap_or reply.change at.state) in
+    let changes = option_to_list reply.change in
+    record {
+      pieces = told_pieces (m.interim ask.request) reply.bytes (at.made + length changes);
+      changes = changes ++ where_done turned turn;
+      moments = ask.moment ∷ [];
+    }
+
+-- A request in which the disk failed. Before an answer it has the one that says so, which counts no
+-- change that was being written.
+abbrev pub stopped : {State Request : Type 0} → Machine State Request → Stage State → Ask Request
+    → Failure → Effect State
+stopped m at ask (BeforeAnswer writing) = record {
+  pieces = told_pieces (m.interim ask.request) (m.disk_fault ask.request) at.made;
+  changes = where_done writing (m.answer ask.request ask.moment at.state).change;
+  moments = ask.moment ∷ [];
+}
+stopped m at ask InAnswer = answered m at ask false
+stopped m at ask (InTurn writing) = answered m at ask writing
+
+-- The effect of a step. This is the one place where the kinds of steps are told apart: all else is
+-- put together from effects.
+abbrev pub effect : {State Request : Type 0} → Machine State Request → Stage State → Step Request
+    → Effect State
+effect m at (Answered ask turned) = answered m at ask (is_made turned)
+effect m at (Refused text refusal) = record {
+  pieces = told_pieces refusal.interim refusal.response at.made;
+  changes = [];
+  moments = [];
+}
+effect m at (Starved ask) = record {
+  pieces = told_pieces (m.interim ask.request) (m.no_memory ask.request) at.made;
+  changes = [];
+  moments = ask.moment ∷ [];
+}
+effect m at (Stopped ask failure) = stopped m at ask failure
+effect m at (Cut text interim moment) = record {
+  pieces = interim_pieces interim;
+  changes = [];
+  moments = option_to_list moment;
+}
+
+-- the bytes that a step took of what was heard
+abbrev pub step_text : {Request : Type 0} → Step Request → List ℕ
+step_text (Answered ask turned) = ask.text
+step_text (Refused text refusal) = text
+step_text (Starved ask) = ask.text
+step_text (Stopped ask failure) = ask.text
+step_text (Cut text interim moment) = text
+
+-- the last of some states, or this one where there is none
+abbrev pub last_or : {State : Type 0} → State → List State → State
+last_or s [] = s
+last_or s (t ∷ ts) = last_or t ts
+
+-- a stage with these changes more
+abbrev pub with_changes : {State : Type 0} → Stage State → List State → Stage State
+with_changes at changes =
+    record { made = at.made + length changes; state = last_or at.state changes }
+
+-- the stage after a step
+abbrev pub after_step : {State Request : Type 0} → Machine State Request → Stage State
+    → Step Request → Stage State
+after_step m at step = with_changes at (effect m at step).changes
+
+-- whether a step is the last of its connection
+abbrev pub is_last : {State Request : Type 0} → Machine State Request → Step Request → Bool
+is_last m (Answered ask turned) = m.ends ask.request
+is_last m (Refused text refusal) = true
+is_last m (Starved ask) = true
+is_last m (Stopped ask failure) = true
+is_last m (Cut text interim moment) = true
+
+-- A request was whole, or its head was, where it takes its moment at its head.
+abbrev pub IsTaken : {State Request : Type 0} → Machine State Request → ℕ → Ask Request → Type 0
+IsTaken m n ask = m.spells n ask.text ask.request ⊎ m.heads n ask.text ask.request
+
+-- the state after a request's own change
+abbrev pub after_answer : {State Request : Type 0} → Machine State Request → State → Ask Request
+    → State
+after_answer m s ask = unwrap_or (m.answer ask.request ask.moment s).change s
+
+-- A record is written only of a change that there is, and only of a request that was whole.
+abbrev pub CanFail : {State Request : Type 0} → Machine State Request → ℕ → State → Ask Request
+    → Failure → Type 0
+CanFail m n s ask (BeforeAnswer true) =
+    m.spells n ask.text ask.request × ((m.answer ask.request ask.moment s).change ≢ None)
+CanFail m n s ask (BeforeAnswer false) = IsTaken m n ask
+CanFail m n s ask InAnswer = m.spells n ask.text ask.request
+CanFail m n s ask (InTurn true) =
+    m.spells n ask.text ask.request × (m.turn ask.moment (after_answer m s ask) ≢ None)
+CanFail m n s ask (InTurn false) =
+    m.spells n ask.text ask.request × (m.due ask.moment (after_answer m s ask) ≡ true)
+
+-- only a turn that has something to do is skipped
+abbrev pub CanTurn : {State Request : Type 0} → Machine State Request → State → Ask Request
+    → Turned → Type 0
+CanTurn m s ask Made = Unit {0}
+CanTurn m s ask Skipped = m.due ask.moment (after_answer m s ask) ≡ true
+
+-- whether there is something
+abbrev pub is_there : {A : Type 0} → Option A → Bool
+is_there None = false
+is_there (Some x) = true
+
+-- A step behind n requests of its connection, from a state.
+abbrev pub IsStep : {State Request : Type 0} → Machine State Request → ℕ → State → Step Request
+    → Type 0
+IsStep m n s (Answered ask turned) =
+    m.spells n ask.text ask.request × CanTurn m s ask turned
+IsStep m n s (Refused text refusal) = m.refuses text refusal
+IsStep m n s (Starved ask) = IsTaken m n ask
+IsStep m n s (Stopped ask failure) = CanFail m n s ask failure
+IsStep m n s (Cut text interim moment) =
+    (text ≢ []) × m.cuts text record { interim = interim; takes_moment = is_there moment }

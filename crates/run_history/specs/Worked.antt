@@ -1,0 +1,115 @@
+-- A history worked out: a small machine over numbers, and six steps on four connections, each with what
+-- it comes to.
+use Rattle.std.specs.Prelude.{◌≡◌, ◌+◌, ◌-◌, ℕ, true, false, List, [], ◌∷◌, Option, Some, None, nat_lt, if◌then◌else◌}
+use Rattle.run_history.specs.Machine.{Machine, Reply}
+use Rattle.run_history.specs.Steps.{Ask, Step, Answered, Refused, Starved, Stopped, Cut, InAnswer, Made, Piece, Interim}
+use Rattle.run_history.specs.Steps as steps
+use Rattle.run_history.specs.Sessions.{Session, Whole, all_moments, scripts_of, skips_in}
+use Rattle.run_history.specs.Traces.{begun, start_of, states_of, trace_of}
+
+-- what the small machine is asked: to show its number, or to add to it
+pub data Demand : Type 0 where
+  Show : Demand
+  Add : (n : ℕ) → Demand
+
+-- 100 and the number, or 101 and what was added
+abbrev pub demand_reply : Demand → ℕ → Reply ℕ
+demand_reply Show s = record { bytes = 100 ∷ s ∷ []; change = None }
+demand_reply (Add n) s = record { bytes = 101 ∷ n ∷ []; change = Some (s + n) }
+
+-- an interim stands before an addition
+abbrev pub demand_interim : Demand → Option (List ℕ)
+demand_interim Show = None
+demand_interim (Add n) = Some (1 ∷ [])
+
+-- Its text is its reply's, its turn takes 5 from a number above 5, and a file of one number stands for
+-- it.
+abbrev pub adder : Machine ℕ Demand
+adder = record {
+  spells = λ n text d. text ≡ (demand_reply d 0).bytes;
+  heads = λ n text d. ⊥;
+  refuses = λ text refusal. (text ≡ 9 ∷ []) × (refusal.response ≡ 4 ∷ []);
+  cuts = λ text cutting. text ≡ 101 ∷ [];
+  interim = demand_interim;
+  answer = λ d moment s. demand_reply d s;
+  no_memory = λ d. 5 ∷ [];
+  disk_fault = λ d. 6 ∷ [];
+  ends = λ d. false;
+  due = λ moment s. nat_lt 5 s;
+  turn = λ moment s. if nat_lt 5 s then Some (s - 5) else None;
+  stands = λ image s. image ≡ s ∷ [];
+  good = λ s. Unit {0};
+}
+
+-- a demand at a moment
+abbrev pub asks : Demand → ℕ → Ask Demand
+asks demand moment =
+    record { text = (demand_reply demand 0).bytes; request = demand; moment = moment }
+
+-- On four connections: an answer behind an interim, and a refusal of the wire; an answer with a turn
+-- behind it, and no memory; a request that was cut; and a fault of the disk within an answer.
+abbrev pub six : List (Session Demand)
+six =
+    record {
+      steps = Answered (asks (Add 1) 10) Made
+          ∷ Refused (9 ∷ []) (record { interim = None; response = 4 ∷ [] }) ∷ [];
+      link = Whole;
+    }
+    ∷ record { steps = Answered (asks (Add 3) 11) Made ∷ Starved (asks Show 12) ∷ []; link = Whole }
+    ∷ record { steps = Cut (101 ∷ []) (Some (1 ∷ [])) (Some 13) ∷ []; link = Whole }
+    ∷ record { steps = Stopped (asks Show 14) InAnswer ∷ []; link = Whole }
+    ∷ []
+
+-- What they come to from the number 3: each answer with the changes up to it, the states, the moments,
+-- and what had begun, by what was told when a crash came: an interim alone, a byte of the second
+-- connection's answer, all of its answers, and a byte of the last one.
+pub record SixSteps : Type 0 where
+  pub scripts : scripts_of adder (start_of 3) six ≡
+      (Interim (1 ∷ []) ∷ steps.Reply (101 ∷ 1 ∷ []) 1 ∷ steps.Reply (4 ∷ []) 1 ∷ [])
+      ∷ (Interim (1 ∷ []) ∷ steps.Reply (101 ∷ 3 ∷ []) 2 ∷ steps.Reply (5 ∷ []) 3 ∷ [])
+      ∷ (Interim (1 ∷ []) ∷ [])
+      ∷ (steps.Reply (100 ∷ 2 ∷ []) 3 ∷ [])
+      ∷ []
+  pub states : states_of (trace_of adder 3 six) ≡ 3 ∷ 4 ∷ 7 ∷ 2 ∷ []
+  pub moments : all_moments adder (start_of 3) six ≡ 10 ∷ 11 ∷ 12 ∷ 13 ∷ 14 ∷ []
+  pub none : begun (scripts_of adder (start_of 3) six) ((1 ∷ []) ∷ []) ≡ 0
+  pub first : begun (scripts_of adder (start_of 3) six) ((1 ∷ 101 ∷ []) ∷ []) ≡ 1
+  pub second : begun (scripts_of adder (start_of 3) six)
+      ((1 ∷ 101 ∷ 1 ∷ 4 ∷ []) ∷ (1 ∷ 101 ∷ []) ∷ []) ≡ 2
+  pub starved : begun (scripts_of adder (start_of 3) six)
+      ((1 ∷ 101 ∷ 1 ∷ 4 ∷ []) ∷ (1 ∷ 101 ∷ 3 ∷ 5 ∷ []) ∷ (1 ∷ []) ∷ []) ≡ 3
+  pub last : begun (scripts_of adder (start_of 3) six)
+      ((1 ∷ 101 ∷ 1 ∷ 4 ∷ []) ∷ (1 ∷ 101 ∷ 3 ∷ 5 ∷ []) ∷ (1 ∷ []) ∷ (100 ∷ []) ∷ []) ≡ 3
+
+-- One session with other failures: the turn skipped; the disk failed before an answer and in a turn,
+-- while a record was being written and while none was.
+abbrev pub alone : Step Demand → List (Session Demand)
+alone step = record { steps = step ∷ []; link = Whole } ∷ []
+
+pub record OtherSteps : Type 0 where
+  pub skipped : states_of (trace_of adder 3 (alone (Answered (asks (Add 3) 1) steps.Skipped))) ≡ 3 ∷ 6 ∷ []
+  pub counted : skips_in (Answered (asks (Add 3) 1) steps.Skipped ∷ Answered (asks Show 2) Made ∷ []) ≡ 1
+  pub torn : trace_of adder 3 (alone (Stopped (asks (Add 3) 1) (steps.BeforeAnswer true))) ≡
+      record {
+        scripts = (Interim (1 ∷ []) ∷ steps.Reply (6 ∷ []) 0 ∷ []) ∷ [];
+        first = 3;
+        changes = 6 ∷ [];
+      }
+  pub untorn : trace_of adder 3 (alone (Stopped (asks (Add 3) 1) (steps.BeforeAnswer false))) ≡
+      record {
+        scripts = (Interim (1 ∷ []) ∷ steps.Reply (6 ∷ []) 0 ∷ []) ∷ [];
+        first = 3;
+        changes = [];
+      }
+  pub turning : trace_of adder 3 (alone (Stopped (asks (Add 3) 1) (steps.InTurn true))) ≡
+      record {
+        scripts = (Interim (1 ∷ []) ∷ steps.Reply (101 ∷ 3 ∷ []) 1 ∷ []) ∷ [];
+        first = 3;
+        changes = 6 ∷ 1 ∷ [];
+      }
+  pub before_turn : trace_of adder 3 (alone (Stopped (asks (Add 3) 1) (steps.InTurn false))) ≡
+      record {
+        scripts = (Interim (1 ∷ []) ∷ steps.Reply (101 ∷ 3 ∷ []) 1 ∷ []) ∷ [];
+        first = 3;
+        changes = 6 ∷ [];
+      }

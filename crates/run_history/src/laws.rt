@@ -1,0 +1,18 @@
+//! The laws that a contract can say. Those over devices are the theorems of the proofs.
+ghost use Rattle.run_history.specs.Laws.{BegunIsGreatest};
+ghost use Rattle.run_history.specs.Worked.{OtherSteps, SixSteps};
+
+/// The number of what had begun is the greatest that an answer counts of which a byte was told.
+pub fn begun_is_greatest()
+    ensures { BegunIsGreatest }
+{}
+
+/// Six steps on four connections come to these scripts, states and moments, and this had begun of them.
+pub fn six_steps()
+    ensures { SixSteps }
+{}
+
+/// What a skipped turn and a fault of the disk at other places come to.
+pub fn other_steps()
+    ensures { OtherSteps }
+{}
