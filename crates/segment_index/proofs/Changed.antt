@@ -45,7 +45,7 @@ all_miss low high ps keyed none =
     each_misses low high ps (no_values _ (sym (met_is ps (Some low) (Some high) keyed) ∙ no_first _ none))
 
 -- segments that are kept stay apart, and those before a point from those behind it
-apart_kept : (test : Pair → Bool) (ps : List Pair) → IsApart ps → IsApart (filter test ps)
+pub apart_kept : (test : Pair → Bool) (ps : List Pair) → IsApart ps → IsApart (filter test ps)
 apart_kept test [] h = tt
 apart_kept test (p ∷ ps) h = by (test p) (apart_kept test ps h.1)
   where
@@ -85,7 +85,7 @@ index_with low row ps new index keyed misses is =
 -- ---- the rows of changed pairs
 
 -- a test on rows keeps those whose pairs pass it
-values_kept : (test : SegmentRow → Bool) (same : Pair → Bool) (ps : List Pair) → AllByRecursion (λ p. test p.1 ≡ same p) ps → filter test (values ps) ≡ values (filter same ps)
+pub values_kept : (test : SegmentRow → Bool) (same : Pair → Bool) (ps : List Pair) → AllByRecursion (λ p. test p.1 ≡ same p) ps → filter test (values ps) ≡ values (filter same ps)
 values_kept test same [] h = refl
 values_kept test same (p ∷ ps) h = by (same p) h.0 (values_kept test same ps h.1)
   where

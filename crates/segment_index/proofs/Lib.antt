@@ -2,3 +2,5 @@ mod Reach
 mod Meeting
 mod Changed
 mod Hull
+mod PageWalks
+mod Starts

@@ -4,7 +4,6 @@ use Rattle.std.specs.List.{AllByRecursion}
 use Rattle.std.proofs.lemmas.Int.{ints}
 use Rattle.time_range.specs.declared.ranges.Span.{Span}
 use Rattle.time_range.specs.Points.{low_of, high_of}
-use Rattle.time_range.specs.Ends.{are_ordered}
 use Rattle.media_rows.specs.Lists.{or_else}
 use Rattle.media_rows.specs.Ranges.{overlaps}
 use Rattle.shared_tree.specs.Pairs.{IsRising, is_up_to, is_above, first, last, values}
@@ -12,14 +11,8 @@ use Rattle.shared_tree.proofs.Counted.{each_passes, rising_kept}
 use Rattle.shared_tree.proofs.Rising.{all_map, filter_none}
 use Rattle.segment_index.specs.Answers.{met}
 use Rattle.segment_index.specs.Within.Keyed.{IsKeyed, IsApart, last_point, reaches, begins_by, from_last, span, reaching, beginning_by, row_of}
+use Rattle.segment_index.specs.Within.Walks.{begins, ends}
 use Rattle.segment_index.proofs.Reach.{Pair, last_all, reach_from}
-
--- whether a pair's segment begins by a high end, and ends behind a low one
-abbrev pub begins : Option ℤ → Pair → Bool
-begins high p = are_ordered (Some p.0) high
-
-abbrev pub ends : Option ℤ → Pair → Bool
-ends low p = are_ordered low (Some (last_point p.1))
 
 -- the range of a kept segment
 pub range_is : (range : Option Span) (low high : ℤ) → low_of range ≡ Some low → high_of range ≡ Some high → range ≡ span (Some low) (Some high)

@@ -1,12 +1,13 @@
 //! The index and its public calls.
-ghost use Rattle.std.specs.Prelude.{◌≡◌, ◌+◌, ◌-◌, ◌*◌, ◌^◌, ◌≤◌, ◌++◌, [], IfOk, IsTrue, length, min, option_copied};
+ghost use Rattle.std.specs.Prelude.{◌≡◌, ◌+◌, ◌-◌, ◌*◌, ◌^◌, ◌≤◌, ◌++◌, [], IfOk, IsTrue, length, min, option_copied, vec_capacity, vec_len};
 ghost use Rattle.media_rows.specs.Ranges.{has_both_ends};
 ghost use Rattle.media_rows.specs.Segments.{hull_of_segments};
-ghost use Rattle.shared_tree.specs.Pairs.{digits};
-ghost use Rattle.segment_index.specs.Answers.{Adds, without_start};
+ghost use Rattle.shared_tree.specs.Pairs.{digits, values_of};
+ghost use Rattle.segment_index.specs.Answers.{Adds, met_page, page_of, without_start};
 ghost use Rattle.segment_index.specs.Within.Keyed.{segment_or};
 
 use crate::AddFault;
+use crate::pages::{append_falling, append_rising};
 use crate::points::{first_met, first_point, first_segment, last_point, last_segment};
 use disk_trait::Memory;
 use media_rows::{SegmentRow, range_hull};
@@ -73,6 +74,31 @@ impl SegmentIndex {
                 range_hull(&first.segment.range, &segment_or(last, first).segment.range)
             }
             None => TimeRange::never(),
+        }
+    }
+
+    /// Appends a page of the segments that have a point in a range: by rising first points, or backwards by
+    /// falling ones, the first `limit` of those behind the key `after`, a first point. `out` must have room
+    /// for them.
+    pub fn range<'a, L: Ledger>(
+        &'a self,
+        range: &TimeRange,
+        after: Option<i128>,
+        limit: usize,
+        backwards: bool,
+        out: &mut Vec<&'a SegmentRow>,
+        steps: &mut Steps<L>,
+    )
+        requires room { vec_len out.old + limit ≤ vec_capacity out.old }
+        ensures page { values_of out.new.items ≡ values_of out.old.items
+            ++ met_page self.now range.now (page_of after limit backwards) }
+        ensures capacity { vec_capacity out.old ≤ vec_capacity out.new }
+        ensures cost { steps.new ≤ steps.old + 6 * (digits (length self.now) + 1) + 2 * limit }
+    {
+        if backwards {
+            append_falling(&self.rows, range, &after, limit, out, steps);
+        } else {
+            append_rising(&self.rows, range, &after, limit, out, steps);
         }
     }
 

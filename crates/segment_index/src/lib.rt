@@ -4,6 +4,7 @@
 
 mod fault;
 mod index;
+mod pages;
 mod points;
 #[cfg(test)]
 mod tests;

@@ -88,6 +88,41 @@ fn four_segments(alloc: Global, start: Ts) -> Result<SegmentIndex, AddFault> {
     tried(alloc, &third, "(3:0_4:0)", start)
 }
 
+/// The number of segments on a page, and the first points of the first and of the last. Nobody counts the steps.
+fn page<L: Ledger>(
+    alloc: Global,
+    index: &SegmentIndex,
+    range: &TimeRange,
+    after: Option<i128>,
+    backwards: bool,
+    blank: Blank,
+) -> Result<(usize, i128, i128), Memory>
+    requires name { blank.name ≡ L.name }
+    requires parts { blank.parts ≡ L.parts }
+    requires one { 0 < L.parts }
+{
+    let mut steps = Steps::<L>::new(blank);
+    let mut rows: Vec<&SegmentRow> = Vec::with_capacity(alloc, 2)?;
+    index.range(range, after, 2, backwards, &mut rows, &mut steps);
+    Ok((rows.len(), begin(rows.first()), begin(rows.last())))
+}
+
+/// The first point of a segment, and -1 where there is none.
+fn begin(row: Option<&&SegmentRow>) -> i128 {
+    row.and_then(|row| row.segment.range.low()).unwrap_or(-1)
+}
+
+/// A page of two segments at most.
+fn shown(
+    alloc: Global,
+    index: &SegmentIndex,
+    text: &str,
+    after: Option<i128>,
+    backwards: bool,
+) -> Result<(usize, i128, i128), Memory> {
+    page::<Brand>(alloc, index, &range(text), after, backwards, Blank::new(1))
+}
+
 #[test]
 fn segments_lie_apart(rt: HostRuntime) {
     let alloc = rt.alloc();
@@ -114,4 +149,17 @@ fn segments_lie_apart(rt: HostRuntime) {
     let without = index.remove(alloc, 4_000_000_000);
     assert_eq!(rt; without.map_or(0, |fewer| fewer.len()), 3);
     assert_eq!(rt; index.share().map_or(0, |same| same.len()), 4);
+
+    // From before the range on, behind a key, and in reverse.
+    let (first, second, third, fourth) = (0, 2_000_000_000, 4_000_000_000, 6_000_000_001);
+    let from_before = shown(alloc, &index, "[1:500000000_2:0]", None, false);
+    assert_eq!(rt; from_before.ok(), Some((2, second, third)));
+    let behind_key = shown(alloc, &index, "[1:500000000_2:0]", Some(second), false);
+    assert_eq!(rt; behind_key.ok(), Some((1, third, third)));
+    let reversed = shown(alloc, &index, "_", None, true);
+    assert_eq!(rt; reversed.ok(), Some((2, fourth, third)));
+    let before_key = shown(alloc, &index, "_1:0]", Some(third), true);
+    assert_eq!(rt; before_key.ok(), Some((2, second, first)));
+    let none = shown(alloc, &index, "()", None, false);
+    assert_eq!(rt; none.ok(), Some((0, -1, -1)));
 }

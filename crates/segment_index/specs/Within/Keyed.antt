@@ -15,7 +15,7 @@ pub record IsKeyed (p : ℤ × SegmentRow) : Type 0 where
   pub high : high_of p.1.segment.range ≡ Some (last_point p.1)
   pub ordered : p.0 ≤ℤ last_point p.1
   pub inner : negsuc (2 ^ 127 - 1) <ℤ p.0
-  pub outer : p.0 ≤ℤ pos (2 ^ 127 - 1)
+  pub outer : p.0 <ℤ pos (2 ^ 127 - 1)
 
 -- each segment ends before all later ones begin
 abbrev pub IsApart : List (ℤ × SegmentRow) → Type 0

@@ -1,0 +1,5 @@
+use Rattle.segment_index.proofs.tests.shown.Given as goal
+
+-- the steps of each page are counted from a ledger of its own
+abbrev pub ghosts-page : goal.ghosts-page
+ghosts-page a = record { name = a.blank.name; parts = a.blank.parts }
