@@ -1,0 +1,5 @@
+pub mod Fields
+pub mod Framing
+pub mod Heads
+pub mod Lines
+pub mod Response

@@ -1,0 +1,11 @@
+//! HTTP/1.1 on the wire (RFC 9112): the requests that a connection's bytes spell, in whatever pieces they
+//! come, and responses as bytes. What a request asks for, and what it is answered, is left to the callers.
+#![tactic(auto)]
+
+mod fields;
+mod framing;
+mod head;
+mod lines;
+mod response;
+
+pub use crate::response::{Field, FieldList, write_response};
