@@ -26,7 +26,9 @@ pub(crate) enum WireFault {
 }
 
 /// The most bytes of a body that is held whole.
-pub(crate) const MAX_BODY: u64 = 1_048_576;
+pub(crate) const BODY_ROOM: usize = 1_048_576;
+/// The same, as a length.
+const MAX_BODY: u64 = 1_048_576;
 /// The most bytes of a media object.
 const MAX_MEDIA: u64 = 67_108_864;
 

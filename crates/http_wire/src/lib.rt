@@ -2,6 +2,8 @@
 //! come, and responses as bytes. What a request asks for, and what it is answered, is left to the callers.
 #![tactic(auto)]
 
+mod chunk_line;
+mod chunks;
 mod fields;
 mod framing;
 mod head;
