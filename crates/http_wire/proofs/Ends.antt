@@ -113,3 +113,18 @@ pub looked-drop : (bytes : List ℕ) (n : ℕ) (p q : Place) → n ≤ length by
     → looked p bytes ≡ on_by n (looked q (drop n bytes))
 looked-drop bytes n p q inside still =
     rw (length-take-le n bytes inside, take-append-drop) at (looked-append_still p (take n bytes) (drop n bytes) q still)
+
+one_inside : (found : Looked) (n k : ℕ) → ((m : ℕ) → found ≡ Ended m → m ≤ k) → one_on found ≡ Ended n → n ≤ suc k
+one_inside (Ended m) n k inside e = let same : m + 1 ≡ n = cc in omega (arith, inside m refl)
+one_inside (Still q) n k inside e = cc
+
+step_inside : (o : Option Place) (later : Place → Looked) (n k : ℕ) → ((q : Place) (m : ℕ) → later q ≡ Ended m → m ≤ k)
+    → behind_byte o later ≡ Ended n → n ≤ suc k
+step_inside None later n k inside e = let same : 1 ≡ n = cc in omega arith
+step_inside (Some q) later n k inside e = one_inside (later q) n k (inside q) e
+
+-- a head ends within the bytes
+pub looked_inside : (p : Place) (bytes : List ℕ) (n : ℕ) → looked p bytes ≡ Ended n → n ≤ length bytes
+looked_inside p [] n e = cc
+looked_inside p (x ∷ bytes) n e =
+    step_inside (next_place p x) (λ q. looked q bytes) n (length bytes) (λ q. looked_inside q bytes) e

@@ -1,14 +1,19 @@
 //! A chunked body (RFC 9112, section 7.1), read in whatever pieces it comes: each chunk is looked at once.
 ghost use Rattle.std.specs.Prelude.{◌≡◌, ◌-◌, ◌≤◌, Some, length, take};
 ghost use Rattle.std.specs.Vec.{vec_capacity};
-ghost use Rattle.http_wire.specs.Chunks.{line_size};
+ghost use Rattle.http_wire.specs.Chunks.{coded_front, line_size};
 ghost use Rattle.http_wire.specs.Framing.{max_body};
 ghost use Rattle.http_wire.specs.Lines.{line_end};
-ghost use Rattle.http_wire.specs.Within.Reading.{FindsChunk, FindsChunks, IsLine, IsLineSeen, Reached};
+ghost use Rattle.http_wire.specs.Within.Reading.{FindsChunk, FindsChunked, FindsChunks, IsLine, IsLineSeen, Reached};
 
 use crate::chunk_line::{Ending, LineSeen, closed, find_line_behind, read_size, trailer};
 use crate::framing::{BODY_ROOM, WireFault};
 use crate::lines::{after, front, keep, part};
+
+/// The most bytes of a chunked body with its chunks' lines and its trailer.
+const MAX_CODED: usize = 8_388_608;
+/// The bytes that are looked at: one more shows that a body has too many.
+const CODED_ROOM: usize = 8_388_609;
 
 /// What is found of the chunk at the front of bytes.
 #[derive(Clone, Copy)]
@@ -137,6 +142,33 @@ pub(crate) fn read_chunks(bytes: &[u8], start: Progress, body: &mut Vec<u8>) -> 
                     at: progress.at + count + size + 2,
                     line: LineSeen::Open(0),
                 };
+            }
+        }
+    }
+}
+
+/// Reads a chunked body with the limit of its coded bytes.
+pub(crate) fn read_chunked(bytes: &[u8], start: Progress, body: &mut Vec<u8>) -> ChunksFound
+    requires reached { Reached (coded_front bytes.now) body.old.items start }
+    requires room { max_body ≤ vec_capacity body.old }
+    ensures found { FindsChunked bytes.now result body.new.items }
+    ensures room { max_body ≤ vec_capacity body.new }
+{
+    let seen = front(bytes, CODED_ROOM);
+    match read_chunks(seen, start, body) {
+        ChunksFound::More(progress) => {
+            if seen.len() > MAX_CODED {
+                ChunksFound::Refused(WireFault::TooLarge)
+            } else {
+                ChunksFound::More(progress)
+            }
+        }
+        ChunksFound::Refused(fault) => ChunksFound::Refused(fault),
+        ChunksFound::Whole(count) => {
+            if count > MAX_CODED {
+                ChunksFound::Refused(WireFault::TooLarge)
+            } else {
+                ChunksFound::Whole(count)
             }
         }
     }

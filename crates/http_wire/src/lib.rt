@@ -4,10 +4,18 @@
 
 mod chunk_line;
 mod chunks;
+mod feed;
 mod fields;
 mod framing;
+mod front;
 mod head;
+mod kept;
 mod lines;
 mod response;
+mod seek;
+mod stage;
 
+pub use crate::feed::Feed;
+pub use crate::head::{MethodKind, Span};
 pub use crate::response::{Field, FieldList, write_response};
+pub use crate::stage::{Head, Step};

@@ -3,7 +3,7 @@ use Rattle.std.specs.Prelude.{◌≡◌, ℕ, ◌+◌, ◌-◌, ◌<◌, ◌≤�
 use Rattle.http_wire.specs.Framing.{max_body}
 use Rattle.http_wire.specs.Heads.{Front, more, refused, whole}
 use Rattle.http_wire.specs.Lines.{line_end}
-use Rattle.http_wire.specs.Chunks.{chunks_within, closed, line_size, one_chunk, prefixed}
+use Rattle.http_wire.specs.Chunks.{chunked, chunks_within, closed, coded_front, line_size, one_chunk, prefixed}
 use Rattle.http_wire.specs.declared.chunk_line.Ending.TheVariants.{Ended}
 use Rattle.http_wire.specs.declared.chunk_line.LineSeen.{LineSeen}
 use Rattle.http_wire.specs.declared.chunk_line.LineSeen.TheVariants.{Open, Read}
@@ -61,3 +61,11 @@ FindsChunks bytes (all_found.More progress) content =
 FindsChunks bytes (all_found.Refused fault) content = chunks_within max_body bytes ≡ refused fault
 FindsChunks bytes (all_found.Whole n) content =
     (chunks_within max_body bytes ≡ whole content n) × (n ≤ length bytes)
+
+-- what is found of a chunked body with the limit of its coded bytes
+abbrev pub FindsChunked : List ℕ → ChunksFound → List ℕ → Type 0
+FindsChunked bytes (all_found.More progress) content =
+    (chunked bytes ≡ more) × Reached (coded_front bytes) content progress
+FindsChunked bytes (all_found.Refused fault) content = chunked bytes ≡ refused fault
+FindsChunked bytes (all_found.Whole n) content =
+    (chunked bytes ≡ whole content n) × (n ≤ length bytes)
