@@ -1,0 +1,10 @@
+pub mod ChunkLine
+pub mod ChunkSteps
+pub mod Digits
+pub mod Ends
+pub mod Fronts
+pub mod Giving
+pub mod Interims
+pub mod Moves
+pub mod Reaching
+pub mod Seeking

@@ -1,0 +1,11 @@
+pub mod Chunks
+pub mod Feeds
+pub mod Fields
+pub mod Framing
+pub mod Heads
+pub mod Lines
+pub mod Parts
+pub mod Requests
+pub mod Response
+pub mod Steps
+pub mod Within

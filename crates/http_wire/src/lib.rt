@@ -1,0 +1,21 @@
+//! HTTP/1.1 on the wire (RFC 9112): the requests that a connection's bytes spell, in whatever pieces they
+//! come, and responses as bytes. What a request asks for, and what it is answered, is left to the callers.
+#![tactic(auto)]
+
+mod chunk_line;
+mod chunks;
+mod feed;
+mod fields;
+mod framing;
+mod front;
+mod head;
+mod kept;
+mod lines;
+mod response;
+mod seek;
+mod stage;
+
+pub use crate::feed::Feed;
+pub use crate::head::{MethodKind, Span};
+pub use crate::response::{Field, FieldList, write_response};
+pub use crate::stage::{Head, Step};

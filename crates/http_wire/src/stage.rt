@@ -1,0 +1,62 @@
+//! Where a feed stands, and what it answers.
+ghost use Rattle.std.specs.Prelude.{◌≡◌};
+ghost use Rattle.http_wire.specs.Steps.{refusal_of};
+
+use crate::framing::WireFault;
+use crate::head::{MethodKind, Span};
+use media_rows::Refusal;
+
+/// Where a feed stands between two calls.
+#[derive(Clone, Copy)]
+pub(crate) enum Stage {
+    /// A request is to come.
+    Open,
+    /// So many bytes of a media body weren't handed on yet.
+    Media(u64),
+    /// The wire was refused.
+    Failed(WireFault),
+}
+
+/// The head of a request. Its places are in the bytes of the feed that gave it.
+#[derive(Clone, Copy, Debug, PartialEq, Eq)]
+pub struct Head {
+    pub method: MethodKind,
+    /// The target, as it was sent.
+    pub target: Span,
+    /// The decoded body; empty where it is handed on apart.
+    pub body: Span,
+    /// The length of the body in bytes.
+    pub length: u64,
+    /// An interim response is due before the answer (RFC 9110, section 10.1.1).
+    pub wants_interim: bool,
+    /// The connection ends behind the answer.
+    pub ends: bool,
+}
+
+/// What a feed answers.
+#[derive(Drop)]
+pub enum Step {
+    /// No whole request, no whole head of a media PUT and no fault stands in the bytes so far.
+    More,
+    /// A media PUT, whose body is handed on apart.
+    Head(Head),
+    /// Another request, with its whole body.
+    Whole(Head),
+    /// The connection ends.
+    Refused(Refusal),
+}
+
+impl WireFault {
+    /// The refusal that is answered.
+    pub(crate) fn refusal(self) -> Refusal
+        ensures { result ≡ refusal_of self }
+    {
+        match self {
+            WireFault::BadHead => Refusal::BadHead,
+            WireFault::BadFraming => Refusal::BadFraming,
+            WireFault::LengthRequired => Refusal::LengthRequired,
+            WireFault::TooLarge => Refusal::TooLarge,
+            WireFault::Coding => Refusal::Coding,
+        }
+    }
+}
