@@ -1,0 +1,15 @@
+//! Bodies of requests as values: each reader gives what a body spells, or its first refusal.
+#![tactic(auto)]
+
+mod body;
+mod fault;
+mod kinds;
+mod members;
+mod part;
+mod rules;
+mod storage;
+mod tags;
+
+pub use crate::fault::BodyFault;
+pub use crate::part::read_part;
+pub use crate::storage::read_storage;
