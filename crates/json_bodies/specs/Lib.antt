@@ -4,4 +4,5 @@ pub mod Body
 pub mod Plain
 pub mod Part
 pub mod Storage
+pub mod Hook
 pub mod Answers

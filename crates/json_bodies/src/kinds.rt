@@ -1,5 +1,5 @@
 //! Lists in bodies, and what their items are.
-ghost use Rattle.std.specs.Prelude.{◌≡◌, IfOk, IsTrue, Bool, Option, option_map, option_and_then};
+ghost use Rattle.std.specs.Prelude.{◌≡◌, IfOk, IsTrue, true, Bool, Option, option_map, option_and_then};
 ghost use Rattle.std.specs.List.{list_all};
 ghost use Rattle.std.specs.Str.{is_utf8};
 ghost use Rattle.serde_json.specs.Data.{Data};
@@ -109,6 +109,20 @@ impl Kind<Text> for TextKind {
             return Ok(None);
         };
         Ok(Some(Text::from_bytes(alloc, text.as_bytes())?))
+    }
+}
+
+/// An id, in any of the forms of a UUID's text.
+#[derive(Drop)]
+pub(crate) struct IdKind;
+
+impl Kind<u128> for IdKind {
+    ghost kind_of = { λ _. id_value };
+
+    ghost has_texts = { λ _ _. true };
+
+    fn read(&self, _alloc: Global, value: &Value) -> Result<Option<u128>, Memory> {
+        Ok(read_id_value(Some(value)))
     }
 }
 

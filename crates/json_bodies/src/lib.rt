@@ -3,6 +3,7 @@
 
 mod body;
 mod fault;
+mod hook;
 mod kinds;
 mod members;
 mod part;
@@ -11,5 +12,6 @@ mod storage;
 mod tags;
 
 pub use crate::fault::BodyFault;
+pub use crate::hook::read_hook;
 pub use crate::part::read_part;
 pub use crate::storage::read_storage;
