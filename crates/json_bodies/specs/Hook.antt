@@ -14,7 +14,7 @@ use Rattle.media_rows.specs.Lists.{each_pair}
 use Rattle.json_bodies.specs.declared.fault.Breach.{Breach}
 use Rattle.json_bodies.specs.declared.fault.Breach.TheVariants.{WrongKind, TooLong}
 use Rattle.json_bodies.specs.Rules.{◌>>=◌, optional, required, of_kind, has_at_most, text, id_value, longest_text}
-use Rattle.json_bodies.specs.Kinds.{counted, list_of}
+use Rattle.json_bodies.specs.Kinds.{counted, list_of, tested}
 use Rattle.json_bodies.specs.Body.{value_in, checked_object}
 
 -- ---- addresses
@@ -65,13 +65,13 @@ event_value value = option_and_then event_of (as_str value)
 abbrev pub is_other_event : EventKind → EventKind → Bool
 is_other_event a b = not (event_number a == event_number b)
 
--- events, where none stands twice
-abbrev pub without_repeats : List EventKind → Option (List EventKind)
-without_repeats kinds = if each_pair is_other_event kinds then Some kinds else None
+-- no event stands twice
+abbrev pub are_distinct : List EventKind → Bool
+are_distinct kinds = each_pair is_other_event kinds
 
 -- a list of names of events, of which none stands twice
 abbrev pub events : Data → Result (List EventKind) Breach
-events value = of_kind (option_and_then without_repeats (list_of event_value value))
+events value = of_kind (option_and_then (tested are_distinct) (list_of event_value value))
 
 -- ---- the hook
 

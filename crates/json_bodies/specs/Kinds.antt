@@ -29,11 +29,11 @@ list_of kind value = option_and_then (each_item kind) (as_array value)
 abbrev pub counted : {X : Type 0} → (Data → Option X) → ℕ → ℕ → Data → Result (List X) Breach
 counted kind least most value = judged is_any (has_between least most) (list_of kind value)
 
--- ---- ids of objects
+-- what passes a test
+abbrev pub tested : {X : Type 0} → (X → Bool) → X → Option X
+tested test x = if test x then Some x else None
 
--- a text that passes a test
-abbrev pub tested : (List ℕ → Bool) → List ℕ → Option (List ℕ)
-tested test text = if test text then Some text else None
+-- ---- ids of objects
 
 -- the id of an object
 abbrev pub object_id_value : Data → Option (List ℕ)

@@ -5,4 +5,5 @@ pub mod Plain
 pub mod Part
 pub mod Storage
 pub mod Hook
+pub mod Segments
 pub mod Answers

@@ -4,7 +4,6 @@ ghost use Rattle.std.specs.List.{list_all};
 ghost use Rattle.std.specs.Str.{is_utf8};
 ghost use Rattle.serde_json.specs.View.{view};
 ghost use Rattle.media_rows.specs.Good.{if_there};
-ghost use Rattle.media_rows.specs.Lists.{each_pair};
 ghost use Rattle.json_bodies.specs.Answers.{Answers};
 ghost use Rattle.json_bodies.specs.Hook as spec;
 ghost use Rattle.json_bodies.specs.Hook.{address, event_value, events, hook_of, hook_in, has_hook_texts, is_other_event};
@@ -62,7 +61,7 @@ fn hook_of(alloc: Global, object: &Value) -> Result<Hook, BodyFault>
 #[tactic(auto, using(crate::proofs::Texts::is_utf8_text))]
 fn printed_address(alloc: Global, text: &str) -> Result<Option<Text>, Memory>
     ensures address { IfOk result (λ found. found ≡ spec.printed_address text.now) }
-    ensures texts { IfOk result (λ found. IsTrue (if_there is_utf8 found)) }
+    ensures good { IfOk result (λ found. IsTrue (if_there is_utf8 found)) }
 {
     match Url::parse(alloc, text) {
         Ok(url) if url.scheme() == "http" || url.scheme() == "https" => {
@@ -81,7 +80,7 @@ struct AddressRule;
 impl Rule<Text> for AddressRule {
     ghost gives = { λ _. address };
 
-    ghost has_texts = { λ _. is_utf8 };
+    ghost is_good = { λ _. is_utf8 };
 
     fn read(&self, alloc: Global, value: &Value) -> Result<Text, RuleFault> {
         let Some(text) = value.as_str() else {
@@ -121,7 +120,7 @@ struct EventNameKind;
 impl Kind<EventKind> for EventNameKind {
     ghost kind_of = { λ _. event_value };
 
-    ghost has_texts = { λ _ _. true };
+    ghost is_good = { λ _ _. true };
 
     fn read(&self, _alloc: Global, value: &Value) -> Result<Option<EventKind>, Memory> {
         Ok(value.as_str().and_then(|name| event_of(name)))
@@ -130,7 +129,7 @@ impl Kind<EventKind> for EventNameKind {
 
 /// Whether no event stands twice. Among nine one does, so few are compared with all others.
 fn are_distinct(kinds: &[EventKind]) -> bool
-    ensures { result ≡ each_pair is_other_event kinds.now }
+    ensures { result ≡ spec.are_distinct kinds.now }
 {
     match kinds {
         [] => true,
@@ -151,7 +150,7 @@ struct EventsRule;
 impl Rule<EventList> for EventsRule {
     ghost gives = { λ _. events };
 
-    ghost has_texts = { λ _ _. true };
+    ghost is_good = { λ _ _. true };
 
     fn read(&self, alloc: Global, value: &Value) -> Result<EventList, RuleFault> {
         match read_list(alloc, value, &EventNameKind)? {

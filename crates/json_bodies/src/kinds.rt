@@ -22,12 +22,12 @@ pub(crate) trait Kind<T> {
     /// What a value is, where it is of the kind.
     ghost kind_of: { Self → Data → Option T };
 
-    /// Whether each text in an item is as the library wants its texts.
-    ghost has_texts: { Self → T → Bool };
+    /// What else is true of an item, as the library asks.
+    ghost is_good: { Self → T → Bool };
 
     fn read(&self, alloc: Global, value: &Value) -> Result<Option<T>, Memory>
         ensures kind { IfOk result (λ found. found ≡ kind_of self.now (view value.now)) }
-        ensures texts { IfOk result (λ found. IsTrue (if_there (has_texts self.now) found)) };
+        ensures good { IfOk result (λ found. IsTrue (if_there (is_good self.now) found)) };
 }
 
 /// What the values are, where each is of the kind.
@@ -38,8 +38,8 @@ pub(crate) fn read_each<T: Drop, K: Kind<T>>(
 ) -> Result<Option<Listed<T>>, Memory>
     ensures items { IfOk result (λ found. found
         ≡ each_item (K.kind_of kind.now) (items_view values.now)) }
-    ensures texts { IfOk result
-        (λ found. IsTrue (if_there (list_all (K.has_texts kind.now)) found)) }
+    ensures good { IfOk result
+        (λ found. IsTrue (if_there (list_all (K.is_good kind.now)) found)) }
 {
     let mut list = Listed::new(alloc);
     for value in values {
@@ -59,8 +59,8 @@ pub(crate) fn read_list<T: Drop, K: Kind<T>>(
 ) -> Result<Option<Listed<T>>, Memory>
     ensures items { IfOk result (λ found. found
         ≡ list_of (K.kind_of kind.now) (view value.now)) }
-    ensures texts { IfOk result
-        (λ found. IsTrue (if_there (list_all (K.has_texts kind.now)) found)) }
+    ensures good { IfOk result
+        (λ found. IsTrue (if_there (list_all (K.is_good kind.now)) found)) }
 {
     match value.as_array() {
         Some(values) => read_each(alloc, values.as_slice(), kind),
@@ -79,7 +79,7 @@ pub(crate) struct CountedRule<K> {
 impl<T: Drop, K: Kind<T>> Rule<Listed<T>> for CountedRule<K> {
     ghost gives = { λ rule. counted (K.kind_of rule.kind) rule.least rule.most };
 
-    ghost has_texts = { λ rule. list_all (K.has_texts rule.kind) };
+    ghost is_good = { λ rule. list_all (K.is_good rule.kind) };
 
     fn read(&self, alloc: Global, value: &Value) -> Result<Listed<T>, RuleFault> {
         let Some(list) = read_list(alloc, value, &self.kind)? else {
@@ -101,7 +101,7 @@ pub(crate) struct TextKind;
 impl Kind<Text> for TextKind {
     ghost kind_of = { λ _. as_str };
 
-    ghost has_texts = { λ _. is_utf8 };
+    ghost is_good = { λ _. is_utf8 };
 
     #[tactic(auto, using(crate::proofs::Texts::is_utf8_text))]
     fn read(&self, alloc: Global, value: &Value) -> Result<Option<Text>, Memory> {
@@ -119,7 +119,7 @@ pub(crate) struct IdKind;
 impl Kind<u128> for IdKind {
     ghost kind_of = { λ _. id_value };
 
-    ghost has_texts = { λ _ _. true };
+    ghost is_good = { λ _ _. true };
 
     fn read(&self, _alloc: Global, value: &Value) -> Result<Option<u128>, Memory> {
         Ok(read_id_value(Some(value)))
@@ -133,7 +133,7 @@ pub(crate) struct ObjectIdKind;
 impl Kind<Text> for ObjectIdKind {
     ghost kind_of = { λ _. object_id_value };
 
-    ghost has_texts = { λ _. is_object_id };
+    ghost is_good = { λ _. is_object_id };
 
     fn read(&self, alloc: Global, value: &Value) -> Result<Option<Text>, Memory> {
         let Some(text) = value.as_str() else {
@@ -150,7 +150,7 @@ impl Kind<Text> for ObjectIdKind {
 /// The role of a collected flow, which may be absent.
 fn read_role(alloc: Global, value: Option<&Value>) -> Result<Option<Option<Text>>, Memory>
     ensures role { IfOk result (λ found. found ≡ role_value (option_map (λ v. view v.now) value.entry)) }
-    ensures texts { IfOk result (λ found. IsTrue (if_there (if_there is_utf8) found)) }
+    ensures good { IfOk result (λ found. IsTrue (if_there (if_there is_utf8) found)) }
 {
     let Some(value) = value else {
         return Ok(Some(None));
@@ -175,7 +175,7 @@ pub(crate) struct MemberKind;
 impl Kind<Member> for MemberKind {
     ghost kind_of = { λ _. member_value };
 
-    ghost has_texts = { λ _. is_member_text };
+    ghost is_good = { λ _. is_member_text };
 
     fn read(&self, alloc: Global, value: &Value) -> Result<Option<Member>, Memory> {
         let Some(flow) = read_id_value(value.get("id")) else {

@@ -8,10 +8,13 @@ mod kinds;
 mod members;
 mod part;
 mod rules;
+mod segments;
 mod storage;
 mod tags;
+mod times;
 
 pub use crate::fault::BodyFault;
 pub use crate::hook::read_hook;
 pub use crate::part::read_part;
+pub use crate::segments::read_segments;
 pub use crate::storage::read_storage;

@@ -28,7 +28,7 @@ pub(crate) fn optional<T: Drop, R: Rule<T>>(
     rule: &R,
 ) -> Result<Option<T>, BodyFault>
     ensures answer { Answers (optional name.now (R.gives rule.now) (view object.now)) result }
-    ensures texts { IfOk result (λ found. IsTrue (good.if_there (R.has_texts rule.now) found)) }
+    ensures good { IfOk result (λ found. IsTrue (good.if_there (R.is_good rule.now) found)) }
 {
     let Some(value) = object.get(name) else {
         return Ok(None);
@@ -47,7 +47,7 @@ pub(crate) fn required<T: Drop, R: Rule<T>>(
     rule: &R,
 ) -> Result<T, BodyFault>
     ensures answer { Answers (required name.now (R.gives rule.now) (view object.now)) result }
-    ensures texts { IfOk result (λ found. IsTrue (R.has_texts rule.now found)) }
+    ensures good { IfOk result (λ found. IsTrue (R.is_good rule.now found)) }
 {
     let Some(value) = object.get(name) else {
         return Err(BodyFault::Refused(Breach::Missing.refusal(alloc, name)?));
@@ -66,7 +66,7 @@ pub(crate) fn valued<T: Drop, R: Rule<T>>(
     rule: &R,
 ) -> Result<T, BodyFault>
     ensures answer { Answers (named name.now (R.gives rule.now (view value.now))) result }
-    ensures texts { IfOk result (λ found. IsTrue (R.has_texts rule.now found)) }
+    ensures good { IfOk result (λ found. IsTrue (R.is_good rule.now found)) }
 {
     match rule.read(alloc, value) {
         Ok(found) => Ok(found),

@@ -30,12 +30,12 @@ pub(crate) trait Rule<T> {
     /// What the rule gives of a value.
     ghost gives: { Self → Data → Result T Breach };
 
-    /// Whether each text in what it gives is as the library wants its texts.
-    ghost has_texts: { Self → T → Bool };
+    /// What else is true of what it gives, as the library asks: its texts are UTF-8, its ranges bounded.
+    ghost is_good: { Self → T → Bool };
 
     fn read(&self, alloc: Global, value: &Value) -> Result<T, RuleFault>
         ensures answer { Keeps (gives self.now (view value.now)) result }
-        ensures texts { IfOk result (λ x. IsTrue (has_texts self.now x)) };
+        ensures good { IfOk result (λ x. IsTrue (is_good self.now x)) };
 }
 
 /// A text of at most so many bytes.
@@ -47,7 +47,7 @@ pub(crate) struct TextRule {
 impl Rule<Text> for TextRule {
     ghost gives = { λ rule. text rule.most };
 
-    ghost has_texts = { λ rule. is_utf8 };
+    ghost is_good = { λ rule. is_utf8 };
 
     #[tactic(auto, using(crate::proofs::Texts::is_utf8_text))]
     fn read(&self, alloc: Global, value: &Value) -> Result<Text, RuleFault> {
@@ -69,7 +69,7 @@ pub(crate) struct TruthRule;
 impl Rule<bool> for TruthRule {
     ghost gives = { λ _. truth };
 
-    ghost has_texts = { λ _ _. true };
+    ghost is_good = { λ _ _. true };
 
     fn read(&self, _alloc: Global, value: &Value) -> Result<bool, RuleFault> {
         value.as_bool().ok_or(RuleFault::Breach(Breach::WrongKind))
@@ -86,7 +86,7 @@ pub(crate) struct WholeRule {
 impl Rule<u64> for WholeRule {
     ghost gives = { λ rule. whole rule.least rule.most };
 
-    ghost has_texts = { λ _ _. true };
+    ghost is_good = { λ _ _. true };
 
     fn read(&self, _alloc: Global, value: &Value) -> Result<u64, RuleFault> {
         let Some(number) = value.as_number() else {
@@ -106,7 +106,7 @@ pub(crate) struct IdRule;
 impl Rule<u128> for IdRule {
     ghost gives = { λ _. id };
 
-    ghost has_texts = { λ _ _. true };
+    ghost is_good = { λ _ _. true };
 
     fn read(&self, _alloc: Global, value: &Value) -> Result<u128, RuleFault> {
         value

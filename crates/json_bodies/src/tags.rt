@@ -21,7 +21,7 @@ const MOST_MEMBERS: usize = 256;
 /// The tag of a name, whose value is a text or a list of texts.
 pub(crate) fn read_tag(alloc: Global, name: &[u8], value: &Value) -> Result<Option<Tag>, Memory>
     ensures tag { IfOk result (λ found. found ≡ tag_value name.now (view value.now)) }
-    ensures texts { IfOk result
+    ensures good { IfOk result
         (λ found. IsTrue (if_there (λ tag. list_all is_utf8 tag.values) found)) }
 {
     if let Some(text) = TextKind.read(alloc, value)? {
@@ -69,7 +69,7 @@ pub(crate) struct TagRule<'n> {
 impl<'n> Rule<Tag> for TagRule<'n> {
     ghost gives = { λ rule. tag_rule rule.name.now };
 
-    ghost has_texts = { λ _ tag. list_all is_utf8 tag.values };
+    ghost is_good = { λ _ tag. list_all is_utf8 tag.values };
 
     fn read(&self, alloc: Global, value: &Value) -> Result<Tag, RuleFault> {
         let Some(tag) = read_tag(alloc, self.name.bytes(), value)? else {
@@ -106,7 +106,7 @@ pub(crate) struct CollectionRule;
 impl Rule<MemberList> for CollectionRule {
     ghost gives = { λ _. collection };
 
-    ghost has_texts = { λ _. list_all is_member_text };
+    ghost is_good = { λ _. list_all is_member_text };
 
     fn read(&self, alloc: Global, value: &Value) -> Result<MemberList, RuleFault> {
         let Some(members) = read_list(alloc, value, &MemberKind)? else {

@@ -8,4 +8,4 @@ abbrev pub invariant-loop-value : goal.invariant-loop-value
 invariant-loop-value g l =
     (option_map (λ rest. l.list ++ rest) (each_item (g.K.Kind.kind_of l.kind) (items_view (drop l.value-index l.values)))
     ≡ each_item (g.K.Kind.kind_of l.kind) (items_view l.values))
-    × IsTrue (list_all (g.K.Kind.has_texts l.kind) l.list)
+    × IsTrue (list_all (g.K.Kind.is_good l.kind) l.list)
