@@ -6,4 +6,5 @@ pub mod Part
 pub mod Storage
 pub mod Hook
 pub mod Segments
+pub mod Flow
 pub mod Answers

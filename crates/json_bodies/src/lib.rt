@@ -2,7 +2,9 @@
 #![tactic(auto)]
 
 mod body;
+mod essence;
 mod fault;
+mod flow;
 mod hook;
 mod kinds;
 mod members;
@@ -14,6 +16,7 @@ mod tags;
 mod times;
 
 pub use crate::fault::BodyFault;
+pub use crate::flow::read_flow;
 pub use crate::hook::read_hook;
 pub use crate::part::read_part;
 pub use crate::segments::read_segments;
