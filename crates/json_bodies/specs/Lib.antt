@@ -1,0 +1,10 @@
+pub mod Rules
+pub mod Kinds
+pub mod Body
+pub mod Plain
+pub mod Part
+pub mod Storage
+pub mod Hook
+pub mod Segments
+pub mod Flow
+pub mod Answers
