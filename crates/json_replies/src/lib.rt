@@ -14,6 +14,8 @@ mod requests;
 mod segments;
 mod shows;
 mod sources;
+#[cfg(test)]
+mod tests;
 mod values;
 mod views;
 
