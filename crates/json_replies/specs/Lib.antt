@@ -1,0 +1,6 @@
+pub mod Shapes
+pub mod Values
+pub mod Addresses
+pub mod Rows
+pub mod Replies
+pub mod Order
