@@ -8,12 +8,23 @@ pub chain_bounds : (image : List ℕ) (from : ℕ) (rs : List Record) (to : ℕ)
 chain_bounds image from [] to e = omega (arith, e)
 chain_bounds image from (r ∷ rs) to h = omega (arith, chain_bounds image (from + (5 + length r.payload)) rs to h.2)
 
--- an image that is the same before the end has the same records
+-- an image that is the same from the first record up to the end has the same records
+pub chain_kept_within : (image other : List ℕ) (from : ℕ) (rs : List Record) (to : ℕ)
+    → ((i n : ℕ) → from ≤ i → i + n ≤ to → bytes_at other i n ≡ bytes_at image i n) → AreRecords image from rs to → AreRecords other from rs to
+chain_kept_within image other from [] to same e = e
+chain_kept_within image other from (r ∷ rs) to same h = (
+  h.0,
+  record {
+    text = same from (5 + length r.payload) (omega arith) (chain_bounds image (from + (5 + length r.payload)) rs to h.2) ∙ h.1.text;
+    short = h.1.short;
+  },
+  chain_kept_within image other (from + (5 + length r.payload)) rs to (λ i n lower upper. same i n (omega arith) upper) h.2,
+)
+
+-- so has one that is the same before the end
 pub chain_kept : (image other : List ℕ) (from : ℕ) (rs : List Record) (to : ℕ) → ((i n : ℕ) → i + n ≤ to → bytes_at other i n ≡ bytes_at image i n)
     → AreRecords image from rs to → AreRecords other from rs to
-chain_kept image other from [] to same e = e
-chain_kept image other from (r ∷ rs) to same h =
-    (h.0, record { text = same from (5 + length r.payload) (chain_bounds image (from + (5 + length r.payload)) rs to h.2) ∙ h.1.text; short = h.1.short }, chain_kept image other (from + (5 + length r.payload)) rs to same h.2)
+chain_kept image other from rs to same h = chain_kept_within image other from rs to (λ i n lower upper. same i n upper) h
 
 -- one more record at the end
 pub chain_push : (image : List ℕ) (from : ℕ) (rs : List Record) (mid : ℕ) (payload : List ℕ) → AreRecords image from rs mid → IsRecordAt image mid payload

@@ -45,11 +45,11 @@ pub length-half_text : (rows : List ℕ) → length (half_text rows) ≡ 9 + len
 unfolding half_text
 length-half_text rows = omega (arith, length-append (rows_text rows) (0 ∷ []), length-rows_text rows)
 
-front-half_text : (rows : List ℕ) → bytes_at (half_text rows) 0 (8 + length rows) ≡ rows_text rows
+pub front-half_text : (rows : List ℕ) → bytes_at (half_text rows) 0 (8 + length rows) ≡ rows_text rows
 unfolding half_text
 front-half_text rows = ap (λ n. take n (rows_text rows ++ 0 ∷ [])) (sym (length-rows_text rows)) ∙ take-append_seam (rows_text rows) (0 ∷ [])
 
-gate-half_text : (rows : List ℕ) → get_or (half_text rows) (8 + length rows) 0 ≡ 0
+pub gate-half_text : (rows : List ℕ) → get_or (half_text rows) (8 + length rows) 0 ≡ 0
 unfolding half_text
 gate-half_text rows = let size = length-rows_text rows in grind (arith, places)
 

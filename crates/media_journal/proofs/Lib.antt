@@ -1,6 +1,7 @@
 mod AnswerLemmas
 mod AppendLemmas
 mod ChainLemmas
+mod CheckpointLemmas
 mod CrashLemmas
 mod FormattingLemmas
 mod FrameLemmas

@@ -1,10 +1,10 @@
 -- What a crash may leave over calls of a device in a row.
-use Rattle.std.proofs.Common.{◌≡◌, ◌+◌, ℕ, Bool, true, false, List, [], ◌∷◌, length, Result, Ok, Err, is_ok, OnOk, inl, inr, subst, sym, ◌∙◌}
+use Rattle.std.proofs.Common.{◌≡◌, ◌≤◌, ◌+◌, ℕ, Bool, true, false, List, [], ◌∷◌, length, Result, Ok, Err, is_ok, OnOk, inl, inr, subst, sym, ◌∙◌}
 use Rattle.disk_trait.specs.Device.{Device, Left, may_leave}
 use Rattle.disk_trait.specs.Calls.{Elapses, LeavesOnly, TornWrite, Unchanged, overwritten}
 use Rattle.disk_trait.specs.DiskMoments.{Then, WithinTwo}
-use Rattle.disk_trait.proofs.Theorems.{elapses_twice, elapses_weaker}
-use Rattle.media_journal.specs.Within.Steps.{SyncedWrite, SyncedWriteEnds, WithinRecord, RecordEnds}
+use Rattle.disk_trait.proofs.Theorems.{elapses_along, elapses_twice, elapses_weaker, write_twice, write_wider}
+use Rattle.media_journal.specs.Within.Steps.{SyncedWrite, SyncedWriteEnds, WithinWrites, WritesEnd}
 
 -- a write and a step that changes nothing are that write
 write_then_unchanged : (at n : ℕ) (q p : Left) → Then (TornWrite at n) Unchanged q p → TornWrite at n q p
@@ -33,19 +33,19 @@ pub synced_is_torn : (ok : Bool) (at : ℕ) (bytes seen : List ℕ) (q p : Left)
 synced_is_torn true at bytes seen q p write = write.torn
 synced_is_torn false at bytes seen q p write = write
 
--- the frame's write and then the gate's
-pub record_written : (ok : Bool) (gate : ℕ) (frame : List ℕ) (old mid new : Device) → mid.seen ≡ overwritten (gate + 1) frame old.seen
-    → Elapses (TornWrite (gate + 1) (length frame)) (SyncedWrite (gate + 1) frame old.seen) old mid
-    → Elapses (TornWrite gate 1) (SyncedWriteEnds ok gate (1 ∷ []) mid.seen) mid new
-    → Elapses (WithinRecord gate frame old.seen) (RecordEnds ok gate frame old.seen) old new
-record_written ok gate frame old mid new seen first second =
+-- a write and then that of one byte
+pub bytes_written : (ok : Bool) (at : ℕ) (bytes : List ℕ) (byte_at byte : ℕ) (old mid new : Device) → mid.seen ≡ overwritten at bytes old.seen
+    → Elapses (TornWrite at (length bytes)) (SyncedWrite at bytes old.seen) old mid
+    → Elapses (TornWrite byte_at 1) (SyncedWriteEnds ok byte_at (byte ∷ []) mid.seen) mid new
+    → Elapses (WithinWrites at bytes byte_at old.seen) (WritesEnd ok at bytes byte_at byte old.seen) old new
+bytes_written ok at bytes byte_at byte old mid new seen first second =
     let both =
-    elapses_twice (TornWrite (gate + 1) (length frame)) (SyncedWrite (gate + 1) frame old.seen) (TornWrite gate 1) (SyncedWriteEnds ok gate (1 ∷ []) mid.seen) old mid new first second in
+    elapses_twice (TornWrite at (length bytes)) (SyncedWrite at bytes old.seen) (TornWrite byte_at 1) (SyncedWriteEnds ok byte_at (byte ∷ []) mid.seen) old mid new first second in
     elapses_weaker _ _ _ _ old new both (λ q p could steps. steps) (λ q p could left steps. ends ok q p steps)
   where
-    ends : (ok : Bool) (q p : Left) → Then (SyncedWrite (gate + 1) frame old.seen) (SyncedWriteEnds ok gate (1 ∷ []) mid.seen) q p
-        → RecordEnds ok gate frame old.seen q p
-    ends true q p steps = (steps.0, steps.1, subst (λ (image : List ℕ). SyncedWrite gate (1 ∷ []) image steps.0 p) seen steps.2)
+    ends : (ok : Bool) (q p : Left) → Then (SyncedWrite at bytes old.seen) (SyncedWriteEnds ok byte_at (byte ∷ []) mid.seen) q p
+        → WritesEnd ok at bytes byte_at byte old.seen q p
+    ends true q p steps = (steps.0, steps.1, subst (λ (image : List ℕ). SyncedWrite byte_at (byte ∷ []) image steps.0 p) seen steps.2)
     ends false q p steps = inr steps
 
 -- the write alone, whatever is read
@@ -56,3 +56,15 @@ torn_along at n old mid new write sync =
     elapses_weaker (WithinTwo torn torn Unchanged) (Then torn Unchanged) torn torn old new (elapses_twice torn torn Unchanged Unchanged old mid new write sync)
     (λ q p could steps. elim steps [ inl so_far ↦ so_far | inr then ↦ write_then_unchanged at n q p then ])
     (λ q p could left steps. write_then_unchanged at n q p steps)
+
+-- a write within a wider range, and one behind others
+pub torn_within : (at n from k : ℕ) (old new : Device) → from ≤ at → at + n ≤ from + k → Elapses (TornWrite at n) (TornWrite at n) old new
+    → Elapses (TornWrite from k) (TornWrite from k) old new
+torn_within at n from k old new below above time =
+    elapses_weaker (TornWrite at n) (TornWrite at n) (TornWrite from k) (TornWrite from k) old new time
+    (λ q p could one. write_wider at n from k q p below above one)
+    (λ q p could left one. write_wider at n from k q p below above one)
+
+pub torn_then : (at n : ℕ) (old mid new : Device) → Elapses (TornWrite at n) (TornWrite at n) old mid → Elapses (TornWrite at n) (TornWrite at n) mid new
+    → Elapses (TornWrite at n) (TornWrite at n) old new
+torn_then at n old mid new first second = elapses_along (TornWrite at n) old mid new (write_twice at n) first second

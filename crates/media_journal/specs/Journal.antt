@@ -16,14 +16,19 @@ pub record Position : Type 0 where
   pub gate : ℕ
   pub room : ℕ
 
--- A journal stays within its half, and that within its file. So its room is at most the bytes of
--- the longest half.
+-- A journal stays within its half, and both halves within the file. So its room is at most the
+-- bytes of the longest half.
 pub record IsPosition (p : Position) : Type 0 where
   pub blocks : p.blocks ≤ MOST_BLOCKS
   pub half : p.half ≤ MOST_HALF
+  pub sizes : 2 * p.half + 3 ≤ p.blocks
   pub behind : p.start ≤ p.gate
   pub room : p.gate + p.room ≤ p.start + BLOCK * p.half
   pub within : p.gate + p.room ≤ BLOCK * p.blocks
+
+-- The room goes to the end of the half: no record in it was torn.
+abbrev pub IsWhole : Position → Type 0
+IsWhole p = p.gate + p.room ≡ p.start + BLOCK * p.half
 
 -- What a half of a store holds: the file's header, the half's rows, and its records.
 pub record Contents : Type 0 where
@@ -36,7 +41,8 @@ pub record Contents : Type 0 where
 pub record HasInHalf (image : List ℕ) (p : Position) (held : Contents) : Type 0 where
   pub header : IsHeader image held.header
   pub sizes : AreSizes held.header (length image)
-  pub half : HasHalf image p.start (p.start + BLOCK * held.header.half) p.gate held.rows held.records
+  pub half : HasHalf image p.start (p.start + BLOCK * held.header.half) p.gate held.rows
+      held.records
   pub room : p.gate + p.room ≡ p.start + BLOCK * held.header.half
   pub blocks : p.blocks ≡ held.header.blocks
   pub half_blocks : p.half ≡ held.header.half

@@ -4,6 +4,7 @@ pub mod Within
 pub mod Answers
 pub mod Formatting
 pub mod JournalMoments
+pub mod Checkpoint
 pub mod Opening
 pub mod Readings
 pub use Rattle.disk_trait.specs.Device

@@ -6,7 +6,7 @@ use Rattle.media_journal.specs.declared.open.Opened.{Opened}
 use Rattle.media_journal.specs.declared.fault.JournalFault.{JournalFault}
 use Rattle.media_journal.specs.declared.fault.JournalFault.TheVariants.{NotStore, Damaged, Disk, Memory}
 use Rattle.media_journal.specs.File.{HasOpenHeader, IsHeader, AreSizes, HasLongRows, ReadsTorn, active_start}
-use Rattle.media_journal.specs.Journal.{Contents, Gives}
+use Rattle.media_journal.specs.Journal.{Contents, Gives, IsWhole, Position}
 
 -- a file of at least five blocks whose header is an open one
 pub record IsStore (image : List ℕ) : Type 0 where
@@ -52,6 +52,11 @@ pub record OpensTorn (image : List ℕ) (o : Opened) (at : ℕ) : Type 0 where
 abbrev pub OpenedHalf : List ℕ → Opened → Option ℕ → Type 0
 OpenedHalf image o None = Gives image o.journal (contents_of o)
 OpenedHalf image o (Some at) = OpensTorn image o at
+
+-- where no record was torn, the journal's room goes to the end of its half
+abbrev pub WholeUnlessTorn : Option ℕ → Position → Type 0
+WholeUnlessTorn None p = IsWhole p
+WholeUnlessTorn (Some at) p = Unit {0}
 
 -- what was opened of the image of a store
 pub record IsOpened (image : List ℕ) (o : Opened) : Type 0 where

@@ -2,7 +2,7 @@
 ghost use Rattle.std.specs.Prelude.{◌≡◌, ◌≤◌, ◌<◌, ◌+◌, ◌*◌, ◌∷◌, ◌↔◌, ◌^◌, [], true, false, length, is_ok, OnOk, OnErr, IsErrOf};
 ghost use Rattle.disk_trait.specs.Device.{as_read, may_leave};
 ghost use Rattle.disk_trait.specs.Calls.{DiskCalls, Elapses, Follows, LeavesOnly, Torn, overwritten};
-ghost use Rattle.media_journal.specs.Journal.{Contents, Gives, IsPosition, after_append};
+ghost use Rattle.media_journal.specs.Journal.{Contents, Gives, IsPosition, IsWhole, after_append};
 ghost use Rattle.media_journal.specs.JournalMoments.{AppendEnds, EachGives, KeepsOrAdds, with_payload};
 ghost use Rattle.media_journal.specs.Within.Steps.{RecordEnds, WithinRecord};
 
@@ -65,6 +65,7 @@ impl Journal {
         ensures refused { IsErrOf result AppendFault.Full → disk.new ≡ disk.old }
         ensures err { OnErr result (self.new ≡ self.old) }
         ensures position { IsPosition self.new }
+        ensures whole { IsWhole self.old → IsWhole self.new }
 
         ensures moved { OnOk result (self.new ≡ after_append self.old (length frame.now)) }
         ensures content { (D.device disk.old).shows ≡ true → OnOk result

@@ -3,6 +3,9 @@
 //! payloads mean.
 #![tactic(auto)]
 
+mod checkpoint;
+#[cfg(test)]
+mod checkpoint_tests;
 mod fault;
 mod format;
 mod frame;

@@ -4,7 +4,7 @@ ghost use Rattle.disk_trait.specs.Calls.{DiskReads};
 ghost use Rattle.media_journal.specs.Answers.{not_disk};
 ghost use Rattle.media_journal.specs.File.{active_start};
 ghost use Rattle.media_journal.specs.Journal.{IsPosition};
-ghost use Rattle.media_journal.specs.Opening.{IsOpened, OpenAnswer, header_of};
+ghost use Rattle.media_journal.specs.Opening.{IsOpened, OpenAnswer, WholeUnlessTorn, header_of};
 ghost use Rattle.media_journal.specs.Readings.{HasOneReading, HasOneTornReading, HasOneAnswer, ReadsAsStore, TornIsUnreadable, DamagedIsUnreadable};
 ghost use Rattle.media_journal.specs.Within.Scan.{IsReadHalf};
 
@@ -51,6 +51,7 @@ pub fn open_journal<D: Disk>(alloc: Global, disk: &mut D) -> Result<Opened, Jour
     ensures within { IfOk result (λ o. BLOCK * o.journal.blocks ≤ (D.device disk.new).size) }
     ensures sizes { IfOk result (λ o. 2 * o.half + 3 ≤ o.blocks) }
     ensures position { IfOk result (λ o. IsPosition o.journal) }
+    ensures whole { IfOk result (λ o. WholeUnlessTorn o.torn o.journal) }
     ensures answer { (D.device disk.old).shows ≡ true → OpenAnswer (D.device disk.old).seen result }
 {
     let size = disk.len();
@@ -97,6 +98,7 @@ fn assembled(header: Header, start: u64, half: Half) -> Opened
     ensures header { header_of result ≡ header }
     ensures blocks { result.journal.blocks ≡ header.blocks }
     ensures position { IsPosition result.journal }
+    ensures whole { WholeUnlessTorn result.torn result.journal }
     ensures opened { (image : List ℕ) → IsReadHalf image header start half → IsOpened image result }
 {
     let Half { rows, chain } = half;

@@ -17,7 +17,7 @@ fn device(alloc: Global, byte: u8) -> Result<MemoryDisk, Memory> {
 }
 
 /// A store with a half of one block, to which so many payloads were appended.
-fn store_of(alloc: Global, records: u64) -> Result<MemoryDisk, Fail> {
+pub(crate) fn store_of(alloc: Global, records: u64) -> Result<MemoryDisk, Fail> {
     let mut disk = device(alloc, 255)?;
     format_device(alloc, &mut disk, 5, 1, ID, &ROWS)?;
     for _ in 0..records {
@@ -27,7 +27,7 @@ fn store_of(alloc: Global, records: u64) -> Result<MemoryDisk, Fail> {
 }
 
 /// Opens a journal and appends the payload. The answer is the number of the append's first call.
-fn append_payload(alloc: Global, disk: &mut MemoryDisk) -> Result<u64, Fail> {
+pub(crate) fn append_payload(alloc: Global, disk: &mut MemoryDisk) -> Result<u64, Fail> {
     let mut opened = open_journal(alloc, disk)?;
     let mut frame = Frame::new(alloc, &[0; 58])?;
     let (front, rest) = PAYLOAD.split_at(20);
@@ -39,7 +39,7 @@ fn append_payload(alloc: Global, disk: &mut MemoryDisk) -> Result<u64, Fail> {
 }
 
 /// What a stop within a call leaves, after so many bytes of its range. None where it has fewer.
-fn stopped(
+pub(crate) fn stopped(
     alloc: Global,
     disk: &MemoryDisk,
     call: u64,
@@ -65,7 +65,7 @@ fn found(alloc: Global, disk: &mut MemoryDisk) -> Result<Option<usize>, JournalF
 }
 
 /// How many records have the payload.
-fn count(records: &RecordList) -> usize {
+pub(crate) fn count(records: &RecordList) -> usize {
     records
         .items()
         .iter()

@@ -52,8 +52,8 @@ QuietCalls = (State Request : Type 0) (m : Machine State Request) (b : Beginning
     → Reached m b t whole writing old → Elapses Unchanged Unchanged old new
     → Reached m b t whole writing new
 
--- What writing the record of a change may do to what a crash leaves: it tells nothing, and the image
--- stands for the last state or for the one after the change.
+-- What writing the record of a change may do to what a crash leaves: it tells nothing, and the
+-- image stands for the last state or for the one after the change.
 pub record Writes {State Request : Type 0} (m : Machine State Request) (t : Trace State)
     (s : State) (q p : Left) : Type 0 where
   pub told : p.told ≡ q.told
@@ -79,8 +79,8 @@ TornChanges = (State Request : Type 0) (m : Machine State Request) (b : Beginnin
     → Reached m b t whole false old → Elapses (Writes m t s) (Writes m t s) old new
     → Reached m b (with_change s t) whole true new
 
--- Bytes were said: a piece more, or a prefix of it where the call failed. The piece counts no change
--- that may not stand.
+-- Bytes were said: a piece more, or a prefix of it where the call failed. The piece counts no
+-- change that may not stand.
 abbrev pub SaidPieces : Type 1
 SaidPieces = (State Request : Type 0) (m : Machine State Request) (b : Beginning State)
     (t : Trace State) (piece : Piece) (ok writing : Bool) (old new : Device)
@@ -155,8 +155,8 @@ pub record HasBegun (script : List Piece) (told made : ℕ) : Type 0 where
   pub script_is : script ≡ front ++ Reply bytes made ∷ rear
   pub reached : length (bytes_of front) + 1 ≤ told
 
--- The number of what had begun is at most another exactly where each answer that had begun counts at
--- most so many changes.
+-- The number of what had begun is at most another exactly where each answer that had begun counts
+-- at most so many changes.
 abbrev pub BegunIsGreatest : Type 0
 BegunIsGreatest = (script : List Piece) (told n : ℕ) →
     (begun_in script told ≤ n) ↔ ((made : ℕ) → HasBegun script told made → made ≤ n)

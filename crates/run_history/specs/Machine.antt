@@ -21,7 +21,8 @@ pub record Cutting : Type 0 where
   pub takes_moment : Bool
 
 -- A machine over states and requests.
--- `spells n text request`: behind n requests of a connection, these bytes are this request's, whole.
+-- `spells n text request`: behind n requests of a connection, these bytes are this request's,
+-- whole.
 -- `heads n text request`: these are a whole head and some of its body, of a request that takes its
 -- moment at its head.
 -- `refuses text refusal`: the wire refuses these bytes so.

@@ -57,8 +57,8 @@ pub record IsNow {State Request : Type 0} (m : Machine State Request) (b : Begin
   pub all : whole ≡ true → IsToldToLast told (map bytes_of t.scripts)
   pub stands : StandsNow m p.image t writing
 
--- The invariant of a run: what each crash now may leave, and that each crash since the beginning left
--- what is right. It doesn't say that nothing is pending.
+-- The invariant of a run: what each crash now may leave, and that each crash since the beginning
+-- left what is right. It doesn't say that nothing is pending.
 pub record Reached {State Request : Type 0} (m : Machine State Request) (b : Beginning State)
     (t : Trace State) (whole writing : Bool) (d : Device) : Type 0 where
   pub counts : CountAtMost (sure_changes t writing) t.scripts
@@ -79,9 +79,9 @@ run_stops_writing [] = false
 run_stops_writing (session ∷ []) = stops_writing session.steps
 run_stops_writing (session ∷ next ∷ later) = run_stops_writing (next ∷ later)
 
--- A run has ended, by one history of its connections: what each heard and was told, the moments that
--- were taken, what each crash since the beginning left, and the state for which the file stands. Each
--- state on the way is good.
+-- A run has ended, by one history of its connections: what each heard and was told, the moments
+-- that were taken, what each crash since the beginning left, and the state for which the file
+-- stands. Each state on the way is good.
 pub record Ran {State Request : Type 0} (m : Machine State Request) (b : Beginning State)
     (sessions : List (Session Request)) (new : Device) (given : List ℕ) : Type 0 where
   pub connections : List Connection

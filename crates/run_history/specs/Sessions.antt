@@ -1,4 +1,5 @@
--- Connections by their steps: the script, the states and the moments of each, and how one is served.
+-- Connections by their steps: the script, the states and the moments of each, and how one is
+-- served.
 use Rattle.std.specs.Prelude.{◌≡◌, ◌≢◌, ◌≤◌, ◌+◌, ℕ, suc, Bool, true, false, List, [], ◌∷◌, ◌++◌, None}
 use Rattle.std.specs.List.{flat_map}
 use Rattle.disk_trait.specs.Device.{Connection}
@@ -12,19 +13,22 @@ use Rattle.run_history.specs.Steps.{Step, Answered, Refused, Starved, Stopped, C
 abbrev pub pieces_of : {State Request : Type 0} → Machine State Request → Stage State
     → List (Step Request) → List Piece
 pieces_of m at [] = []
-pieces_of m at (step ∷ steps) = (effect m at step).pieces ++ pieces_of m (after_step m at step) steps
+pieces_of m at (step ∷ steps) =
+    (effect m at step).pieces ++ pieces_of m (after_step m at step) steps
 
 -- their changes, each as the state after it
 abbrev pub changes_of : {State Request : Type 0} → Machine State Request → Stage State
     → List (Step Request) → List State
 changes_of m at [] = []
-changes_of m at (step ∷ steps) = (effect m at step).changes ++ changes_of m (after_step m at step) steps
+changes_of m at (step ∷ steps) =
+    (effect m at step).changes ++ changes_of m (after_step m at step) steps
 
 -- the moments that they took
 abbrev pub moments_of : {State Request : Type 0} → Machine State Request → Stage State
     → List (Step Request) → List ℕ
 moments_of m at [] = []
-moments_of m at (step ∷ steps) = (effect m at step).moments ++ moments_of m (after_step m at step) steps
+moments_of m at (step ∷ steps) =
+    (effect m at step).moments ++ moments_of m (after_step m at step) steps
 
 -- the stage after them
 abbrev pub after_steps : {State Request : Type 0} → Machine State Request → Stage State
@@ -133,8 +137,8 @@ stops [] = false
 stops (Stopped ask failure ∷ steps) = true
 stops (step ∷ steps) = stops steps
 
--- What a connection was told of its pieces: all of them, or, where a saying failed or the disk within
--- an answer, all but a part of the last.
+-- What a connection was told of its pieces: all of them, or, where a saying failed or the disk
+-- within an answer, all but a part of the last.
 abbrev pub IsTold : Bool → LinkEnd → List ℕ → List Piece → Type 0
 IsTold false Whole told pieces = told ≡ bytes_of pieces
 IsTold false Hearing told pieces = told ≡ bytes_of pieces

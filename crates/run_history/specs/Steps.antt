@@ -50,8 +50,8 @@ abbrev pub piece_bytes : Piece → List ℕ
 piece_bytes (Interim bytes) = bytes
 piece_bytes (Reply bytes made) = bytes
 
--- what a step comes to: what it tells, its changes, each as the state after it, and the moments that
--- it took
+-- what a step comes to: what it tells, its changes, each as the state after it, and the moments
+-- that it took
 pub record Effect (State : Type 0) : Type 0 where
   pub pieces : List Piece
   pub changes : List State

@@ -54,8 +54,8 @@ begun (script ∷ scripts) [] = 0
 begun (script ∷ scripts) (t ∷ told) = max (begun_in script (length t)) (begun scripts told)
 
 -- A crash left an image, and what was told: the image stands for the state after some number of the
--- changes, in order, among them each whose answer had begun, and what was told of each connection is
--- a prefix of its script.
+-- changes, in order, among them each whose answer had begun, and what was told of each connection
+-- is a prefix of its script.
 pub record IsLeft {State Request : Type 0} (m : Machine State Request) (t : Trace State)
     (told : List (List ℕ)) (image : List ℕ) : Type 0 where
   pub count : ℕ

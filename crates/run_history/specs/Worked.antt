@@ -1,5 +1,5 @@
--- A history worked out: a small machine over numbers, and six steps on four connections, each with what
--- it comes to.
+-- A history worked out: a small machine over numbers, and six steps on four connections, each with
+-- what it comes to.
 use Rattle.std.specs.Prelude.{◌≡◌, ◌+◌, ◌-◌, ℕ, true, false, List, [], ◌∷◌, Option, Some, None, nat_lt, if◌then◌else◌}
 use Rattle.run_history.specs.Machine.{Machine, Reply}
 use Rattle.run_history.specs.Steps.{Ask, Step, Answered, Refused, Starved, Stopped, Cut, InAnswer, Made, Piece, Interim}
@@ -22,8 +22,8 @@ abbrev pub demand_interim : Demand → Option (List ℕ)
 demand_interim Show = None
 demand_interim (Add n) = Some (1 ∷ [])
 
--- Its text is its reply's, its turn takes 5 from a number above 5, and a file of one number stands for
--- it.
+-- Its text is its reply's, its turn takes 5 from a number above 5, and a file of one number stands
+-- for it.
 abbrev pub adder : Machine ℕ Demand
 adder = record {
   spells = λ n text d. text ≡ (demand_reply d 0).bytes;
@@ -46,8 +46,8 @@ abbrev pub asks : Demand → ℕ → Ask Demand
 asks demand moment =
     record { text = (demand_reply demand 0).bytes; request = demand; moment = moment }
 
--- On four connections: an answer behind an interim, and a refusal of the wire; an answer with a turn
--- behind it, and no memory; a request that was cut; and a fault of the disk within an answer.
+-- On four connections: an answer behind an interim, and a refusal of the wire; an answer with a
+-- turn behind it, and no memory; a request that was cut; and a fault of the disk within an answer.
 abbrev pub six : List (Session Demand)
 six =
     record {
@@ -60,9 +60,9 @@ six =
     ∷ record { steps = Stopped (asks Show 14) InAnswer ∷ []; link = Whole }
     ∷ []
 
--- What they come to from the number 3: each answer with the changes up to it, the states, the moments,
--- and what had begun, by what was told when a crash came: an interim alone, a byte of the second
--- connection's answer, all of its answers, and a byte of the last one.
+-- What they come to from the number 3: each answer with the changes up to it, the states, the
+-- moments, and what had begun, by what was told when a crash came: an interim alone, a byte of the
+-- second connection's answer, all of its answers, and a byte of the last one.
 pub record SixSteps : Type 0 where
   pub scripts : scripts_of adder (start_of 3) six ≡
       (Interim (1 ∷ []) ∷ steps.Reply (101 ∷ 1 ∷ []) 1 ∷ steps.Reply (4 ∷ []) 1 ∷ [])
@@ -81,14 +81,16 @@ pub record SixSteps : Type 0 where
   pub last : begun (scripts_of adder (start_of 3) six)
       ((1 ∷ 101 ∷ 1 ∷ 4 ∷ []) ∷ (1 ∷ 101 ∷ 3 ∷ 5 ∷ []) ∷ (1 ∷ []) ∷ (100 ∷ []) ∷ []) ≡ 3
 
--- One session with other failures: the turn skipped; the disk failed before an answer and in a turn,
--- while a record was being written and while none was.
+-- One session with other failures: the turn skipped; the disk failed before an answer and in a
+-- turn, while a record was being written and while none was.
 abbrev pub alone : Step Demand → List (Session Demand)
 alone step = record { steps = step ∷ []; link = Whole } ∷ []
 
 pub record OtherSteps : Type 0 where
-  pub skipped : states_of (trace_of adder 3 (alone (Answered (asks (Add 3) 1) steps.Skipped))) ≡ 3 ∷ 6 ∷ []
-  pub counted : skips_in (Answered (asks (Add 3) 1) steps.Skipped ∷ Answered (asks Show 2) Made ∷ []) ≡ 1
+  pub skipped : states_of (trace_of adder 3 (alone (Answered (asks (Add 3) 1) steps.Skipped)))
+      ≡ 3 ∷ 6 ∷ []
+  pub counted : skips_in (Answered (asks (Add 3) 1) steps.Skipped ∷ Answered (asks Show 2) Made ∷ [])
+      ≡ 1
   pub torn : trace_of adder 3 (alone (Stopped (asks (Add 3) 1) (steps.BeforeAnswer true))) ≡
       record {
         scripts = (Interim (1 ∷ []) ∷ steps.Reply (6 ∷ []) 0 ∷ []) ∷ [];

@@ -17,17 +17,24 @@ abbrev pub SyncedWriteEnds : Bool → ℕ → List ℕ → List ℕ → Left →
 SyncedWriteEnds true at bytes seen = SyncedWrite at bytes seen
 SyncedWriteEnds false at bytes seen = TornWrite at (length bytes)
 
--- what the writes of a record may have done so far: its frame may be cut short behind the closed
--- gate; or it is there, and the write of the open gate may be cut short
-abbrev pub WithinRecord : ℕ → List ℕ → List ℕ → Left → Left → Type 0
-WithinRecord gate frame seen =
-    WithinTwo (TornWrite (gate + 1) (length frame)) (SyncedWrite (gate + 1) frame seen) (TornWrite gate 1)
+-- what two such writes may have done so far: the first may be cut short; or it is there, and the
+-- second, of one byte, may be cut short
+abbrev pub WithinWrites : ℕ → List ℕ → ℕ → List ℕ → Left → Left → Type 0
+WithinWrites at bytes byte_at seen =
+    WithinTwo (TornWrite at (length bytes)) (SyncedWrite at bytes seen) (TornWrite byte_at 1)
 
 -- what they have done at their end
+abbrev pub WritesEnd : Bool → ℕ → List ℕ → ℕ → ℕ → List ℕ → Left → Left → Type 0
+WritesEnd true at bytes byte_at byte seen =
+    Then (SyncedWrite at bytes seen) (SyncedWrite byte_at (byte ∷ []) (overwritten at bytes seen))
+WritesEnd false at bytes byte_at byte seen = WithinWrites at bytes byte_at seen
+
+-- the writes of a record: its frame behind the closed gate, and then the open gate
+abbrev pub WithinRecord : ℕ → List ℕ → List ℕ → Left → Left → Type 0
+WithinRecord gate frame seen = WithinWrites (gate + 1) frame gate seen
+
 abbrev pub RecordEnds : Bool → ℕ → List ℕ → List ℕ → Left → Left → Type 0
-RecordEnds true gate frame seen =
-    Then (SyncedWrite (gate + 1) frame seen) (SyncedWrite gate (1 ∷ []) (overwritten (gate + 1) frame seen))
-RecordEnds false gate frame seen = WithinRecord gate frame seen
+RecordEnds ok gate frame seen = WritesEnd ok (gate + 1) frame gate 1 seen
 
 -- a step after which the image is no store, and nothing was told
 pub record LeavesNone (old new : Left) : Type 0 where
