@@ -71,11 +71,13 @@ pub record IsRecordAt (image : List ℕ) (at : ℕ) (payload : List ℕ) : Type 
 abbrev pub AreRecords : List ℕ → ℕ → List Record → ℕ → Type 0
 AreRecords image from [] to = from ≡ to
 AreRecords image from (r ∷ rs) to =
-    (r.offset ≡ from) × IsRecordAt image from r.payload × AreRecords image (from + (5 + length r.payload)) rs to
+    (r.offset ≡ from) × IsRecordAt image from r.payload
+    × AreRecords image (from + (5 + length r.payload)) rs to
 
 -- A half that begins at one place and ends before another: its rows, its records, and the closed
 -- gate that ends them. What lies behind that gate isn't read.
-pub record HasHalf (image : List ℕ) (start end gate : ℕ) (rows : List ℕ) (records : List Record) : Type 0 where
+pub record HasHalf (image : List ℕ) (start end gate : ℕ) (rows : List ℕ)
+    (records : List Record) : Type 0 where
   pub text : bytes_at image start (8 + length rows) ≡ rows_text rows
   pub few : length rows < 2 ^ 64
   pub chain : AreRecords image (start + (8 + length rows)) records gate
@@ -83,10 +85,12 @@ pub record HasHalf (image : List ℕ) (start end gate : ℕ) (rows : List ℕ) (
   pub within : gate < end
 
 -- the image reads as a store: its header, and the rows, records and closed gate of its active half
-pub record Reads (image : List ℕ) (h : Header) (gate : ℕ) (rows : List ℕ) (records : List Record) : Type 0 where
+pub record Reads (image : List ℕ) (h : Header) (gate : ℕ) (rows : List ℕ)
+    (records : List Record) : Type 0 where
   pub header : IsHeader image h
   pub sizes : AreSizes h (length image)
-  pub half : HasHalf image (active_start image h.half) (active_start image h.half + BLOCK * h.half) gate rows records
+  pub half : HasHalf image (active_start image h.half)
+      (active_start image h.half + BLOCK * h.half) gate rows records
 
 -- the image doesn't read as a store
 abbrev pub IsUnreadable : List ℕ → Type 0
@@ -102,7 +106,8 @@ pub record IsTornAt (image : List ℕ) (at end : ℕ) : Type 0 where
 
 -- A half that begins at one place and ends before another: its rows, its records, and the place of
 -- the torn record behind them.
-pub record HasTornHalf (image : List ℕ) (start end at : ℕ) (rows : List ℕ) (records : List Record) : Type 0 where
+pub record HasTornHalf (image : List ℕ) (start end at : ℕ) (rows : List ℕ)
+    (records : List Record) : Type 0 where
   pub text : bytes_at image start (8 + length rows) ≡ rows_text rows
   pub few : length rows < 2 ^ 64
   pub chain : AreRecords image (start + (8 + length rows)) records at
@@ -119,7 +124,9 @@ pub record HasLongRows (image : List ℕ) (start end : ℕ) : Type 0 where
 
 -- the image reads as a store up to a torn record: its header, and the rows and records of its
 -- active half before that place
-pub record ReadsTorn (image : List ℕ) (h : Header) (at : ℕ) (rows : List ℕ) (records : List Record) : Type 0 where
+pub record ReadsTorn (image : List ℕ) (h : Header) (at : ℕ) (rows : List ℕ)
+    (records : List Record) : Type 0 where
   pub header : IsHeader image h
   pub sizes : AreSizes h (length image)
-  pub half : HasTornHalf image (active_start image h.half) (active_start image h.half + BLOCK * h.half) at rows records
+  pub half : HasTornHalf image (active_start image h.half)
+      (active_start image h.half + BLOCK * h.half) at rows records

@@ -18,7 +18,8 @@ pub record FitsStore (h : Header) (size : ℕ) (rows : List ℕ) : Type 0 where
 -- active with the rows, and no record
 abbrev pub FormatAnswer : List ℕ → List ℕ → Header → List ℕ → Result (Unit {0}) FormatFault → Type 0
 FormatAnswer old new h rows (Ok _) =
-    (¬ (HasOpenHeader old)) × FitsStore h (length old) rows × Reads new h (8192 + (8 + length rows)) rows []
+    (¬ (HasOpenHeader old)) × FitsStore h (length old) rows
+    × Reads new h (8192 + (8 + length rows)) rows []
 FormatAnswer old new h rows (Err AlreadyStore) = HasOpenHeader old
 FormatAnswer old new h rows (Err TooSmall) =
     (¬ (HasOpenHeader old)) × (¬ (FitsStore h (length old) rows))
@@ -59,7 +60,8 @@ half_text rows = rows_text rows ++ 0 ∷ []
 -- the image with a header, a selector and half A, whose gate was opened last
 abbrev pub with_store : List ℕ → List ℕ → List ℕ → List ℕ
 with_store header half image =
-    overwritten 40 (1 ∷ []) (overwritten 8192 half (overwritten 4096 (0 ∷ []) (overwritten 0 header image)))
+    overwritten 40 (1 ∷ [])
+    (overwritten 8192 half (overwritten 4096 (0 ∷ []) (overwritten 0 header image)))
 
 -- the new image is the old one, whose gate may have been closed first, with a store
 pub record IsFormatted (header half old new : List ℕ) : Type 0 where

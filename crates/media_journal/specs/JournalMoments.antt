@@ -25,13 +25,15 @@ GivesOneOf image p payload held =
 -- What an append may have done so far: nothing was told, only the bytes of a record at the
 -- journal's gate and of the gate behind it may differ, and the image gives the records as they
 -- were, or with the payload.
-pub record KeepsOrAdds (p : Position) (payload : List ℕ) (held : Contents) (old new : Left) : Type 0 where
+pub record KeepsOrAdds (p : Position) (payload : List ℕ) (held : Contents)
+    (old new : Left) : Type 0 where
   pub told : new.told ≡ old.told
   pub elsewhere : Torn p.gate (length payload + 6) old.image new.image
   pub image : GivesOneOf new.image p payload held
 
 -- what an append has done once it has succeeded
-pub record AddsRecord (p : Position) (payload : List ℕ) (held : Contents) (old new : Left) : Type 0 where
+pub record AddsRecord (p : Position) (payload : List ℕ) (held : Contents)
+    (old new : Left) : Type 0 where
   pub told : new.told ≡ old.told
   pub elsewhere : Torn p.gate (length payload + 6) old.image new.image
   pub image : Gives new.image (after_append p (length payload)) (with_payload p payload held)

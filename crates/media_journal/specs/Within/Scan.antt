@@ -29,7 +29,8 @@ EndsAt image at end true = IsTornAt image at end
 EndsAt image at end false = IsClosedGate image at
 
 -- the records of a half from one place on, up to the place where they end
-pub record IsChain (image : List ℕ) (from end gate : ℕ) (torn : Bool) (records : List Record) : Type 0 where
+pub record IsChain (image : List ℕ) (from end gate : ℕ) (torn : Bool)
+    (records : List Record) : Type 0 where
   pub chain : AreRecords image from records gate
   pub within : gate < end
   pub ends : EndsAt image gate end torn
@@ -54,4 +55,5 @@ pub record IsReadHalf (image : List ℕ) (h : Header) (start : ℕ) (half : Half
   pub header : IsHeader image h
   pub sizes : AreSizes h (length image)
   pub start_is : start ≡ active_start image h.half
-  pub found : HalfFound image start (start + BLOCK * h.half) half.chain.gate half.rows half.chain.records half.chain.torn
+  pub found : HalfFound image start (start + BLOCK * h.half) half.chain.gate half.rows
+      half.chain.records half.chain.torn
