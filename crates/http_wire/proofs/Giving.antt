@@ -1,14 +1,12 @@
 -- What a feed leaves and tells when it gives a request.
-use Rattle.std.proofs.Common.{◌≡◌, ℕ, ◌+◌, ◌-◌, ◌<◌, ◌≤◌, Bool, true, false, List, [], ◌++◌, length, take, drop, refl, sym, ap, ◌∙◌, arith, rules, nat_lt}
+use Rattle.std.proofs.Common.{◌≡◌, ℕ, ◌+◌, ◌<◌, ◌≤◌, Bool, true, List, length, take, drop, refl, sym, ap, ◌∙◌, arith, rules, nat_lt}
 use Rattle.std.proofs.lemmas.Bool.Decides.{nat_tests}
 use Rattle.std.proofs.lemmas.List.{drop-take, length-take-le, take-take, take_all}
 use Rattle.std.proofs.Common.{length-drop}
-use Rattle.httparse.specs.Grammar.{RequestHead}
-use Rattle.http_wire.specs.Feeds.{Answers, AnswersBy, Fed, GivesHead, GivesWhole, IsInside, IsPlace, IsPlaceBy, Leaves, Refuses, Tells, TellsBody, Turns, bytes_at, feed_room, is_last, max_requests}
-use Rattle.http_wire.specs.Framing.{closes}
-use Rattle.http_wire.specs.Heads.{Front, more, refused, text_at, whole}
+use Rattle.http_wire.specs.Feeds.{Answers, AnswersBy, Fed, Leaves, Tells, TellsBody, Turns, feed_room, is_last}
+use Rattle.http_wire.specs.Heads.{refused, text_at}
 use Rattle.http_wire.specs.Parts.{Parts, held}
-use Rattle.http_wire.specs.Requests.{IsNext, given, opened}
+use Rattle.http_wire.specs.Requests.{IsNext}
 use Rattle.http_wire.specs.Within.Seeing.{IsFound, IsGiven, IsOpened, IsShown}
 use Rattle.http_wire.specs.declared.framing.WireFault.{WireFault}
 use Rattle.http_wire.specs.declared.head.FoundHead.{FoundHead}
@@ -48,7 +46,7 @@ tells_found unread n number size found known body shown fed few inside last is =
     let long : length fed.last ≡ n = ap length last ∙ length-take-le n unread inside in
     let within : found.target.start + found.target.length ≤ n = omega (arith, known.tells.inside) in
     let there : text_at fed.last shown.target ≡ text_at unread found.target =
-        rw (last, is.target) (text_at-take unread n found.target within) in
+    rw (last, is.target) (text_at-take unread n found.target within) in
     let in_last : shown.target.start + shown.target.length ≤ length fed.last = rw (long, is.target) within in
     record {
       method = is.method ∙ known.tells.method;
@@ -68,7 +66,7 @@ tells_plain unread n size number found place shown fed small inside last there i
     let body = is.body_is ∙ there in
     let whole_size : size ≤ length (drop n unread) = omega (arith, length-drop n unread) in
     let content : take size (drop n (take (n + size) unread)) ≡ take size (drop n unread) =
-        rw (drop-take n size unread) (take-take size size (drop n unread) (omega arith)) in
+    rw (drop-take n size unread) (take-take size size (drop n unread) (omega arith)) in
     record {
       size = is.size_is ∙ sym (length-take-le size (drop n unread) whole_size);
       place = rw (body, low, long) (omega arith);
@@ -113,11 +111,14 @@ leaves_by kept parts content body was stage other requests number n had ended is
 module _ (kept parts : Parts) (bytes content body : List ℕ) (was : Stage) (requests : ℕ) (had : Bool) (there : bytes ≡ kept.unread) where
   pub turn_refused : (fault : WireFault) (refusal : Refusal) → parts ≡ held 0 kept → refusal ≡ refusal_of fault → IsNext bytes (refused fault)
       → Turns (fed_of kept content was requests had) (steps.Refused refusal) (fed_of parts body (Failed fault) requests had)
-  turn_refused fault refusal is name next =
-      (fault, name, record {
-        next = rw (← there) next;
-        leaves = leaves_by kept parts content body was (Failed fault) (Failed fault) requests requests 0 had had is refl;
-      })
+  turn_refused fault refusal is name next = (
+    fault,
+    name,
+    record {
+      next = rw (← there) next;
+      leaves = leaves_by kept parts content body was (Failed fault) (Failed fault) requests requests 0 had had is refl;
+    },
+  )
 
   pub turn_opened : (found : FoundHead) (size : ℕ) (place : Span) (shown : Head) → parts ≡ held found.length kept → IsOpened bytes found size
       → IsShown found place size (requests + 1) shown

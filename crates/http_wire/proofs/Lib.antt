@@ -4,7 +4,9 @@ pub mod Digits
 pub mod Ends
 pub mod Fronts
 pub mod Giving
+pub mod Hearings
 pub mod Interims
 pub mod Moves
 pub mod Reaching
 pub mod Seeking
+pub mod Staying

@@ -9,7 +9,6 @@ use Rattle.httparse.specs.Grammar.{is_extension_byte, is_ows}
 use Rattle.http_wire.specs.Framing.{max_body}
 use Rattle.http_wire.specs.Heads.{Front, more, refused, whole}
 use Rattle.http_wire.specs.Lines.{carriage_return, line_end, line_feed, looked}
-use Rattle.http_wire.specs.declared.framing.WireFault.{WireFault}
 use Rattle.http_wire.specs.declared.framing.WireFault.TheVariants.{BadFraming, TooLarge}
 use Rattle.http_wire.specs.declared.chunk_line.Ending.{Ending}
 use Rattle.http_wire.specs.declared.chunk_line.Ending.TheVariants.{Ended, Open, Wrong}

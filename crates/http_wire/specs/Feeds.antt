@@ -1,9 +1,9 @@
 -- A feed: how the bytes of a connection are cut into requests, call by call.
-use Rattle.std.specs.Prelude.{◌≡◌, ◌≢◌, ℕ, ◌+◌, ◌-◌, ◌<◌, ◌≤◌, ◌==◌, nat_lt, Bool, true, false, ◌||◌, List, [], ◌++◌, length, take, drop, if◌then◌else◌}
+use Rattle.std.specs.Prelude.{◌≡◌, ℕ, ◌+◌, ◌-◌, ◌≤◌, ◌==◌, nat_lt, Bool, true, false, ◌||◌, List, [], ◌++◌, length, take, drop, if◌then◌else◌}
 use Rattle.httparse.specs.Grammar.{RequestHead}
 use Rattle.http_wire.specs.Framing.{closes, method_kind, wants_interim}
-use Rattle.http_wire.specs.Heads.{Front, IsHead, more, refused, text_at, whole}
-use Rattle.http_wire.specs.Requests.{Got, IsNext, given, opened}
+use Rattle.http_wire.specs.Heads.{IsHead, more, refused, text_at, whole}
+use Rattle.http_wire.specs.Requests.{IsNext, given, opened}
 use Rattle.http_wire.specs.Steps.{refusal_of}
 use Rattle.http_wire.specs.declared.framing.WireFault.{WireFault}
 use Rattle.http_wire.specs.declared.head.Span.{Span}

@@ -3,6 +3,7 @@ pub mod Feeds
 pub mod Fields
 pub mod Framing
 pub mod Heads
+pub mod Hearing
 pub mod Lines
 pub mod Parts
 pub mod Requests
