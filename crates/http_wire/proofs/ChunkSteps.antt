@@ -81,12 +81,13 @@ chunk_data_same f g s bytes false same = data_same f g s bytes (closed (drop s b
 abbrev Agree : ℕ → (ℕ → List ℕ → Front (List ℕ)) → (ℕ → List ℕ → Front (List ℕ)) → Type 0
 Agree room f g = (s : ℕ) (rest : List ℕ) → 0 < s → s ≤ room → f (room - s) rest ≡ g (room - s) rest
 
-sized_same : (f g : ℕ → List ℕ → Front (List ℕ)) (room n s : ℕ) (bytes : List ℕ) (last over : Bool) → nat_eq s 0 ≡ last → nat_lt room s ≡ over → Agree room f g
+sized_same : (f g : ℕ → List ℕ → Front (List ℕ)) (room n s : ℕ) (bytes : List ℕ) (last over : Bool) → nat_eq s 0 ≡ last → nat_lt room s ≡ over
+    → Agree room f g
     → cond last (prefixed [] n (body_end (trailer bytes))) (cond over (refused TooLarge) (prefixed [] n (chunk_data (f (room - s)) s bytes)))
     ≡ cond last (prefixed [] n (body_end (trailer bytes))) (cond over (refused TooLarge) (prefixed [] n (chunk_data (g (room - s)) s bytes)))
-sized_same f g room n s bytes true over zero_ over_ same = refl
-sized_same f g room n s bytes false true zero_ over_ same = refl
-sized_same f g room n s bytes false false zero_ over_ same =
+sized_same f g room n s bytes true over is_last is_over same = refl
+sized_same f g room n s bytes false true is_last is_over same = refl
+sized_same f g room n s bytes false false is_last is_over same =
     let some : 0 < s = grind (arith, nat_tests) in
     let fits : s ≤ room = grind (arith, nat_tests) in
     ap (prefixed [] n) (chunk_data_same (f (room - s)) (g (room - s)) s bytes (nat_lt (length bytes) s) (λ rest. same s rest some fits))

@@ -21,7 +21,8 @@ use Rattle.media_rows.specs.declared.refusal.Refusal.{Refusal}
 use Rattle.http_wire.proofs.Seeking.{text_at-take}
 
 -- an answer where nothing was refused
-answers_by : (stage : Stage) (old new : Fed) (step : Step) → ((fault : WireFault) → stage ≡ Failed fault → ⊥) → Turns old step new → AnswersBy stage old step new
+answers_by : (stage : Stage) (old new : Fed) (step : Step) → ((fault : WireFault) → stage ≡ Failed fault → ⊥) → Turns old step new
+    → AnswersBy stage old step new
 answers_by Open old new step other turns = turns
 answers_by (Media left) old new step other turns = turns
 answers_by (Failed fault) old new step other turns = absurd (other fault refl)
@@ -98,7 +99,8 @@ fed_of parts body stage requests ended = record {
   ended = ended;
 }
 
-leaves_by : (kept parts : Parts) (content body : List ℕ) (was stage other : Stage) (requests number n : ℕ) (had ended : Bool) → parts ≡ held n kept → stage ≡ other
+leaves_by : (kept parts : Parts) (content body : List ℕ) (was stage other : Stage) (requests number n : ℕ) (had ended : Bool)
+    → parts ≡ held n kept → stage ≡ other
     → Leaves (fed_of kept content was requests had) (fed_of parts body stage number ended) n other number ended
 leaves_by kept parts content body was stage other requests number n had ended is same = record {
   last = rw is refl;
@@ -128,8 +130,12 @@ module _ (kept parts : Parts) (bytes content body : List ℕ) (was : Stage) (req
     n = found.length;
     next = rw (← there, told.size_is) found_it.next;
     inside = rw (← there) found_it.known.inside;
-    leaves = leaves_by kept parts content body was (Media size) (Media shown.length) requests (requests + 1) found.length had shown.ends is (ap (λ s. Media s) (sym told.size_is));
-    tells = tells_found bytes found.length (requests + 1) size found found_it.known place shown _ (omega arith) found_it.known.inside (rw (is, there) refl) told;
+    leaves = leaves_by kept parts content body was (Media size) (Media shown.length) requests (requests + 1) found.length had shown.ends is (ap (λ
+        s. Media s) (sym told.size_is));
+    tells = tells_found bytes found.length (requests + 1) size found found_it.known place shown _ (omega arith) found_it.known.inside (rw (
+      is,
+      there,
+    ) refl) told;
   }
 
   pub turn_plain : (found : FoundHead) (size : ℕ) (place : Span) (shown : Head) → parts ≡ held (found.length + size) kept
@@ -143,8 +149,12 @@ module _ (kept parts : Parts) (bytes content body : List ℕ) (was : Stage) (req
     next = rw (← there) found_it.next;
     inside = rw (← there) found_it.inside;
     leaves = leaves_by kept parts content body was Open Open requests (requests + 1) (found.length + size) had shown.ends is refl;
-    tells = tells_found bytes (found.length + size) (requests + 1) size found found_it.known place shown _ (omega arith) found_it.inside (rw (is, there) refl) told;
-    tells_body = tells_plain bytes found.length size (requests + 1) found place shown _ found_it.known.small found_it.inside (rw (is, there) refl) at told;
+    tells = tells_found bytes (found.length + size) (requests + 1) size found found_it.known place shown _ (omega arith) found_it.inside (rw (
+      is,
+      there,
+    ) refl) told;
+    tells_body = tells_plain bytes found.length size (requests + 1) found place shown _ found_it.known.small found_it.inside (rw (is, there) refl)
+        at told;
   }
 
   pub turn_decoded : (found : FoundHead) (size long : ℕ) (place : Span) (shown : Head) → parts ≡ held (found.length + size) kept
@@ -158,6 +168,9 @@ module _ (kept parts : Parts) (bytes content body : List ℕ) (was : Stage) (req
     next = rw (← there) found_it.next;
     inside = rw (← there) found_it.inside;
     leaves = leaves_by kept parts content body was Open Open requests (requests + 1) (found.length + size) had shown.ends is refl;
-    tells = tells_found bytes (found.length + size) (requests + 1) long found found_it.known place shown _ (omega arith) found_it.inside (rw (is, there) refl) told;
+    tells = tells_found bytes (found.length + size) (requests + 1) long found found_it.known place shown _ (omega arith) found_it.inside (rw (
+      is,
+      there,
+    ) refl) told;
     tells_body = tells_decoded long (requests + 1) found place shown _ all at told;
   }

@@ -3,7 +3,7 @@ use Rattle.std.proofs.Common.{◌≡◌, ℕ, zero, suc, Bool, true, false, List
 use Rattle.std.proofs.lemmas.Bool.Decides.{nat_tests}
 use Rattle.std.proofs.lemmas.List.{drop-append-le}
 use Rattle.httparse.specs.Grammar.{RequestHead}
-use Rattle.http_wire.specs.Hearing.{Heard, IsHeard, HeardFrom, GoesOn, MediaGoesOn, and_then, ends_with, IsOneHearing, StaysDecided, StaysRefused, HearsOn, HearsOnMedia, EndsLast}
+use Rattle.http_wire.specs.Hearing.{Heard, IsHeard, HeardFrom, GoesOn, MediaGoesOn, and_then, ends_with, IsOneHearing, StaysDecided, StaysRefused, HearsOn, HearsOnMedia, EndsLast, EndsLastMedia}
 use Rattle.http_wire.specs.Heads.{Front, IsHeadBy, more, refused, whole}
 use Rattle.http_wire.specs.Lines.{head_end}
 use Rattle.http_wire.specs.Requests.{Got, IsNext, after_read, given, opened}
@@ -19,7 +19,8 @@ more_or_refused : (end : Looked) (bytes : List ℕ) (fault : WireFault) → IsHe
 more_or_refused (looks.Still place) bytes fault short long = omega (arith, short, long.1)
 more_or_refused (looks.Ended end) bytes fault short long = short
 
-same_refusal : (end : Looked) (bytes : List ℕ) (fault other : WireFault) → IsHeadBy end bytes (refused fault) → IsHeadBy end bytes (refused other) → fault ≡ other
+same_refusal : (end : Looked) (bytes : List ℕ) (fault other : WireFault) → IsHeadBy end bytes (refused fault)
+    → IsHeadBy end bytes (refused other) → fault ≡ other
 same_refusal (looks.Still place) bytes fault other one two = one.0 ∙ sym two.0
 same_refusal (looks.Ended end) bytes fault other one two = one.0 ∙ sym two.0
 
@@ -52,7 +53,8 @@ goes_one true later head body bytes heard other one a b = a ∙ sym b
 goes_one false later head body bytes heard other one a b =
     a.2 ∙ ap (and_then head body) (one bytes a.0 b.0 a.1 b.1) ∙ sym b.2
 
-media_one : (short ends : Bool) (later : List ℕ → Heard → Type 0) (head : RequestHead) (size : ℕ) (all bytes : List ℕ) (heard other : Heard) → IsOne later
+media_one : (short ends : Bool) (later : List ℕ → Heard → Type 0) (head : RequestHead) (size : ℕ) (all bytes : List ℕ) (heard other : Heard)
+    → IsOne later
     → MediaGoesOn short ends later head size all bytes heard → MediaGoesOn short ends later head size all bytes other → heard ≡ other
 media_one true ends later head size all bytes heard other one a b = a ∙ sym b
 media_one false ends later head size all bytes heard other one a b =
@@ -107,4 +109,13 @@ hears_on_media left bytes later head size n tail next inside on all heard =
       whole (opened head size) n,
       next_stays bytes later (whole (opened head size) n) next tt,
       rw (drop-append-le n bytes later inside, long, on) (tail, heard, refl),
+    )
+
+pub ends_last_media : EndsLastMedia
+unfolding IsHeard
+ends_last_media left bytes later head size n next inside last all =
+    let long : nat_lt (length (drop n bytes ++ later)) size ≡ false = search (arith, rules, nat_tests) in (
+      whole (opened head size) n,
+      next_stays bytes later (whole (opened head size) n) next tt,
+      rw (drop-append-le n bytes later inside, long, last) refl,
     )

@@ -16,11 +16,12 @@ use Rattle.http_wire.specs.declared.seek.Seen.{Seen}
 use Rattle.http_wire.specs.declared.seek.Seen.TheVariants as seen
 
 -- what is found is what stands there
-pub same_by : (end : Looked) (bytes : List ℕ) (head other : RequestHead) (n m : ℕ) → IsHeadBy end bytes (whole head n) → IsHeadBy end bytes (whole other m)
+pub same_by : (end : Looked) (bytes : List ℕ) (head other : RequestHead) (n m : ℕ) → IsHeadBy end bytes (whole head n)
+    → IsHeadBy end bytes (whole other m)
     → (head ≡ other) × (n ≡ m)
 same_by (Still place) bytes head other n m one two = absurd one
-same_by (Ended end) bytes head other n m (size, one) (length_, two) =
-    ((request_unique (take end bytes) head other [] [] one.reads two.reads).0, size ∙ sym length_)
+same_by (Ended end) bytes head other n m (size, one) (other_size, two) =
+    ((request_unique (take end bytes) head other [] [] one.reads two.reads).0, size ∙ sym other_size)
 
 -- at most one head stands at the front
 pub same_head : (bytes : List ℕ) (head other : RequestHead) (n m : ℕ) → IsHead bytes (whole head n) → IsHead bytes (whole other m)
@@ -35,12 +36,14 @@ more_by (Ended end) bytes head n one two = one
 pub more_no_head : (bytes : List ℕ) (head : RequestHead) (n : ℕ) → IsHead bytes more → IsHead bytes (whole head n) → ⊥
 more_no_head bytes head n one two = more_by (head_end bytes) bytes head n one two
 
-pub refused_by : (end : Looked) (bytes : List ℕ) (fault : WireFault) (head : RequestHead) (n : ℕ) → IsHeadBy end bytes (refused fault) → IsHeadBy end bytes (whole head n) → ⊥
+pub refused_by : (end : Looked) (bytes : List ℕ) (fault : WireFault) (head : RequestHead) (n : ℕ) → IsHeadBy end bytes (refused fault)
+    → IsHeadBy end bytes (whole head n) → ⊥
 refused_by (Still place) bytes fault head n one two = two
 refused_by (Ended end) bytes fault head n one two = one.1 head two.1
 
 -- and none where it is refused
-pub refused_no_head : (bytes : List ℕ) (fault : WireFault) (head : RequestHead) (n : ℕ) → IsHead bytes (refused fault) → IsHead bytes (whole head n) → ⊥
+pub refused_no_head : (bytes : List ℕ) (fault : WireFault) (head : RequestHead) (n : ℕ) → IsHead bytes (refused fault)
+    → IsHead bytes (whole head n) → ⊥
 refused_no_head bytes fault head n one two = refused_by (head_end bytes) bytes fault head n one two
 
 -- ---- interim responses

@@ -1,3 +1,4 @@
+pub mod Agreements
 pub mod ChunkLine
 pub mod ChunkSteps
 pub mod Digits

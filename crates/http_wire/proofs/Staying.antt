@@ -45,7 +45,8 @@ kept_is more after keeps decided = absurd decided
 kept_is (refused fault) after keeps decided = keeps
 kept_is (whole a n) after keeps decided = keeps
 
-keeps_prefixed : (content : List ℕ) (n : ℕ) (front after : Front (List ℕ)) → Keeps front after → Keeps (prefixed content n front) (prefixed content n after)
+keeps_prefixed : (content : List ℕ) (n : ℕ) (front after : Front (List ℕ)) → Keeps front after
+    → Keeps (prefixed content n front) (prefixed content n after)
 keeps_prefixed content n more after keeps = tt
 keeps_prefixed content n (refused fault) after keeps = rw keeps refl
 keeps_prefixed content n (whole body m) after keeps = rw keeps refl
@@ -152,7 +153,11 @@ module _ (front further : List ℕ) where
   too_many place (looks.Ended m) is many =
       let test : nat_lt 65 (count_lines (front ++ take m further)) ≡ true =
       (let sum : 65 < count_lines (front ++ take m further) =
-      omega (arith, sum_by-append (λ b. cond (b == 10) 1 0) front (take m further), ends_a_line place further m is) in search (arith, rules, nat_tests)) in
+      omega (arith, sum_by-append (λ b. cond (b == 10) 1 0) front (take m further), ends_a_line place further m is) in search (
+        arith,
+        rules,
+        nat_tests,
+      )) in
       rw (take-append-add front further m, test) refl
 
   trailer_still : (place : Place) (long many : Bool) → looked After front ≡ looks.Still place → nat_le 16384 (length front) ≡ long
@@ -222,8 +227,10 @@ KeepOn next later = (room : ℕ) (r : List ℕ) → Keeps (next room r) (next ro
 
 module _ (next : ℕ → List ℕ → Front (List ℕ)) (later : List ℕ) (stays : KeepOn next later) (room n : ℕ) where
   sized_by : (rest : List ℕ) (size : ℕ) (last over : Bool)
-      → Keeps (cond last (prefixed [] n (body_end (trailer rest))) (cond over (refused TooLarge) (prefixed [] n (chunk_data (next (room - size)) size rest))))
-      (cond last (prefixed [] n (body_end (trailer (rest ++ later)))) (cond over (refused TooLarge) (prefixed [] n (chunk_data (next (room - size)) size (rest ++ later)))))
+      → Keeps (cond last (prefixed [] n (body_end (trailer rest))) (cond over (refused TooLarge) (prefixed [] n (chunk_data (next (room - size))
+      size rest))))
+      (cond last (prefixed [] n (body_end (trailer (rest ++ later)))) (cond over (refused TooLarge) (prefixed [] n (chunk_data (next (room - size))
+      size (rest ++ later)))))
   sized_by rest size true over = keeps_prefixed [] n _ _ (end_keeps _ _ (trailer_keeps rest later))
   sized_by rest size false true = refl
   sized_by rest size false false =
@@ -234,7 +241,8 @@ module _ (next : ℕ → List ℕ → Front (List ℕ)) (later : List ℕ) (stay
   sized_keeps rest (Some size) = sized_by rest size (nat_eq size 0) (nat_lt room size)
 
 -- a line ends within the bytes
-line_step : (first : Bool) (found : Option ℕ) (n k : ℕ) → ((m : ℕ) → found ≡ Some m → m ≤ k) → cond first (Some 1) (further found) ≡ Some n → n ≤ suc k
+line_step : (first : Bool) (found : Option ℕ) (n k : ℕ) → ((m : ℕ) → found ≡ Some m → m ≤ k) → cond first (Some 1) (further found) ≡ Some n
+    → n ≤ suc k
 line_step true found n k inside e = let same : 1 ≡ n = cc in omega arith
 line_step false None n k inside e = cc
 line_step false (Some m) n k inside e = let same : m + 1 ≡ n = cc in omega (arith, inside m refl)
@@ -243,7 +251,8 @@ line_inside : (bytes : List ℕ) (n : ℕ) → line_end bytes ≡ Some n → n �
 line_inside [] n ends = cc
 line_inside (b ∷ bytes) n ends = line_step (nat_eq b 10) (line_end bytes) n (length bytes) (line_inside bytes) ends
 
-lined_keeps : (next : ℕ → List ℕ → Front (List ℕ)) (later : List ℕ) → KeepOn next later → (room : ℕ) (bytes : List ℕ) (end : Option ℕ) → line_end bytes ≡ end
+lined_keeps : (next : ℕ → List ℕ → Front (List ℕ)) (later : List ℕ) → KeepOn next later → (room : ℕ) (bytes : List ℕ) (end : Option ℕ)
+    → line_end bytes ≡ end
     → Keeps (lined_chunk next room bytes end) (one_chunk next room (bytes ++ later))
 lined_keeps next later stays room bytes None is = tt
 lined_keeps next later stays room bytes (Some n) is =
@@ -294,7 +303,8 @@ body_keeps : (framing : Framing) (bytes later : List ℕ) → Keeps (body_at fra
 body_keeps (Length n) bytes later = length_by bytes later n (nat_lt (length bytes) n) refl
 body_keeps Chunked bytes later = chunked_keeps bytes later
 
-with_body_keeps : (head : RequestHead) (n : ℕ) (body after : Front (List ℕ)) → Keeps body after → Keeps (with_body head n body) (with_body head n after)
+with_body_keeps : (head : RequestHead) (n : ℕ) (body after : Front (List ℕ)) → Keeps body after
+    → Keeps (with_body head n body) (with_body head n after)
 with_body_keeps head n more after keeps = tt
 with_body_keeps head n (refused fault) after keeps = rw keeps refl
 with_body_keeps head n (whole body m) after keeps = rw keeps refl
@@ -312,7 +322,8 @@ after_head_keeps head n bytes later (Err fault) = refl
 after_head_keeps head n bytes later (Ok framing) = framed_keeps (is_media head.method head.target) head n bytes later framing
 
 -- a whole head lies within the bytes
-head_inside_by : (end : Looked) (bytes : List ℕ) (head : RequestHead) (n : ℕ) → head_end bytes ≡ end → IsHeadBy end bytes (whole head n) → n ≤ length bytes
+head_inside_by : (end : Looked) (bytes : List ℕ) (head : RequestHead) (n : ℕ) → head_end bytes ≡ end → IsHeadBy end bytes (whole head n)
+    → n ≤ length bytes
 head_inside_by (looks.Still place) bytes head n is stands = absurd stands
 head_inside_by (looks.Ended end) bytes head n is (same, one) =
     omega (arith, looked_inside Before (take 16384 bytes) end is, length-take 16384 bytes)

@@ -1,5 +1,5 @@
--- What the whole list of a connection's bytes spells (RFC 9112, sections 2 and 9). It never speaks of the
--- pieces in which they come.
+-- What the whole list of a connection's bytes spells (RFC 9112, sections 2 and 9). It never speaks
+-- of the pieces in which they come.
 use Rattle.std.specs.Prelude.{◌≡◌, ℕ, zero, suc, ◌≤◌, ◌==◌, nat_lt, Bool, true, false, ◌||◌, List, [], ◌∷◌, ◌++◌, length, take, drop, Option, Some, None}
 use Rattle.httparse.specs.Grammar.{RequestHead}
 use Rattle.http_wire.specs.Feeds.{max_requests}
@@ -13,8 +13,8 @@ pub record Asked : Type 0 where
   pub head : RequestHead
   pub body : List ℕ
 
--- The requests up to the first that ends the connection or is refused, the refusal where one stands, and the
--- bytes behind the last request.
+-- The requests up to the first that ends the connection or is refused, the refusal where one
+-- stands, and the bytes behind the last request.
 pub record Heard : Type 0 where
   pub requests : List Asked
   pub fault : Option WireFault
@@ -41,7 +41,8 @@ abbrev pub ends_with : ℕ → RequestHead → Bool
 ends_with left head = closes head || left == 0
 
 -- a request, and what is heard of the bytes behind it unless it ends the connection
-abbrev pub GoesOn : Bool → (List ℕ → Heard → Type 0) → RequestHead → List ℕ → List ℕ → Heard → Type 0
+abbrev pub GoesOn
+    : Bool → (List ℕ → Heard → Type 0) → RequestHead → List ℕ → List ℕ → Heard → Type 0
 GoesOn true later head body bytes heard = heard ≡ and_then head body (nothing bytes)
 GoesOn false later head body bytes heard =
     (tail : Heard) × later bytes tail × (heard ≡ and_then head body tail)
@@ -115,3 +116,13 @@ EndsLast =
     (left : ℕ) (bytes later : List ℕ) (head : RequestHead) (body : List ℕ) (n : ℕ)
     → IsNext bytes (whole (given head body) n) → n ≤ length bytes → ends_with left head ≡ true
     → IsHeard (suc left) (bytes ++ later) (and_then head body (nothing (drop n bytes ++ later)))
+
+-- and so where it is a media PUT, once its body is whole
+abbrev pub EndsLastMedia : Type 0
+EndsLastMedia =
+    (left : ℕ) (bytes later : List ℕ) (head : RequestHead) (size n : ℕ)
+    → IsNext bytes (whole (opened head size) n) → n ≤ length bytes → ends_with left head ≡ true
+    → size ≤ length (drop n bytes ++ later)
+    → IsHeard (suc left) (bytes ++ later)
+    (and_then head (take size (drop n bytes ++ later))
+    (nothing (drop size (drop n bytes ++ later))))

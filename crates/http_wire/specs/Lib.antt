@@ -1,3 +1,4 @@
+pub mod Agreeing
 pub mod Chunks
 pub mod Feeds
 pub mod Fields

@@ -52,7 +52,8 @@ FindsHead unread (heads.More place at) = IsHead unread more × IsSeeking unread 
 FindsHead unread heads.Refused = IsHead unread (refused BadHead)
 FindsHead unread (heads.Whole found) = IsFound unread found
 
--- a request stands at the front: its head, and a body of so many bytes behind it that gives this content
+-- a request stands at the front: its head, and a body of so many bytes behind it that gives this
+-- content
 pub record IsGiven (unread content : List ℕ) (found : FoundHead) (size : ℕ) : Type 0 where
   pub known : IsFound unread found
   pub next : IsNext unread (whole (given known.head content) (found.length + size))

@@ -1,4 +1,4 @@
-use Rattle.http_wire.proofs.Hearings.{ends_last, hears_on, hears_on_media, one_hearing, stays_decided, stays_refused}
+use Rattle.http_wire.proofs.Hearings.{ends_last, ends_last_media, hears_on, hears_on_media, one_hearing, stays_decided, stays_refused}
 use Rattle.http_wire.proofs.laws.hearing_is_one.Goals as goal
 
 pub returns : goal.returns
@@ -9,4 +9,5 @@ returns c = record {
   on = hears_on;
   on_media = hears_on_media;
   last = ends_last;
+  last_media = ends_last_media;
 }

@@ -5,6 +5,6 @@ use Rattle.http_wire.proofs.tests.one_by_one.Given as goal
 -- every answer so far was that nothing is whole
 abbrev pub invariant-loop-i : goal.invariant-loop-i
 invariant-loop-i l = record {
-  open_ : l.feed.stage ≡ Open;
+  stage : l.feed.stage ≡ Open;
   goes_on : l.feed.ended ≡ false;
 }
