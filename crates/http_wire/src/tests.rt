@@ -1,7 +1,9 @@
 //! Heads and bodies as clients and attackers send them, with the answer to each (RFC 9112). Each is fed at
 //! once and byte by byte.
 
-use crate::{Feed, Step};
+use crate::{Feed, Field, FieldList, MethodKind, Step, write_response};
+use disk_trait::{Memory, Text};
+use std::alloc::Global;
 
 const MORE: u8 = 0;
 
@@ -235,4 +237,67 @@ fn each_is_answered(rt: HostRuntime) {
         let (i, (bytes, wanted)) = row;
         assert!(rt; answers(&mut feed, bytes, *wanted), "row {i}");
     }
+}
+
+/// Whether a chunked body is told decoded, and an interim response is due to its head.
+fn tells_chunks(feed: &mut Feed) -> bool {
+    feed.restart();
+    feed.push(b"POST /a?b HTTP/1.1\r\nTransfer-Encoding: chunked\r\nExpect: 100-Continue\r\n\r\n");
+    feed.push(b"3\r\nabc\r\n2\r\nde\r\n0\r\n\r\nGET");
+    match feed.next_request() {
+        Step::Whole(head) => {
+            let target = feed.bytes(head.target) == b"/a?b".as_slice();
+            let body = feed.bytes(head.body) == b"abcde".as_slice();
+            target && body && head.method == MethodKind::Post && head.wants_interim && !head.ends
+        }
+        _ => false,
+    }
+}
+
+/// Whether the body of a media PUT is handed on, and no more.
+fn hands_on(feed: &mut Feed) -> bool {
+    let mut out = [0u8; 8];
+    feed.restart();
+    feed.push(b"PUT /media/o HTTP/1.1\r\nContent-Length: 3\r\nConnection: Close\r\n\r\nabcGET");
+    match feed.next_request() {
+        Step::Head(head) => {
+            let count = feed.take_body(&mut out);
+            let none = feed.take_body(&mut out);
+            head.length == 3 && head.ends && count == 3 && none == 0 && out[2] == b'c'
+        }
+        _ => false,
+    }
+}
+
+/// Whether an interim response is due once the head is whole, and not before.
+fn waits(feed: &mut Feed) -> bool {
+    feed.restart();
+    feed.push(b"PUT /flows/a HTTP/1.1\r\nContent-Length: 3\r\nExpect: 100-continue\r\n");
+    let before = feed.interim_due();
+    feed.push(b"\r\n");
+    !before && feed.interim_due()
+}
+
+/// A response with one field.
+fn response(alloc: Global) -> Result<Text, Memory> {
+    let mut fields = FieldList::new(alloc);
+    fields.push(Field {
+        name: Text::from_bytes(alloc, b"Content-Length")?,
+        value: Text::from_bytes(alloc, b"2")?,
+    })?;
+    write_response(alloc, 413, &fields, b"{}", false)
+}
+
+#[test]
+fn parts_are_told(rt: HostRuntime) {
+    let Ok(mut feed) = Feed::new(rt.alloc()) else {
+        assert!(rt; false, "there is memory");
+        return;
+    };
+    assert!(rt; tells_chunks(&mut feed), "a chunked body");
+    assert!(rt; hands_on(&mut feed), "a media PUT");
+    assert!(rt; waits(&mut feed), "an interim response");
+    let wanted = b"HTTP/1.1 413 Payload Too Large\r\nContent-Length: 2\r\n\r\n{}";
+    let same = response(rt.alloc()).map_or(false, |text| text.bytes() == wanted.as_slice());
+    assert!(rt; same, "a response");
 }
