@@ -1,10 +1,10 @@
 -- What a chunk's line names is what `httparse` reads of it.
-use Rattle.std.proofs.Common.{◌≡◌, ◌≢◌, ℕ, suc, ◌+◌, ◌<◌, ◌≤◌, ◌==◌, Bool, true, false, cond, ◌&&◌, List, [], ◌∷◌, ◌++◌, length, get_or, take, drop, refl, sym, ap, ◌∙◌, arith, Option, Some, None, append-nil, inl, inr, nat_eq, nat_lt, nat_le, bytes_eq, rules, length-append, length-drop}
+use Rattle.std.proofs.Common.{◌≡◌, ◌≢◌, ℕ, ◌<◌, ◌≤◌, Bool, true, false, cond, ◌&&◌, List, [], ◌∷◌, ◌++◌, length, get_or, drop, refl, sym, ap, ◌∙◌, arith, Option, Some, None, append-nil, inl, inr, nat_eq, nat_lt, nat_le, bytes_eq, rules, length-append, length-drop}
 use Rattle.std.specs.List.{prefix_len}
 use Rattle.std.specs.Char.{is_ascii_hexdigit}
 use Rattle.std.specs.Cmp.Lexicographic.{same_text}
 use Rattle.std.specs.Str.Parse.{digits_value}
-use Rattle.std.proofs.lemmas.Bool.{cases_lt, true≢false, false≢true}
+use Rattle.std.proofs.lemmas.Bool.{cases_lt, false≢true}
 use Rattle.std.proofs.lemmas.Bool.Decides.{nat_tests}
 use Rattle.std.proofs.lemmas.List.{get_or_append_left, take-append-drop, take_at, drop_at, drop_all, drop_more, get_or-take, length-take-le}
 use Rattle.std.proofs.lemmas.Option.{cond_some}
@@ -13,7 +13,7 @@ use Rattle.httparse.specs.Ascii.{crlf_bytes}
 use Rattle.httparse.specs.Grammar.{AllPass, ChunkLine, NeverHasChunkLine, ReadsChunkLine, chunk_size, print_chunk_line, is_extension_byte, is_ows}
 use Rattle.httparse.specs.Pieces.{Extension, Run, Stops}
 use Rattle.httparse.specs.Spans.{IsChunkLineAt}
-use Rattle.httparse.proofs.ChunkLemmas.{chunk_line, chunk_line_unique, chunk_pieces, chunk_from_pieces}
+use Rattle.httparse.proofs.ChunkLemmas.{chunk_line_unique, chunk_pieces, chunk_from_pieces}
 use Rattle.http_wire.specs.Chunks.{front_by, behind, is_line_tail, sized_line, line_size}
 
 stop_at : (test : ℕ → Bool) (run rest : List ℕ) (d : ℕ) → Stops test rest → test (get_or (run ++ rest) (length run) d) ≡ false
@@ -120,9 +120,12 @@ line_size_reads line size e =
     let last = tail_reads (behind is_ows (behind is_ascii_hexdigit line)) found.0 in
     let pad = front_run is_ows (behind is_ascii_hexdigit line) some_tail in
     let some_rest : behind is_ascii_hexdigit line ≢ [] = λ empty. some_tail (ap (behind is_ows) empty) in
-    let digits = front_run is_ascii_hexdigit line some_rest in
-    (_, chunk_from_pieces line (front_by is_ascii_hexdigit line, (front_by is_ows (behind is_ascii_hexdigit line), last.0)) []
-      (_, (digits, found.1, found.2), (_, pad, last.1)), sym found.3)
+    let digits = front_run is_ascii_hexdigit line some_rest in (
+      _,
+      chunk_from_pieces line (front_by is_ascii_hexdigit line, (front_by is_ows (behind is_ascii_hexdigit line), last.0)) []
+          (_, (digits, found.1, found.2), (_, pad, last.1)),
+      sym found.3,
+    )
 
 size_none : (line : List ℕ) (found : Option ℕ) → line_size line ≡ found
     → ((l : ChunkLine) → ReadsChunkLine line l [] → ⊥) → line_size line ≡ None
@@ -138,8 +141,14 @@ pub line_size_longer : (line : List ℕ) (n size : ℕ) (l : ChunkLine) → IsCh
     → line_size line ≡ None
 line_size_longer line n size l at other = line_size_none line (λ k reads.
     let same = (chunk_line_unique line l k (drop n line) [] at.reads reads).1 in
-    other (omega (arith, ap length same, length-drop n line, ap length at.reads.1, at.len_is,
-      length-append (print_chunk_line l) (drop n line))))
+    other (omega (
+      arith,
+      ap length same,
+      length-drop n line,
+      ap length at.reads.1,
+      at.len_is,
+      length-append (print_chunk_line l) (drop n line),
+    )))
 
 -- and the whole line names its size
 pub line_size_whole : (line : List ℕ) (n size : ℕ) (l : ChunkLine) → IsChunkLineAt line n size l → n ≡ length line

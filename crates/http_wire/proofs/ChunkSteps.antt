@@ -1,18 +1,14 @@
 -- Chunks one after another, whatever follows.
-use Rattle.std.proofs.Common.{◌≡◌, ◌≢◌, ℕ, zero, suc, ◌+◌, ◌-◌, ◌<◌, ◌≤◌, ◌==◌, Bool, true, false, cond, List, [], ◌∷◌, ◌++◌, length, take, drop, refl, sym, ap, ◌∙◌, arith, rules, Option, Some, None, append-nil, append_assoc, nat_eq, nat_lt, nat_le, length-append, length-drop, drop-drop, add_assoc}
+use Rattle.std.proofs.Common.{◌≡◌, ℕ, zero, suc, ◌+◌, ◌-◌, ◌<◌, ◌≤◌, Bool, true, false, cond, List, [], ◌∷◌, ◌++◌, length, take, drop, refl, sym, ap, ◌∙◌, arith, rules, Option, Some, None, append_assoc, nat_eq, nat_lt, length-append, length-drop, drop-drop, add_assoc}
 use Rattle.std.proofs.lemmas.Bool.Decides.{nat_tests}
-use Rattle.std.proofs.lemmas.List.{drop-append-le, take-append-le, length-take-le}
+use Rattle.std.proofs.lemmas.List.{drop-append-le, take-append-le}
 use Rattle.http_wire.specs.Chunks.{behind_data, chunk_data, chunks, chunks_within, closed, line_size, lined_chunk, one_chunk, prefixed, sized_chunk, trailer, body_end}
-use Rattle.http_wire.specs.Framing.{max_body}
 use Rattle.http_wire.specs.Heads.{Front, more, refused, whole}
 use Rattle.http_wire.specs.declared.framing.WireFault.TheVariants.{TooLarge}
 use Rattle.http_wire.specs.Lines.{line_end}
-use Rattle.http_wire.specs.Within.Reading.{IsChunk, IsLine, IsLineSeen, Reached, FindsChunk}
+use Rattle.http_wire.specs.Within.Reading.{IsChunk}
 use Rattle.http_wire.specs.declared.chunk_line.Ending.{Ending}
 use Rattle.http_wire.specs.declared.chunk_line.Ending.TheVariants.{Ended, Open, Wrong}
-use Rattle.http_wire.specs.declared.chunk_line.LineSeen.{LineSeen}
-use Rattle.http_wire.specs.declared.chunk_line.LineSeen.TheVariants as lines
-use Rattle.http_wire.specs.declared.chunks.Progress.{Progress}
 use Rattle.http_wire.proofs.Ends.{line_end-append_some}
 
 -- ---- what stands before
@@ -52,7 +48,7 @@ data_steps rest s inside ends next later =
 -- a chunk with data, whatever follows
 pub chunk_steps : (bytes : List ℕ) (room n s : ℕ) → IsChunk bytes room n s → (next : ℕ → List ℕ → Front (List ℕ)) (later : List ℕ)
     → one_chunk next room (bytes ++ later)
-      ≡ prefixed (take s (drop n bytes)) (n + s + 2) (next (room - s) (drop (n + s + 2) (bytes ++ later)))
+    ≡ prefixed (take s (drop n bytes)) (n + s + 2) (next (room - s) (drop (n + s + 2) (bytes ++ later)))
 chunk_steps bytes room n s chunk next later =
     let line = chunk.line in
     let ends = line_end-append_some bytes later n line.ends in
@@ -64,7 +60,7 @@ chunk_steps bytes room n s chunk next later =
     let closes : closed (drop s (drop n bytes)) ≡ Ended 2 = rw drop-drop chunk.ends in
     let sums : n + (s + 2) ≡ n + s + 2 = omega arith in
     let behind_it : drop (s + 2) (drop n bytes ++ later) ≡ drop (n + s + 2) (bytes ++ later) =
-        ap (drop (s + 2)) (sym rest) ∙ drop-drop (s + 2) n (bytes ++ later) ∙ ap (λ k. drop k (bytes ++ later)) sums in
+    ap (drop (s + 2)) (sym rest) ∙ drop-drop (s + 2) n (bytes ++ later) ∙ ap (λ k. drop k (bytes ++ later)) sums in
     let content = data_steps (drop n bytes) s long closes (next (room - s)) later in
     rw (ends, in_line, line.sized, some, fits, rest, content, prefixed-prefixed, sums, behind_it) refl
 
@@ -85,12 +81,13 @@ chunk_data_same f g s bytes false same = data_same f g s bytes (closed (drop s b
 abbrev Agree : ℕ → (ℕ → List ℕ → Front (List ℕ)) → (ℕ → List ℕ → Front (List ℕ)) → Type 0
 Agree room f g = (s : ℕ) (rest : List ℕ) → 0 < s → s ≤ room → f (room - s) rest ≡ g (room - s) rest
 
-sized_same : (f g : ℕ → List ℕ → Front (List ℕ)) (room n s : ℕ) (bytes : List ℕ) (last over : Bool) → nat_eq s 0 ≡ last → nat_lt room s ≡ over → Agree room f g
+sized_same : (f g : ℕ → List ℕ → Front (List ℕ)) (room n s : ℕ) (bytes : List ℕ) (last over : Bool) → nat_eq s 0 ≡ last → nat_lt room s ≡ over
+    → Agree room f g
     → cond last (prefixed [] n (body_end (trailer bytes))) (cond over (refused TooLarge) (prefixed [] n (chunk_data (f (room - s)) s bytes)))
-      ≡ cond last (prefixed [] n (body_end (trailer bytes))) (cond over (refused TooLarge) (prefixed [] n (chunk_data (g (room - s)) s bytes)))
-sized_same f g room n s bytes true over zero_ over_ same = refl
-sized_same f g room n s bytes false true zero_ over_ same = refl
-sized_same f g room n s bytes false false zero_ over_ same =
+    ≡ cond last (prefixed [] n (body_end (trailer bytes))) (cond over (refused TooLarge) (prefixed [] n (chunk_data (g (room - s)) s bytes)))
+sized_same f g room n s bytes true over is_last is_over same = refl
+sized_same f g room n s bytes false true is_last is_over same = refl
+sized_same f g room n s bytes false false is_last is_over same =
     let some : 0 < s = grind (arith, nat_tests) in
     let fits : s ≤ room = grind (arith, nat_tests) in
     ap (prefixed [] n) (chunk_data_same (f (room - s)) (g (room - s)) s bytes (nat_lt (length bytes) s) (λ rest. same s rest some fits))

@@ -1,14 +1,10 @@
 -- The request at the front, by a head that was found.
-use Rattle.std.proofs.Common.{◌≡◌, ℕ, ◌+◌, ◌-◌, ◌<◌, ◌≤◌, Bool, true, false, cond, List, [], ◌∷◌, ◌++◌, length, take, drop, refl, sym, ap, ◌∙◌, arith, rules, Result, Ok, Err, nat_lt, length-drop}
+use Rattle.std.proofs.Common.{◌≡◌, ℕ, ◌-◌, ◌<◌, ◌≤◌, Bool, true, false, List, length, take, drop, refl, sym, ap, ◌∙◌, arith, rules, Ok, Err, nat_lt, length-drop}
 use Rattle.std.proofs.lemmas.Bool.Decides.{nat_tests}
-use Rattle.httparse.specs.Grammar.{RequestHead}
-use Rattle.http_wire.specs.Chunks.{chunked, coded_front}
-use Rattle.http_wire.specs.Framing.{is_media, judge}
-use Rattle.http_wire.specs.Heads.{Front, IsHead, more, refused, whole}
-use Rattle.http_wire.specs.Requests.{Got, IsNext, after_head, body_at, framed, given, opened, with_body}
-use Rattle.http_wire.specs.Within.Reading.{Reached}
-use Rattle.http_wire.specs.Within.Seeing.{IsFound, IsGiven, IsOpened, IsRead}
-use Rattle.http_wire.specs.declared.chunks.Progress.{Progress}
+use Rattle.http_wire.specs.Chunks.{chunked}
+use Rattle.http_wire.specs.Heads.{Front, more, refused, whole}
+use Rattle.http_wire.specs.Requests.{Got, IsNext, after_head, framed, with_body}
+use Rattle.http_wire.specs.Within.Seeing.{IsFound, IsGiven, IsOpened}
 use Rattle.http_wire.specs.declared.framing.Framing.{Framing}
 use Rattle.http_wire.specs.declared.framing.Framing.TheVariants.{Chunked, Length}
 use Rattle.http_wire.specs.declared.framing.WireFault.{WireFault}
@@ -32,9 +28,9 @@ next_framed unread found framing media next known is kind all = record {
   read = whole known.head found.length;
   head = known.stands;
   is =
-    all
-    ∙ ap (λ m. framed m known.head found.length (drop found.length unread) framing) (sym kind ∙ known.tells.media)
-    ∙ ap (after_head known.head found.length (drop found.length unread)) (sym is ∙ known.tells.framing);
+      all
+      ∙ ap (λ m. framed m known.head found.length (drop found.length unread) framing) (sym kind ∙ known.tells.media)
+      ∙ ap (after_head known.head found.length (drop found.length unread)) (sym is ∙ known.tells.framing);
 }
 
 module _ (unread : List ℕ) (found : FoundHead) (known : IsFound unread found) where

@@ -1,14 +1,12 @@
 -- What a feed leaves and tells when it gives a request.
-use Rattle.std.proofs.Common.{◌≡◌, ℕ, ◌+◌, ◌-◌, ◌<◌, ◌≤◌, Bool, true, false, List, [], ◌++◌, length, take, drop, refl, sym, ap, ◌∙◌, arith, rules, nat_lt}
+use Rattle.std.proofs.Common.{◌≡◌, ℕ, ◌+◌, ◌<◌, ◌≤◌, Bool, true, List, length, take, drop, refl, sym, ap, ◌∙◌, arith, rules, nat_lt}
 use Rattle.std.proofs.lemmas.Bool.Decides.{nat_tests}
 use Rattle.std.proofs.lemmas.List.{drop-take, length-take-le, take-take, take_all}
 use Rattle.std.proofs.Common.{length-drop}
-use Rattle.httparse.specs.Grammar.{RequestHead}
-use Rattle.http_wire.specs.Feeds.{Answers, AnswersBy, Fed, GivesHead, GivesWhole, IsInside, IsPlace, IsPlaceBy, Leaves, Refuses, Tells, TellsBody, Turns, bytes_at, feed_room, is_last, max_requests}
-use Rattle.http_wire.specs.Framing.{closes}
-use Rattle.http_wire.specs.Heads.{Front, more, refused, text_at, whole}
+use Rattle.http_wire.specs.Feeds.{Answers, AnswersBy, Fed, Leaves, Tells, TellsBody, Turns, feed_room, is_last}
+use Rattle.http_wire.specs.Heads.{refused, text_at}
 use Rattle.http_wire.specs.Parts.{Parts, held}
-use Rattle.http_wire.specs.Requests.{IsNext, given, opened}
+use Rattle.http_wire.specs.Requests.{IsNext}
 use Rattle.http_wire.specs.Within.Seeing.{IsFound, IsGiven, IsOpened, IsShown}
 use Rattle.http_wire.specs.declared.framing.WireFault.{WireFault}
 use Rattle.http_wire.specs.declared.head.FoundHead.{FoundHead}
@@ -23,7 +21,8 @@ use Rattle.media_rows.specs.declared.refusal.Refusal.{Refusal}
 use Rattle.http_wire.proofs.Seeking.{text_at-take}
 
 -- an answer where nothing was refused
-answers_by : (stage : Stage) (old new : Fed) (step : Step) → ((fault : WireFault) → stage ≡ Failed fault → ⊥) → Turns old step new → AnswersBy stage old step new
+answers_by : (stage : Stage) (old new : Fed) (step : Step) → ((fault : WireFault) → stage ≡ Failed fault → ⊥) → Turns old step new
+    → AnswersBy stage old step new
 answers_by Open old new step other turns = turns
 answers_by (Media left) old new step other turns = turns
 answers_by (Failed fault) old new step other turns = absurd (other fault refl)
@@ -48,7 +47,7 @@ tells_found unread n number size found known body shown fed few inside last is =
     let long : length fed.last ≡ n = ap length last ∙ length-take-le n unread inside in
     let within : found.target.start + found.target.length ≤ n = omega (arith, known.tells.inside) in
     let there : text_at fed.last shown.target ≡ text_at unread found.target =
-        rw (last, is.target) (text_at-take unread n found.target within) in
+    rw (last, is.target) (text_at-take unread n found.target within) in
     let in_last : shown.target.start + shown.target.length ≤ length fed.last = rw (long, is.target) within in
     record {
       method = is.method ∙ known.tells.method;
@@ -68,7 +67,7 @@ tells_plain unread n size number found place shown fed small inside last there i
     let body = is.body_is ∙ there in
     let whole_size : size ≤ length (drop n unread) = omega (arith, length-drop n unread) in
     let content : take size (drop n (take (n + size) unread)) ≡ take size (drop n unread) =
-        rw (drop-take n size unread) (take-take size size (drop n unread) (omega arith)) in
+    rw (drop-take n size unread) (take-take size size (drop n unread) (omega arith)) in
     record {
       size = is.size_is ∙ sym (length-take-le size (drop n unread) whole_size);
       place = rw (body, low, long) (omega arith);
@@ -100,7 +99,8 @@ fed_of parts body stage requests ended = record {
   ended = ended;
 }
 
-leaves_by : (kept parts : Parts) (content body : List ℕ) (was stage other : Stage) (requests number n : ℕ) (had ended : Bool) → parts ≡ held n kept → stage ≡ other
+leaves_by : (kept parts : Parts) (content body : List ℕ) (was stage other : Stage) (requests number n : ℕ) (had ended : Bool)
+    → parts ≡ held n kept → stage ≡ other
     → Leaves (fed_of kept content was requests had) (fed_of parts body stage number ended) n other number ended
 leaves_by kept parts content body was stage other requests number n had ended is same = record {
   last = rw is refl;
@@ -113,11 +113,14 @@ leaves_by kept parts content body was stage other requests number n had ended is
 module _ (kept parts : Parts) (bytes content body : List ℕ) (was : Stage) (requests : ℕ) (had : Bool) (there : bytes ≡ kept.unread) where
   pub turn_refused : (fault : WireFault) (refusal : Refusal) → parts ≡ held 0 kept → refusal ≡ refusal_of fault → IsNext bytes (refused fault)
       → Turns (fed_of kept content was requests had) (steps.Refused refusal) (fed_of parts body (Failed fault) requests had)
-  turn_refused fault refusal is name next =
-      (fault, name, record {
-        next = rw (← there) next;
-        leaves = leaves_by kept parts content body was (Failed fault) (Failed fault) requests requests 0 had had is refl;
-      })
+  turn_refused fault refusal is name next = (
+    fault,
+    name,
+    record {
+      next = rw (← there) next;
+      leaves = leaves_by kept parts content body was (Failed fault) (Failed fault) requests requests 0 had had is refl;
+    },
+  )
 
   pub turn_opened : (found : FoundHead) (size : ℕ) (place : Span) (shown : Head) → parts ≡ held found.length kept → IsOpened bytes found size
       → IsShown found place size (requests + 1) shown
@@ -127,8 +130,12 @@ module _ (kept parts : Parts) (bytes content body : List ℕ) (was : Stage) (req
     n = found.length;
     next = rw (← there, told.size_is) found_it.next;
     inside = rw (← there) found_it.known.inside;
-    leaves = leaves_by kept parts content body was (Media size) (Media shown.length) requests (requests + 1) found.length had shown.ends is (ap (λ s. Media s) (sym told.size_is));
-    tells = tells_found bytes found.length (requests + 1) size found found_it.known place shown _ (omega arith) found_it.known.inside (rw (is, there) refl) told;
+    leaves = leaves_by kept parts content body was (Media size) (Media shown.length) requests (requests + 1) found.length had shown.ends is (ap (λ
+        s. Media s) (sym told.size_is));
+    tells = tells_found bytes found.length (requests + 1) size found found_it.known place shown _ (omega arith) found_it.known.inside (rw (
+      is,
+      there,
+    ) refl) told;
   }
 
   pub turn_plain : (found : FoundHead) (size : ℕ) (place : Span) (shown : Head) → parts ≡ held (found.length + size) kept
@@ -142,8 +149,12 @@ module _ (kept parts : Parts) (bytes content body : List ℕ) (was : Stage) (req
     next = rw (← there) found_it.next;
     inside = rw (← there) found_it.inside;
     leaves = leaves_by kept parts content body was Open Open requests (requests + 1) (found.length + size) had shown.ends is refl;
-    tells = tells_found bytes (found.length + size) (requests + 1) size found found_it.known place shown _ (omega arith) found_it.inside (rw (is, there) refl) told;
-    tells_body = tells_plain bytes found.length size (requests + 1) found place shown _ found_it.known.small found_it.inside (rw (is, there) refl) at told;
+    tells = tells_found bytes (found.length + size) (requests + 1) size found found_it.known place shown _ (omega arith) found_it.inside (rw (
+      is,
+      there,
+    ) refl) told;
+    tells_body = tells_plain bytes found.length size (requests + 1) found place shown _ found_it.known.small found_it.inside (rw (is, there) refl)
+        at told;
   }
 
   pub turn_decoded : (found : FoundHead) (size long : ℕ) (place : Span) (shown : Head) → parts ≡ held (found.length + size) kept
@@ -157,6 +168,9 @@ module _ (kept parts : Parts) (bytes content body : List ℕ) (was : Stage) (req
     next = rw (← there) found_it.next;
     inside = rw (← there) found_it.inside;
     leaves = leaves_by kept parts content body was Open Open requests (requests + 1) (found.length + size) had shown.ends is refl;
-    tells = tells_found bytes (found.length + size) (requests + 1) long found found_it.known place shown _ (omega arith) found_it.inside (rw (is, there) refl) told;
+    tells = tells_found bytes (found.length + size) (requests + 1) long found found_it.known place shown _ (omega arith) found_it.inside (rw (
+      is,
+      there,
+    ) refl) told;
     tells_body = tells_decoded long (requests + 1) found place shown _ all at told;
   }

@@ -1,10 +1,13 @@
+pub mod Agreements
 pub mod ChunkLine
 pub mod ChunkSteps
 pub mod Digits
 pub mod Ends
 pub mod Fronts
 pub mod Giving
+pub mod Hearings
 pub mod Interims
 pub mod Moves
 pub mod Reaching
 pub mod Seeking
+pub mod Staying

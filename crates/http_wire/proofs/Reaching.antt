@@ -1,14 +1,12 @@
 -- How far a chunked body was read: from the start, one chunk on, and under more bytes.
-use Rattle.std.proofs.Common.{◌≡◌, ℕ, zero, suc, ◌+◌, ◌-◌, ◌<◌, ◌≤◌, List, [], ◌∷◌, ◌++◌, length, take, drop, refl, sym, ap, ◌∙◌, arith, Option, Some, None, append-nil, append_assoc, length-append, length-drop, drop-drop}
+use Rattle.std.proofs.Common.{◌≡◌, ℕ, ◌+◌, ◌-◌, ◌≤◌, List, [], ◌++◌, length, take, drop, refl, sym, ap, ◌∙◌, arith, append-nil, append_assoc, length-append, length-drop, drop-drop}
 use Rattle.std.proofs.lemmas.List.{drop-append-le, take-append-le, length-take-le}
-use Rattle.http_wire.specs.Chunks.{chunks, chunks_within, line_size, one_chunk, prefixed}
+use Rattle.http_wire.specs.Chunks.{chunks, chunks_within, one_chunk, prefixed}
 use Rattle.http_wire.specs.Framing.{max_body}
-use Rattle.http_wire.specs.Heads.{Front, more, refused, whole}
-use Rattle.http_wire.specs.Lines.{line_end}
-use Rattle.http_wire.specs.Within.Reading.{IsChunk, IsLine, IsLineSeen, Reached, FindsChunk}
+use Rattle.http_wire.specs.Heads.{more, refused, whole}
+use Rattle.http_wire.specs.Within.Reading.{IsChunk, IsLineSeen, Reached, FindsChunk}
 use Rattle.http_wire.specs.declared.chunk_line.LineSeen.{LineSeen}
 use Rattle.http_wire.specs.declared.chunk_line.LineSeen.TheVariants as lines
-use Rattle.http_wire.specs.declared.chunks.ChunkFound.{ChunkFound}
 use Rattle.http_wire.specs.declared.chunks.ChunkFound.TheVariants as found
 use Rattle.http_wire.specs.declared.chunks.Progress.{Progress}
 use Rattle.http_wire.specs.declared.framing.WireFault.{WireFault}
@@ -52,7 +50,7 @@ Reached_later bytes later content progress reached = record {
 -- what stands at the place is what is left of the body
 pub reached_front : (bytes content : List ℕ) (progress : Progress) → Reached bytes content progress
     → chunks_within max_body bytes
-      ≡ prefixed content progress.at (one_chunk (chunks (max_body - length content)) (max_body - length content) (drop progress.at bytes))
+    ≡ prefixed content progress.at (one_chunk (chunks (max_body - length content)) (max_body - length content) (drop progress.at bytes))
 reached_front bytes content progress reached =
     rw append-nil at (reached.rest [])
     ∙ ap (prefixed content progress.at) (chunks_within-one (max_body - length content) (drop progress.at bytes))
@@ -75,13 +73,13 @@ Reached_more bytes content progress n s reached chunk =
       inside = omega (arith, reached.inside, chunk.inside, length-drop progress.at bytes);
       room = omega (arith, all, size, reached.room, line.fits);
       rest = λ later.
-        let behind = drop-append-le progress.at bytes later reached.inside in
-        let step = chunk_steps (drop progress.at bytes) (max_body - length content) n s chunk (chunks (max_body - length content)) later in
-        let fewer = chunks_behind (max_body - length content) s (drop (n + s + 2) (drop progress.at bytes ++ later)) line.some line.fits in
-        let on : drop (n + s + 2) (drop progress.at bytes ++ later) ≡ drop (progress.at + n + s + 2) (bytes ++ later) =
-            ap (drop (n + s + 2)) (sym behind) ∙ drop-drop (n + s + 2) progress.at (bytes ++ later)
-            ∙ ap (λ k. drop k (bytes ++ later)) (on_at progress.at n s) in
-        rw left (reached.rest later ∙ rw (behind, chunks_within-one, step, fewer, prefixed-prefixed, on, on_at) refl);
+          let behind = drop-append-le progress.at bytes later reached.inside in
+          let step = chunk_steps (drop progress.at bytes) (max_body - length content) n s chunk (chunks (max_body - length content)) later in
+          let fewer = chunks_behind (max_body - length content) s (drop (n + s + 2) (drop progress.at bytes ++ later)) line.some line.fits in
+          let on : drop (n + s + 2) (drop progress.at bytes ++ later) ≡ drop (progress.at + n + s + 2) (bytes ++ later) =
+          ap (drop (n + s + 2)) (sym behind) ∙ drop-drop (n + s + 2) progress.at (bytes ++ later)
+          ∙ ap (λ k. drop k (bytes ++ later)) (on_at progress.at n s) in
+          rw left (reached.rest later ∙ rw (behind, chunks_within-one, step, fewer, prefixed-prefixed, on, on_at) refl);
       line = (omega arith, refl);
     }
 
@@ -90,16 +88,15 @@ Reached_more bytes content progress n s reached chunk =
 pub chunks_more : (bytes content rest : List ℕ) (room : ℕ) (progress : Progress) (line : LineSeen) → Reached bytes content progress
     → rest ≡ drop progress.at bytes → room ≡ max_body - length content → FindsChunk rest room (found.More line)
     → (chunks_within max_body bytes ≡ more) × Reached bytes content (record { at = progress.at; line = line })
-chunks_more bytes content rest room progress line reached there left (none, seen) =
-    (
-      reached_front bytes content progress reached ∙ rw (← there, ← left, none (chunks room)) refl,
-      record {
-        inside = reached.inside;
-        room = reached.room;
-        rest = reached.rest;
-        line = rw (← there, ← left) seen;
-      }
-    )
+chunks_more bytes content rest room progress line reached there left (none, seen) = (
+  reached_front bytes content progress reached ∙ rw (← there, ← left, none (chunks room)) refl,
+  record {
+    inside = reached.inside;
+    room = reached.room;
+    rest = reached.rest;
+    line = rw (← there, ← left) seen;
+  },
+)
 
 pub chunks_refused : (bytes content rest : List ℕ) (room : ℕ) (progress : Progress) (fault : WireFault) → Reached bytes content progress
     → rest ≡ drop progress.at bytes → room ≡ max_body - length content → FindsChunk rest room (found.Refused fault)
@@ -110,11 +107,10 @@ chunks_refused bytes content rest room progress fault reached there left is =
 pub chunks_last : (bytes content rest : List ℕ) (room : ℕ) (progress : Progress) (n : ℕ) → Reached bytes content progress
     → rest ≡ drop progress.at bytes → room ≡ max_body - length content → FindsChunk rest room (found.Last n)
     → (chunks_within max_body bytes ≡ whole content (progress.at + n)) × (progress.at + n ≤ length bytes)
-chunks_last bytes content rest room progress n reached there left (is, inside) =
-    (
-      reached_front bytes content progress reached ∙ rw (← there, ← left, is (chunks room), append-nil) refl,
-      omega (arith, inside, ap length there, length-drop progress.at bytes, reached.inside)
-    )
+chunks_last bytes content rest room progress n reached there left (is, inside) = (
+  reached_front bytes content progress reached ∙ rw (← there, ← left, is (chunks room), append-nil) refl,
+  omega (arith, inside, ap length there, length-drop progress.at bytes, reached.inside),
+)
 
 pub chunks_on : (bytes content rest : List ℕ) (room : ℕ) (progress : Progress) (n s : ℕ) → Reached bytes content progress
     → rest ≡ drop progress.at bytes → room ≡ max_body - length content → IsChunk rest room n s

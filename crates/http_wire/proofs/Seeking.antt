@@ -1,14 +1,13 @@
 -- The search for a head, from where it stood.
-use Rattle.std.proofs.Common.{◌≡◌, ℕ, suc, ◌+◌, ◌-◌, ◌<◌, ◌≤◌, List, [], ◌∷◌, ◌++◌, append-nil, inl, inr, length-append, length, take, drop, refl, sym, ap, ◌∙◌, arith, rules, length-take, length-drop, append_assoc}
-use Rattle.std.proofs.lemmas.List.{drop-take, length-take-le, take-append-le, take-take, take_all, take_min, drop-append-le}
+use Rattle.std.proofs.Common.{◌≡◌, ℕ, ◌+◌, ◌-◌, ◌<◌, ◌≤◌, List, ◌++◌, append-nil, inl, inr, length-append, length, take, drop, refl, sym, ap, ◌∙◌, arith, length-take, length-drop}
+use Rattle.std.proofs.lemmas.List.{drop-take, take-append-le, take-take, take_all, drop-append-le}
 use Rattle.std.proofs.Math.Seq.{take-append-add}
 use Rattle.std.proofs.lemmas.Bool.{cases_lt}
 use Rattle.httparse.specs.Grammar.{RequestHead}
 use Rattle.http_wire.specs.Chunks.{coded_front}
-use Rattle.http_wire.specs.Heads.{Describes, Front, IsHead, IsHeadBy, IsOneHead, more, refused, text_at, whole}
+use Rattle.http_wire.specs.Heads.{Describes, IsHead, IsHeadBy, IsOneHead, text_at, whole}
 use Rattle.http_wire.specs.Lines.{head_end, looked, max_head}
-use Rattle.http_wire.specs.Within.Seeing.{FindsHead, IsFound, IsRead, IsSeeking, IsSeen}
-use Rattle.http_wire.specs.declared.framing.WireFault.TheVariants.{BadHead}
+use Rattle.http_wire.specs.Within.Seeing.{FindsHead, IsFound, IsSeeking, IsSeen}
 use Rattle.http_wire.specs.declared.head.FoundHead.{FoundHead}
 use Rattle.http_wire.specs.declared.head.Span.{Span}
 use Rattle.http_wire.specs.declared.lines.Looked.{Looked}
@@ -83,12 +82,12 @@ pub take-append : (n : ℕ) (xs ys : List ℕ) → take n (xs ++ ys) ≡ take n 
 take-append n xs ys =
     elim (cases_lt n (length xs)) [
       | inl below ↦
-        let few : n ≤ length xs = omega arith in
-        let none : n - length xs ≡ 0 = omega arith in
-        rw (take-append-le n xs ys few, none) (sym (append-nil (take n xs)))
+          let few : n ≤ length xs = omega arith in
+          let none : n - length xs ≡ 0 = omega arith in
+          rw (take-append-le n xs ys few, none) (sym (append-nil (take n xs)))
       | inr past ↦
-        let sums : length xs + (n - length xs) ≡ n = omega arith in
-        rw (take_all n xs past) (ap (λ k. take k (xs ++ ys)) (sym sums) ∙ take-append-add xs ys (n - length xs))
+          let sums : length xs + (n - length xs) ≡ n = omega arith in
+          rw (take_all n xs past) (ap (λ k. take k (xs ++ ys)) (sym sums) ∙ take-append-add xs ys (n - length xs))
     ]
 
 -- a head that ended stays so
@@ -145,6 +144,6 @@ IsSeen_later unread later body (seen.Seeking place at) known = record {
 IsSeen_later unread later body (seen.Found found progress) read = record {
   known = IsFound_later unread later found read.known;
   reached =
-    rw (drop-append-le found.length unread later read.known.inside, take-append 8388609 (drop found.length unread) later)
-    (Reached_later (coded_front (drop found.length unread)) (take (8388609 - length (drop found.length unread)) later) body progress read.reached);
+      rw (drop-append-le found.length unread later read.known.inside, take-append 8388609 (drop found.length unread) later)
+      (Reached_later (coded_front (drop found.length unread)) (take (8388609 - length (drop found.length unread)) later) body progress read.reached);
 }

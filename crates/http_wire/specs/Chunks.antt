@@ -1,5 +1,5 @@
--- A chunked body (RFC 9112, section 7.1). The limits of its data, of its coded bytes and of its trailer are
--- our own, and so is that a trailer's lines are ignored.
+-- A chunked body (RFC 9112, section 7.1). The limits of its data, of its coded bytes and of its
+-- trailer are our own, and so is that a trailer's lines are ignored.
 use Rattle.std.specs.Prelude.{ℕ, zero, suc, ◌+◌, ◌-◌, ◌==◌, nat_lt, nat_le, Bool, false, ◌&&◌, ◌||◌, List, [], ◌∷◌, ◌++◌, length, take, drop, Option, Some, None, if◌then◌else◌, bytes_eq}
 use Rattle.std.specs.List.{count_by, prefix_len}
 use Rattle.std.specs.Char.{is_ascii_hexdigit}
@@ -9,7 +9,6 @@ use Rattle.httparse.specs.Grammar.{is_extension_byte, is_ows}
 use Rattle.http_wire.specs.Framing.{max_body}
 use Rattle.http_wire.specs.Heads.{Front, more, refused, whole}
 use Rattle.http_wire.specs.Lines.{carriage_return, line_end, line_feed, looked}
-use Rattle.http_wire.specs.declared.framing.WireFault.{WireFault}
 use Rattle.http_wire.specs.declared.framing.WireFault.TheVariants.{BadFraming, TooLarge}
 use Rattle.http_wire.specs.declared.chunk_line.Ending.{Ending}
 use Rattle.http_wire.specs.declared.chunk_line.Ending.TheVariants.{Ended, Open, Wrong}
@@ -64,8 +63,8 @@ max_trailer = 16384
 abbrev pub count_lines : List ℕ → ℕ
 count_lines bytes = count_by (λ b. b == line_feed) bytes
 
--- The trailer by where its empty line ends. It can't be read where its first 65 lines, or its first 16,384
--- bytes, are there whole and hold no empty line.
+-- The trailer by where its empty line ends. It can't be read where its first 65 lines, or its first
+-- 16,384 bytes, are there whole and hold no empty line.
 abbrev pub trailer_by : Looked → List ℕ → Ending
 trailer_by (looks.Ended n) bytes =
     if nat_lt max_trailer_lines (count_lines (take n bytes)) then Wrong else Ended n
@@ -108,8 +107,8 @@ abbrev pub chunk_data : (List ℕ → Front (List ℕ)) → ℕ → List ℕ →
 chunk_data next n bytes =
     if nat_lt (length bytes) n then more else behind_data next n bytes (closed (drop n bytes))
 
--- a chunk by its size, whose line has so many bytes: the last one, or one with data, after which the others
--- have so much less room
+-- a chunk by its size, whose line has so many bytes: the last one, or one with data, after which
+-- the others have so much less room
 abbrev pub sized_chunk
     : (ℕ → List ℕ → Front (List ℕ)) → ℕ → ℕ → List ℕ → Option ℕ → Front (List ℕ)
 sized_chunk next room n bytes None = refused BadFraming
@@ -129,8 +128,8 @@ lined_chunk next room bytes (Some n) =
 abbrev pub one_chunk : (ℕ → List ℕ → Front (List ℕ)) → ℕ → List ℕ → Front (List ℕ)
 one_chunk next room bytes = lined_chunk next room bytes (line_end bytes)
 
--- At most so many chunks, with at most so many bytes of data in all, and the trailer. Each chunk but the last
--- has data, so that one chunk more than the bytes of data is enough.
+-- At most so many chunks, with at most so many bytes of data in all, and the trailer. Each chunk
+-- but the last has data, so that one chunk more than the bytes of data is enough.
 unfoldable pub chunks : ℕ → ℕ → List ℕ → Front (List ℕ)
 chunks zero room bytes = more
 chunks (suc count) room bytes = one_chunk (chunks count) room bytes
@@ -143,7 +142,8 @@ chunks_within room bytes = chunks (suc room) room bytes
 abbrev pub max_coded : ℕ
 max_coded = 8388608
 
--- The body, by what its first 8,388,609 bytes hold: it is refused where it ends behind more than 8,388,608.
+-- The body, by what its first 8,388,609 bytes hold: it is refused where it ends behind more than
+-- 8,388,608.
 abbrev pub capped : ℕ → Front (List ℕ) → Front (List ℕ)
 capped size more = if nat_lt max_coded size then refused TooLarge else more
 capped size (refused fault) = refused fault

@@ -1,9 +1,9 @@
 -- A feed: how the bytes of a connection are cut into requests, call by call.
-use Rattle.std.specs.Prelude.{◌≡◌, ◌≢◌, ℕ, ◌+◌, ◌-◌, ◌<◌, ◌≤◌, ◌==◌, nat_lt, Bool, true, false, ◌||◌, List, [], ◌++◌, length, take, drop, if◌then◌else◌}
+use Rattle.std.specs.Prelude.{◌≡◌, ℕ, ◌+◌, ◌-◌, ◌≤◌, ◌==◌, nat_lt, Bool, true, false, ◌||◌, List, [], ◌++◌, length, take, drop, if◌then◌else◌}
 use Rattle.httparse.specs.Grammar.{RequestHead}
 use Rattle.http_wire.specs.Framing.{closes, method_kind, wants_interim}
-use Rattle.http_wire.specs.Heads.{Front, IsHead, more, refused, text_at, whole}
-use Rattle.http_wire.specs.Requests.{Got, IsNext, given, opened}
+use Rattle.http_wire.specs.Heads.{IsHead, more, refused, text_at, whole}
+use Rattle.http_wire.specs.Requests.{IsNext, given, opened}
 use Rattle.http_wire.specs.Steps.{refusal_of}
 use Rattle.http_wire.specs.declared.framing.WireFault.{WireFault}
 use Rattle.http_wire.specs.declared.head.Span.{Span}
@@ -13,9 +13,9 @@ use Rattle.http_wire.specs.declared.stage.Stage.TheVariants.{Failed, Media, Open
 use Rattle.http_wire.specs.declared.stage.Step.{Step}
 use Rattle.http_wire.specs.declared.stage.Step.TheVariants as steps
 
--- What a feed is seen as: the bytes of the request that was given last, or of the head of a media PUT; the
--- bytes behind them, which weren't given yet; the data of a chunked body; the stage; the number of requests
--- so far; and whether the last one ends the connection.
+-- What a feed is seen as: the bytes of the request that was given last, or of the head of a media
+-- PUT; the bytes behind them, which weren't given yet; the data of a chunked body; the stage; the
+-- number of requests so far; and whether the last one ends the connection.
 pub record Fed : Type 0 where
   pub last : List ℕ
   pub unread : List ℕ
@@ -69,8 +69,8 @@ handed_on fed n = record fed { unread = drop n fed.unread; stage = less_by n fed
 
 -- ---- places
 
--- Whether a place is in the bytes of the last request. Otherwise it is in the data of its chunked body, which
--- is counted from the most bytes that a feed keeps.
+-- Whether a place is in the bytes of the last request. Otherwise it is in the data of its chunked
+-- body, which is counted from the most bytes that a feed keeps.
 abbrev pub is_kept_place : Span → Bool
 is_kept_place span = nat_lt span.start feed_room
 
@@ -177,8 +177,8 @@ AnswersBy (Failed fault) old step new = Stays old fault step new
 abbrev pub Answers : Fed → Step → Fed → Type 0
 Answers old step new = AnswersBy old.stage old step new
 
--- The head at the front of the unread bytes is whole, none of the five refusals stands in it, and an interim
--- response is due to it.
+-- The head at the front of the unread bytes is whole, none of the five refusals stands in it, and
+-- an interim response is due to it.
 abbrev pub IsInterimDue : List ℕ → Type 0
 IsInterimDue bytes =
     (head : RequestHead) × (n : ℕ) × IsHead bytes (whole head n) × (wants_interim head ≡ true)

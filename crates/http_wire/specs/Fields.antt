@@ -1,5 +1,5 @@
--- The values of fields by their names (RFC 9110, sections 5.1 and 8.6). Names, and the values that a rule
--- names, compare without regard to ASCII case.
+-- The values of fields by their names (RFC 9110, sections 5.1 and 8.6). Names, and the values that
+-- a rule names, compare without regard to ASCII case.
 use Rattle.std.specs.Prelude.{ℕ, Bool, ◌&&◌, nat_le, List, [], ◌∷◌, length, map, Option, Some, None, if◌then◌else◌, bytes_eq}
 use Rattle.std.specs.List.{list_all}
 use Rattle.std.specs.Char.{is_ascii_digit, to_ascii_lowercase}

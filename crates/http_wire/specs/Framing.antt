@@ -1,5 +1,5 @@
--- What a head says of its request (RFC 9110, section 9; RFC 9112, sections 6 and 9), and which head is
--- refused. The limits, and that a media object is never sent in chunks, are our own.
+-- What a head says of its request (RFC 9110, section 9; RFC 9112, sections 6 and 9), and which head
+-- is refused. The limits, and that a media object is never sent in chunks, are our own.
 use Rattle.std.specs.Prelude.{ℕ, ◌==◌, Bool, true, false, not, ◌&&◌, ◌||◌, nat_lt, nat_eq, List, length, map, Option, Some, None, option_map, Result, Ok, Err, if◌then◌else◌, bytes_eq, codes}
 use Rattle.std.specs.List.{list_any, starts_with}
 use Rattle.httparse.specs.Grammar.{RequestHead}
@@ -35,7 +35,8 @@ read_same_length values text =
     if list_any (λ value. not (same_text text value)) values then None
     else option_map Length (read_length text)
 
--- the framing by the first value of each kind: a length, a coding, or neither, which is a length of 0
+-- the framing by the first value of each kind: a length, a coding, or neither, which is a length of
+-- 0
 abbrev pub framing_by
     : ℕ → List (List ℕ) → List (List ℕ) → Option (List ℕ) → Option (List ℕ) → Option Framing
 framing_by minor lengths codings None None = Some (Length 0)
@@ -56,14 +57,15 @@ is_coded fields =
     list_any (λ value. not (same_text (codes "identity") value))
     (values_of (codes "content-encoding") fields)
 
--- The framing, or the first refusal that stands: it can't be read, a media object is sent in chunks, the
--- body passes the limit, or it is coded.
+-- The framing, or the first refusal that stands: it can't be read, a media object is sent in
+-- chunks, the body passes the limit, or it is coded.
 abbrev pub judged : Bool → Bool → Option Framing → Result Framing WireFault
 judged media coded None = Err BadFraming
 judged media coded (Some Chunked) =
     if media then Err LengthRequired else if coded then Err Coding else Ok Chunked
 judged media coded (Some (Length n)) =
-    if nat_lt (body_limit media) n then Err TooLarge else if coded then Err Coding else Ok (Length n)
+    if nat_lt (body_limit media) n then Err TooLarge
+    else if coded then Err Coding else Ok (Length n)
 
 -- ---- of a head
 
@@ -98,8 +100,8 @@ has_body (Ok (Length n)) = not (n == 0)
 has_body (Ok Chunked) = true
 has_body (Err fault) = false
 
--- An interim response is due to HTTP/1.1 alone: a body is to come, and the client waits for the word (RFC
--- 9110, section 10.1.1).
+-- An interim response is due to HTTP/1.1 alone: a body is to come, and the client waits for the
+-- word (RFC 9110, section 10.1.1).
 abbrev pub interim_by : ℕ → Bool → Result Framing WireFault → Bool
 interim_by minor expects framing = (minor == 1) && expects && has_body framing
 

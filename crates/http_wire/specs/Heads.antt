@@ -1,5 +1,5 @@
--- The head that stands at the front of bytes (RFC 9112, section 2.2). The number of its bytes and of its
--- fields is limited by our own rule.
+-- The head that stands at the front of bytes (RFC 9112, section 2.2). The number of its bytes and
+-- of its fields is limited by our own rule.
 use Rattle.std.specs.Prelude.{◌≡◌, ℕ, ◌+◌, ◌<◌, ◌≤◌, List, [], length, take, drop}
 use Rattle.httparse.specs.Grammar.{ReadsRequest, RequestHead}
 use Rattle.http_wire.specs.Framing.{closes, is_media, judge, method_kind, wants_interim}
@@ -11,8 +11,8 @@ use Rattle.http_wire.specs.declared.lines.Looked.TheVariants.{Ended, Still}
 use Rattle.http_wire.specs.declared.head.Span.{Span}
 use Rattle.http_wire.specs.declared.head.FoundHead.{FoundHead}
 
--- What stands at the front of bytes: nothing whole as yet, a refusal, or a thing and the number of its
--- bytes.
+-- What stands at the front of bytes: nothing whole as yet, a refusal, or a thing and the number of
+-- its bytes.
 pub data Front (A : Type 0) : Type 0 where
   more : Front A
   refused : WireFault → Front A
@@ -27,8 +27,8 @@ pub record IsOneHead (bytes : List ℕ) (head : RequestHead) : Type 0 where
   pub reads : ReadsRequest bytes head []
   pub few : length head.fields ≤ max_fields
 
--- What stands at the front, by where a head ends there. A head that ends nowhere in 16,384 bytes is refused,
--- and so is one whose bytes aren't one head.
+-- What stands at the front, by where a head ends there. A head that ends nowhere in 16,384 bytes is
+-- refused, and so is one whose bytes aren't one head.
 abbrev pub IsHeadBy : Looked → List ℕ → Front RequestHead → Type 0
 IsHeadBy (Still place) bytes more = length bytes < max_head
 IsHeadBy (Still place) bytes (refused fault) = (fault ≡ BadHead) × (max_head ≤ length bytes)

@@ -1,8 +1,10 @@
+pub mod Agreeing
 pub mod Chunks
 pub mod Feeds
 pub mod Fields
 pub mod Framing
 pub mod Heads
+pub mod Hearing
 pub mod Lines
 pub mod Parts
 pub mod Requests

@@ -13,15 +13,20 @@ line_feed = 10
 abbrev pub carriage_return : ℕ
 carriage_return = 13
 
--- The place behind a byte, and none where the byte ends the head. A line is empty where it is LF alone or
--- CR LF. A head ends at the end of the first empty line that follows a line which isn't empty.
+-- The place behind a byte, and none where the byte ends the head. A line is empty where it is LF
+-- alone or CR LF. A head ends at the end of the first empty line that follows a line which isn't
+-- empty.
 abbrev pub next_place : Place → ℕ → Option Place
 next_place Before b =
-    if b == line_feed then Some Before else if b == carriage_return then Some BeforeReturn else Some Within
+    if b == line_feed then Some Before
+    else if b == carriage_return then Some BeforeReturn
+    else Some Within
 next_place BeforeReturn b = if b == line_feed then Some Before else Some Within
 next_place Within b = if b == line_feed then Some After else Some Within
 next_place After b =
-    if b == line_feed then None else if b == carriage_return then Some AfterReturn else Some Within
+    if b == line_feed then None
+    else if b == carriage_return then Some AfterReturn
+    else Some Within
 next_place AfterReturn b = if b == line_feed then None else Some Within
 
 -- the same, one byte on

@@ -1,5 +1,5 @@
--- The request that stands at the front of bytes (RFC 9112, sections 2, 6 and 7). A media PUT is given at its
--- head, and its body is handed on apart; that is our own.
+-- The request that stands at the front of bytes (RFC 9112, sections 2, 6 and 7). A media PUT is
+-- given at its head, and its body is handed on apart; that is our own.
 use Rattle.std.specs.Prelude.{◌≡◌, ℕ, ◌+◌, Bool, nat_lt, List, length, take, drop, Result, Ok, Err, if◌then◌else◌}
 use Rattle.httparse.specs.Grammar.{RequestHead}
 use Rattle.http_wire.specs.Chunks.{chunked}
@@ -10,8 +10,8 @@ use Rattle.http_wire.specs.declared.framing.Framing.TheVariants.{Chunked, Length
 use Rattle.http_wire.specs.declared.framing.WireFault.{WireFault}
 use Rattle.http_wire.specs.declared.framing.WireFault.TheVariants.{LengthRequired}
 
--- What is given of a request: the head of a media PUT and the length of its body, or the head and the body
--- of any other.
+-- What is given of a request: the head of a media PUT and the length of its body, or the head and
+-- the body of any other.
 pub data Got : Type 0 where
   opened : RequestHead → ℕ → Got
   given : RequestHead → List ℕ → Got

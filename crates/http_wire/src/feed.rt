@@ -3,8 +3,8 @@ ghost use Rattle.std.specs.Prelude.{◌≡◌, ◌-◌, ◌+◌, ◌++◌, ◌�
 ghost use Rattle.http_wire.specs.Feeds.{Answers, IsInterimDue, IsPlace, bytes_at, feed_room, handed_on, heard, is_last, kept, left_of, new_feed};
 ghost use Rattle.http_wire.specs.Within.Seeing.{IsShown, KnowsHead};
 
-use crate::front::{NextFound, find_next};
 use crate::framing::BODY_ROOM;
+use crate::front::{NextFound, find_next};
 use crate::head::{FoundHead, Span};
 use crate::kept::{KEPT_ROOM, Kept};
 use crate::lines::{Place, front, part};
@@ -49,18 +49,18 @@ impl Model for Feed {
     ghost Value = { Fed };
 
     ghost view = { λ f. record {
-        last = f.kept.last;
-        unread = f.kept.unread;
-        body = f.body.items;
-        stage = f.stage;
-        requests = f.requests;
-        ended = f.ended
+      last = f.kept.last;
+      unread = f.kept.unread;
+      body = f.body.items;
+      stage = f.stage;
+      requests = f.requests;
+      ended = f.ended;
     } };
 
     ghost invariant = { λ f. record {
-        known : IsSeen f.kept.unread f.body.items f.seen;
-        room : max_body ≤ vec_capacity f.body;
-        count : IsFalse f.ended → f.requests < max_requests
+      known : IsSeen f.kept.unread f.body.items f.seen;
+      room : max_body ≤ vec_capacity f.body;
+      count : IsFalse f.ended → f.requests < max_requests;
     } };
 }
 

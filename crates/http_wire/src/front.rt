@@ -54,12 +54,7 @@ pub(crate) fn find_next(unread: &[u8], seen: Seen, body: &mut Vec<u8>) -> NextFo
 }
 
 /// Finds the body behind a head.
-fn find_body(
-    unread: &[u8],
-    found: FoundHead,
-    progress: Progress,
-    body: &mut Vec<u8>,
-) -> NextFound
+fn find_body(unread: &[u8], found: FoundHead, progress: Progress, body: &mut Vec<u8>) -> NextFound
     requires seen { IsRead unread.now body.old.items found progress }
     requires room { max_body ≤ vec_capacity body.old }
     ensures found { FindsNext unread.now result body.new.items }

@@ -34,15 +34,15 @@ impl Model for Kept {
     ghost Value = { Parts };
 
     ghost view = { λ k. record {
-        last = take k.taken (drop k.start k.bytes.items);
-        unread = drop k.read k.bytes.items
+      last = take k.taken (drop k.start k.bytes.items);
+      unread = drop k.read k.bytes.items;
     } };
 
     ghost invariant = { λ k. record {
-        order : k.start + k.taken ≤ k.read;
-        inside : k.read ≤ vec_len k.bytes;
-        few : k.taken + (vec_len k.bytes - k.read) ≤ 8404993;
-        room : 16809986 ≤ vec_capacity k.bytes
+      order : k.start + k.taken ≤ k.read;
+      inside : k.read ≤ vec_len k.bytes;
+      few : k.taken + (vec_len k.bytes - k.read) ≤ 8404993;
+      room : 16809986 ≤ vec_capacity k.bytes;
     } };
 }
 

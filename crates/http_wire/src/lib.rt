@@ -10,10 +10,13 @@ mod framing;
 mod front;
 mod head;
 mod kept;
+mod laws;
 mod lines;
 mod response;
 mod seek;
 mod stage;
+#[cfg(test)]
+mod tests;
 
 pub use crate::feed::Feed;
 pub use crate::head::{MethodKind, Span};

@@ -1,5 +1,5 @@
 -- How far a chunked body was read.
-use Rattle.std.specs.Prelude.{◌≡◌, ℕ, ◌+◌, ◌-◌, ◌<◌, ◌≤◌, List, [], ◌++◌, length, take, drop, Option, Some, None}
+use Rattle.std.specs.Prelude.{◌≡◌, ℕ, ◌+◌, ◌-◌, ◌<◌, ◌≤◌, List, [], ◌++◌, length, take, drop, Some, None}
 use Rattle.http_wire.specs.Framing.{max_body}
 use Rattle.http_wire.specs.Heads.{Front, more, refused, whole}
 use Rattle.http_wire.specs.Lines.{line_end}
@@ -44,8 +44,8 @@ FindsChunk bytes room (found.Last n) =
     × (n ≤ length bytes)
 FindsChunk bytes room (found.Chunk n size) = IsChunk bytes room n size
 
--- Whole chunks were read up to a place: whatever follows, the body is their content and what stands from
--- there on, for which there is so much less room.
+-- Whole chunks were read up to a place: whatever follows, the body is their content and what stands
+-- from there on, for which there is so much less room.
 pub record Reached (bytes content : List ℕ) (progress : Progress) : Type 0 where
   pub inside : progress.at ≤ length bytes
   pub room : length content ≤ max_body

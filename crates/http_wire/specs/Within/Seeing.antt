@@ -1,11 +1,11 @@
 -- What is known of the unread bytes of a feed.
-use Rattle.std.specs.Prelude.{◌≡◌, ℕ, ◌+◌, ◌≤◌, List, [], length, take, drop}
+use Rattle.std.specs.Prelude.{◌≡◌, ℕ, ◌+◌, ◌≤◌, List, length, take, drop}
 use Rattle.httparse.specs.Grammar.{RequestHead}
 use Rattle.http_wire.specs.Chunks.{coded_front}
 use Rattle.http_wire.specs.Feeds.{is_last}
-use Rattle.http_wire.specs.Heads.{Describes, Front, IsHead, more, refused, whole}
+use Rattle.http_wire.specs.Heads.{Describes, IsHead, more, refused, whole}
 use Rattle.http_wire.specs.Lines.{looked, max_head}
-use Rattle.http_wire.specs.Requests.{Got, IsNext, given, opened}
+use Rattle.http_wire.specs.Requests.{IsNext, given, opened}
 use Rattle.http_wire.specs.Within.Reading.{Reached}
 use Rattle.http_wire.specs.declared.chunks.Progress.{Progress}
 use Rattle.http_wire.specs.declared.front.NextFound.{NextFound}
@@ -52,7 +52,8 @@ FindsHead unread (heads.More place at) = IsHead unread more × IsSeeking unread 
 FindsHead unread heads.Refused = IsHead unread (refused BadHead)
 FindsHead unread (heads.Whole found) = IsFound unread found
 
--- a request stands at the front: its head, and a body of so many bytes behind it that gives this content
+-- a request stands at the front: its head, and a body of so many bytes behind it that gives this
+-- content
 pub record IsGiven (unread content : List ℕ) (found : FoundHead) (size : ℕ) : Type 0 where
   pub known : IsFound unread found
   pub next : IsNext unread (whole (given known.head content) (found.length + size))

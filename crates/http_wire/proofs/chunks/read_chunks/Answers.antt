@@ -1,4 +1,4 @@
-use Rattle.std.proofs.Common.{◌≡◌, ◌∙◌, ap, arith}
+use Rattle.std.proofs.Common.{arith}
 use Rattle.http_wire.proofs.Reaching.{chunks_last, chunks_more, chunks_on, chunks_refused}
 use Rattle.http_wire.proofs.chunks.read_chunks.Goals as goal
 
@@ -17,7 +17,7 @@ returns-in-Last-clause-found c =
 pub chunks-preserved : goal.chunks-preserved
 chunks-preserved c = record {
   reached =
-    rw (c.keep.ensures.items, c.part.ensures)
-    (chunks_on _ _ _ _ c.chunks.progress _ _ c.chunks.invariant.reached c.after-rest.ensures c.room_behind.ensures c.in-Chunk.ensures);
+      rw (c.keep.ensures.items, c.part.ensures)
+      (chunks_on _ _ _ _ c.chunks.progress _ _ c.chunks.invariant.reached c.after-rest.ensures c.room_behind.ensures c.in-Chunk.ensures);
   room = omega (arith, c.keep.ensures.room, c.chunks.invariant.room);
 }

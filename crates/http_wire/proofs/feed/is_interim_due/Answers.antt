@@ -1,4 +1,3 @@
-use Rattle.std.proofs.Common.{◌≡◌}
 use Rattle.http_wire.specs.declared.framing.WireFault.TheVariants.{BadHead}
 use Rattle.http_wire.proofs.Interims.{interim_found, interim_more, interim_refused}
 use Rattle.http_wire.proofs.feed.is_interim_due.Goals as goal

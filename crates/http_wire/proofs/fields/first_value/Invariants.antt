@@ -4,4 +4,5 @@ use Rattle.http_wire.proofs.fields.first_value.Given as goal
 
 -- what the rest gives is what all give
 abbrev pub invariant-loop-header : goal.invariant-loop-header
-invariant-loop-header l = first_of (values_of l.name (fields_at l.bytes (drop l.header-index l.headers))) ≡ first_of (values_of l.name (fields_at l.bytes l.headers))
+invariant-loop-header l = first_of (values_of l.name (fields_at l.bytes (drop l.header-index l.headers))) ≡ first_of (values_of l.name (fields_at
+    l.bytes l.headers))

@@ -1,13 +1,12 @@
-use Rattle.std.proofs.Common.{◌≡◌, List, ℕ, drop, arith, ap, length, length-drop}
+use Rattle.std.proofs.Common.{arith, length-drop}
 use Rattle.http_wire.proofs.Fronts.{next_chunked}
 use Rattle.http_wire.proofs.front.find_chunked.Goals as goal
 
 pub returns-in-More-clause-found : goal.returns-in-More-clause-found
 returns-in-More-clause-found c =
-    let body = rw c.after.ensures at c.in-More.ensures.found in
-    (
+    let body = rw c.after.ensures at c.in-More.ensures.found in (
       next_chunked c.args.unread.now c.args.found c.requires.seen.known _ c.requires.chunked c.requires.other body.0,
-      record { known = c.requires.seen.known; reached = body.1 }
+      record { known = c.requires.seen.known; reached = body.1 },
     )
 
 pub returns-in-Refused-clause-found : goal.returns-in-Refused-clause-found

@@ -1,4 +1,3 @@
-use Rattle.std.proofs.Common.{◌≡◌, Result, Ok, Err, ap, ◌∙◌}
 use Rattle.http_wire.proofs.Fronts.{next_media_chunked, next_opened, next_plain, next_short}
 use Rattle.http_wire.proofs.front.find_framed.Goals as goal
 
@@ -8,12 +7,11 @@ returns-then-found-clause-found c =
     (rw c.in-Length.is at c.requires.framed) c.if-found.true
 
 pub returns-then-unread-found-clause-found : goal.returns-then-unread-found-clause-found
-returns-then-unread-found-clause-found c =
-    (
-      next_short c.args.unread.now c.args.found c.requires.seen.known c.in-Length.size
+returns-then-unread-found-clause-found c = (
+  next_short c.args.unread.now c.args.found c.requires.seen.known c.in-Length.size
       (rw c.in-Length.is at c.requires.framed) c.if-found.false c.if-unread-found.true,
-      c.requires.seen
-    )
+  c.requires.seen,
+)
 
 pub returns-else-unread-found-clause-found : goal.returns-else-unread-found-clause-found
 returns-else-unread-found-clause-found c =

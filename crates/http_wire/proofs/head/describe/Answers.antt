@@ -18,7 +18,19 @@ returns-clause-parts c = λ head at.
       target = at.path;
       inside = omega (arith, path);
       media = rw (c.is_media-is_media.ensures, method, target) refl;
-      framing = rw (c.judged-framing.ensures, c.is_media-is_media.ensures, c.is_coded.ensures, c.declared.ensures, method, target, fields, minor) refl;
-      interim = rw (c.interim_by.ensures, c.judged-framing.ensures, c.has_value-expects.ensures, c.is_media-is_media.ensures, c.is_coded.ensures, c.declared.ensures, method, target, fields, minor) refl;
+      framing = rw (c.judged-framing.ensures, c.is_media-is_media.ensures, c.is_coded.ensures, c.declared.ensures, method, target, fields, minor)
+          refl;
+      interim = rw (
+        c.interim_by.ensures,
+        c.judged-framing.ensures,
+        c.has_value-expects.ensures,
+        c.is_media-is_media.ensures,
+        c.is_coded.ensures,
+        c.declared.ensures,
+        method,
+        target,
+        fields,
+        minor,
+      ) refl;
       closes = rw (c.closes_by.ensures, c.has_value-says_close.ensures, fields, minor) refl;
     }

@@ -6,4 +6,4 @@ pub returns-clause-items : goal.returns-clause-items
 returns-clause-items c =
     c.truncate.ensures.items
     ∙ both_moved c.args.bytes.now.items _ _ c.args.start c.args.taken c.args.read c.len-end.result c.requires.order (omega arith) (omega arith)
-      c.copy_within.ensures.items c.copy_within-2.ensures.items
+    c.copy_within.ensures.items c.copy_within-2.ensures.items

@@ -1,4 +1,3 @@
-use Rattle.std.proofs.Common.{◌≡◌}
 use Rattle.http_wire.proofs.Interims.{knows_head}
 use Rattle.http_wire.proofs.feed.Feed.interim_due.Goals as goal
 

@@ -1,4 +1,4 @@
-use Rattle.std.proofs.Common.{◌≡◌, refl, arith}
+use Rattle.std.proofs.Common.{refl, arith}
 use Rattle.http_wire.proofs.Giving.{answers_turn, turn_decoded, turn_opened, turn_plain, turn_refused}
 use Rattle.http_wire.proofs.feed.Feed.next_request.Goals as goal
 
@@ -6,26 +6,32 @@ pub returns-in-Refused : goal.returns-in-Refused
 returns-in-Refused c =
     let f = c.self.inside in
     rw (← c.self.view_is) (answers_turn _ _ _ c.in_default.not-Failed
-    (turn_refused f.kept c.hold-in-Refused.new.self c.unread.result.now f.body.items c.find_next.new.body.items f.stage f.requests f.ended c.unread.ensures.value
-      c.in-Refused.fault _ c.hold-in-Refused.ensures c.refusal-in-Refused.ensures c.in-Refused.ensures.found))
+    (turn_refused f.kept c.hold-in-Refused.new.self c.unread.result.now f.body.items c.find_next.new.body.items f.stage f.requests f.ended
+    c.unread.ensures.value
+    c.in-Refused.fault _ c.hold-in-Refused.ensures c.refusal-in-Refused.ensures c.in-Refused.ensures.found))
 
 pub returns-in-Opened : goal.returns-in-Opened
 returns-in-Opened c =
     let f = c.self.inside in
     rw (← c.self.view_is) (answers_turn _ _ _ c.in_default.not-Failed
-    (turn_opened f.kept c.hold-in-Opened.new.self c.unread.result.now f.body.items c.find_next.new.body.items f.stage f.requests f.ended c.unread.ensures.value
-      c.in-Opened.found c.in-Opened.size _ c.show-head.result c.hold-in-Opened.ensures c.in-Opened.ensures.found c.show-head.ensures))
+    (turn_opened f.kept c.hold-in-Opened.new.self c.unread.result.now f.body.items c.find_next.new.body.items f.stage f.requests f.ended
+    c.unread.ensures.value
+    c.in-Opened.found c.in-Opened.size _ c.show-head.result c.hold-in-Opened.ensures c.in-Opened.ensures.found c.show-head.ensures))
 
 pub returns-in-Plain : goal.returns-in-Plain
 returns-in-Plain c =
     let f = c.self.inside in
     rw (← c.self.view_is) (answers_turn _ _ _ c.in_default.not-Failed
-    (turn_plain f.kept c.hold-in-Plain.new.self c.unread.result.now f.body.items c.find_next.new.body.items f.stage f.requests f.ended c.unread.ensures.value
-      c.in-Plain.found c.in-Plain.size _ c.show-head-in-Plain.result c.hold-in-Plain.ensures c.in-Plain.ensures.found refl c.show-head-in-Plain.ensures))
+    (turn_plain f.kept c.hold-in-Plain.new.self c.unread.result.now f.body.items c.find_next.new.body.items f.stage f.requests f.ended
+    c.unread.ensures.value
+    c.in-Plain.found c.in-Plain.size _ c.show-head-in-Plain.result c.hold-in-Plain.ensures c.in-Plain.ensures.found refl
+    c.show-head-in-Plain.ensures))
 
 pub returns-in-Decoded : goal.returns-in-Decoded
 returns-in-Decoded c =
     let f = c.self.inside in
     rw (← c.self.view_is) (answers_turn _ _ _ c.in_default.not-Failed
-    (turn_decoded f.kept c.hold-in-Decoded.new.self c.unread.result.now f.body.items c.find_next.new.body.items f.stage f.requests f.ended c.unread.ensures.value
-      c.in-Decoded.found c.in-Decoded.size c.len.result _ c.show-head-in-Decoded.result c.hold-in-Decoded.ensures c.in-Decoded.ensures.found refl (omega arith) c.show-head-in-Decoded.ensures))
+    (turn_decoded f.kept c.hold-in-Decoded.new.self c.unread.result.now f.body.items c.find_next.new.body.items f.stage f.requests f.ended
+    c.unread.ensures.value
+    c.in-Decoded.found c.in-Decoded.size c.len.result _ c.show-head-in-Decoded.result c.hold-in-Decoded.ensures c.in-Decoded.ensures.found refl
+    (omega arith) c.show-head-in-Decoded.ensures))

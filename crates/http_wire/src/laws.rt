@@ -1,0 +1,27 @@
+//! Laws of what a connection's bytes spell. By them a feed's answers, given piece by piece, are those of the
+//! whole list of bytes.
+ghost use Rattle.http_wire.specs.Agreeing.{AgreesAtStart, AgreesOnBody, AgreesOnHead, AgreesOnPush, AgreesOnRefusal, AgreesOnWait, AgreesOnWhole};
+ghost use Rattle.http_wire.specs.Hearing.{EndsLast, EndsLastMedia, HearsOn, HearsOnMedia, IsOneHearing, StaysDecided, StaysRefused};
+
+/// A list of bytes spells one thing. What stands at the front of some bytes stands there whatever follows,
+/// and behind a request the rest is heard as a list of its own.
+pub fn hearing_is_one()
+    ensures one { IsOneHearing }
+    ensures decided { StaysDecided }
+    ensures refused { StaysRefused }
+    ensures on { HearsOn }
+    ensures on_media { HearsOnMedia }
+    ensures last { EndsLast }
+    ensures last_media { EndsLastMedia }
+{}
+
+/// What a feed gave and keeps agrees with all bytes that it took: at first, and behind each of its calls.
+pub fn feed_agrees()
+    ensures start { AgreesAtStart }
+    ensures push { AgreesOnPush }
+    ensures more { AgreesOnWait }
+    ensures refused { AgreesOnRefusal }
+    ensures whole { AgreesOnWhole }
+    ensures head { AgreesOnHead }
+    ensures body { AgreesOnBody }
+{}
