@@ -41,7 +41,8 @@ mapped P f None y good e = none_found e
 mapped P f (Some x) y good e = subst P (found e) (good x refl)
 
 -- a find after a find comes from both
-bound : {X Y : Type 0} (P : Y → Type 0) (f : X → Option Y) (o : Option X) (y : Y) → ((x : X) → o ≡ Some x → f x ≡ Some y → P y) → option_and_then f o ≡ Some y → P y
+bound : {X Y : Type 0} (P : Y → Type 0) (f : X → Option Y) (o : Option X) (y : Y) → ((x : X) → o ≡ Some x → f x ≡ Some y → P y)
+    → option_and_then f o ≡ Some y → P y
 bound P f None y good e = none_found e
 bound P f (Some x) y good e = good x refl e
 
@@ -52,7 +53,8 @@ abbrev Written : Num → Type 0
 Written n = is_float n ≡ false → IsNumber (number_text n)
 
 -- one of two, where a test decides
-chosen : (test : Bool) (m : Num) (other : Option Num) (n : Num) → (test ≡ true → Written m) → ((k : Num) → other ≡ Some k → Written k) → (if test then Some m else other) ≡ Some n → Written n
+chosen : (test : Bool) (m : Num) (other : Option Num) (n : Num) → (test ≡ true → Written m) → ((k : Num) → other ≡ Some k → Written k)
+    → (if test then Some m else other) ≡ Some n → Written n
 chosen true m other n first second e = subst Written (found e) (first refl)
 chosen false m other n first second e = second n e
 
