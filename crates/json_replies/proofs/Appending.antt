@@ -14,9 +14,11 @@ pub last : {o t a : List Token} → Appends o t a → Appends o t (a ++ [])
 last {o} {t} {a} e = record { whole = e.whole ∙ ap (λ l. o ++ l) (sym (append-nil a)) }
 
 -- pieces between a first token and a last one
-pub enclosed : {o s u t m : List Token} {b e : Token} → Appends o s (b ∷ []) → Appends s u m → Appends u t (e ∷ []) → Appends o t (b ∷ (m ++ e ∷ []))
+pub enclosed : {o s u t m : List Token} {b e : Token} → Appends o s (b ∷ []) → Appends s u m → Appends u t (e ∷ [])
+    → Appends o t (b ∷ (m ++ e ∷ []))
 enclosed begun more ended = also begun (also more ended)
 
 -- members in two parts
-pub joined : {o s t : List Token} (front back : List Member) → Appends o s (members_tokens front) → Appends s t (members_tokens back) → Appends o t (members_tokens (front ++ back))
+pub joined : {o s t : List Token} (front back : List Member) → Appends o s (members_tokens front) → Appends s t (members_tokens back)
+    → Appends o t (members_tokens (front ++ back))
 joined {o} front back e f = record { whole = (also e f).whole ∙ ap (λ l. o ++ l) (sym (flat_map-append member_tokens front back)) }

@@ -1,3 +1,4 @@
 mod Appending
 mod Escapes
 mod Order
+mod Kept

@@ -14,7 +14,8 @@ abbrev names : List Member → List (List ℕ)
 names members = map (λ m. m.name) members
 
 -- a name passes where it is there, and so do those behind it
-pass_if : (test : List ℕ → Bool) (name : List ℕ) (value : Option (List Token)) (rest : List (List ℕ)) → test name ≡ true → list_all test rest ≡ true → list_all test (name_if name value ++ rest) ≡ true
+pass_if : (test : List ℕ → Bool) (name : List ℕ) (value : Option (List Token)) (rest : List (List ℕ)) → test name ≡ true → list_all test rest ≡ true
+    → list_all test (name_if name value ++ rest) ≡ true
 pass_if test name None rest h k = k
 pass_if test name (Some value) rest h k = ap₂ (λ a b. a && b) h k
 
@@ -25,7 +26,8 @@ keys_pass test (m ∷ ms) h =
     let both = and_parts (test m.name) (list_all test (names ms)) h in pass_if test m.name m.value (keys_of ms) both.0 (keys_pass test ms both.1)
 
 -- a name stands where it is there before those behind it
-rise_if : (name : List ℕ) (value : Option (List Token)) (rest : List (List ℕ)) → list_all (text_before name) rest ≡ true → rises text_before rest ≡ true → rises text_before (name_if name value ++ rest) ≡ true
+rise_if : (name : List ℕ) (value : Option (List Token)) (rest : List (List ℕ)) → list_all (text_before name) rest ≡ true → rises text_before rest ≡ true
+    → rises text_before (name_if name value ++ rest) ≡ true
 rise_if name None rest h k = k
 rise_if name (Some value) rest h k = ap₂ (λ a b. a && b) h k
 

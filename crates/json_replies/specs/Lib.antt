@@ -4,3 +4,4 @@ pub mod Addresses
 pub mod Rows
 pub mod Replies
 pub mod Order
+pub mod Kept

@@ -31,7 +31,8 @@ pub record KeysRise : Type 0 where
   pub object : (row : ObjectRow) (flows : List ℕ) → AreInOrder (object_members row flows)
   pub put_url : (base object : List ℕ) → AreInOrder (put_url_members base object)
   pub allocated : (base object : List ℕ) → AreInOrder (allocated_members base object)
-  pub storage : (base : List ℕ) (objects : List (List ℕ)) → AreInOrder (storage_members base objects)
+  pub storage :
+      (base : List ℕ) (objects : List (List ℕ)) → AreInOrder (storage_members base objects)
   pub request : (store : ℕ) (row : DeleteRow) → AreInOrder (request_members store row)
   pub hook : (shown : HookShown) → AreInOrder (hook_members shown)
   pub refusal : (refusal : Refusal) → AreInOrder (refusal_members refusal)

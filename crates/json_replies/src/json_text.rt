@@ -12,8 +12,8 @@ use std::alloc::Global;
 use std::marker::Model;
 use std::str;
 
-/// Compact text of JSON (RFC 8259). Contracts see the list of its tokens; what a call leaves after an
-/// error is of no use.
+/// Compact text of JSON (RFC 8259). Contracts see the list of its tokens; what a call leaves after
+/// an error is of no use.
 #[derive(Drop)]
 pub(crate) struct JsonText {
     writer: Writer,

@@ -19,6 +19,6 @@ mod tests;
 mod values;
 mod views;
 
-pub use crate::laws::keys_rise;
+pub use crate::laws::{essence_stands, keys_rise};
 pub use crate::print::print_reply;
 pub use crate::requests::request_id;

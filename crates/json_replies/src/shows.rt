@@ -67,8 +67,8 @@ pub(crate) fn show_if_set<T, S: Shows<T>>(
     shows: &S,
     out: &mut JsonText,
 ) -> Result<(), Memory>
-    ensures { OnOk result
-        (Appends out.old out.new (member_tokens (where_set name.now (S.shown shows.now) value.now))) }
+    ensures { OnOk result (Appends out.old out.new
+        (member_tokens (where_set name.now (S.shown shows.now) value.now))) }
 {
     match value {
         Some(value) => show_member(alloc, name, value, shows, out),
@@ -85,8 +85,8 @@ pub(crate) fn show_if_any<T, S: Shows<Listed<T>>>(
     shows: &S,
     out: &mut JsonText,
 ) -> Result<(), Memory>
-    ensures { OnOk result
-        (Appends out.old out.new (member_tokens (where_any name.now (S.shown shows.now) value.now))) }
+    ensures { OnOk result (Appends out.old out.new
+        (member_tokens (where_any name.now (S.shown shows.now) value.now))) }
 {
     if value.items().is_empty() {
         return Ok(());
