@@ -43,8 +43,8 @@ abbrev pub named_source : Option ℕ → Result ℕ Refusal
 named_source None = Err (Missing (codes "source_id"))
 named_source (Some source) = Ok source
 
--- The source and the format. A source that is there is tested first; then the format has to be there, then the
--- source, and then the format is tested.
+-- The source and the format. A source that is there is tested first; then the format has to be
+-- there, then the source, and then the format is tested.
 abbrev pub origin_of : Data → Result Origin Refusal
 origin_of object =
     optional (codes "source_id") id object >>= λ found.

@@ -32,7 +32,8 @@ want_from object None = count_in object
 -- What an object asks for. Where `object_ids` is there, `limit` isn't looked at.
 abbrev pub want_of : Data → Result Want Refusal
 want_of object =
-    optional (codes "object_ids") (counted object_id_value 1 most_objects) object >>= want_from object
+    optional (codes "object_ids") (counted object_id_value 1 most_objects) object
+    >>= want_from object
 
 -- what a body asks for, which may be absent
 abbrev pub want_in : List ℕ → Result Want Refusal
