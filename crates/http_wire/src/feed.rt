@@ -140,11 +140,7 @@ impl Feed {
                 self.seen = UNSEEN;
                 self.stage = Stage::Open;
                 self.requests += 1;
-                let place = Span {
-                    start: found.length,
-                    length: size,
-                };
-                let head = show(&found, place, size as u64, self.requests);
+                let head = show_plain(&found, size, self.requests);
                 self.ended = head.ends;
                 Step::Whole(head)
             }
@@ -153,11 +149,7 @@ impl Feed {
                 self.seen = UNSEEN;
                 self.stage = Stage::Open;
                 self.requests += 1;
-                let place = Span {
-                    start: KEPT_ROOM,
-                    length: self.body.len(),
-                };
-                let head = show(&found, place, place.length as u64, self.requests);
+                let head = show_decoded(&found, self.body.len(), self.requests);
                 self.ended = head.ends;
                 Step::Whole(head)
             }
@@ -237,6 +229,29 @@ fn show(found: &FoundHead, body: Span, length: u64, number: u64) -> Head
         wants_interim: found.wants_interim,
         ends: is_last(found.closes, number),
     }
+}
+
+/// The same, with a body of so many bytes behind the head.
+fn show_plain(found: &FoundHead, size: usize, number: u64) -> Head
+    ensures { IsShown found.now (record { start = found.now.length; length = size }) size number
+        result }
+{
+    let place = Span {
+        start: found.length,
+        length: size,
+    };
+    show(found, place, size as u64, number)
+}
+
+/// The same, with a decoded body of so many bytes.
+fn show_decoded(found: &FoundHead, size: usize, number: u64) -> Head
+    ensures { IsShown found.now (record { start = feed_room; length = size }) size number result }
+{
+    let place = Span {
+        start: KEPT_ROOM,
+        length: size,
+    };
+    show(found, place, size as u64, number)
 }
 
 /// Whether the connection ends behind the so many-th request.

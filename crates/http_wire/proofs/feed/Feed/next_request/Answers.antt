@@ -24,8 +24,8 @@ returns-in-Plain c =
     rw (← c.self.view_is) (answers_turn _ _ _ c.in_default.not-Failed
     (turn_plain f.kept c.hold-in-Plain.new.self c.unread.result.now f.body.items c.find_next.new.body.items f.stage f.requests f.ended
     c.unread.ensures.value
-    c.in-Plain.found c.in-Plain.size _ c.show-head-in-Plain.result c.hold-in-Plain.ensures c.in-Plain.ensures.found refl
-    c.show-head-in-Plain.ensures))
+    c.in-Plain.found c.in-Plain.size _ c.show_plain-head.result c.hold-in-Plain.ensures c.in-Plain.ensures.found refl
+    c.show_plain-head.ensures))
 
 pub returns-in-Decoded : goal.returns-in-Decoded
 returns-in-Decoded c =
@@ -33,5 +33,5 @@ returns-in-Decoded c =
     rw (← c.self.view_is) (answers_turn _ _ _ c.in_default.not-Failed
     (turn_decoded f.kept c.hold-in-Decoded.new.self c.unread.result.now f.body.items c.find_next.new.body.items f.stage f.requests f.ended
     c.unread.ensures.value
-    c.in-Decoded.found c.in-Decoded.size c.len.result _ c.show-head-in-Decoded.result c.hold-in-Decoded.ensures c.in-Decoded.ensures.found refl
-    (omega arith) c.show-head-in-Decoded.ensures))
+    c.in-Decoded.found c.in-Decoded.size c.len.result _ c.show_decoded-head.result c.hold-in-Decoded.ensures c.in-Decoded.ensures.found refl
+    (omega arith) c.show_decoded-head.ensures))
