@@ -1,3 +1,8 @@
 mod Rounds
 mod Orders
 mod CatalogOrder
+mod Keys
+mod Kept
+mod Changes
+mod DropSteps
+mod Gathering

@@ -9,18 +9,18 @@ ghost use Rattle.flow_book.specs.Listing.{cut_count, flows_listed, sources_liste
 
 use crate::drops::{flows_after_drop, sources_with_flow};
 use crate::lists::{flows_listed, sources_listed};
-use crate::looks::{find_flow, find_source};
-use crate::ordered::rows_in_order;
+use crate::looks::{all_flows, all_sources, find_flow, find_source};
 use crate::puts::{flows_after_put, put_refusal, sources_after_put};
-use crate::restores::can_restore;
+use crate::restores::{can_restore, flow_references, flows_gathered, sources_gathered};
 use crate::sets::{
     flows_after_set, flows_after_touch, set_refusal, source_refusal, sources_after_set,
 };
-use disk_trait::{Duplicate, Memory};
+use disk_trait::Memory;
 use media_rows::{
     ApplyFault, BookFault, FlowBody, FlowFilter, FlowList, FlowRow, Part, Refusal, SourceFilter,
     SourceList, SourceRow,
 };
+use shared_tree::Version;
 use std::alloc::Global;
 use std::marker::Model;
 
@@ -28,30 +28,31 @@ use std::marker::Model;
 /// and leaves this one as it is; moments are seconds since 1970-01-01T00:00:00Z.
 #[derive(Drop)]
 pub struct FlowBook {
-    sources: SourceList,
-    flows: FlowList,
+    sources: Version<SourceRow>,
+    flows: Version<FlowRow>,
 }
 
 impl Model for FlowBook {
     ghost use Rattle.media_rows.specs.Catalog.{Catalog};
-    ghost use Rattle.flow_book.specs.Within.Order.{IsInOrder};
+    ghost use Rattle.shared_tree.specs.Pairs.{values};
+    ghost use Rattle.flow_book.specs.Within.Order.{IsKept};
 
     ghost Value = { Catalog };
 
-    ghost view = { λ b. record { sources = b.sources; flows = b.flows } };
+    ghost view = { λ b. record { sources = values b.sources; flows = values b.flows } };
 
-    ghost invariant = { λ b. IsInOrder b.sources b.flows };
+    ghost invariant = { λ b. IsKept b.sources b.flows };
 }
 
 impl FlowBook {
-    /// A book without sources and flows.
-    pub fn empty(alloc: Global) -> FlowBook
+    /// A book without sources and flows. It takes no memory.
+    pub fn empty() -> FlowBook
         ensures sources { result.sources ≡ [] }
         ensures flows { result.flows ≡ [] }
     {
         FlowBook {
-            sources: SourceList::new(alloc),
-            flows: FlowList::new(alloc),
+            sources: Version::empty(),
+            flows: Version::empty(),
         }
     }
 
@@ -66,12 +67,13 @@ impl FlowBook {
         ensures { Restores (can_restore_catalog sources.now flows.now)
             (catalog_of sources.now flows.now) result }
     {
-        if !can_restore(alloc, sources.items(), flows.items())? {
+        let rows = flow_references(alloc, flows.items())?;
+        if !can_restore(alloc, sources.items(), &rows)? {
             return Err(ApplyFault::Refused);
         }
         Ok(FlowBook {
-            sources: rows_in_order(alloc, sources.items())?,
-            flows: rows_in_order(alloc, flows.items())?,
+            sources: sources_gathered(alloc, sources.items())?,
+            flows: flows_gathered(alloc, flows.items())?,
         })
     }
 
@@ -81,13 +83,13 @@ impl FlowBook {
         ensures { IsChange (put_refusal self.now body.now)
             (after_put body.now now self.now) result }
     {
-        let refusal = put_refusal(alloc, self.sources.items(), self.flows.items(), body)?;
+        let refusal = put_refusal(alloc, &self.sources, &self.flows, body)?;
         if let Some(why) = refusal {
             return Err(BookFault::Refused(why));
         }
         Ok(FlowBook {
             sources: sources_after_put(alloc, &self.sources, body, now)?,
-            flows: flows_after_put(alloc, self.flows.items(), body, now)?,
+            flows: flows_after_put(alloc, &self.flows, body, now)?,
         })
     }
 
@@ -103,12 +105,12 @@ impl FlowBook {
         ensures { IsChange (set_refusal self.now flow part.now)
             (after_set flow part.now now self.now) result }
     {
-        if let Some(why) = set_refusal(alloc, self.flows.items(), flow, part)? {
+        if let Some(why) = set_refusal(alloc, &self.flows, flow, part)? {
             return Err(BookFault::Refused(why));
         }
         Ok(FlowBook {
-            sources: self.sources.duplicate(alloc)?,
-            flows: flows_after_set(alloc, self.flows.items(), flow, part, now)?,
+            sources: self.sources.share()?,
+            flows: flows_after_set(alloc, &self.flows, flow, part, now)?,
         })
     }
 
@@ -124,12 +126,12 @@ impl FlowBook {
         ensures { IsChange (set_source_refusal self.now source part.now)
             (after_set_source source part.now now self.now) result }
     {
-        if let Some(why) = source_refusal(alloc, self.sources.items(), source, part)? {
+        if let Some(why) = source_refusal(alloc, &self.sources, source, part)? {
             return Err(BookFault::Refused(why));
         }
         Ok(FlowBook {
-            sources: sources_after_set(alloc, self.sources.items(), source, part, now)?,
-            flows: self.flows.duplicate(alloc)?,
+            sources: sources_after_set(alloc, &self.sources, source, part, now)?,
+            flows: self.flows.share()?,
         })
     }
 
@@ -141,8 +143,8 @@ impl FlowBook {
             return Err(BookFault::Refused(Refusal::NoFlow));
         }
         Ok(FlowBook {
-            sources: self.sources.duplicate(alloc)?,
-            flows: flows_after_touch(alloc, self.flows.items(), flow, now)?,
+            sources: self.sources.share()?,
+            flows: flows_after_touch(alloc, &self.flows, flow, now)?,
         })
     }
 
@@ -154,9 +156,9 @@ impl FlowBook {
         if self.flow(flow).is_none() {
             return Err(BookFault::Refused(Refusal::NoFlow));
         }
-        let flows = flows_after_drop(alloc, self.flows.items(), flow)?;
+        let flows = flows_after_drop(alloc, &self.flows, flow)?;
         Ok(FlowBook {
-            sources: sources_with_flow(alloc, self.sources.items(), flows.items())?,
+            sources: sources_with_flow(alloc, &self.sources, &flows)?,
             flows,
         })
     }
@@ -165,18 +167,17 @@ impl FlowBook {
     pub fn flow(&self, flow: u128) -> Option<&FlowRow>
         ensures { option_copied result ≡ flow_of flow self.now.flows }
     {
-        find_flow(self.flows.items(), flow)
+        find_flow(&self.flows, flow)
     }
 
     /// The source of this id, if it is kept.
     pub fn source(&self, source: u128) -> Option<&SourceRow>
         ensures { option_copied result ≡ source_of source self.now.sources }
     {
-        find_source(self.sources.items(), source)
+        find_source(&self.sources, source)
     }
 
     /// The flows that pass and whose ids lie behind `after`, where one is given.
-    #[tactic(auto, using(crate::proofs::CatalogOrder::listed_rise))]
     pub fn list_flows(
         &self,
         alloc: Global,
@@ -186,11 +187,12 @@ impl FlowBook {
         ensures exact { IfOk result (λ list. list ≡ flows_listed wanted.now after self.now.flows) }
         ensures rising { IfOk result (λ list. IsTrue (rises flow_before list)) }
     {
-        flows_listed(alloc, self.flows.items(), wanted, after)
+        self.flows.keys_rise();
+        let rows = all_flows(alloc, &self.flows)?;
+        flows_listed(alloc, &rows, wanted, after)
     }
 
     /// The sources that pass and whose ids lie behind `after`, where one is given.
-    #[tactic(auto, using(crate::proofs::CatalogOrder::listed_rise))]
     pub fn list_sources(
         &self,
         alloc: Global,
@@ -201,21 +203,23 @@ impl FlowBook {
             (λ list. list ≡ sources_listed wanted.now after self.now.sources) }
         ensures rising { IfOk result (λ list. IsTrue (rises source_before list)) }
     {
-        sources_listed(alloc, self.sources.items(), wanted, after)
+        self.sources.keys_rise();
+        let rows = all_sources(alloc, &self.sources)?;
+        sources_listed(alloc, &rows, wanted, after)
     }
 
     /// A law: sources and flows stand by rising id, and so each id once.
     pub fn is_in_order(&self)
         ensures { IsTrue (is_catalog_in_order self.now) }
     {
-        // The look at a field brings the book's invariant among the facts.
-        let _flows = &self.flows;
+        self.sources.keys_rise();
+        self.flows.keys_rise();
     }
 
     /// The number of flows, cut at the last value of its type.
     pub fn flow_count(&self) -> u64
         ensures { result ≡ cut_count self.now.flows }
     {
-        self.flows.items().len() as u64
+        self.flows.len()
     }
 }

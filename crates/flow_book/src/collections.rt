@@ -5,33 +5,45 @@ ghost use Rattle.media_rows.specs.Catalog.{collection_refusals};
 ghost use Rattle.media_rows.specs.Collections.{collected_by, collects_itself, first_missing, is_kept, member_ids};
 ghost use Rattle.media_rows.specs.Lists.{has_number};
 ghost use Rattle.media_rows.specs.Refusals.{first_refusal};
+ghost use Rattle.media_rows.specs.Views.{flow_key};
+ghost use Rattle.shared_tree.specs.Pairs.{values, values_of};
+ghost use Rattle.shared_tree.specs.Rows.{IsKeyedBy};
 ghost use Rattle.flow_book.specs.Within.Answers.{Computes};
 
+use crate::looks::{all_flows, find_flow};
 use disk_trait::Memory;
 use media_rows::{FlowRow, Member, Refusal};
+use shared_tree::Version;
 use std::alloc::Global;
 
 /// Why a flow may not collect these: one is missing, or the flow would reach itself.
 pub(crate) fn collection_refusal(
     alloc: Global,
-    flows: &[FlowRow],
+    flows: &Version<FlowRow>,
     id: u128,
     members: &[Member],
 ) -> Result<Option<Refusal>, Memory>
-    ensures { Computes result (first_refusal (collection_refusals flows.now id members.now)) }
+    requires keyed { IsKeyedBy flow_key flows.now }
+    ensures { Computes result
+        (first_refusal (collection_refusals (values flows.now) id members.now)) }
 {
+    if members.len() == 0 {
+        return Ok(None);
+    }
     if let Some(missing) = first_missing(flows, id, members) {
         return Ok(Some(Refusal::CollectedMissing(missing)));
     }
-    if collects_itself(alloc, flows, id, members)? {
+    let rows = all_flows(alloc, flows)?;
+    if collects_itself(alloc, &rows, id, members)? {
         return Ok(Some(Refusal::CollectsItself));
     }
     Ok(None)
 }
 
 /// The first collected flow that is neither kept nor the flow itself.
-pub(crate) fn first_missing(flows: &[FlowRow], id: u128, members: &[Member]) -> Option<u128>
-    ensures { result ≡ first_missing flows.now id members.now }
+fn first_missing(flows: &Version<FlowRow>, id: u128, members: &[Member]) -> Option<u128>
+    requires keyed { IsKeyedBy flow_key flows.now }
+    ensures { result ≡ first_missing (values flows.now) id members.now }
 {
     for member in members {
         if !is_kept_or(flows, id, member.flow) {
@@ -41,28 +53,33 @@ pub(crate) fn first_missing(flows: &[FlowRow], id: u128, members: &[Member]) -> 
     None
 }
 
-fn is_kept_or(flows: &[FlowRow], id: u128, to: u128) -> bool
-    ensures { result ≡ ((to == id) || is_kept flows.now to) }
+fn is_kept_or(flows: &Version<FlowRow>, id: u128, to: u128) -> bool
+    requires keyed { IsKeyedBy flow_key flows.now }
+    ensures { result ≡ ((to == id) || is_kept (values flows.now) to) }
 {
     to == id || is_kept(flows, to)
 }
 
 /// Whether a flow of this id is kept.
-pub(crate) fn is_kept(flows: &[FlowRow], id: u128) -> bool
-    ensures { result ≡ is_kept flows.now id }
+fn is_kept(flows: &Version<FlowRow>, id: u128) -> bool
+    requires keyed { IsKeyedBy flow_key flows.now }
+    ensures { result ≡ is_kept (values flows.now) id }
 {
-    flows.iter().any(|row| row.body.id == id)
+    match find_flow(flows, id) {
+        Some(_) => true,
+        None => false,
+    }
 }
 
 /// Whether a flow with these entries reaches itself. Each round adds what one more step collects. A
 /// round that finds no further flow is the last one, and as many rounds as there are flows find all.
 pub(crate) fn collects_itself(
     alloc: Global,
-    flows: &[FlowRow],
+    flows: &[&FlowRow],
     id: u128,
     members: &[Member],
 ) -> Result<bool, Memory>
-    ensures { Computes result (collects_itself flows.now id members.now) }
+    ensures { Computes result (collects_itself (values_of flows.now) id members.now) }
 {
     let mut ids = member_ids(alloc, members)?;
     for _round in 0..flows.len() {
@@ -86,8 +103,9 @@ fn member_ids(alloc: Global, members: &[Member]) -> Result<Vec<u128>, Memory>
 }
 
 /// The flows that these collect, in the order of the rows.
-fn collected_by(alloc: Global, flows: &[FlowRow], ids: &[u128]) -> Result<Vec<u128>, Memory>
-    ensures { IfOk result (λ collected. collected.items ≡ collected_by flows.now ids.now) }
+fn collected_by(alloc: Global, flows: &[&FlowRow], ids: &[u128]) -> Result<Vec<u128>, Memory>
+    ensures { IfOk result
+        (λ collected. collected.items ≡ collected_by (values_of flows.now) ids.now) }
 {
     let mut collected = Vec::new(alloc);
     for row in flows {

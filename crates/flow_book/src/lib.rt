@@ -1,4 +1,5 @@
-//! The book of sources and flows: a value that each change makes anew, as plain lists by rising id.
+//! The book of sources and flows: a value that each change makes anew, which shares with the old one what
+//! doesn't change.
 //! Each call is its part of the library's definitions in `media_rows`. Which flows are being deleted,
 //! which segments there are and what events a change makes is left to the callers.
 #![tactic(auto)]
@@ -8,11 +9,11 @@ mod collections;
 mod drops;
 mod lists;
 mod looks;
-mod ordered;
 mod parts;
 mod puts;
 mod restores;
 mod sets;
+mod tags;
 #[cfg(test)]
 mod tests;
 

@@ -2,6 +2,7 @@
 ghost use Rattle.std.specs.Prelude.{◌≡◌, option_copied};
 ghost use Rattle.media_rows.specs.Lists.{has_text};
 ghost use Rattle.media_rows.specs.Views.{has_value, matches_format, matches_id, matches_text, passes_flow, passes_source, passes_tag, passes_tags};
+ghost use Rattle.shared_tree.specs.Pairs.{values_of};
 ghost use Rattle.flow_book.specs.Listing.{flows_listed, is_behind, is_flow_listed, is_source_listed, sources_listed};
 ghost use Rattle.flow_book.specs.Within.Answers.{Computes};
 
@@ -16,11 +17,11 @@ use std::alloc::Global;
 /// The flows that pass and lie behind an id.
 pub(crate) fn flows_listed(
     alloc: Global,
-    flows: &[FlowRow],
+    flows: &[&FlowRow],
     wanted: &FlowFilter,
     after: Option<u128>,
 ) -> Result<FlowList, Memory>
-    ensures { Computes result (flows_listed wanted.now after flows.now) }
+    ensures { Computes result (flows_listed wanted.now after (values_of flows.now)) }
 {
     let mut list = FlowList::new(alloc);
     for row in flows {
@@ -34,11 +35,11 @@ pub(crate) fn flows_listed(
 /// The sources that pass and lie behind an id.
 pub(crate) fn sources_listed(
     alloc: Global,
-    sources: &[SourceRow],
+    sources: &[&SourceRow],
     wanted: &SourceFilter,
     after: Option<u128>,
 ) -> Result<SourceList, Memory>
-    ensures { Computes result (sources_listed wanted.now after sources.now) }
+    ensures { Computes result (sources_listed wanted.now after (values_of sources.now)) }
 {
     let mut list = SourceList::new(alloc);
     for row in sources {

@@ -5,7 +5,7 @@ ghost use Rattle.media_rows.specs.Catalog.{body_with, clears_nothing, collects_n
 ghost use Rattle.media_rows.specs.Refusals.{when};
 ghost use Rattle.flow_book.specs.Within.Answers.{Computes};
 
-use crate::ordered::placed_row;
+use crate::tags::placed_tag;
 use disk_trait::{Duplicate, Memory, Text};
 use media_rows::{FlowBody, Member, Part, Refusal, SourceRow, Tag, TagList};
 use std::alloc::Global;
@@ -175,7 +175,7 @@ fn tags_with(alloc: Global, name: &Text, new: &Option<Tag>, tags: &[Tag]) -> Res
 {
     match new {
         None => tags_without(alloc, name, tags),
-        Some(tag) => placed_row(alloc, tags, tag),
+        Some(tag) => placed_tag(alloc, tags, tag),
     }
 }
 

@@ -1,27 +1,31 @@
 //! Flows that are put: what is refused of them, and what they make.
-ghost use Rattle.std.specs.Prelude.{◌≡◌, [], Some, None, option_copied};
-ghost use Rattle.media_rows.specs.Catalog.{Catalog, fits_format, fits_source, flow_before, flow_of, keeps_flow, new_source, put_refusal, put_refusals, put_row, same_format, source_of, sources_after_put};
+ghost use Rattle.std.specs.Prelude.{◌≡◌, [], IfOk, Some, None, option_copied};
+ghost use Rattle.media_rows.specs.Catalog.{Catalog, fits_format, fits_source, flow_before, flow_of, keeps_flow, new_source, put_refusal, put_refusals, put_row, same_format, source_before, source_of, sources_after_put};
 ghost use Rattle.media_rows.specs.Lists.{placed};
 ghost use Rattle.media_rows.specs.Refusals.{first_refusal};
+ghost use Rattle.media_rows.specs.Views.{flow_key, source_key};
+ghost use Rattle.shared_tree.specs.Pairs.{values};
+ghost use Rattle.shared_tree.specs.Rows.{IsKeyedBy};
 ghost use Rattle.flow_book.specs.Within.Answers.{Computes, catalog_with};
 
 use crate::collections::collection_refusal;
-use crate::looks::{find_flow, find_source};
-use crate::ordered::placed_row;
+use crate::looks::{find_flow, find_source, with_row};
 use disk_trait::{Duplicate, Memory};
-use media_rows::{
-    FlowBody, FlowList, FlowRow, FormatKind, Refusal, SourceList, SourceRow, TagList,
-};
+use media_rows::{FlowBody, FlowRow, FormatKind, Refusal, SourceRow, TagList};
+use shared_tree::Version;
 use std::alloc::Global;
 
 /// The first refusal that stands of a put.
 pub(crate) fn put_refusal(
     alloc: Global,
-    sources: &[SourceRow],
-    flows: &[FlowRow],
+    sources: &Version<SourceRow>,
+    flows: &Version<FlowRow>,
     body: &FlowBody,
 ) -> Result<Option<Refusal>, Memory>
-    ensures { Computes result (put_refusal (catalog_with sources.now flows.now) body.now) }
+    requires sources { IsKeyedBy source_key sources.now }
+    requires flows { IsKeyedBy flow_key flows.now }
+    ensures { Computes result
+        (put_refusal (catalog_with (values sources.now) (values flows.now)) body.now) }
 {
     match find_flow(flows, body.id) {
         None => new_flow_refusal(alloc, sources, flows, body),
@@ -31,12 +35,14 @@ pub(crate) fn put_refusal(
 
 fn new_flow_refusal(
     alloc: Global,
-    sources: &[SourceRow],
-    flows: &[FlowRow],
+    sources: &Version<SourceRow>,
+    flows: &Version<FlowRow>,
     body: &FlowBody,
 ) -> Result<Option<Refusal>, Memory>
-    ensures { Computes result
-        (first_refusal (put_refusals None (catalog_with sources.now flows.now) body.now)) }
+    requires sources { IsKeyedBy source_key sources.now }
+    requires flows { IsKeyedBy flow_key flows.now }
+    ensures { Computes result (first_refusal
+        (put_refusals None (catalog_with (values sources.now) (values flows.now)) body.now)) }
 {
     if !fits_source(find_source(sources, body.source), body) {
         return Ok(Some(Refusal::SourceFormat));
@@ -46,12 +52,13 @@ fn new_flow_refusal(
 
 fn kept_flow_refusal(
     alloc: Global,
-    flows: &[FlowRow],
+    flows: &Version<FlowRow>,
     old: &FlowRow,
     body: &FlowBody,
 ) -> Result<Option<Refusal>, Memory>
-    ensures { Computes result
-        (first_refusal (put_refusals (Some old.now) (catalog_with [] flows.now) body.now)) }
+    requires flows { IsKeyedBy flow_key flows.now }
+    ensures { Computes result (first_refusal
+        (put_refusals (Some old.now) (catalog_with [] (values flows.now)) body.now)) }
 {
     if old.body.read_only {
         return Ok(Some(Refusal::ReadOnly));
@@ -94,15 +101,31 @@ fn keeps_flow(old: &FlowBody, new: &FlowBody) -> bool
 /// The flows with the one that is put.
 pub(crate) fn flows_after_put(
     alloc: Global,
-    flows: &[FlowRow],
+    flows: &Version<FlowRow>,
     body: &FlowBody,
     now: u64,
-) -> Result<FlowList, Memory>
-    ensures { Computes result
-        (placed flow_before (put_row (flow_of body.now.id flows.now) body.now now) flows.now) }
+) -> Result<Version<FlowRow>, Memory>
+    requires keyed { IsKeyedBy flow_key flows.now }
+    ensures rows { IfOk result (λ next. values next ≡ placed flow_before
+        (put_row (flow_of body.now.id (values flows.now)) body.now now) (values flows.now)) }
+    ensures keyed { IfOk result (IsKeyedBy flow_key) }
 {
     let row = put_row(alloc, find_flow(flows, body.id), body, now)?;
-    placed_row(alloc, flows, &row)
+    flow_placed(alloc, flows, row)
+}
+
+/// The flows with one at its place.
+fn flow_placed(
+    alloc: Global,
+    flows: &Version<FlowRow>,
+    row: FlowRow,
+) -> Result<Version<FlowRow>, Memory>
+    requires keyed { IsKeyedBy flow_key flows.now }
+    ensures rows { IfOk result (λ next. values next ≡ placed flow_before row (values flows.now)) }
+    ensures keyed { IfOk result (IsKeyedBy flow_key) }
+{
+    let id = row.body.id;
+    with_row(alloc, flows, id, row)
 }
 
 fn put_row(
@@ -133,17 +156,34 @@ fn put_row(
 /// The sources, with that of a flow that is put.
 pub(crate) fn sources_after_put(
     alloc: Global,
-    sources: &SourceList,
+    sources: &Version<SourceRow>,
     body: &FlowBody,
     now: u64,
-) -> Result<SourceList, Memory>
-    ensures { Computes result
-        (sources_after_put (source_of body.now.source sources.now) sources.now body.now now) }
+) -> Result<Version<SourceRow>, Memory>
+    requires keyed { IsKeyedBy source_key sources.now }
+    ensures rows { IfOk result (λ next. values next ≡ sources_after_put
+        (source_of body.now.source (values sources.now)) (values sources.now) body.now now) }
+    ensures keyed { IfOk result (IsKeyedBy source_key) }
 {
-    match find_source(sources.items(), body.source) {
-        None => placed_row(alloc, sources.items(), &new_source(alloc, body, now)),
-        Some(_) => sources.duplicate(alloc),
+    match find_source(sources, body.source) {
+        None => source_placed(alloc, sources, new_source(alloc, body, now)),
+        Some(_) => sources.share(),
     }
+}
+
+/// The sources with one at its place.
+fn source_placed(
+    alloc: Global,
+    sources: &Version<SourceRow>,
+    row: SourceRow,
+) -> Result<Version<SourceRow>, Memory>
+    requires keyed { IsKeyedBy source_key sources.now }
+    ensures rows { IfOk result
+        (λ next. values next ≡ placed source_before row (values sources.now)) }
+    ensures keyed { IfOk result (IsKeyedBy source_key) }
+{
+    let id = row.id;
+    with_row(alloc, sources, id, row)
 }
 
 fn new_source(alloc: Global, body: &FlowBody, now: u64) -> SourceRow

@@ -6,23 +6,26 @@ ghost use Rattle.media_rows.specs.Collections.{is_kept, member_ids};
 ghost use Rattle.media_rows.specs.Good.{are_collections_good, fits_kept, is_collection_good};
 ghost use Rattle.media_rows.specs.Lists.{are_distinct};
 ghost use Rattle.media_rows.specs.Restoring.{can_restore_catalog};
+ghost use Rattle.shared_tree.specs.Pairs.{values_of};
 ghost use Rattle.flow_book.specs.Within.Answers.{Computes};
+ghost use Rattle.flow_book.specs.Within.Order.{gathered};
 
-use crate::collections::{collects_itself, is_kept};
+use crate::collections::collects_itself;
 use crate::drops::has_flow;
-use crate::looks::find_source;
+use crate::looks::with_row;
 use crate::puts::fits_format;
-use disk_trait::Memory;
+use disk_trait::{Duplicate, Memory};
 use media_rows::{FlowRow, Member, SourceRow};
+use shared_tree::Version;
 use std::alloc::Global;
 
 /// Whether ids are distinct, each flow has its source and each source a flow, and collections are good.
 pub(crate) fn can_restore(
     alloc: Global,
     sources: &[SourceRow],
-    flows: &[FlowRow],
+    flows: &[&FlowRow],
 ) -> Result<bool, Memory>
-    ensures { Computes result (can_restore_catalog sources.now flows.now) }
+    ensures { Computes result (can_restore_catalog sources.now (values_of flows.now)) }
 {
     if !are_distinct(&source_ids(alloc, sources)?) {
         return Ok(false);
@@ -46,8 +49,8 @@ fn source_ids(alloc: Global, sources: &[SourceRow]) -> Result<Vec<u128>, Memory>
     Ok(ids)
 }
 
-fn flow_ids(alloc: Global, flows: &[FlowRow]) -> Result<Vec<u128>, Memory>
-    ensures { IfOk result (λ ids. ids.items ≡ map (λ row. row.body.id) flows.now) }
+fn flow_ids(alloc: Global, flows: &[&FlowRow]) -> Result<Vec<u128>, Memory>
+    ensures { IfOk result (λ ids. ids.items ≡ map (λ row. row.body.id) (values_of flows.now)) }
 {
     let mut ids = Vec::new(alloc);
     for row in flows {
@@ -74,11 +77,24 @@ fn differs(number: u128, others: &[u128]) -> bool
     others.iter().all(|other| number != *other)
 }
 
-fn are_flows_under_sources(sources: &[SourceRow], flows: &[FlowRow]) -> bool
+fn are_flows_under_sources(sources: &[SourceRow], flows: &[&FlowRow]) -> bool
     ensures { result
-        ≡ list_all (λ row. fits_kept (source_of row.body.source sources.now) row) flows.now }
+        ≡ list_all (λ row. fits_kept (source_of row.body.source sources.now) row)
+        (values_of flows.now) }
 {
-    flows.iter().all(|row| fits_kept(find_source(sources, row.body.source), row))
+    for row in flows {
+        if !fits_kept(source_among(sources, row.body.source), row) {
+            return false;
+        }
+    }
+    true
+}
+
+/// The source of an id among rows.
+fn source_among(sources: &[SourceRow], id: u128) -> Option<&SourceRow>
+    ensures { option_copied result ≡ source_of id sources.now }
+{
+    sources.iter().find(|row| row.id == id)
 }
 
 fn fits_kept(source: Option<&SourceRow>, row: &FlowRow) -> bool
@@ -90,14 +106,14 @@ fn fits_kept(source: Option<&SourceRow>, row: &FlowRow) -> bool
     }
 }
 
-fn have_flows(sources: &[SourceRow], flows: &[FlowRow]) -> bool
-    ensures { result ≡ list_all (has_flow flows.now) sources.now }
+fn have_flows(sources: &[SourceRow], flows: &[&FlowRow]) -> bool
+    ensures { result ≡ list_all (has_flow (values_of flows.now)) sources.now }
 {
     sources.iter().all(|source| has_flow(flows, source))
 }
 
-fn are_collections_good(alloc: Global, flows: &[FlowRow]) -> Result<bool, Memory>
-    ensures { Computes result (are_collections_good flows.now) }
+fn are_collections_good(alloc: Global, flows: &[&FlowRow]) -> Result<bool, Memory>
+    ensures { Computes result (are_collections_good (values_of flows.now)) }
 {
     for row in flows {
         if !is_collection_good(alloc, flows, row)? {
@@ -107,8 +123,8 @@ fn are_collections_good(alloc: Global, flows: &[FlowRow]) -> Result<bool, Memory
     Ok(true)
 }
 
-fn is_collection_good(alloc: Global, flows: &[FlowRow], row: &FlowRow) -> Result<bool, Memory>
-    ensures { Computes result (is_collection_good flows.now row.now) }
+fn is_collection_good(alloc: Global, flows: &[&FlowRow], row: &FlowRow) -> Result<bool, Memory>
+    ensures { Computes result (is_collection_good (values_of flows.now) row.now) }
 {
     let members = row.body.members.items();
     if !are_kept(flows, members) {
@@ -117,13 +133,63 @@ fn is_collection_good(alloc: Global, flows: &[FlowRow], row: &FlowRow) -> Result
     Ok(!collects_itself(alloc, flows, row.body.id, members)?)
 }
 
-fn are_kept(flows: &[FlowRow], members: &[Member]) -> bool
-    ensures { result ≡ list_all (is_kept flows.now) (member_ids members.now) }
+fn are_kept(flows: &[&FlowRow], members: &[Member]) -> bool
+    ensures { result ≡ list_all (is_kept (values_of flows.now)) (member_ids members.now) }
 {
     for member in members {
-        if !is_kept(flows, member.flow) {
+        if !is_among(flows, member.flow) {
             return false;
         }
     }
     true
+}
+
+/// Whether a flow of this id is among rows.
+fn is_among(flows: &[&FlowRow], id: u128) -> bool
+    ensures { result ≡ is_kept (values_of flows.now) id }
+{
+    for row in flows {
+        if row.body.id == id {
+            return true;
+        }
+    }
+    false
+}
+
+/// References to rows.
+pub(crate) fn flow_references(alloc: Global, flows: &[FlowRow]) -> Result<Vec<&FlowRow>, Memory>
+    ensures { IfOk result (λ list. values_of list.items ≡ flows.now) }
+{
+    let mut list = Vec::new(alloc);
+    for row in flows {
+        list.push(row)?;
+    }
+    Ok(list)
+}
+
+/// Copies of flows at the keys of their ids. The last one is put first.
+pub(crate) fn flows_gathered(alloc: Global, rows: &[FlowRow]) -> Result<Version<FlowRow>, Memory>
+    ensures { IfOk result (λ next. next ≡ gathered (λ row. row.body.id) rows.now) }
+{
+    let mut next = Version::empty();
+    for placed in 0..rows.len() {
+        let row = &rows[rows.len() - 1 - placed];
+        next = with_row(alloc, &next, row.body.id, row.duplicate(alloc)?)?;
+    }
+    Ok(next)
+}
+
+/// Copies of sources at the keys of their ids. The last one is put first.
+pub(crate) fn sources_gathered(
+    alloc: Global,
+    rows: &[SourceRow],
+) -> Result<Version<SourceRow>, Memory>
+    ensures { IfOk result (λ next. next ≡ gathered (λ row. row.id) rows.now) }
+{
+    let mut next = Version::empty();
+    for placed in 0..rows.len() {
+        let row = &rows[rows.len() - 1 - placed];
+        next = with_row(alloc, &next, row.id, row.duplicate(alloc)?)?;
+    }
+    Ok(next)
 }

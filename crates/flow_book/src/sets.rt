@@ -1,25 +1,30 @@
 //! Parts of flows and sources that are set, and flows whose segments changed.
-ghost use Rattle.std.specs.Prelude.{◌≡◌, ◌==◌, Some, if◌then◌else◌};
+ghost use Rattle.std.specs.Prelude.{◌≡◌, IfOk, Some};
 ghost use Rattle.media_rows.specs.Catalog.{flow_of, part_refusals, set_refusals, set_row, set_source_row, source_of, source_refusals, touched, with_flow, with_source};
 ghost use Rattle.media_rows.specs.Refusals.{first_refusal};
+ghost use Rattle.media_rows.specs.Views.{flow_key, source_key};
+ghost use Rattle.shared_tree.specs.Pairs.{values};
+ghost use Rattle.shared_tree.specs.Rows.{IsKeyedBy};
 ghost use Rattle.flow_book.specs.Within.Answers.{Computes};
 
 use crate::collections::collection_refusal;
-use crate::looks::{find_flow, find_source};
+use crate::looks::{find_flow, find_source, with_row};
 use crate::parts::{body_with, flow_part_unset, sets_mark, source_part_unset, source_with};
 use disk_trait::{Duplicate, Memory};
-use media_rows::{FlowList, FlowRow, Part, Refusal, SourceList, SourceRow};
+use media_rows::{FlowRow, Part, Refusal, SourceRow};
+use shared_tree::Version;
 use std::alloc::Global;
 
 /// The first refusal that stands of a part of a flow.
 pub(crate) fn set_refusal(
     alloc: Global,
-    flows: &[FlowRow],
+    flows: &Version<FlowRow>,
     id: u128,
     part: &Part,
 ) -> Result<Option<Refusal>, Memory>
-    ensures { Computes result
-        (first_refusal (set_refusals (flow_of id flows.now) flows.now id part.now)) }
+    requires keyed { IsKeyedBy flow_key flows.now }
+    ensures { Computes result (first_refusal
+        (set_refusals (flow_of id (values flows.now)) (values flows.now) id part.now)) }
 {
     match find_flow(flows, id) {
         None => Ok(Some(Refusal::NoFlow)),
@@ -29,12 +34,14 @@ pub(crate) fn set_refusal(
 
 fn kept_set_refusal(
     alloc: Global,
-    flows: &[FlowRow],
+    flows: &Version<FlowRow>,
     old: &FlowRow,
     id: u128,
     part: &Part,
 ) -> Result<Option<Refusal>, Memory>
-    ensures { Computes result (first_refusal (set_refusals (Some old.now) flows.now id part.now)) }
+    requires keyed { IsKeyedBy flow_key flows.now }
+    ensures { Computes result
+        (first_refusal (set_refusals (Some old.now) (values flows.now) id part.now)) }
 {
     if old.body.read_only && !sets_mark(part) {
         return Ok(Some(Refusal::ReadOnly));
@@ -47,11 +54,12 @@ fn kept_set_refusal(
 
 fn part_refusal(
     alloc: Global,
-    flows: &[FlowRow],
+    flows: &Version<FlowRow>,
     id: u128,
     part: &Part,
 ) -> Result<Option<Refusal>, Memory>
-    ensures { Computes result (first_refusal (part_refusals flows.now id part.now)) }
+    requires keyed { IsKeyedBy flow_key flows.now }
+    ensures { Computes result (first_refusal (part_refusals (values flows.now) id part.now)) }
 {
     match part {
         Part::Collection(members) => collection_refusal(alloc, flows, id, members.items()),
@@ -62,33 +70,26 @@ fn part_refusal(
 /// The flows with a part of one of them set or cleared.
 pub(crate) fn flows_after_set(
     alloc: Global,
-    flows: &[FlowRow],
+    flows: &Version<FlowRow>,
     id: u128,
     part: &Part,
     now: u64,
-) -> Result<FlowList, Memory>
-    ensures { Computes result (with_flow id (set_row part.now now) flows.now) }
+) -> Result<Version<FlowRow>, Memory>
+    requires keyed { IsKeyedBy flow_key flows.now }
+    ensures rows { IfOk result
+        (λ next. values next ≡ with_flow id (set_row part.now now) (values flows.now)) }
+    ensures keyed { IfOk result (IsKeyedBy flow_key) }
 {
-    let mut list = FlowList::new(alloc);
-    for row in flows {
-        list.push(flow_after_set(alloc, row, id, part, now)?)?;
+    flows.keys_rise();
+    match find_flow(flows, id) {
+        None => flows.share(),
+        Some(row) => with_row(alloc, flows, id, set_row(alloc, row, part, now)?),
     }
-    Ok(list)
 }
 
-fn flow_after_set(
-    alloc: Global,
-    row: &FlowRow,
-    id: u128,
-    part: &Part,
-    now: u64,
-) -> Result<FlowRow, Memory>
-    ensures { Computes result
-        (if row.now.body.id == id then set_row part.now now row.now else row.now) }
+fn set_row(alloc: Global, row: &FlowRow, part: &Part, now: u64) -> Result<FlowRow, Memory>
+    ensures { Computes result (set_row part.now now row.now) }
 {
-    if row.body.id != id {
-        return row.duplicate(alloc);
-    }
     Ok(FlowRow {
         body: body_with(alloc, part, &row.body)?,
         created: row.created,
@@ -100,11 +101,13 @@ fn flow_after_set(
 /// The first refusal that stands of a part of a source.
 pub(crate) fn source_refusal(
     alloc: Global,
-    sources: &[SourceRow],
+    sources: &Version<SourceRow>,
     id: u128,
     part: &Part,
 ) -> Result<Option<Refusal>, Memory>
-    ensures { Computes result (first_refusal (source_refusals (source_of id sources.now) part.now)) }
+    requires keyed { IsKeyedBy source_key sources.now }
+    ensures { Computes result
+        (first_refusal (source_refusals (source_of id (values sources.now)) part.now)) }
 {
     match find_source(sources, id) {
         None => Ok(Some(Refusal::NoSource)),
@@ -115,33 +118,31 @@ pub(crate) fn source_refusal(
 /// The sources with a part of one of them set or cleared.
 pub(crate) fn sources_after_set(
     alloc: Global,
-    sources: &[SourceRow],
+    sources: &Version<SourceRow>,
     id: u128,
     part: &Part,
     now: u64,
-) -> Result<SourceList, Memory>
-    ensures { Computes result (with_source id (set_source_row part.now now) sources.now) }
+) -> Result<Version<SourceRow>, Memory>
+    requires keyed { IsKeyedBy source_key sources.now }
+    ensures rows { IfOk result
+        (λ next. values next ≡ with_source id (set_source_row part.now now) (values sources.now)) }
+    ensures keyed { IfOk result (IsKeyedBy source_key) }
 {
-    let mut list = SourceList::new(alloc);
-    for row in sources {
-        list.push(source_after_set(alloc, row, id, part, now)?)?;
+    sources.keys_rise();
+    match find_source(sources, id) {
+        None => sources.share(),
+        Some(row) => with_row(alloc, sources, id, set_source_row(alloc, row, part, now)?),
     }
-    Ok(list)
 }
 
-fn source_after_set(
+fn set_source_row(
     alloc: Global,
     row: &SourceRow,
-    id: u128,
     part: &Part,
     now: u64,
 ) -> Result<SourceRow, Memory>
-    ensures { Computes result
-        (if row.now.id == id then set_source_row part.now now row.now else row.now) }
+    ensures { Computes result (set_source_row part.now now row.now) }
 {
-    if row.id != id {
-        return row.duplicate(alloc);
-    }
     let mut next = source_with(alloc, part, row)?;
     next.updated = now;
     Ok(next)
@@ -150,25 +151,25 @@ fn source_after_set(
 /// The flows with one of them marked as having new segments, or fewer.
 pub(crate) fn flows_after_touch(
     alloc: Global,
-    flows: &[FlowRow],
+    flows: &Version<FlowRow>,
     id: u128,
     now: u64,
-) -> Result<FlowList, Memory>
-    ensures { Computes result (with_flow id (touched now) flows.now) }
+) -> Result<Version<FlowRow>, Memory>
+    requires keyed { IsKeyedBy flow_key flows.now }
+    ensures rows { IfOk result (λ next. values next ≡ with_flow id (touched now) (values flows.now)) }
+    ensures keyed { IfOk result (IsKeyedBy flow_key) }
 {
-    let mut list = FlowList::new(alloc);
-    for row in flows {
-        list.push(flow_after_touch(alloc, row, id, now)?)?;
+    flows.keys_rise();
+    match find_flow(flows, id) {
+        None => flows.share(),
+        Some(row) => with_row(alloc, flows, id, touched(alloc, row, now)?),
     }
-    Ok(list)
 }
 
-fn flow_after_touch(alloc: Global, row: &FlowRow, id: u128, now: u64) -> Result<FlowRow, Memory>
-    ensures { Computes result (if row.now.body.id == id then touched now row.now else row.now) }
+fn touched(alloc: Global, row: &FlowRow, now: u64) -> Result<FlowRow, Memory>
+    ensures { Computes result (touched now row.now) }
 {
     let mut next = row.duplicate(alloc)?;
-    if row.body.id == id {
-        next.segments_updated = Some(now);
-    }
+    next.segments_updated = Some(now);
     Ok(next)
 }

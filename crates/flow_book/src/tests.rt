@@ -71,7 +71,7 @@ const VIDEO: (u128, u128, FormatKind) = (1, 7, FormatKind::Video);
 
 /// A video flow 1 of source 7, made at 5, and a multi flow 2 of it that collects flow 1.
 fn two_flows(alloc: Global) -> Result<FlowBook, BookFault> {
-    let one = put(alloc, &FlowBook::empty(alloc), VIDEO, &[], 5)?;
+    let one = put(alloc, &FlowBook::empty(), VIDEO, &[], 5)?;
     put(alloc, &one, (2, 7, FormatKind::Multi), &[1], 6)
 }
 
@@ -153,7 +153,7 @@ fn left(alloc: Global) -> Result<(bool, Option<usize>), BookFault> {
 
 /// The book without flows, from which the last flow went.
 fn emptied(alloc: Global) -> Result<FlowBook, BookFault> {
-    let one = put(alloc, &FlowBook::empty(alloc), VIDEO, &[], 5)?;
+    let one = put(alloc, &FlowBook::empty(), VIDEO, &[], 5)?;
     one.drop_flow(alloc, 1)
 }
 

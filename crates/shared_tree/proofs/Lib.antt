@@ -5,3 +5,4 @@ mod Changed
 mod Looked
 mod Walked
 pub mod Counted
+pub mod Rows

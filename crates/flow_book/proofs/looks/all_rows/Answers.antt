@@ -1,0 +1,10 @@
+use Rattle.std.proofs.Common.{rules, ◌≡◌, arith, length, ap, take}
+use Rattle.shared_tree.specs.Pairs.{values_of}
+use Rattle.flow_book.proofs.Keys.{walked_all}
+use Rattle.flow_book.proofs.looks.all_rows.Goals as goal
+
+-- the walk passes all rows
+pub returns : goal.returns
+returns g c =
+    let count : c.len-count.result ≡ length c.args.rows.now = omega (arith, c.len-count.ensures) in
+    walked_all c.len-count.result c.args.rows.now (values_of c.in_ok-list.list.items) (values_of c.walk_from.new.out.items) (ap values_of c.in_ok-list.ensures.items) c.walk_from.ensures.values count c.requires.least
