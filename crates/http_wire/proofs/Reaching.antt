@@ -37,6 +37,11 @@ seen_later bytes later room (lines.Read n size) seen = record {
   some = seen.some;
   fits = seen.fits;
 }
+seen_later bytes later room (lines.Last n) seen = record {
+  ends = line_end-append_some bytes later n seen.ends;
+  inside = omega (arith, seen.inside, length-append bytes later);
+  sized = rw (take-append-le n bytes later seen.inside) seen.sized;
+}
 
 -- and so does how far a body was read
 pub Reached_later : (bytes later content : List ℕ) (progress : Progress) → Reached bytes content progress → Reached (bytes ++ later) content progress

@@ -14,6 +14,8 @@ pub(crate) enum LineSeen {
     Open(usize),
     /// It has so many bytes, and names so many bytes of data.
     Read(usize, usize),
+    /// It has so many bytes, and is the last chunk's.
+    Last(usize),
 }
 
 /// What stands at the front of bytes as an end.

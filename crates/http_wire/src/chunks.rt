@@ -53,6 +53,7 @@ fn read_chunk(bytes: &[u8], room: usize, line: LineSeen) -> ChunkFound
 {
     match line {
         LineSeen::Read(count, size) => read_data(bytes, room, count, size),
+        LineSeen::Last(count) => read_last(bytes, room, count),
         LineSeen::Open(seen) => match find_line_behind(bytes, seen) {
             Some(count) => read_line(bytes, room, count),
             None => ChunkFound::More(LineSeen::Open(bytes.len())),
@@ -88,7 +89,7 @@ fn read_last(bytes: &[u8], room: usize, count: usize) -> ChunkFound
     ensures { FindsChunk bytes.now room result }
 {
     match trailer(after(bytes, count)) {
-        Ending::Open => ChunkFound::More(LineSeen::Open(0)),
+        Ending::Open => ChunkFound::More(LineSeen::Last(count)),
         Ending::Wrong => ChunkFound::Refused(WireFault::BadFraming),
         Ending::Ended(more) => ChunkFound::Last(count + more),
     }

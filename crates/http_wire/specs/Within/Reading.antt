@@ -6,7 +6,7 @@ use Rattle.http_wire.specs.Lines.{line_end}
 use Rattle.http_wire.specs.Chunks.{chunked, chunks_within, closed, coded_front, line_size, one_chunk, prefixed}
 use Rattle.http_wire.specs.declared.chunk_line.Ending.TheVariants.{Ended}
 use Rattle.http_wire.specs.declared.chunk_line.LineSeen.{LineSeen}
-use Rattle.http_wire.specs.declared.chunk_line.LineSeen.TheVariants.{Open, Read}
+use Rattle.http_wire.specs.declared.chunk_line.LineSeen.TheVariants.{Last, Open, Read}
 use Rattle.http_wire.specs.declared.chunks.ChunkFound.{ChunkFound}
 use Rattle.http_wire.specs.declared.chunks.ChunkFound.TheVariants as found
 use Rattle.http_wire.specs.declared.chunks.Progress.{Progress}
@@ -21,10 +21,17 @@ pub record IsLine (bytes : List ℕ) (room n size : ℕ) : Type 0 where
   pub some : 0 < size
   pub fits : size ≤ room
 
+-- the line at the front ends behind so many bytes, and is the last chunk's
+pub record IsLast (bytes : List ℕ) (n : ℕ) : Type 0 where
+  pub ends : line_end bytes ≡ Some n
+  pub inside : n ≤ length bytes
+  pub sized : line_size (take n bytes) ≡ Some 0
+
 -- what is known of the line at the front
 abbrev pub IsLineSeen : List ℕ → ℕ → LineSeen → Type 0
 IsLineSeen bytes room (Open n) = (n ≤ length bytes) × (line_end (take n bytes) ≡ None)
 IsLineSeen bytes room (Read n size) = IsLine bytes room n size
+IsLineSeen bytes room (Last n) = IsLast bytes n
 
 -- a whole chunk with data stands at the front
 pub record IsChunk (bytes : List ℕ) (room n size : ℕ) : Type 0 where
