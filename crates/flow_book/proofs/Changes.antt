@@ -1,10 +1,10 @@
 -- What a change of a version does to rows that stand at the keys of their ids.
-use Rattle.std.proofs.Common.{◌≡◌, ℕ, ℤ, ◌==◌, nat_lt, Bool, true, false, not, cond, if◌then◌else◌, List, [], ◌∷◌, ◌++◌, Option, Some, None, Result, Ok, Err, IfOk, filter, find, map, refl, sym, ap, subst, ◌∙◌, arith, int_eq, int_lt}
+use Rattle.std.proofs.Common.{◌≡◌, ℕ, ℤ, ◌==◌, nat_lt, Bool, true, false, not, cond, if◌then◌else◌, List, [], ◌∷◌, Some, None, Result, Ok, Err, IfOk, filter, find, map, refl, sym, ap, subst, ◌∙◌, arith, int_eq, int_lt}
 use Rattle.std.specs.List.{AllByRecursion}
 use Rattle.std.proofs.lemmas.Bool.{eqb-true}
 use Rattle.media_rows.specs.Lists.{placed}
 use Rattle.media_rows.specs.Views.{id_key}
-use Rattle.shared_tree.specs.Pairs.{IsRising, is_above, is_at, is_below, values, with_pair, without_key}
+use Rattle.shared_tree.specs.Pairs.{IsRising, is_at, values, with_pair, without_key}
 use Rattle.shared_tree.specs.Rows.{IsKeyedBy}
 use Rattle.shared_tree.proofs.Rows.{found_is, keyed_with, keyed_without, left_out_is, placed_is, replaced_is, tests_are}
 use Rattle.flow_book.proofs.Keys.{below_key, same_key}

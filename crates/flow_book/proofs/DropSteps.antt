@@ -1,6 +1,6 @@
 -- What the steps of a drop make of the rows, one after the other.
 use Rattle.std.proofs.Common.{◌≡◌, ℕ, ℤ, ◌==◌, Bool, true, false, not, ◌||◌, cond, List, [], ◌∷◌, ◌++◌, filter, map, refl, sym, ap, subst, ◌∙◌, arith, append_assoc}
-use Rattle.std.specs.List.{AllByRecursion, list_any}
+use Rattle.std.specs.List.{AllByRecursion}
 use Rattle.media_rows.specs.declared.flow.FlowRow.{FlowRow}
 use Rattle.media_rows.specs.declared.flow.Member.{Member}
 use Rattle.media_rows.specs.declared.source.SourceRow.{SourceRow}

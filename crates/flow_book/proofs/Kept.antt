@@ -1,5 +1,5 @@
--- Rows that are found, and tests of rows by references to them.
-use Rattle.std.proofs.Common.{◌≡◌, ℕ, zero, suc, length, ◌==◌, Bool, true, false, ◌||◌, cond, List, [], ◌∷◌, Option, Some, None, filter, find, map, is_some, refl, sym, ap, ◌∙◌, arith, Bor}
+-- Flows that are found, and collections of none.
+use Rattle.std.proofs.Common.{◌≡◌, ℕ, zero, suc, length, ◌==◌, Bool, true, false, ◌||◌, cond, List, [], ◌∷◌, Some, None, find, is_some, refl, arith}
 use Rattle.std.specs.List.{list_any}
 use Rattle.media_rows.specs.declared.flow.FlowRow.{FlowRow}
 use Rattle.media_rows.specs.declared.flow.Member.{Member}
@@ -18,11 +18,6 @@ found_any test (x ∷ xs) = by (test x) (found_any test xs)
 
 pub found_kept : (id : ℕ) (flows : List FlowRow) → is_some (flow_of id flows) ≡ is_kept flows id
 found_kept id flows = found_any (λ row. row.body.id == id) flows
-
--- a test of some row, by references
-pub any_now : {X : Type 0} (test : X → Bool) (refs : List (Bor X)) → list_any test (map (λ r. r.now) refs) ≡ list_any (λ r. test r.now) refs
-any_now test [] = refl
-any_now test (r ∷ refs) = ap (λ b. test r.now || b) (any_now test refs)
 
 -- a flow that collects none misses none, and reaches nothing
 none_collected : (flows : List FlowRow) → collected_by flows [] ≡ []

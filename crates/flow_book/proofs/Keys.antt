@@ -1,5 +1,5 @@
 -- Ids as keys of versions.
-use Rattle.std.proofs.Common.{◌≡◌, ℕ, ◌<◌, ◌^◌, ℤ, pos, ◌-ℤ◌, int_lt, int_eq, negsuc, ◌-◌, ◌≤ℤ◌, filter, length, take, [], ◌++◌, nat_lt, ◌==◌, Bool, true, false, List, ◌≤◌, refl, sym, ap, subst, ◌∙◌, arith}
+use Rattle.std.proofs.Common.{◌≡◌, ℕ, ◌^◌, ℤ, int_lt, int_eq, negsuc, ◌-◌, ◌≤ℤ◌, filter, length, take, [], ◌++◌, nat_lt, ◌==◌, Bool, true, false, List, ◌≤◌, refl, sym, subst, ◌∙◌, arith}
 use Rattle.std.proofs.lemmas.Bool.{eqb-true, ltb-true}
 use Rattle.std.specs.List.{AllByRecursion}
 use Rattle.std.proofs.lemmas.Int.{ints}

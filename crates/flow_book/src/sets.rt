@@ -156,7 +156,8 @@ pub(crate) fn flows_after_touch(
     now: u64,
 ) -> Result<Version<FlowRow>, Memory>
     requires keyed { IsKeyedBy flow_key flows.now }
-    ensures rows { IfOk result (λ next. values next ≡ with_flow id (touched now) (values flows.now)) }
+    ensures rows { IfOk result
+        (λ next. values next ≡ with_flow id (touched now) (values flows.now)) }
     ensures keyed { IfOk result (IsKeyedBy flow_key) }
 {
     flows.keys_rise();

@@ -1,8 +1,7 @@
 -- What a change of a version does to its values, where each has a key of its own: one is replaced, put at its
 -- place, added at the end, left out, or found. A test of values stands for each test of keys.
-use Rattle.std.proofs.Common.{◌≡◌, ℤ, ◌<ℤ◌, int_lt, Bool, true, false, not, cond, if◌then◌else◌, List, [], ◌∷◌, ◌++◌, Option, Some, None, filter, option_map, find, map, refl, sym, ap, subst, ◌∙◌, arith}
+use Rattle.std.proofs.Common.{◌≡◌, ℤ, ◌<ℤ◌, int_lt, Bool, true, false, not, cond, if◌then◌else◌, List, [], ◌∷◌, ◌++◌, Some, filter, option_map, find, map, refl, sym, ap, subst, ◌∙◌, arith}
 use Rattle.std.specs.List.{AllByRecursion}
-use Rattle.std.specs.Cmp.{signed_Decides}
 use Rattle.std.proofs.lemmas.Int.{ints}
 use Rattle.std.proofs.lemmas.List.{map-append}
 use Rattle.shared_tree.specs.Pairs.{IsRising, is_below, is_above, is_at, first, value_at, values, with_pair, without_key}

@@ -1,5 +1,5 @@
 -- What a walk through a tree appends, as far as there is room: for proofs.
-use Rattle.std.specs.Prelude.{◌≡◌, ℕ, ℤ, ◌+◌, ◌-◌, ◌≤◌, ◌<◌, List, ◌++◌, map, take, length}
+use Rattle.std.specs.Prelude.{◌≡◌, ℕ, ℤ, ◌+◌, ◌-◌, ◌≤◌, ◌<◌, List, ◌++◌, take, length}
 use Rattle.shared_tree.specs.Pairs.{values}
 
 -- the values of these pairs were appended as far as there was room, and so much room is left

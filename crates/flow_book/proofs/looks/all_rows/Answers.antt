@@ -1,4 +1,4 @@
-use Rattle.std.proofs.Common.{rules, ◌≡◌, arith, length, ap, take}
+use Rattle.std.proofs.Common.{◌≡◌, arith, length, ap}
 use Rattle.shared_tree.specs.Pairs.{values_of}
 use Rattle.flow_book.proofs.Keys.{walked_all}
 use Rattle.flow_book.proofs.looks.all_rows.Goals as goal

@@ -1,7 +1,6 @@
 use Rattle.std.proofs.Common.{rules, ◌≡◌, FitsSigned, option_copied, ap, ◌∙◌}
 use mir.Syntax.{w128}
 use Rattle.std.proofs.lemmas.Int.{to_z-of_z}
-use Rattle.media_rows.specs.Views.{id_key}
 use Rattle.shared_tree.specs.Pairs.{value_at}
 use Rattle.flow_book.proofs.Keys.{source_found}
 use Rattle.flow_book.proofs.looks.find_source.Goals as goal
