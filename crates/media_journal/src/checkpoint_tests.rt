@@ -48,6 +48,14 @@ fn checkpoint_of(alloc: Global, disk: &mut MemoryDisk, last: u8) -> Result<u64, 
     Ok(first)
 }
 
+/// Makes the selector this byte.
+fn select(disk: &mut MemoryDisk, selector: u8) -> Result<(), Fail> {
+    if disk.len() > BLOCK {
+        disk.write_at(BLOCK, &[selector])?;
+    }
+    Ok(())
+}
+
 /// The writes of a checkpoint: the length of 8 bytes, the rows of 13, the closed gate, a sync, the
 /// selector and a sync. Of each, how many bytes were written, and what is found then.
 const STOPS: [(u64, u64, Has); 12] = [
@@ -82,7 +90,7 @@ fn a_stopped_checkpoint_leaves_the_old_half_or_the_new(rt: HostRuntime) -> Resul
         assert_eq!(rt; found, Some(has), "call {call} after {kept} bytes");
     }
     for (selector, has) in SELECTORS {
-        disk.write_at(BLOCK, &[selector])?;
+        select(&mut disk, selector)?;
         assert_eq!(rt; opened_as(alloc, &mut disk)?, has, "selector {selector}");
     }
     // It stands at 255 now: a record goes to half B, and a checkpoint back to half A.
