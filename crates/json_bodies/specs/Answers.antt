@@ -1,5 +1,5 @@
--- What the readers answer: Ok exactly with what is found, and each refusal exactly where it is the one that is
--- found. Want of memory may stand at any place.
+-- What the readers answer: Ok exactly with what is found, and each refusal exactly where it is the
+-- one that is found. Want of memory may stand at any place.
 use Rattle.std.specs.Prelude.{◌≡◌, ℕ, List, Result, Ok, Err}
 use Rattle.serde_json.specs.Data.{Data}
 use Rattle.serde_json.specs.View.{view}

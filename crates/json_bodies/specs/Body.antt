@@ -1,4 +1,5 @@
--- The value that a body spells: JSON (RFC 8259) in UTF-8, each number of which is a whole number of 64 bits.
+-- The value that a body spells: JSON (RFC 8259) in UTF-8, each number of which is a whole number of
+-- 64 bits.
 use Rattle.std.specs.Prelude.{ℕ, List, Option, Some, None, Result, Ok, Err, if◌then◌else◌, codes, ⊤}
 use Rattle.std.specs.Str.{is_utf8}
 use Rattle.serde_json.specs.Data.{Data}

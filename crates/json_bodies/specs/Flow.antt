@@ -43,33 +43,33 @@ abbrev pub named_source : Option ℕ → Result ℕ Refusal
 named_source None = Err (Missing (codes "source_id"))
 named_source (Some source) = Ok source
 
--- The source and the format. A source that is there is tested first; then the format has to be there, then the
--- source, and then the format is tested.
+-- The source and the format. A source that is there is tested first; then the format has to be
+-- there, then the source, and then the format is tested.
 abbrev pub origin_of : Data → Result Origin Refusal
-origin_of object =
-    optional (codes "source_id") id object >>= λ found.
-    required (codes "format") anything object >>= λ _.
+origin_of fields =
+    optional (codes "source_id") id fields >>= λ found.
+    required (codes "format") anything fields >>= λ _.
     named_source found >>= λ source.
-    required (codes "format") format object >>= λ kind.
+    required (codes "format") format fields >>= λ kind.
     Ok (record { source = source; format = kind })
 
 -- ---- texts and numbers
 
 -- the texts of a flow
 abbrev pub texts_of : Data → Result FlowTexts Refusal
-texts_of object =
-    optional (codes "codec") (text longest_text) object >>= λ codec.
-    optional (codes "container") (text longest_text) object >>= λ container.
-    optional (codes "label") (text longest_text) object >>= λ label.
-    optional (codes "description") (text longest_description) object >>= λ description.
+texts_of fields =
+    optional (codes "codec") (text longest_text) fields >>= λ codec.
+    optional (codes "container") (text longest_text) fields >>= λ container.
+    optional (codes "label") (text longest_text) fields >>= λ label.
+    optional (codes "description") (text longest_description) fields >>= λ description.
     Ok (record { codec = codec; container = container; label = label; description = description })
 
 -- the mark and the numbers of a flow
 abbrev pub numbers_of : Data → Result FlowNumbers Refusal
-numbers_of object =
-    optional (codes "read_only") truth object >>= λ mark.
-    optional (codes "max_bit_rate") (whole 0 last_whole) object >>= λ max_bit_rate.
-    optional (codes "avg_bit_rate") (whole 0 last_whole) object >>= λ avg_bit_rate.
+numbers_of fields =
+    optional (codes "read_only") truth fields >>= λ mark.
+    optional (codes "max_bit_rate") (whole 0 last_whole) fields >>= λ max_bit_rate.
+    optional (codes "avg_bit_rate") (whole 0 last_whole) fields >>= λ avg_bit_rate.
     Ok (record {
       read_only = unwrap_or mark false;
       max_bit_rate = max_bit_rate;
@@ -114,22 +114,22 @@ essence value = of_kind (option_map compact_text (tested is_object value))
 
 -- what a flow holds besides
 abbrev pub contents_of : Data → Result FlowContents Refusal
-contents_of object =
-    optional (codes "tags") tags object >>= λ found.
-    optional (codes "flow_collection") collection object >>= λ members.
-    optional (codes "essence_parameters") essence object >>= λ essence.
+contents_of fields =
+    optional (codes "tags") tags fields >>= λ found.
+    optional (codes "flow_collection") collection fields >>= λ members.
+    optional (codes "essence_parameters") essence fields >>= λ essence.
     Ok (record { tags = unwrap_or found []; members = unwrap_or members []; essence = essence })
 
 -- ---- the flow
 
 -- the flow of an id that an object spells
 abbrev pub flow_of : ℕ → Data → Result FlowBody Refusal
-flow_of id object =
-    optional (codes "id") (same_id id) object >>= λ _.
-    origin_of object >>= λ origin.
-    texts_of object >>= λ texts.
-    numbers_of object >>= λ numbers.
-    contents_of object >>= λ contents.
+flow_of id fields =
+    optional (codes "id") (same_id id) fields >>= λ _.
+    origin_of fields >>= λ origin.
+    texts_of fields >>= λ texts.
+    numbers_of fields >>= λ numbers.
+    contents_of fields >>= λ contents.
     Ok (record {
       id = id;
       source = origin.source;

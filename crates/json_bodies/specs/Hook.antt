@@ -85,13 +85,13 @@ ids value = counted id_value 0 most_ids value
 
 -- the hook that an object spells
 abbrev pub hook_of : Data → Result Hook Refusal
-hook_of object =
-    required (codes "url") address object >>= λ url.
-    required (codes "events") events object >>= λ events.
-    optional (codes "api_key_name") (text longest_text) object >>= λ key_name.
-    optional (codes "api_key_value") (text longest_text) object >>= λ key_value.
-    optional (codes "flow_ids") ids object >>= λ flow_ids.
-    optional (codes "source_ids") ids object >>= λ source_ids.
+hook_of fields =
+    required (codes "url") address fields >>= λ url.
+    required (codes "events") events fields >>= λ events.
+    optional (codes "api_key_name") (text longest_text) fields >>= λ key_name.
+    optional (codes "api_key_value") (text longest_text) fields >>= λ key_value.
+    optional (codes "flow_ids") ids fields >>= λ flow_ids.
+    optional (codes "source_ids") ids fields >>= λ source_ids.
     Ok (record {
       url = url;
       events = events;

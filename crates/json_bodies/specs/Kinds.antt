@@ -1,5 +1,5 @@
--- Lists in bodies, and what their items are. An item that isn't of the kind makes the whole list one of the
--- wrong kind.
+-- Lists in bodies, and what their items are. An item that isn't of the kind makes the whole list
+-- one of the wrong kind.
 use Rattle.std.specs.Prelude.{ℕ, List, [], ◌∷◌, Bool, true, false, Option, Some, None, Result, option_map, option_and_then, if◌then◌else◌, codes}
 use Rattle.std.specs.List.{list_all}
 use Rattle.serde_json.specs.Data.{Data, Items, no_items, item}
@@ -52,7 +52,8 @@ listed_tag name values = record { name = name; single = false; values = values }
 -- a tag, whose value is a text or a list of texts
 abbrev pub tag_value : List ℕ → Data → Option Tag
 tag_value name value =
-    or_else (option_map (single_tag name) (as_str value)) (option_map (listed_tag name) (list_of as_str value))
+    or_else (option_map (single_tag name) (as_str value))
+    (option_map (listed_tag name) (list_of as_str value))
 
 -- no value of a tag is longer than a text may be
 abbrev pub has_short_values : Tag → Bool

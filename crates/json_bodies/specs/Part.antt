@@ -29,7 +29,8 @@ is_all_tags names.AvgBitRate = false
 abbrev pub rate : List ℕ → Data → Result ℕ Refusal
 rate name value = named name (whole 0 last_whole value)
 
--- The part that a value spells. A fault names the part, for a tag `tags`; that all tags are set is never asked.
+-- The part that a value spells. A fault names the part, for a tag `tags`; that all tags are set is
+-- never asked.
 abbrev pub part_of : PartName → Data → Result Part Refusal
 part_of (names.Tag name) value =
     named (codes "tags") (tag_rule name value) >>= λ tag. Ok (parts.Tag name (Some tag))

@@ -1,4 +1,5 @@
--- Values that print and read again: no number in them is a fraction, and they nest no deeper than readers go.
+-- Values that print and read again: no number in them is a fraction, and they nest no deeper than
+-- readers go.
 use Rattle.std.specs.Prelude.{◌≡◌, ◌≤◌, false}
 use Rattle.serde_json.specs.Data.{Data, depth}
 use Rattle.serde_json.specs.Read.{max_depth}

@@ -124,8 +124,8 @@ if_required rule (Some value) = rule value
 -- a member that may be absent; `null` is a value
 abbrev pub optional : {X : Type 0} → List ℕ → (Data → Result X Breach) → Data
     → Result (Option X) Refusal
-optional name rule object = named name (absent_or rule (get name object))
+optional name rule fields = named name (absent_or rule (get name fields))
 
 -- a member that has to be there
 abbrev pub required : {X : Type 0} → List ℕ → (Data → Result X Breach) → Data → Result X Refusal
-required name rule object = named name (if_required rule (get name object))
+required name rule fields = named name (if_required rule (get name fields))

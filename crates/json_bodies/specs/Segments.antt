@@ -58,20 +58,20 @@ whole_number value = whole 0 last_whole value
 
 -- what a segment says of samples
 abbrev pub samples_of : Data → Result Samples Refusal
-samples_of object =
-    optional (codes "sample_offset") whole_number object >>= λ offset.
-    optional (codes "sample_count") whole_number object >>= λ count.
-    optional (codes "key_frame_count") whole_number object >>= λ key_frames.
+samples_of fields =
+    optional (codes "sample_offset") whole_number fields >>= λ offset.
+    optional (codes "sample_count") whole_number fields >>= λ count.
+    optional (codes "key_frame_count") whole_number fields >>= λ key_frames.
     Ok (record { offset = unwrap_or offset 0; count = count; key_frames = key_frames })
 
 -- the segment that an object spells
 abbrev pub segment_of : Data → Result Segment Refusal
-segment_of object =
-    required (codes "object_id") object_id object >>= λ id.
-    required (codes "timerange") bounded object >>= λ range.
-    optional (codes "ts_offset") offset object >>= λ ts_offset.
-    optional (codes "last_duration") duration object >>= λ last_duration.
-    samples_of object >>= λ samples.
+segment_of fields =
+    required (codes "object_id") object_id fields >>= λ id.
+    required (codes "timerange") bounded fields >>= λ range.
+    optional (codes "ts_offset") offset fields >>= λ ts_offset.
+    optional (codes "last_duration") duration fields >>= λ last_duration.
+    samples_of fields >>= λ samples.
     Ok (record {
       object = id;
       range = range;

@@ -20,19 +20,20 @@ usual_objects = 100
 
 -- as many objects as `limit` says, or the usual number
 abbrev pub count_in : Data → Result Want Refusal
-count_in object =
-    optional (codes "limit") (whole 1 most_objects) object
+count_in fields =
+    optional (codes "limit") (whole 1 most_objects) fields
     >>= λ limit. Ok (wants.Count (unwrap_or limit usual_objects))
 
 -- these objects, where `object_ids` names them, and else so many
 abbrev pub want_from : Data → Option (List (List ℕ)) → Result Want Refusal
-want_from object (Some ids) = Ok (wants.Named ids)
-want_from object None = count_in object
+want_from fields (Some ids) = Ok (wants.Named ids)
+want_from fields None = count_in fields
 
 -- What an object asks for. Where `object_ids` is there, `limit` isn't looked at.
 abbrev pub want_of : Data → Result Want Refusal
-want_of object =
-    optional (codes "object_ids") (counted object_id_value 1 most_objects) object >>= want_from object
+want_of fields =
+    optional (codes "object_ids") (counted object_id_value 1 most_objects) fields
+    >>= want_from fields
 
 -- what a body asks for, which may be absent
 abbrev pub want_in : List ℕ → Result Want Refusal

@@ -8,7 +8,7 @@ use std::alloc::Global;
 
 /// How a value breaks the rule of its member.
 #[derive(Clone, Copy, Debug, PartialEq, Eq)]
-pub enum Breach {
+pub(crate) enum Breach {
     Missing,
     WrongKind,
     TooLong,
@@ -18,7 +18,7 @@ pub enum Breach {
 
 /// Why a rule gives nothing: a breach, or there was no memory.
 #[derive(Clone, Copy, Debug, PartialEq, Eq)]
-pub enum RuleFault {
+pub(crate) enum RuleFault {
     Breach(Breach),
     Memory,
 }

@@ -56,8 +56,8 @@ pub(crate) struct FlowContents {
     pub(crate) essence: Option<Text>,
 }
 
-/// The flow that a body spells, whose path names this id. Its source and its format follow the profiles of NMOS
-/// and of the Time-addressable Media Store; limits are our own.
+/// The flow that a body spells, whose path names this id. Its members are those of our own profile of the
+/// Time-addressable Media Store; the names of formats are those of NMOS and of TAMS.
 pub fn read_flow(alloc: Global, body: &[u8], id: u128) -> Result<FlowBody, BodyFault>
     ensures answer { Answers (flow_in id body.now) result }
     ensures texts { IfOk result (λ flow. IsTrue (is_body_text flow)) }

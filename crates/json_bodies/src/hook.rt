@@ -25,8 +25,8 @@ const LONGEST_ADDRESS: usize = 2_048;
 /// The most flows or sources to which a hook keeps.
 const MOST_IDS: usize = 256;
 
-/// The hook that a body spells. Its address is one of http or https, kept as the URL Standard prints it. It is
-/// our own profile of the Time-addressable Media Store.
+/// The hook that a body spells. Its address is one of http or https, kept as the URL Standard prints it.
+/// It is our own profile of the Time-addressable Media Store.
 pub fn read_hook(alloc: Global, body: &[u8]) -> Result<Hook, BodyFault>
     ensures answer { Answers (hook_in body.now) result }
     ensures texts { IfOk result (λ hook. IsTrue (has_hook_texts hook)) }
