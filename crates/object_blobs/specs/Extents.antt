@@ -1,5 +1,5 @@
--- Where the bytes of objects lie in the file: in media blocks of 4,096 bytes, behind the halves of the
--- journal. Our own format, store format 1.
+-- Where the bytes of objects lie in the file: in media blocks of 4,096 bytes, behind the halves of
+-- the journal. Our own format, store format 1.
 use Rattle.std.specs.Prelude.{◌+◌, ◌*◌, ◌≤◌, ℕ, List}
 use Rattle.disk_trait.specs.Calls.{bytes_at}
 use Rattle.object_blobs.specs.declared.extent.Extent.{Extent}

@@ -1,6 +1,6 @@
 //! Extents, and pieces of their bytes.
 ghost use Rattle.std.specs.Prelude.{◌≡◌, ◌≤◌, ◌+◌, true, length, is_ok, OnOk};
-ghost use Rattle.disk_trait.specs.Calls.{DiskCall, TornWrite, Unchanged, bytes_at, overwritten};
+ghost use Rattle.disk_trait.specs.Calls.{DiskCall, Torn, TornWrite, Unchanged, bytes_at, overwritten};
 ghost use Rattle.object_blobs.specs.Extents.{IsOnDevice, extent_bytes, extent_start};
 
 use disk_trait::{Disk, Failed};
@@ -35,8 +35,11 @@ pub fn write_piece<D: Disk>(
     ensures written { (D.device disk.old).shows ≡ true → OnOk result ((D.device disk.new).seen
         ≡ overwritten (extent_start area extent + at) piece.now (D.device disk.old).seen) }
 
-    // It is one write: at each moment only the bytes of its range may differ, and it fails only where the
-    // count of faults rose.
+    // It is one write: at each moment, and where it fails too, only the bytes of its range may differ. It
+    // fails only where the count of faults rose.
+    ensures torn { (D.device disk.old).shows ≡ true
+        → Torn (extent_start area extent + at) (length piece.now)
+        (D.device disk.old).seen (D.device disk.new).seen }
     ensures call { DiskCall (TornWrite (extent_start area extent + at) (length piece.now))
         (is_ok result) (D.device disk.old) (D.device disk.new) }
     ensures handed { (D.device disk.old).tells ≡ true → OnOk result
