@@ -1,10 +1,11 @@
 -- A history worked out: a small machine over numbers, and six steps on four connections, each with
 -- what it comes to.
 use Rattle.std.specs.Prelude.{◌≡◌, ◌+◌, ◌-◌, ℕ, true, false, List, [], ◌∷◌, Option, Some, None, nat_lt, if◌then◌else◌}
+use Rattle.disk_trait.specs.Device.{Connection}
 use Rattle.run_history.specs.Machine.{Machine, Reply}
 use Rattle.run_history.specs.Steps.{Ask, Step, Answered, Refused, Starved, Stopped, Cut, InAnswer, Made, Piece, Interim}
 use Rattle.run_history.specs.Steps as steps
-use Rattle.run_history.specs.Sessions.{Session, Whole, all_moments, scripts_of, skips_in}
+use Rattle.run_history.specs.Sessions.{Hearing, IsServed, Saying, Session, Whole, all_moments, scripts_of, skips_in}
 use Rattle.run_history.specs.Traces.{begun, start_of, states_of, trace_of}
 
 -- what the small machine is asked: to show its number, or to add to it
@@ -115,3 +116,40 @@ pub record OtherSteps : Type 0 where
         first = 3;
         changes = 6 ∷ [];
       }
+
+-- ---- how a connection is served
+
+-- the second of the six connections, which was told all, and had a byte behind its last request
+abbrev pub starved_connection : Connection
+starved_connection = record {
+  heard = 101 ∷ 3 ∷ 100 ∷ 0 ∷ 7 ∷ [];
+  ended = false;
+  failed = false;
+  told = 1 ∷ 101 ∷ 3 ∷ 5 ∷ [];
+}
+
+-- one that heard a whole request, and on which the next hearing failed
+abbrev pub unheard_connection : Connection
+unheard_connection =
+    record { heard = 101 ∷ 1 ∷ []; ended = false; failed = true; told = [] }
+
+-- one that heard two requests and was told nothing, since the first saying failed
+abbrev pub silent_connection : Connection
+silent_connection =
+    record { heard = 101 ∷ 1 ∷ 100 ∷ 0 ∷ []; ended = false; failed = true; told = [] }
+
+-- The first is served by its session. The second isn't served where its whole request is left
+-- unanswered, and the third isn't where a request behind the failed saying is taken in silence.
+pub record Serving : Type 0 where
+  pub starved : IsServed adder record { made = 1; state = 4 } starved_connection record {
+    steps = Answered (asks (Add 3) 11) Made ∷ Starved (asks Show 12) ∷ [];
+    link = Whole;
+  }
+  pub unanswered : ¬ (IsServed adder (start_of 3) unheard_connection record {
+    steps = [];
+    link = Hearing;
+  })
+  pub silent : ¬ (IsServed adder (start_of 3) silent_connection record {
+    steps = Answered (asks (Add 1) 10) Made ∷ Answered (asks Show 11) Made ∷ [];
+    link = Saying;
+  })

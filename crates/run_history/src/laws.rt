@@ -1,6 +1,6 @@
 //! The laws that a contract can say. Those over devices are the theorems of the proofs.
 ghost use Rattle.run_history.specs.Laws.{BegunIsGreatest};
-ghost use Rattle.run_history.specs.Worked.{OtherSteps, SixSteps};
+ghost use Rattle.run_history.specs.Worked.{OtherSteps, Serving, SixSteps};
 
 /// The number of what had begun is the greatest that an answer counts of which a byte was told.
 pub fn begun_is_greatest()
@@ -15,4 +15,9 @@ pub fn six_steps()
 /// What a skipped turn and a fault of the disk at other places come to.
 pub fn other_steps()
     ensures { OtherSteps }
+{}
+
+/// A connection is served by its steps, and not where a whole request is left unanswered.
+pub fn serving()
+    ensures { Serving }
 {}

@@ -1,0 +1,38 @@
+use Rattle.std.proofs.Common.{◌≡◌, ◌≤◌, ◌+◌, ℕ, List, [], ◌∷◌, ◌++◌, length, refl, ap, inl, arith}
+use Rattle.std.proofs.lemmas.Bool.{false≢true}
+use Rattle.std.proofs.lemmas.List.{length-append}
+use Rattle.run_history.specs.Steps.{Piece, piece_bytes}
+use Rattle.run_history.specs.Sessions.{bytes_of}
+use Rattle.run_history.proofs.laws.serving.Goals as goal
+
+front_size : List Piece → ℕ
+front_size [] = 0
+front_size (p ∷ pieces) = length (piece_bytes p)
+
+-- of three pieces, the first of which has a byte, two weren't told where nothing was
+none_told : (a b c : Piece) (front : List Piece) (last : Piece) (part : List ℕ) → 1 ≤ length (piece_bytes a)
+    → a ∷ b ∷ c ∷ [] ≡ front ++ last ∷ [] → [] ≡ bytes_of front ++ part → ⊥
+unfolding front_size
+none_told a b c [] last part some is none = absurd (omega (arith, ap length is))
+none_told a b c (p ∷ front) last part some is none =
+    omega (arith, some, ap front_size is, ap length none, length-append (piece_bytes p ++ bytes_of front) part, length-append (piece_bytes p) (bytes_of front))
+
+pub returns : goal.returns
+returns c =
+    let few : 2 ≤ 1000000 = omega arith in
+    record {
+      starved = record {
+        rest = 7 ∷ [];
+        steps = ((refl, tt), λ e. absurd (false≢true e), (inl refl, λ e. refl, tt));
+        few = few;
+        heard = refl;
+        rest_is = tt;
+        told = refl;
+        failed = refl;
+        ended = tt;
+      };
+      unanswered = λ served. absurd (omega (arith, ap length served.heard, ap length served.rest_is));
+      silent = λ served.
+          let part = served.told in
+          none_told _ _ _ part.front part.last part.part (omega arith) part.pieces_are part.told_is;
+    }
