@@ -6,7 +6,8 @@ use Rattle.run_history.specs.Machine.{Machine, Reply}
 use Rattle.run_history.specs.Steps.{Ask, Step, Answered, Refused, Starved, Stopped, Cut, InAnswer, Made, Piece, Interim}
 use Rattle.run_history.specs.Steps as steps
 use Rattle.run_history.specs.Sessions.{Hearing, IsServed, Saying, Session, Whole, all_moments, scripts_of, skips_in}
-use Rattle.run_history.specs.Traces.{begun, start_of, states_of, trace_of}
+use Rattle.run_history.specs.Runs.{StandsNow}
+use Rattle.run_history.specs.Traces.{Trace, begun, start_of, states_of, trace_of}
 
 -- what the small machine is asked: to show its number, or to add to it
 pub data Demand : Type 0 where
@@ -90,8 +91,8 @@ alone step = record { steps = step ∷ []; link = Whole } ∷ []
 pub record OtherSteps : Type 0 where
   pub skipped : states_of (trace_of adder 3 (alone (Answered (asks (Add 3) 1) steps.Skipped)))
       ≡ 3 ∷ 6 ∷ []
-  pub counted : skips_in (Answered (asks (Add 3) 1) steps.Skipped ∷ Answered (asks Show 2) Made ∷ [])
-      ≡ 1
+  pub counted : skips_in
+      (Answered (asks (Add 3) 1) steps.Skipped ∷ Answered (asks Show 2) Made ∷ []) ≡ 1
   pub torn : trace_of adder 3 (alone (Stopped (asks (Add 3) 1) (steps.BeforeAnswer true))) ≡
       record {
         scripts = (Interim (1 ∷ []) ∷ steps.Reply (6 ∷ []) 0 ∷ []) ∷ [];
@@ -153,3 +154,19 @@ pub record Serving : Type 0 where
     steps = Answered (asks (Add 1) 10) Made ∷ Answered (asks Show 11) Made ∷ [];
     link = Saying;
   })
+
+-- a connection of which nothing was heard, nor its end
+abbrev pub open_connection : Connection
+open_connection = record { heard = []; ended = false; failed = false; told = [] }
+
+-- the disk failed while the record of an addition was being written
+abbrev pub torn_trace : Trace ℕ
+torn_trace = trace_of adder 3 (alone (Stopped (asks (Add 3) 1) (steps.BeforeAnswer true)))
+
+-- A connection that nothing ended is heard to its peer's end. Where a record was being written, the
+-- file may stand for the state before its change or after it, and otherwise for the last one alone.
+pub record Ending : Type 0 where
+  pub unheard : ¬ (IsServed adder (start_of 3) open_connection record { steps = []; link = Whole })
+  pub before : StandsNow adder (3 ∷ []) torn_trace true
+  pub after : StandsNow adder (6 ∷ []) torn_trace true
+  pub last : ¬ (StandsNow adder (3 ∷ []) torn_trace false)

@@ -1,6 +1,6 @@
 //! The laws that a contract can say. Those over devices are the theorems of the proofs.
 ghost use Rattle.run_history.specs.Laws.{BegunIsGreatest};
-ghost use Rattle.run_history.specs.Worked.{OtherSteps, Serving, SixSteps};
+ghost use Rattle.run_history.specs.Worked.{Ending, OtherSteps, Serving, SixSteps};
 
 /// The number of what had begun is the greatest that an answer counts of which a byte was told.
 pub fn begun_is_greatest()
@@ -20,4 +20,9 @@ pub fn other_steps()
 /// A connection is served by its steps, and not where a whole request is left unanswered.
 pub fn serving()
     ensures { Serving }
+{}
+
+/// How a connection that nothing ended must end, and for which states a file may stand at the end.
+pub fn ending()
+    ensures { Ending }
 {}
