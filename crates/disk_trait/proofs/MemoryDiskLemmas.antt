@@ -1,5 +1,5 @@
 -- What one more call does to what a crash may leave of a disk in memory.
-use Rattle.std.proofs.Common.{◌≡◌, ◌≤◌, ◌+◌, ◌⊎◌, ◌↔◌, ◌&&◌, not, cond, ◌++◌, ◌∷◌, [], ℕ, Bool, true, false, List, length, inl, inr, refl, sym, ap, subst, arith}
+use Rattle.std.proofs.Common.{length-append, ◌≡◌, ◌≤◌, ◌+◌, ◌⊎◌, ◌↔◌, ◌&&◌, not, cond, ◌++◌, ◌∷◌, [], ℕ, Bool, true, false, List, length, inl, inr, refl, sym, ap, subst, arith}
 use Rattle.std.proofs.lemmas.List.{length_push}
 use Rattle.std.proofs.lemmas.Bool.{cases_lt}
 use Rattle.std.proofs.lemmas.Bool.Decides.{nat_tests}
@@ -57,7 +57,8 @@ since_noted : (call : Call) (past : Past) (t : ℕ) (p : Left) → LeavesSince (
     → LeavesSince past t p ⊎ Follows (step_of call) (LeavesSince past (length past.calls)) p
 since_noted call past t p left =
     elim (cases_lt (length past.calls) left.moment) [
-      | inl last ↦ inr (last_follows call past p (subst (λ n. LeavesAt (with_call call past) n p.image) (omega (arith, last, left.within, length_push past.calls call)) left.image) left.told)
+      | inl last ↦ inr (last_follows call past p (subst (λ n. LeavesAt (with_call call past) n p.image)
+          (omega (arith, last, left.within, length_push past.calls call)) left.image) left.told)
       | inr earlier ↦ inl (record {
         moment = left.moment;
         later = left.later;
@@ -70,7 +71,8 @@ since_noted call past t p left =
 ends_noted : (call : Call) (past : Past) (p : Left) → LeavesSince (with_call call past) (length past.calls + 1) p
     → Follows (step_of call) (LeavesSince past (length past.calls)) p
 ends_noted call past p left =
-    last_follows call past p (subst (λ n. LeavesAt (with_call call past) n p.image) (omega (arith, left.later, left.within, length_push past.calls call)) left.image) left.told
+    last_follows call past p (subst (λ n. LeavesAt (with_call call past) n p.image) (omega (arith, left.later, left.within, length_push past.calls call))
+        left.image) left.told
 
 keeps_noted : (call : Call) (past : Past) (t : ℕ) (p : Left) → LeavesSince past t p → LeavesSince (with_call call past) t p
 keeps_noted call past t p left = record {
@@ -127,12 +129,18 @@ counted call false disk = record {
   rises = λ _ room. omega (arith, counted_on_rises disk.starved (omega arith));
 }
 
+one_moment : (call : Call) (noted : Bool) (old : DiskState)
+    → length (after_make noted call old).past.calls ≤ length old.past.calls + 1
+one_moment call true old = omega (arith, length-append old.past.calls (call ∷ []))
+one_moment call false old = omega arith
+
 pub disk_call : (call : Call) (old new : DiskState) (ok : Bool) → MakesCall call old new ok → DiskCall (step_of call) ok (memory_device old) (memory_device new)
 disk_call call old new ok made = rw (made.after, made.answer) (record {
   same = same_device call made.noted old;
   link = elim made.noted as (λ noted. (memory_device (after_make noted call old)).link ≡ (memory_device old).link) [ true ↦ refl | false ↦ refl ];
   counted = counted call made.noted old;
   time = elapses call made.noted old;
+  one_moment = one_moment call made.noted old;
 })
 
 fails_as_listed : (call : Call) (noted : Bool) (disk : DiskState) → (IsFalse (has_passed call) ↔ Contains disk.fail (next_number disk))
@@ -184,7 +192,8 @@ synced true true disk ok = λ p left.
     let call = Sync true in
     let after : LeavesAt (with_call call disk.past) (length (disk.past.calls ++ call ∷ [])) p.image =
     subst (λ n. LeavesAt (with_call call disk.past) n p.image) (omega (arith, left.later, left.within)) left.image in
-    subst (λ F. F p.image) (left_after-push disk.past.calls call disk.past.first (λ i. i ≡ disk.past.first)) (subst (λ T. T) (leaves_at_last (with_call call disk.past) p.image) after)
+    subst (λ F. F p.image) (left_after-push disk.past.calls call disk.past.first (λ i. i ≡ disk.past.first))
+        (subst (λ T. T) (leaves_at_last (with_call call disk.past) p.image) after)
 synced true false disk wrong = cc
 synced false passed disk wrong = cc
 

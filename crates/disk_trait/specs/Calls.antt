@@ -66,13 +66,15 @@ pub record TornWrite (at n : ℕ) (old new : Left) : Type 0 where
   pub image : Torn at n old.image new.image
   pub told : new.told ≡ old.told
 
--- What each call of a disk leaves: the links, and the count of its faults unless it fails. The step
--- is what the call may do to what a crash leaves.
+-- What each call of a disk leaves: the links, and the count of its faults unless it fails. It takes
+-- one moment at most, so that moments bound the number of calls. The step is what the call may do
+-- to what a crash leaves.
 pub record DiskCall (step : Left → Left → Type 0) (ok : Bool) (old new : Device) : Type 0 where
   pub same : SameDevice old new
   pub link : new.link ≡ old.link
   pub counted : IsCounted ok old.faults new.faults
   pub time : Elapses step step old new
+  pub one_moment : new.moment ≤ old.moment + 1
 
 -- a crash now leaves just these bytes
 abbrev pub LeavesOnly : List ℕ → Device → Type 0

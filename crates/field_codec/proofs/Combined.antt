@@ -26,7 +26,8 @@ some_or_none None = inr refl
 some_or_none (Some x) = inl (x, refl)
 
 -- where nothing is spelled, nothing is found
-none_found : {A : Type 0} (spell : A → List ℕ) (fits : A → Type 0) (find : List ℕ → Option (A × List ℕ)) (laws : LeafLaws spell fits find) (bytes : List ℕ) → IsBytes bytes
+none_found : {A : Type 0} (spell : A → List ℕ) (fits : A → Type 0) (find : List ℕ → Option (A × List ℕ)) (laws : LeafLaws spell fits find) (bytes : List ℕ)
+    → IsBytes bytes
     → HasNone fits spell bytes → find bytes ≡ None
 none_found spell fits find laws bytes is none =
     elim (some_or_none (find bytes)) [
@@ -37,7 +38,8 @@ none_found spell fits find laws bytes is none =
 some_none : {A : Type 0} (o : Option A) (x : A) → o ≡ Some x → o ≡ None → ⊥
 some_none o x s n = let e = sym s ∙ n in cc
 
-pub leaf_lawful : {A : Type 0} (spell : A → List ℕ) (fits asks : A → Type 0) (find : List ℕ → Option (A × List ℕ)) → LeafLaws spell fits find → ((x : A) → fits x → asks x) → Lawful (leaf spell fits asks find)
+pub leaf_lawful : {A : Type 0} (spell : A → List ℕ) (fits asks : A → Type 0) (find : List ℕ → Option (A × List ℕ)) → LeafLaws spell fits find
+    → ((x : A) → fits x → asks x) → Lawful (leaf spell fits asks find)
 leaf_lawful spell fits asks find laws writable = record {
   takes = λ bytes x rest is e. let t = laws.takes bytes x rest is (found_ok (length bytes) (find bytes) (x, rest) e) in record { fits = t.0; parts = t.1 };
   again = λ x rest fit. rw (laws.again x rest fit) refl;
@@ -63,13 +65,15 @@ nothing_lawful = record {
 
 -- ---- fields one after the other
 
-two_begin : {A B : Type 0} (f : Spelling A) (g : A → Spelling B) (bytes : List ℕ) (x : A) (y : B) (middle rest : List ℕ) → SpellsFirst f bytes x middle → SpellsFirst (g x) middle y rest → SpellsFirst (followed f g) bytes (x, y) rest
+two_begin : {A B : Type 0} (f : Spelling A) (g : A → Spelling B) (bytes : List ℕ) (x : A) (y : B) (middle rest : List ℕ) → SpellsFirst f bytes x middle
+    → SpellsFirst (g x) middle y rest → SpellsFirst (followed f g) bytes (x, y) rest
 two_begin f g bytes x y middle rest first second = record {
   fits = (first.fits, second.fits);
   parts = first.parts ∙ ap (λ (t : List ℕ). f.spell x ++ t) second.parts ∙ sym (append_assoc (f.spell x) ((g x).spell y) rest);
 }
 
-followed_takes : {A B : Type 0} (f : Spelling A) (g : A → Spelling B) → Lawful f → ((x : A) → Lawful (g x)) → (bytes : List ℕ) (x : A × B) (rest : List ℕ) → IsBytes bytes
+followed_takes : {A B : Type 0} (f : Spelling A) (g : A → Spelling B) → Lawful f → ((x : A) → Lawful (g x)) → (bytes : List ℕ) (x : A × B) (rest : List ℕ)
+    → IsBytes bytes
     → (followed f g).read bytes ≡ Ok (x, rest) → SpellsFirst (followed f g) bytes x rest
 followed_takes {A = A} {B = B} f g law laws bytes x rest is e =
     let a = bind_ok (f.read bytes) (λ x. (g x.0).read x.1 >>= λ y. Ok ((x.0, y.0), y.1)) (x, rest) e in
@@ -79,7 +83,8 @@ followed_takes {A = A} {B = B} f g law laws bytes x rest is e =
     let whole : SpellsFirst (followed f g) bytes (a.0.0, b.0.0) b.0.1 = two_begin f g bytes a.0.0 b.0.0 a.0.1 b.0.1 first second in
     subst (λ (p : (A × B) × List ℕ). SpellsFirst (followed f g) bytes p.0 p.1) (ok_is ((a.0.0, b.0.0), b.0.1) (x, rest) b.2) whole
 
-followed_again : {A B : Type 0} (f : Spelling A) (g : A → Spelling B) → Lawful f → ((x : A) → Lawful (g x)) → (x : A × B) (rest : List ℕ) → (followed f g).fits x
+followed_again : {A B : Type 0} (f : Spelling A) (g : A → Spelling B) → Lawful f → ((x : A) → Lawful (g x)) → (x : A × B) (rest : List ℕ)
+    → (followed f g).fits x
     → (followed f g).read ((followed f g).spell x ++ rest) ≡ Ok (x, rest)
 followed_again f g law laws x rest fits =
     rw (append_assoc (f.spell x.0) ((g x.0).spell x.1) rest, law.again x.0 ((g x.0).spell x.1 ++ rest) fits.0, (laws x.0).again x.1 rest fits.1) refl
@@ -92,7 +97,8 @@ followed_ends : {A B : Type 0} (f : Spelling A) (g : A → Spelling B) → Lawfu
     → (followed f g).faulty bytes left → (followed f g).read bytes ≡ Err left
 followed_ends f g law laws bytes left is (inl h) = rw (law.ends bytes left is h) refl
 followed_ends f g law laws bytes left is (inr b) =
-    rw (read_behind f law bytes b.value b.rest b.begins, (laws b.value).ends b.rest left (IsBytes-behind bytes (f.spell b.value) b.rest is b.begins.parts) b.keeps) refl
+    rw (read_behind f law bytes b.value b.rest b.begins, (laws b.value).ends b.rest left (IsBytes-behind bytes (f.spell b.value) b.rest is b.begins.parts)
+        b.keeps) refl
 
 followed_faults : {A B : Type 0} (f : Spelling A) (g : A → Spelling B) → Lawful f → ((x : A) → Lawful (g x)) → (bytes : List ℕ) (left : ℕ) → IsBytes bytes
     → (followed f g).read bytes ≡ Err left → (followed f g).faulty bytes left
@@ -102,7 +108,8 @@ followed_faults f g law laws bytes left is e =
       | inr a ↦
           let first = law.takes bytes a.0.0 a.0.1 is a.1 in
           elim (bind_err ((g a.0.0).read a.0.1) (λ y. Ok ((a.0.0, y.0), y.1)) left a.2) [
-            | inl h ↦ inr (record { value = a.0.0; rest = a.0.1; begins = first; keeps = (laws a.0.0).faults a.0.1 left (IsBytes-behind bytes (f.spell a.0.0) a.0.1 is first.parts) h })
+            | inl h ↦ inr (record { value = a.0.0; rest = a.0.1; begins = first; keeps = (laws a.0.0).faults a.0.1 left
+                (IsBytes-behind bytes (f.spell a.0.0) a.0.1 is first.parts) h })
             | inr b ↦ absurd (let impossible = b.2 in cc)
           ]
     ]
@@ -118,7 +125,8 @@ pub followed_lawful : {A B : Type 0} (f : Spelling A) (g : A → Spelling B) →
 followed_lawful f g law laws = record {
   takes = followed_takes f g law laws;
   again = followed_again f g law laws;
-  adds = λ front x. (laws x.0).adds (f.onto front x.0) x.1 ∙ ap (λ (t : List ℕ). t ++ (g x.0).spell x.1) (law.adds front x.0) ∙ append_assoc front (f.spell x.0) ((g x.0).spell x.1);
+  adds = λ front x. (laws x.0).adds (f.onto front x.0) x.1 ∙ ap (λ (t : List ℕ). t ++ (g x.0).spell x.1) (law.adds front x.0) ∙ append_assoc front (f.spell x.0)
+      ((g x.0).spell x.1);
   faults = followed_faults f g law laws;
   ends = followed_ends f g law laws;
   within = followed_within f g law laws;
@@ -130,7 +138,8 @@ pair_lawful f g law other = followed_lawful f (λ x. g) law (λ x. other)
 
 -- ---- values of another type
 
-pub via_lawful : {A B : Type 0} (to : A → B) (from : B → A) (f : Spelling A) → ((x : A) → from (to x) ≡ x) → ((y : B) → to (from y) ≡ y) → Lawful f → Lawful (via to from f)
+pub via_lawful : {A B : Type 0} (to : A → B) (from : B → A) (f : Spelling A) → ((x : A) → from (to x) ≡ x) → ((y : B) → to (from y) ≡ y) → Lawful f
+    → Lawful (via to from f)
 via_lawful {A = A} {B = B} to from f back forth law = record {
   takes = λ bytes y rest is e.
       let a = bind_ok (f.read bytes) (λ x. Ok (to x.0, x.1)) (y, rest) e in
@@ -158,7 +167,8 @@ pub record NarrowLaws {A B : Type 0} (to : A → Option B) (from : B → A) (has
   pub writable : (y : B) → given_first (from y) → has y → asks y
 
 narrowed_takes : {A B : Type 0} (to : A → Option B) (from : B → A) (has asks : B → Type 0) (f : Spelling A) → NarrowLaws to from has asks f.fits → Lawful f
-    → (bytes : List ℕ) (y : B) (rest : List ℕ) → IsBytes bytes → (narrowed to from has asks f).read bytes ≡ Ok (y, rest) → SpellsFirst (narrowed to from has asks f) bytes y rest
+    → (bytes : List ℕ) (y : B) (rest : List ℕ) → IsBytes bytes → (narrowed to from has asks f).read bytes ≡ Ok (y, rest)
+        → SpellsFirst (narrowed to from has asks f) bytes y rest
 narrowed_takes {A = A} {B = B} to from has asks f laws law bytes y rest is e =
     let a = bind_ok (f.read bytes) (λ x. found_or (length bytes) (to x.0) >>= λ y. Ok (y, x.1)) (y, rest) e in
     let b = bind_ok (found_or (length bytes) (to a.0.0)) (λ y. Ok (y, a.0.1)) (y, rest) a.2 in
@@ -191,7 +201,8 @@ narrowed_within : {A B : Type 0} (to : A → Option B) (from : B → A) (has ask
 narrowed_within to from has asks f law bytes left is (inl h) = law.within bytes left is h
 narrowed_within to from has asks f law bytes left is (inr b) = omega (arith, b.keeps.1)
 
-pub narrowed_lawful : {A B : Type 0} (to : A → Option B) (from : B → A) (has asks : B → Type 0) (f : Spelling A) → NarrowLaws to from has asks f.fits → Lawful f → Lawful (narrowed to from has asks f)
+pub narrowed_lawful : {A B : Type 0} (to : A → Option B) (from : B → A) (has asks : B → Type 0) (f : Spelling A) → NarrowLaws to from has asks f.fits → Lawful f
+    → Lawful (narrowed to from has asks f)
 narrowed_lawful to from has asks f laws law = record {
   takes = narrowed_takes to from has asks f laws law;
   again = λ y rest fits. rw (law.again (from y) rest fits.0, laws.again y fits.0 fits.1) refl;

@@ -15,26 +15,30 @@ pub record StartsAt (old : Unread) (slice cursor : List ℕ) : Type 0 where
   pub unread : slice ≡ old.rest
   pub cursor_is : cursor ≡ slice
 
-pub shorter : {A : Type 0} (f : Spelling A) → Lawful f → (old : Unread) (slice cursor after rest : List ℕ) (x : A) → StartsAt old slice cursor → f.read cursor ≡ Ok (x, after) → rest ≡ after
+pub shorter : {A : Type 0} (f : Spelling A) → Lawful f → (old : Unread) (slice cursor after rest : List ℕ) (x : A) → StartsAt old slice cursor
+    → f.read cursor ≡ Ok (x, after) → rest ≡ after
     → IsShorter old → length rest ≤ length old.bytes
 shorter f law old slice cursor after rest x s e is le =
     let less = less_left f law slice after x s.bytes (rw s.cursor_is at e) in
     omega (arith, less, ap length is, ap length s.unread)
 
-pub field_taken : {A : Type 0} (f : Spelling A) → Lawful f → (old new : Unread) (slice cursor after : List ℕ) (x : A) → StartsAt old slice cursor → f.read cursor ≡ Ok (x, after) → new.rest ≡ after
+pub field_taken : {A : Type 0} (f : Spelling A) → Lawful f → (old new : Unread) (slice cursor after : List ℕ) (x : A) → StartsAt old slice cursor
+    → f.read cursor ≡ Ok (x, after) → new.rest ≡ after
     → new.bytes ≡ old.bytes → Takes f old x new
 field_taken f law old new slice cursor after x s e is same =
     let at_slice : f.read slice ≡ Ok (x, after) = rw s.cursor_is at e in
     let b = law.takes slice x after s.bytes at_slice in
     record { field = record { fits = b.fits; parts = sym s.unread ∙ b.parts ∙ ap (λ (t : List ℕ). f.spell x ++ t) (sym is) }; same_bytes = same }
 
-pub field_within : {A : Type 0} (f : Spelling A) → Lawful f → (old : Unread) (slice cursor : List ℕ) (left : ℕ) → StartsAt old slice cursor → f.read cursor ≡ Err left
+pub field_within : {A : Type 0} (f : Spelling A) → Lawful f → (old : Unread) (slice cursor : List ℕ) (left : ℕ) → StartsAt old slice cursor
+    → f.read cursor ≡ Err left
     → IsShorter old → left ≤ length old.bytes
 field_within f law old slice cursor left s e le =
     let within = fault_within f law slice left s.bytes (rw s.cursor_is at e) in
     omega (arith, within, ap length s.unread)
 
-pub field_bad : {A : Type 0} (f : Spelling A) → Lawful f → (old : Unread) (slice cursor : List ℕ) (left : ℕ) → StartsAt old slice cursor → f.read cursor ≡ Err left
+pub field_bad : {A : Type 0} (f : Spelling A) → Lawful f → (old : Unread) (slice cursor : List ℕ) (left : ℕ) → StartsAt old slice cursor
+    → f.read cursor ≡ Err left
     → IsShorter old → IsFaultAt f old (length old.bytes - left)
 field_bad f law old slice cursor left s e le =
     let at_slice : f.read slice ≡ Err left = rw s.cursor_is at e in

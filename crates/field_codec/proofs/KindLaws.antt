@@ -67,9 +67,11 @@ either_takes : {A B : Type 0} (kind : ℕ) (f : Spelling A) (g : Spelling B) →
 either_takes {A = A} {B = B} kind f g law other bytes x rest is e =
     elim (kind_or_not kind bytes) [
       | inl h ↦
-          let a = bind_ok (f.read h.0) (λ x. Ok (inl x.0, x.1)) (x, rest) (sym (this_kind kind f.read g.read h.0) ∙ sym (ap (by_kind kind f.read g.read) h.1) ∙ e) in
+          let a = bind_ok (f.read h.0) (λ x. Ok (inl x.0, x.1)) (x, rest) (sym (this_kind kind f.read g.read h.0) ∙ sym (ap (by_kind kind f.read g.read) h.1) ∙
+              e) in
           let first = law.takes h.0 a.0.0 a.0.1 (IsBytes-rest kind h.0 (rw (← h.1) is)) a.1 in
-          let whole : SpellsFirst (either kind f g) bytes (inl a.0.0) a.0.1 = record { fits = first.fits; parts = h.1 ∙ ap (λ (t : List ℕ). kind ∷ t) first.parts } in
+          let whole : SpellsFirst (either kind f g) bytes (inl a.0.0) a.0.1 =
+              record { fits = first.fits; parts = h.1 ∙ ap (λ (t : List ℕ). kind ∷ t) first.parts } in
           subst (λ (p : (A ⊎ B) × List ℕ). SpellsFirst (either kind f g) bytes p.0 p.1) (ok_is (inl a.0.0, a.0.1) (x, rest) a.2) whole
       | inr apart ↦
           let a = bind_ok (g.read bytes) (λ y. Ok (inr y.0, y.1)) (x, rest) (sym (other_kind kind f.read g.read bytes apart) ∙ e) in
@@ -90,9 +92,11 @@ either_again : {A B : Type 0} (kind low : ℕ) (f : Spelling A) (g : Spelling B)
 either_again kind low f g law other lt (inl x) rest fits = rw (this_kind kind f.read g.read (f.spell x ++ rest), law.again x rest fits) refl
 either_again kind low f g law other lt (inr y) rest fits =
     let opens = other.from y fits in
-    rw (other_kind kind f.read g.read (g.spell y ++ rest) (later_apart kind low opens.0 (g.spell y) opens.1 rest lt opens.3 opens.2), other.lawful.again y rest fits) refl
+    rw (other_kind kind f.read g.read (g.spell y ++ rest) (later_apart kind low opens.0 (g.spell y) opens.1 rest lt opens.3 opens.2),
+        other.lawful.again y rest fits) refl
 
-either_adds : {A B : Type 0} (kind : ℕ) (f : Spelling A) (g : Spelling B) → Lawful f → Lawful g → (front : List ℕ) (x : A ⊎ B) → (either kind f g).onto front x ≡ front ++ (either kind f g).spell x
+either_adds : {A B : Type 0} (kind : ℕ) (f : Spelling A) (g : Spelling B) → Lawful f → Lawful g → (front : List ℕ) (x : A ⊎ B)
+    → (either kind f g).onto front x ≡ front ++ (either kind f g).spell x
 either_adds kind f g law other front (inl x) = law.adds (front ++ kind ∷ []) x ∙ append_assoc front (kind ∷ []) (f.spell x)
 either_adds kind f g law other front (inr y) = other.adds front y
 
@@ -101,12 +105,14 @@ either_faults : {A B : Type 0} (kind : ℕ) (f : Spelling A) (g : Spelling B) �
 either_faults {A = A} {B = B} kind f g law other bytes left is e =
     elim (kind_or_not kind bytes) [
       | inl h ↦
-          elim (bind_err {A = A × List ℕ} {B = (A ⊎ B) × List ℕ} (f.read h.0) (λ x. Ok (inl x.0, x.1)) left (sym (this_kind kind f.read g.read h.0) ∙ sym (ap (by_kind kind f.read g.read) h.1) ∙ e)) [
+          elim (bind_err {A = A × List ℕ} {B = (A ⊎ B) × List ℕ} (f.read h.0) (λ x. Ok (inl x.0, x.1)) left
+              (sym (this_kind kind f.read g.read h.0) ∙ sym (ap (by_kind kind f.read g.read) h.1) ∙ e)) [
             | inl d ↦ inl (h.0, h.1, law.faults h.0 left (IsBytes-rest kind h.0 (rw (← h.1) is)) d)
             | inr a ↦ absurd (let impossible = a.2 in cc)
           ]
       | inr apart ↦
-          elim (bind_err {A = B × List ℕ} {B = (A ⊎ B) × List ℕ} (g.read bytes) (λ y. Ok (inr y.0, y.1)) left (sym (other_kind kind f.read g.read bytes apart) ∙ e)) [
+          elim (bind_err {A = B × List ℕ} {B = (A ⊎ B) × List ℕ} (g.read bytes) (λ y. Ok (inr y.0, y.1)) left
+              (sym (other_kind kind f.read g.read bytes apart) ∙ e)) [
             | inl d ↦ inr (apart, other.faults bytes left is d)
             | inr a ↦ absurd (let impossible = a.2 in cc)
           ]

@@ -48,7 +48,8 @@ numbered_is number_of (y ∷ ys) n x e =
       | inr other ↦ numbered_is number_of ys n x other.1
     ]
 
-pub one_of_lawful : {A : Type 0} (number_of : A → ℕ) (values : List A) → ((x : A) → with_number number_of values (number_of x) ≡ Some x) → Lawful (one_of number_of values)
+pub one_of_lawful : {A : Type 0} (number_of : A → ℕ) (values : List A) → ((x : A) → with_number number_of values (number_of x) ≡ Some x)
+    → Lawful (one_of number_of values)
 one_of_lawful number_of values all =
     narrowed_lawful (with_number number_of values) number_of (λ x. Unit {0}) (λ x. Unit {0}) u8_spelling
     (record { is = λ n x fits e. (numbered_is number_of values n x e, tt); again = λ x fits has. all x; writable = λ x fits has. tt }) u8_lawful
@@ -78,7 +79,8 @@ text_some (Some n) text rest e =
       parts = rw (← text-is, ← rest-is) (sym (take-append-drop n.0 n.1));
     }
 
-pub text_takes : (bytes text rest : List ℕ) → IsBytes bytes → text_at (number_at 4 u32_of bytes) ≡ Some (text, rest) → IsShort text × (bytes ≡ counted_text text ++ rest)
+pub text_takes : (bytes text rest : List ℕ) → IsBytes bytes → text_at (number_at 4 u32_of bytes) ≡ Some (text, rest)
+    → IsShort text × (bytes ≡ counted_text text ++ rest)
 text_takes bytes text rest is e =
     let t = text_some (number_at 4 u32_of bytes) text rest e in
     let n = number_takes 4 (2 ^ 32) u32_bytes u32_of wide32 bytes t.size t.bytes is t.number in
@@ -88,11 +90,13 @@ text_takes bytes text rest is e =
 pub text_again : (text rest : List ℕ) → IsShort text → text_at (number_at 4 u32_of (counted_text text ++ rest)) ≡ Some (text, rest)
 text_again text rest short =
     let long : nat_lt (length (text ++ rest)) (length text) ≡ false = le-ltb _ _ (omega (arith, length-append text rest)) in
-    rw (append_assoc (u32_bytes (length text)) text rest, number_again 4 (2 ^ 32) u32_bytes u32_of wide32 (length text) (text ++ rest) short, long, take_at text rest (length text) refl, drop_at text rest (length text) refl) refl
+    rw (append_assoc (u32_bytes (length text)) text rest, number_again 4 (2 ^ 32) u32_bytes u32_of wide32 (length text) (text ++ rest) short, long,
+        take_at text rest (length text) refl, drop_at text rest (length text) refl) refl
 
 pub text_lawful : Lawful text_spelling
 unfolding text_spelling
-text_lawful = leaf_lawful counted_text IsShort IsShort (λ bytes. text_at (number_at 4 u32_of bytes)) (record { takes = text_takes; again = text_again }) (λ text short. short)
+text_lawful = leaf_lawful counted_text IsShort IsShort (λ bytes. text_at (number_at 4 u32_of bytes)) (record { takes = text_takes; again = text_again })
+    (λ text short. short)
 
 -- ---- lists
 

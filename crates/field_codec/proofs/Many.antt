@@ -8,7 +8,8 @@ use Rattle.field_codec.specs.Laws.{IsBytes, Lawful}
 use Rattle.field_codec.proofs.Lawful.{IsBytes-behind, bind_ok, bind_err, ok_is}
 
 -- the first item, and then others
-cons_parts : {A : Type 0} (f : Spelling A) (x : A) (xs : List A) (rest : List ℕ) → flat_map f.spell (x ∷ xs) ++ rest ≡ f.spell x ++ (flat_map f.spell xs ++ rest)
+cons_parts : {A : Type 0} (f : Spelling A) (x : A) (xs : List A) (rest : List ℕ)
+    → flat_map f.spell (x ∷ xs) ++ rest ≡ f.spell x ++ (flat_map f.spell xs ++ rest)
 cons_parts f x xs rest = ap (λ (t : List ℕ). t ++ rest) (flat_map-cons f.spell x xs) ∙ append_assoc (f.spell x) (flat_map f.spell xs) rest
 
 items_takes : {A : Type 0} (f : Spelling A) → Lawful f → (count : ℕ) (bytes : List ℕ) (xs : List A) (rest : List ℕ) → IsBytes bytes
@@ -30,12 +31,14 @@ items_again : {A : Type 0} (f : Spelling A) → Lawful f → (xs : List A) (rest
     → items_at f.read (length xs) (flat_map f.spell xs ++ rest) ≡ Ok (xs, rest)
 items_again f law [] rest fits = refl
 items_again f law (x ∷ xs) rest fits =
-    ap (items_at f.read (suc (length xs))) (cons_parts f x xs rest) ∙ rw (law.again x (flat_map f.spell xs ++ rest) fits.0, items_again f law xs rest fits.1) refl
+    ap (items_at f.read (suc (length xs))) (cons_parts f x xs rest) ∙ rw (law.again x (flat_map f.spell xs ++ rest) fits.0, items_again f law xs rest fits.1)
+        refl
 
 items_adds : {A : Type 0} (f : Spelling A) → Lawful f → (front : List ℕ) (xs : List A) → items_onto f.onto front xs ≡ front ++ flat_map f.spell xs
 items_adds f law front [] = sym (append-nil front)
 items_adds f law front (x ∷ xs) =
-    items_adds f law (f.onto front x) xs ∙ ap (λ (t : List ℕ). t ++ flat_map f.spell xs) (law.adds front x) ∙ append_assoc front (f.spell x) (flat_map f.spell xs)
+    items_adds f law (f.onto front x) xs ∙ ap (λ (t : List ℕ). t ++ flat_map f.spell xs) (law.adds front x) ∙ append_assoc front (f.spell x)
+        (flat_map f.spell xs)
     ∙ ap (λ (t : List ℕ). front ++ t) (sym (flat_map-cons f.spell x xs))
 
 items_faults : {A : Type 0} (f : Spelling A) → Lawful f → (count : ℕ) (bytes : List ℕ) (left : ℕ) → IsBytes bytes
@@ -66,7 +69,8 @@ items_end : {A : Type 0} (f : Spelling A) → Lawful f → (count : ℕ) (xs : L
 items_end f law zero xs rest left lt fits e = absurd (let impossible : ⊥ = omega arith in impossible)
 items_end f law (suc n) [] rest left lt fits e = rw e refl
 items_end f law (suc n) (x ∷ xs) rest left lt fits e =
-    ap (items_at f.read (suc n)) (cons_parts f x xs rest) ∙ rw (law.again x (flat_map f.spell xs ++ rest) fits.0, items_end f law n xs rest left (omega arith) fits.1 e) refl
+    ap (items_at f.read (suc n)) (cons_parts f x xs rest) ∙ rw (law.again x (flat_map f.spell xs ++ rest) fits.0, items_end f law n xs rest left (omega arith)
+        fits.1 e) refl
 
 items_ends : {A : Type 0} (f : Spelling A) → Lawful f → (count : ℕ) (bytes : List ℕ) (left : ℕ) → IsBytes bytes
     → ItemFault f count bytes left → items_at f.read count bytes ≡ Err left

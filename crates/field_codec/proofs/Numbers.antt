@@ -58,7 +58,8 @@ u128_back bytes len is =
     let back_len : length (drop 8 bytes) ≡ 8 = omega (arith, length-drop 8 bytes) in
     let low = wide64.below (drop 8 bytes) back_len (IsBytes-drop 8 bytes is) in
     u128_of_halves (u64_of (take 8 bytes)) (u64_of (drop 8 bytes)) low
-    ∙ ap₂ (λ (x y : List ℕ). x ++ y) (wide64.back (take 8 bytes) front_len (IsBytes-take 8 bytes is)) (wide64.back (drop 8 bytes) back_len (IsBytes-drop 8 bytes is))
+    ∙ ap₂ (λ (x y : List ℕ). x ++ y) (wide64.back (take 8 bytes) front_len (IsBytes-take 8 bytes is))
+        (wide64.back (drop 8 bytes) back_len (IsBytes-drop 8 bytes is))
     ∙ take-append-drop 8 bytes
 
 u128_again : (n : ℕ) → n < 2 ^ 128 → u128_of (u128_bytes n) ≡ n
@@ -104,7 +105,8 @@ number_again size limit bytes_of number_of wide n rest lt =
     let long : nat_lt (length (bytes_of n ++ rest)) size ≡ false = le-ltb _ _ (omega (arith, length-append (bytes_of n) rest)) in
     rw (long, take_at (bytes_of n) rest size len, drop_at (bytes_of n) rest size len, wide.again n lt) refl
 
-pub number_lawful : (size limit : ℕ) (bytes_of : ℕ → List ℕ) (number_of : List ℕ → ℕ) → IsWide size limit bytes_of number_of → Lawful (number size limit bytes_of number_of)
+pub number_lawful : (size limit : ℕ) (bytes_of : ℕ → List ℕ) (number_of : List ℕ → ℕ) → IsWide size limit bytes_of number_of
+    → Lawful (number size limit bytes_of number_of)
 number_lawful size limit bytes_of number_of wide =
     leaf_lawful bytes_of (λ n. n < limit) (λ n. Unit {0}) (number_at size number_of)
     (record { takes = number_takes size limit bytes_of number_of wide; again = number_again size limit bytes_of number_of wide }) (λ n lt. tt)

@@ -141,7 +141,8 @@ range_is (Some ends) r fits e =
     let high = high_point ends.1 in
     let k = kept_some (are_ordered low high) (Some (span low high)) r e in
     let is : ends_of (Some (span low high)) ≡ Some ends = ap₂ (λ (a b : End). Some (a, b)) (low_end-low_point ends.0) (high_end-high_point ends.1) in
-    let good : IsRange (Some (span low high)) = record { ordered = ordered_from_test low high k.1; low = low_within ends.0 (end_within ends.0 fits.0); high = high_within ends.1 (end_within ends.1 fits.1) } in
+    let good : IsRange (Some (span low high)) = record { ordered = ordered_from_test low high k.1; low = low_within ends.0 (end_within ends.0 fits.0); high =
+        high_within ends.1 (end_within ends.1 fits.1) } in
     subst (λ (x : Option Span). (ends_of x ≡ Some ends) × IsRange x) k.0 (is, good)
 
 range_again : (r : Option Span) → IsRange r → span_of (ends_of r) ≡ Some r
@@ -154,4 +155,5 @@ pub range_lawful : Lawful range_spelling
 unfolding range_spelling
 range_lawful =
     narrowed_lawful span_of ends_of IsRange (λ r. Unit {0}) (optional (pair end_spelling end_spelling))
-    (record { is = range_is; again = λ r fits h. range_again r h; writable = λ r fits h. tt }) (optional_lawful (pair end_spelling end_spelling) (pair_lawful end_spelling end_spelling end_lawful end_lawful))
+    (record { is = range_is; again = λ r fits h. range_again r h; writable = λ r fits h. tt })
+        (optional_lawful (pair end_spelling end_spelling) (pair_lawful end_spelling end_spelling end_lawful end_lawful))

@@ -9,7 +9,8 @@ use Rattle.time_range.specs.declared.ends.End.{End}
 use Rattle.field_codec.specs.Leaves.{IsShort, text_spelling, u128_spelling, ts_spelling, end_spelling, range_spelling}
 use Rattle.field_codec.specs.Reading.{Wrote}
 
-pub text_wrote : (old middle text new : List ℕ) → IsShort text → middle ≡ old ++ u32_bytes (length text) → new ≡ middle ++ text → Wrote text_spelling old text new
+pub text_wrote : (old middle text new : List ℕ) → IsShort text → middle ≡ old ++ u32_bytes (length text) → new ≡ middle ++ text
+    → Wrote text_spelling old text new
 unfolding text_spelling
 text_wrote old middle text new short first second = record {
   written = second ∙ ap (λ (t : List ℕ). t ++ text) first ∙ append_assoc old (u32_bytes (length text)) text;
@@ -28,7 +29,8 @@ spans_wrote : (old flag middle new : List ℕ) (span : Span) → IsRange (Some s
     → Wrote end_spelling flag (low_end span.low) middle → Wrote end_spelling middle (high_end span.high) new → Wrote range_spelling old (Some span) new
 unfolding range_spelling
 spans_wrote old flag middle new span is e low high = record {
-  written = high.written ∙ ap (λ (t : List ℕ). end_spelling.onto t (high_end span.high)) (low.written ∙ ap (λ (t : List ℕ). end_spelling.onto t (low_end span.low)) e);
+  written = high.written ∙ ap (λ (t : List ℕ). end_spelling.onto t (high_end span.high))
+      (low.written ∙ ap (λ (t : List ℕ). end_spelling.onto t (low_end span.low)) e);
   fits = ((low.fits, high.fits), is);
 }
 

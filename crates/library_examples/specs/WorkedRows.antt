@@ -7,7 +7,7 @@ use Rattle.media_rows.specs.Changes.{after}
 use Rattle.media_rows.specs.Library.{Library}
 use Rattle.media_rows.specs.Lists.{rises, numbers_below}
 use Rattle.media_rows.specs.Ranges.{eternity}
-use Rattle.media_rows.specs.Requests.{newest_done, asked_row}
+use Rattle.media_rows.specs.Requests.{Deletion, newest_done, asked_row}
 use Rattle.media_rows.specs.Restoring.{catalog_of, can_restore_catalog, can_restore_requests}
 use Rattle.media_rows.specs.Snapshot.{library_of, rows_of, row_before, kind_number}
 use Rattle.library_examples.specs.Examples.{first_flow, one_source, nothing, seconds, shared, listen}
@@ -16,13 +16,17 @@ use Rattle.media_rows.specs.declared.row.Row.TheVariants as rows
 
 -- ---- done requests
 
+-- the segments of the first flow go, and the flow stays
+abbrev pub all_segments : Deletion
+all_segments = record { flow = first_flow; range = eternity; delete_flow = false }
+
 -- a done request of this serial for the whole of the first flow
 abbrev pub done_one : ℕ → DeleteRow
-done_one serial = record (asked_row first_flow eternity false serial 0) { status = statuses.Done }
+done_one serial = record (asked_row all_segments serial 0) { status = statuses.Done }
 
 -- a request of serial 0 for the whole of the first flow, before its first step
 abbrev pub waiting_request : DeleteRow
-waiting_request = asked_row first_flow eternity false 0 0
+waiting_request = asked_row all_segments 0 0
 
 -- The 64 done requests of highest serials are kept, and each unfinished one.
 pub record DoneOnesStay : Type 0 where

@@ -54,7 +54,8 @@ two_flows count = after_all
 
 -- a request to delete all of the first flow's segments, behind all others
 abbrev pub behind_all : DeleteRow
-behind_all = asked_row first_flow eternity false 100 0
+behind_all =
+    asked_row (record { flow = first_flow; range = eternity; delete_flow = false }) 100 0
 
 -- A range that covers 32 of 33 segments leaves one. A request for all of them takes two steps, of
 -- which the first removes 32, and a segment that was posted after it stays.

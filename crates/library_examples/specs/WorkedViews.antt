@@ -20,9 +20,10 @@ use Rattle.media_rows.specs.declared.reply.View.{View}
 use Rattle.media_rows.specs.declared.reply.View.TheVariants as views
 use Rattle.media_rows.specs.Answer.{answer}
 use Rattle.media_rows.specs.Changes.{after}
+use Rattle.media_rows.specs.Lists.{page_items, next_key}
 use Rattle.media_rows.specs.Library.{Library}
 use Rattle.media_rows.specs.Ranges.{eternity}
-use Rattle.media_rows.specs.Segments.{segment_page, segment_next_key}
+use Rattle.media_rows.specs.Segments.{first_point, overlapping}
 use Rattle.media_rows.specs.Views.{listed_flows, listed_sources}
 use Rattle.library_examples.specs.Examples.{first_flow, second_flow, one_source, second, seconds, piece, stored, post, with_pieces}
 use Rattle.library_examples.specs.Studio.{third_flow, other_source, place_tag, take_tag, left_source, bare_source, both_body, main_flow, sound_flow, both_flow, object_a, object_b, object_c, later_piece, early_piece, last_piece, open_request, done_request, one_hook, two_hook, studio}
@@ -271,11 +272,13 @@ pub record SegmentsAreShown : Type 0 where
 -- the serials of a page of five segments, each of a second, that overlap a range
 abbrev pub points : Option Span → Page → List ℕ
 points range asked_page =
-    map (λ row. row.serial) (segment_page (with_pieces 5).segments first_flow range None asked_page)
+    map (λ row. row.serial)
+    (page_items first_point asked_page (overlapping (with_pieces 5).segments first_flow range None))
 
 -- the key behind that page
 abbrev pub key : Page → Option ℤ
-key asked_page = segment_next_key (with_pieces 5).segments first_flow eternity None asked_page
+key asked_page =
+    next_key first_point asked_page (overlapping (with_pieces 5).segments first_flow eternity None)
 
 -- four segments that were posted out of order, each of ten seconds
 abbrev pub mixed : Library
@@ -289,8 +292,9 @@ half = Some (record { low = Some (pos 1000000000); high = Some (pos second) })
 -- next one, and a segment that begins before the range is in it all the same. Never overlaps none.
 pub record PagesAreCut : Type 0 where
   pub by_first_point :
-      map (λ row. row.serial) (segment_page mixed.segments first_flow eternity None nine) ≡ 5 ∷ 3
-      ∷ 4 ∷ 2 ∷ []
+      map (λ row. row.serial)
+      (page_items first_point nine (overlapping mixed.segments first_flow eternity None))
+      ≡ 5 ∷ 3 ∷ 4 ∷ 2 ∷ []
   pub first : points eternity (page None 2 false) ≡ 2 ∷ 3 ∷ []
   pub first_key : key (page None 2 false) ≡ Some (pos 2000000000)
   pub next : points eternity (page (Some (pos 2000000000)) 2 false) ≡ 4 ∷ 5 ∷ []

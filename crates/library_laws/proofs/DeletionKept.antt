@@ -31,12 +31,12 @@ use Rattle.library_laws.proofs.OutboxKept.{request_below, segment_below, Names-f
 
 asked_good : (flows : List FlowRow) (segments : List SegmentRow) (flow : ℕ) (range : Option Span) (delete_flow : Bool) (serial moment : ℕ) → is_kept flows flow
     ≡ true → (not delete_flow || is_eternity range) ≡ true
-    → is_after_segments segments (asked_row flow range delete_flow serial moment) ≡ true
-    → is_request_good flows segments (asked_row flow range delete_flow serial moment) ≡ true
+    → is_after_segments segments (asked_row (record { flow = flow; range = range; delete_flow = delete_flow }) serial moment) ≡ true
+    → is_request_good flows segments (asked_row (record { flow = flow; range = range; delete_flow = delete_flow }) serial moment) ≡ true
 asked_good flows segments flow range false serial moment kept whole after = and_from (is_kept flows flow) true kept refl
 asked_good flows segments flow range true serial moment kept whole after = and_from (is_kept flows flow)
-    (is_eternity range && is_after_segments segments (asked_row flow range true serial moment)) kept
-    (and_from (is_eternity range) (is_after_segments segments (asked_row flow range true serial moment)) whole after)
+    (is_eternity range && is_after_segments segments (asked_row (record { flow = flow; range = range; delete_flow = true }) serial moment)) kept
+    (and_from (is_eternity range) (is_after_segments segments (asked_row (record { flow = flow; range = range; delete_flow = true }) serial moment)) whole after)
 
 count-asked_step : (b : Bool) (first : DeleteRow) (all later : List DeleteRow) → length all ≡ length later → length (cond b (first ∷ all) all)
     ≡ length (cond b (first ∷ later) later)
@@ -50,18 +50,18 @@ count-asked (first ∷ later) row e = count-asked_step (is_done first.status) fi
 
 pub asking_keeps_good : (library : Library) (moment flow : ℕ) (range : Option Span) (delete_flow : Bool) → Good library → is_moment moment ≡ true
     → is_kept library.catalog.flows flow ≡ true
-    → (not delete_flow || is_eternity range) ≡ true → library.next_serial + 1 ≤ last_serial → Good (after_ask moment flow range delete_flow library)
+    → (not delete_flow || is_eternity range) ≡ true → library.next_serial + 1 ≤ last_serial → Good (after_ask moment (record { flow = flow; range = range; delete_flow = delete_flow }) library)
 asking_keeps_good library moment flow range delete_flow good at kept whole most =
     let names = Names-from library good.names in
     let texts = Texts-from library good.texts in
-    let row : DeleteRow = asked_row flow range delete_flow library.next_serial moment in
+    let row : DeleteRow = asked_row (record { flow = flow; range = range; delete_flow = delete_flow }) library.next_serial moment in
     let asked = and_parts (list_all (is_request_good library.catalog.flows library.segments) library.requests) (nat_le (done_count library.requests) done_kept)
     good.requests in
     record {
       segments = good.segments;
       references = good.references;
       extents = good.extents;
-      names = Names-test (after_ask moment flow range delete_flow library) (record {
+      names = Names-test (after_ask moment (record { flow = flow; range = range; delete_flow = delete_flow }) library) (record {
         catalog = names.catalog;
         objects = names.objects;
         urls = names.urls;
@@ -91,7 +91,7 @@ asking_keeps_good library moment flow range delete_flow good at kept whole most 
           (lt-ltb s.serial library.next_serial (segment_below library names s here))))) refl))
           (ap (λ n. nat_le n done_kept) (count-asked library.requests row refl) ∙ asked.1);
       outbox = good.outbox;
-      texts = Texts-test (after_ask moment flow range delete_flow library) (record {
+      texts = Texts-test (after_ask moment (record { flow = flow; range = range; delete_flow = delete_flow }) library) (record {
         sources = texts.sources;
         flows = texts.flows;
         objects = texts.objects;

@@ -17,7 +17,7 @@ use Rattle.media_rows.specs.Library.{Library}
 use Rattle.media_rows.specs.Lists.{has_text}
 use Rattle.media_rows.specs.Media.{Archive, asks, puts, gets, answer_to, bytes_after, fits_bytes}
 use Rattle.media_rows.specs.Moments.{is_moment}
-use Rattle.media_rows.specs.Objects.{object_of, is_stored, is_free, blocks_of, free_place, stored_row, with_bytes, fits_state, are_bytes_of, bytes_of}
+use Rattle.media_rows.specs.Objects.{object_of, is_stored, is_free, blocks_of, free_place, stored_row, with_object, fits_state, are_bytes_of, bytes_of}
 use Rattle.library_laws.specs.Laws.{IsLeastPlace}
 use Rattle.library_laws.specs.MediaLaws.{IsGoodArchive, BytesFit, BytesStay, TakesPlace, PutsApply, QuestionsApply}
 use Rattle.library_laws.proofs.AppliesLemmas.{answers_apply, zero_or_more}
@@ -120,7 +120,7 @@ state_step true id start size moment row old is e same = ap (λ (r : ObjectRow).
 state_step false id start size moment row old is e same =
     absurd (false≢true (sym is ∙ ap (λ t. bytes_eq t id) (sym (ap (λ (r : ObjectRow). r.id) e) ∙ same) ∙ text_same id))
 
-stored_state : (objects : List ObjectRow) (id : List ℕ) (start size moment : ℕ) (row : ObjectRow) → In row (with_bytes id start size moment objects) → row.id
+stored_state : (objects : List ObjectRow) (id : List ℕ) (start size moment : ℕ) (row : ObjectRow) → In row (with_object id (stored_row start size moment) objects) → row.id
     ≡ id → row.state ≡ Stored start size
 stored_state objects id start size moment row here same =
     let old = In-map (λ row. cond (bytes_eq row.id id) (stored_row start size moment row) row) objects row here in

@@ -47,7 +47,7 @@ ids_of e = cc
 
 -- a delete request is made, and is the reply
 asked_for : (library : Library) (flow : ℕ) (range : Option Span) (delete_flow : Bool) (moment : ℕ)
-    → TellsRows library (accepted_request library flow range delete_flow moment)
+    → TellsRows library (accepted_request library (record { flow = flow; range = range; delete_flow = delete_flow }) moment)
 asked_for library flow range delete_flow moment = record {
   request = λ row is. record {
     change = changes.AskDelete moment flow range delete_flow;

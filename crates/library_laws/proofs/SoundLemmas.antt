@@ -166,7 +166,7 @@ values library (changes.AddSegments moment flow posts) allowed good =
     (list_all-parts (is_segment_good next.catalog.flows) library.segments (posted flow library.next_serial posts) segments.1).1
 values library (changes.CutSegments moment flow range) allowed good = refl
 values library (changes.AskDelete moment flow range delete_flow) allowed good =
-    let row : DeleteRow = asked_row flow range delete_flow library.next_serial moment in
+    let row : DeleteRow = asked_row (record { flow = flow; range = range; delete_flow = delete_flow }) library.next_serial moment in
     let test : DeleteRow → Bool = is_request_good library.catalog.flows library.segments in
     let requests = and_parts (list_all test (library.requests ++ row ∷ [])) (nat_le (done_count (library.requests ++ row ∷ [])) done_kept) good.requests in
     let one = and_parts (test row) true (list_all-parts test library.requests (row ∷ []) requests.0).1 in

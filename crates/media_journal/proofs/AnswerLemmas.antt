@@ -40,7 +40,8 @@ one_place image at k first second = elim first [
   ]
   | inr rows ↦ elim second [
     | inl sizes ↦ absurd (sizes.1.wrong (same_sizes image sizes.1.header rows.header sizes.1.is rows.is rows.sizes))
-    | inr others ↦ others.active ∙ ap (λ (x : Header). active_start image x.half) (one_header image others.header rows.header others.is rows.is) ∙ sym rows.active
+    | inr others ↦ others.active ∙ ap (λ (x : Header). active_start image x.half) (one_header image others.header rows.header others.is rows.is) ∙ sym
+        rows.active
   ]
 ]
 
@@ -57,7 +58,8 @@ same_half image a b None None first second =
     let same = one_reading image _ _ _ _ _ _ _ _ (gives_reads image a.journal (contents_of a) first) (gives_reads image b.journal (contents_of b) second) in
     let half : b.half ≡ a.half = ap (λ (x : Header). x.half) same.0 in
     let start : active_start image b.half ≡ active_start image a.half = ap (active_start image) half in
-    record { torn = refl; gate = same.1; room = omega (arith, first.half.room, second.half.room, first.active, second.active, half, start, same.1); rows = same.2; found = same.3 }
+    record { torn = refl; gate = same.1; room = omega (arith, first.half.room, second.half.room, first.active, second.active, half, start, same.1); rows =
+        same.2; found = same.3 }
 same_half image a b None (Some k) first second = absurd (torn_or_whole image _ _ _ _ _ _ _ _ second.reads (gives_reads image a.journal (contents_of a) first))
 same_half image a b (Some at) None first second = absurd (torn_or_whole image _ _ _ _ _ _ _ _ first.reads (gives_reads image b.journal (contents_of b) second))
 same_half image a b (Some at) (Some k) first second =
@@ -95,7 +97,8 @@ one_opened image a b first second =
     let blocks : b.blocks ≡ a.blocks = ap (λ (x : Header). x.blocks) header in
     let same = same_half image a b a.torn b.torn first.half second.half in
     let journal =
-    same_position a.journal b.journal (second.blocks ∙ blocks ∙ sym first.blocks) (second.half_blocks ∙ ap (λ (h : Header). h.half) header ∙ sym first.half_blocks) (second.start ∙ start ∙ sym first.start) same.gate same.room in
+    same_position a.journal b.journal (second.blocks ∙ blocks ∙ sym first.blocks) (second.half_blocks ∙ ap (λ (h : Header). h.half) header ∙ sym
+        first.half_blocks) (second.start ∙ start ∙ sym first.start) same.gate same.room in
     same_opened a b journal same.rows same.found same.torn header (omega (arith, first.rows_at, second.rows_at, start))
 
 -- two answers of an image are one

@@ -30,7 +30,8 @@ module _ (at n : ℕ) (image other : List ℕ) (torn : Torn at n image other) wh
   same_byte : (i : ℕ) → (i + 1 ≤ at) ⊎ (at + n ≤ i) → get_or other i 0 ≡ get_or image i 0
   same_byte i place =
       let here : i + 0 ≡ i = omega arith in
-      rw here at (sym (get_or-bytes_at other i 1 0 0 (omega arith)) ∙ ap (λ text. get_or text 0 0) (same_bytes i 1 place) ∙ get_or-bytes_at image i 1 0 0 (omega arith))
+      rw here at (sym (get_or-bytes_at other i 1 0 0 (omega arith)) ∙ ap (λ text. get_or text 0 0) (same_bytes i 1 place) ∙ get_or-bytes_at image i 1 0 0
+          (omega arith))
 
   -- within a half that the write doesn't meet
   outside : (start gate i k : ℕ) → (gate + 1 ≤ at) ⊎ (at + n ≤ start) → start ≤ i → i + k ≤ gate + 1 → (i + k ≤ at) ⊎ (at + n ≤ i)
@@ -51,7 +52,8 @@ module _ (at n : ℕ) (image other : List ℕ) (torn : Torn at n image other) wh
         };
         sizes = rw torn.same_length h.sizes;
         half = record {
-          text = same_bytes p.start (8 + length held.rows) (outside p.start p.gate p.start (8 + length held.rows) place (omega arith) (omega arith)) ∙ h.half.text;
+          text = same_bytes p.start (8 + length held.rows) (outside p.start p.gate p.start (8 + length held.rows) place (omega arith) (omega arith)) ∙
+              h.half.text;
           few = h.half.few;
           chain = chain_kept_within image other rows held.records p.gate
               (λ i k lower upper. same_bytes i k (outside p.start p.gate i k place (omega arith) (omega arith))) h.half.chain;
@@ -91,7 +93,8 @@ not_first half some = ne_eqb (8192 + 4096 * half) 8192 (λ same. absurd (omega a
 pub places_of : (p : Position) → 1 ≤ p.half → (p.start ≡ 8192) ⊎ (p.start ≡ 8192 + 4096 * p.half) → Places p
 places_of p some (inl a) = InA a (ap (λ (s : ℕ). if s == 8192 then 8192 + 4096 * p.half else 8192) a)
 places_of p some (inr b) =
-    InB b (ap (λ (s : ℕ). if s == 8192 then 8192 + 4096 * p.half else 8192) b ∙ ap (λ (t : Bool). if t then 8192 + 4096 * p.half else 8192) (not_first p.half some))
+    InB b (ap (λ (s : ℕ). if s == 8192 then 8192 + 4096 * p.half else 8192) b ∙ ap (λ (t : Bool). if t then 8192 + 4096 * p.half else 8192)
+        (not_first p.half some))
 
 -- the two halves don't meet
 pub other_outside : (p : Position) (n : ℕ) → Places p → p.gate + 1 ≤ p.start + 4096 * p.half → 9 + n ≤ 4096 * p.half
@@ -159,7 +162,8 @@ half_made image rows start size within fits few =
     let inside : start + length (half_text rows) ≤ length image = omega (arith, length-half_text rows) in
     let none : start + 0 ≡ start = omega arith in
     record {
-      text = rw none at (bytes_at-written start (half_text rows) image inside 0 (8 + length rows) (omega (arith, length-half_text rows))) ∙ front-half_text rows;
+      text = rw none at (bytes_at-written start (half_text rows) image inside 0 (8 + length rows) (omega (arith, length-half_text rows))) ∙ front-half_text
+          rows;
       few = few;
       chain = refl;
       closed = shut _ (get_or-written start (half_text rows) image inside (8 + length rows) 0 (omega (arith, length-half_text rows)) ∙ gate-half_text rows);
@@ -334,4 +338,5 @@ module _ (p : Position) (start : ℕ) (rows : List ℕ) (is : start ≡ other_st
       → Elapses (KeepsOrSwitches p rows held) (CheckpointEnds ok p rows held) old new
   moments_there ok old new held long each time =
       checkpoint_moments p rows held (omega arith) fits few old new (omega arith) each ok (selector_for start) (ap selector_for is)
-      (subst (λ (s : ℕ). Elapses (WithinWrites s (half_text rows) 4096 old.seen) (WritesEnd ok s (half_text rows) 4096 (selector_for start) old.seen) old new) is time)
+      (subst (λ (s : ℕ). Elapses (WithinWrites s (half_text rows) 4096 old.seen) (WritesEnd ok s (half_text rows) 4096 (selector_for start) old.seen) old new)
+          is time)

@@ -66,7 +66,8 @@ gives_before image other p held size same g =
 pub gives_without_frame : (seen : List ℕ) (p : Position) (held : Contents) (frame : List ℕ) → p.gate + 1 + length frame ≤ length seen
     → Gives (overwritten (p.gate + 1) frame seen) p held → Gives seen p held
 gives_without_frame seen p held frame fits g =
-    gives_before (overwritten (p.gate + 1) frame seen) seen p held (sym (length-overwritten (p.gate + 1) frame seen fits)) (sym (bytes_at-before (p.gate + 1) frame seen fits 0 (p.gate + 1) (omega arith))) g
+    gives_before (overwritten (p.gate + 1) frame seen) seen p held (sym (length-overwritten (p.gate + 1) frame seen fits))
+        (sym (bytes_at-before (p.gate + 1) frame seen fits 0 (p.gate + 1) (omega arith))) g
 
 -- once the frame is there, the gate's write gives the records as they were, or with the payload
 pub gives_torn_gate : (seen other : List ℕ) (p : Position) (payload : List ℕ) (held : Contents) → p.gate + p.room ≤ length seen → length payload + 6 ≤ p.room
@@ -84,7 +85,8 @@ gives_torn_gate seen other p payload held within room short g torn =
     ]
 
 -- over the writes of a record, the images of a journal whose records each image gave
-module _ (old new : Device) (p : Position) (payload : List ℕ) (held : Contents) (within : p.gate + p.room ≤ length old.seen) (room : length payload + 6 ≤ p.room) (short : length payload < 2 ^ 32) (each : EachGives old p held) where
+module _ (old new : Device) (p : Position) (payload : List ℕ) (held : Contents) (within : p.gate + p.room ≤ length old.seen)
+    (room : length payload + 6 ≤ p.room) (short : length payload < 2 ^ 32) (each : EachGives old p held) where
   -- the frame behind the gate
   framed : (q m : Left) → may_leave old q → TornWrite (p.gate + 1) (length (frame_text payload)) q m → Gives m.image p held
   framed q m could torn = gives_before q.image m.image p held torn.image.same_length torn.image.before (each.gives q could)
@@ -132,7 +134,8 @@ module _ (old new : Device) (p : Position) (payload : List ℕ) (held : Contents
   pub append_moments : (ok : Bool) → Elapses (WithinRecord p.gate (frame_text payload) old.seen) (RecordEnds ok p.gate (frame_text payload) old.seen) old new
       → Elapses (KeepsOrAdds p payload held) (AppendEnds ok p payload held) old new
   append_moments ok time =
-      elapses_weaker (WithinRecord p.gate (frame_text payload) old.seen) (RecordEnds ok p.gate (frame_text payload) old.seen) _ _ old new time so_far (λ q l could left steps. at_end ok q l could steps)
+      elapses_weaker (WithinRecord p.gate (frame_text payload) old.seen) (RecordEnds ok p.gate (frame_text payload) old.seen) _ _ old new time so_far
+          (λ q l could left steps. at_end ok q l could steps)
 
 -- what is read after the call is one of the images
 pub append_left : (old new : Device) (p : Position) (payload : List ℕ) (held : Contents) → IsDevice new → new.honest ≡ true → new.shows ≡ true

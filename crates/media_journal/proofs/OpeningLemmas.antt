@@ -41,7 +41,8 @@ pub open_fault : (image : List ℕ) (h : Header) (start : ℕ) (fault : JournalF
     → start ≡ active_start image h.half → HalfAnswer image start (start + 4096 * h.half) (Err fault) → OpenAnswer image (Err fault)
 open_fault image h start NotStore header size sizes place answer = absurd answer
 open_fault image h start (Damaged at) header size sizes place answer =
-    (is_store image h header size, inr (subst (λ (x : ℕ). HasWrongRows image x) (sym answer.0) record { header = h; is = header; sizes = sizes; active = place; long = answer.1 }))
+    (is_store image h header size, inr (subst (λ (x : ℕ). HasWrongRows image x) (sym answer.0) record { header = h; is = header; sizes = sizes; active = place;
+        long = answer.1 }))
 open_fault image h start Disk header size sizes place answer = tt
 open_fault image h start Memory header size sizes place answer = tt
 

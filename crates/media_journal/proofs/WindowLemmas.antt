@@ -9,4 +9,5 @@ pub piece_part : (image : List ℕ) (p : Piece) (at n : ℕ) → p.bytes ≡ byt
 piece_part image p at n shown covers =
     let within : at - p.offset + n ≤ length p.bytes = omega (arith, covers.from, covers.to) in
     let place : p.offset + (at - p.offset) ≡ at = omega (arith, covers.from) in
-    ap (λ bytes. bytes_at bytes (at - p.offset) n) shown ∙ bytes_at-bytes_at image p.offset (length p.bytes) (at - p.offset) n within ∙ ap (λ x. bytes_at image x n) place
+    ap (λ bytes. bytes_at bytes (at - p.offset) n) shown ∙ bytes_at-bytes_at image p.offset (length p.bytes) (at - p.offset) n within ∙ ap
+        (λ x. bytes_at image x n) place

@@ -66,6 +66,9 @@ impl Journal {
 
         ensures calls { OnOk result (DiskCalls true (D.device disk.old) (D.device disk.new)) }
 
+        // Three writes and a sync of the half, a write and a sync of the selector, and no further call.
+        ensures six_calls { (D.device disk.new).moment ≤ (D.device disk.old).moment + 6 }
+
         // It doesn't give up by itself: the count of faults rose.
         ensures failed { IsErrOf result AppendFault.Disk
             → DiskCalls false (D.device disk.old) (D.device disk.new) }
@@ -104,6 +107,7 @@ fn switch_half<D: Disk>(disk: &mut D, start: u64, rows: &[u8]) -> Result<(), Fai
     requires place { 8192 ≤ start }
     requires small { start < 2 ^ 62 }
     ensures calls { DiskCalls (is_ok result) (D.device disk.old) (D.device disk.new) }
+    ensures six_calls { (D.device disk.new).moment ≤ (D.device disk.old).moment + 6 }
     ensures written { (D.device disk.old).shows ≡ true → OnOk result
         ((D.device disk.new).seen ≡ overwritten BLOCK (selector_for start ∷ [])
         (overwritten start (half_text rows.now) (D.device disk.old).seen)) }
@@ -130,6 +134,7 @@ fn write_half<D: Disk>(disk: &mut D, start: u64, rows: &[u8]) -> Result<(), Fail
     requires device { start + (9 + length rows.now) ≤ (D.device disk.old).size }
     requires small { start < 2 ^ 62 }
     ensures calls { DiskCalls (is_ok result) (D.device disk.old) (D.device disk.new) }
+    ensures four_calls { (D.device disk.new).moment ≤ (D.device disk.old).moment + 4 }
     ensures written { (D.device disk.old).shows ≡ true → OnOk result
         ((D.device disk.new).seen ≡ overwritten start (half_text rows.now) (D.device disk.old).seen) }
     ensures handed { (D.device disk.old).tells ≡ true → OnOk result
@@ -152,6 +157,7 @@ fn write_parts<D: Disk>(disk: &mut D, start: u64, rows: &[u8]) -> Result<(), Fai
     requires device { start + (9 + length rows.now) ≤ (D.device disk.old).size }
     requires small { start < 2 ^ 62 }
     ensures calls { DiskCalls (is_ok result) (D.device disk.old) (D.device disk.new) }
+    ensures three_calls { (D.device disk.new).moment ≤ (D.device disk.old).moment + 3 }
     ensures written { (D.device disk.old).shows ≡ true → OnOk result
         ((D.device disk.new).seen ≡ overwritten start (half_text rows.now) (D.device disk.old).seen) }
     ensures handed { (D.device disk.old).tells ≡ true → OnOk result
@@ -171,6 +177,7 @@ fn write_parts<D: Disk>(disk: &mut D, start: u64, rows: &[u8]) -> Result<(), Fai
 fn select_half<D: Disk>(disk: &mut D, start: u64) -> Result<(), Failed>
     requires device { 8192 ≤ (D.device disk.old).size }
     ensures calls { DiskCalls (is_ok result) (D.device disk.old) (D.device disk.new) }
+    ensures two_calls { (D.device disk.new).moment ≤ (D.device disk.old).moment + 2 }
     ensures written { (D.device disk.old).shows ≡ true → OnOk result ((D.device disk.new).seen
         ≡ overwritten BLOCK (selector_for start ∷ []) (D.device disk.old).seen) }
     ensures handed { (D.device disk.old).tells ≡ true → OnOk result

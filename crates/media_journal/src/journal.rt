@@ -104,6 +104,9 @@ impl Journal {
 
         ensures calls { OnOk result (DiskCalls true (D.device disk.old) (D.device disk.new)) }
 
+        // The bytes, a sync, the gate, a sync, and no further call.
+        ensures four_calls { (D.device disk.new).moment ≤ (D.device disk.old).moment + 4 }
+
         // It doesn't give up by itself: the count of faults rose.
         ensures failed { IsErrOf result AppendFault.Disk
             → DiskCalls false (D.device disk.old) (D.device disk.new) }
@@ -135,6 +138,7 @@ fn write_record<D: Disk>(disk: &mut D, gate: u64, frame: &[u8]) -> Result<(), Fa
         → (D.device disk.new).handed ≤ (D.device disk.old).handed + (length frame.now + 1) }
     ensures durable { (D.device disk.old).honest ≡ true
         → OnOk result (LeavesOnly (D.device disk.new).seen (D.device disk.new)) }
+    ensures four_calls { (D.device disk.new).moment ≤ (D.device disk.old).moment + 4 }
     ensures moments { (D.device disk.old).honest ≡ true → (D.device disk.old).shows ≡ true
         → Elapses (WithinRecord gate frame.now (D.device disk.old).seen)
         (RecordEnds (is_ok result) gate frame.now (D.device disk.old).seen)

@@ -20,6 +20,7 @@ pub(crate) fn write_synced<D: Disk>(disk: &mut D, at: u64, bytes: &[u8]) -> Resu
         → (D.device disk.new).handed ≤ (D.device disk.old).handed + length bytes.now }
     ensures durable { (D.device disk.old).honest ≡ true
         → OnOk result (LeavesOnly (D.device disk.new).seen (D.device disk.new)) }
+    ensures two_calls { (D.device disk.new).moment ≤ (D.device disk.old).moment + 2 }
     ensures moments { (D.device disk.old).honest ≡ true → (D.device disk.old).shows ≡ true
         → Elapses (TornWrite at (length bytes.now))
         (SyncedWriteEnds (is_ok result) at bytes.now (D.device disk.old).seen)

@@ -31,7 +31,8 @@ day_first = record {
 }
 
 -- the next day of a month
-within : (d : CivilDate) (n : ℕ) → IsDay d n → d.day < days_in_month (pos d.year) d.month → IsDay (record { year = d.year; month = d.month; day = d.day + 1 }) (suc n)
+within : (d : CivilDate) (n : ℕ) → IsDay d n → d.day < days_in_month (pos d.year) d.month → IsDay (record { year = d.year; month = d.month; day = d.day + 1 })
+    (suc n)
 within d n is more = record {
   month_least = is.month_least;
   month_most = is.month_most;
@@ -41,7 +42,8 @@ within d n is more = record {
 }
 
 -- the first of the next month
-over_month : (d : CivilDate) (n : ℕ) → IsDay d n → days_in_month (pos d.year) d.month ≤ d.day → d.month < 12 → IsDay (record { year = d.year; month = d.month + 1; day = 1 }) (suc n)
+over_month : (d : CivilDate) (n : ℕ) → IsDay d n → days_in_month (pos d.year) d.month ≤ d.day → d.month < 12
+    → IsDay (record { year = d.year; month = d.month + 1; day = 1 }) (suc n)
 over_month d n is last more = record {
   month_least = omega arith;
   month_most = omega arith;
@@ -51,7 +53,8 @@ over_month d n is last more = record {
 }
 
 -- the first of the next year
-over_year : (d : CivilDate) (n : ℕ) → IsDay d n → days_in_month (pos d.year) d.month ≤ d.day → 12 ≤ d.month → IsDay (record { year = d.year + 1; month = 1; day = 1 }) (suc n)
+over_year : (d : CivilDate) (n : ℕ) → IsDay d n → days_in_month (pos d.year) d.month ≤ d.day → 12 ≤ d.month
+    → IsDay (record { year = d.year + 1; month = 1; day = 1 }) (suc n)
 over_year d n is last end =
     let month : d.month ≡ 12 = omega (arith, is.month_most) in
     let day : d.day ≡ 31 = omega (arith, is.day_most, rw month at last, rw month at is.day_most) in
@@ -61,7 +64,8 @@ over_year d n is last end =
       month_most = omega arith;
       day_least = omega arith;
       day_most = omega (arith, days_in_month_bounds (pos (d.year + 1)) 1);
-      number = omega (arith, signed_arith, here, days_from_civil-next_year (pos d.year) (pos (d.year + 1)) (omega (arith, signed_arith)) (omega (arith, signed_arith)));
+      number = omega (arith, signed_arith, here, days_from_civil-next_year (pos d.year) (pos (d.year + 1)) (omega (arith, signed_arith))
+          (omega (arith, signed_arith)));
     }
 
 -- a choice of the month's end
@@ -81,7 +85,8 @@ day_end d n is false e = month_end d n is (grind (arith, nat_tests)) (nat_lt d.m
 pub civil_date-IsDay : (n : ℕ) → IsDay (civil_date n) n
 unfolding civil_date
 civil_date-IsDay zero = day_first
-civil_date-IsDay (suc n) = day_end (civil_date n) n (civil_date-IsDay n) (nat_lt (civil_date n).day (days_in_month (pos (civil_date n).year) (civil_date n).month)) refl
+civil_date-IsDay (suc n) = day_end (civil_date n) n (civil_date-IsDay n)
+    (nat_lt (civil_date n).day (days_in_month (pos (civil_date n).year) (civil_date n).month)) refl
 
 -- the last date that the calendar's library has
 last_date : IsCivilDate (pos 9999) 12 31
@@ -91,7 +96,9 @@ last_date = ((search rules, search rules), (omega arith, omega arith), (omega ar
 year_within : (d : CivilDate) (n : ℕ) → IsDay d n → n ≤ 2932896 → d.year ≤ 9999
 year_within d n is most =
     elim (cases_lt 9999 d.year) [
-      | inl past ↦ absurd (omega (arith, signed_arith, is.number, days_from_civil-max, days_from_civil-day_count (pos 9999) 12 31, days_from_civil-day_count (pos d.year) d.month d.day, day_count-lt_year (pos 9999) 12 31 (pos d.year) d.month d.day last_date is.day_least (omega (arith, signed_arith))))
+      | inl past ↦ absurd (omega (arith, signed_arith, is.number, days_from_civil-max, days_from_civil-day_count (pos 9999) 12 31,
+          days_from_civil-day_count (pos d.year) d.month d.day, day_count-lt_year (pos 9999) 12 31 (pos d.year) d.month d.day last_date is.day_least
+          (omega (arith, signed_arith))))
       | inr within ↦ within
     ]
 

@@ -78,7 +78,8 @@ earlier_ordered (Some c) (Some a) (Some b) h k = omega (arith, ints, clamps)
 common_point : (s t : Span) → IsSpan s → IsSpan t → are_ordered s.low t.high ≡ true → are_ordered t.low s.high ≡ true → Overlap (Some s) (Some t)
 unfolding AreOrdered
 common_point s t fine_s fine_t across back =
-    let upper = earlier_ordered (later s.low t.low) s.high t.high (later_ordered s.low t.low s.high fine_s.ordered (ordered_from_test t.low s.high back)) (later_ordered s.low t.low t.high (ordered_from_test s.low t.high across) fine_t.ordered) in
+    let upper = earlier_ordered (later s.low t.low) s.high t.high (later_ordered s.low t.low s.high fine_s.ordered (ordered_from_test t.low s.high back))
+        (later_ordered s.low t.low t.high (ordered_from_test s.low t.high across) fine_t.ordered) in
     let q = point_between (later s.low t.low) (earlier s.high t.high) upper in
     let from = From-later s.low t.low q.0 q.1 in
     let up = UpTo-earlier s.high t.high q.0 q.2 in
@@ -89,7 +90,8 @@ overlaps_decides None b fine_a fine_b = (λ e. absurd (false≢true e), λ o. ab
 overlaps_decides (Some s) None fine_a fine_b = (λ e. absurd (false≢true e), λ o. absurd o.2)
 overlaps_decides (Some s) (Some t) fine_a fine_b = (
   λ e. let parts = and_parts (are_ordered s.low t.high) (are_ordered t.low s.high) e in common_point s t fine_a fine_b parts.0 parts.1,
-  λ o. and_from (are_ordered s.low t.high) (are_ordered t.low s.high) (order_from_point s.low t.high o.0 o.1.0 o.2.1) (order_from_point t.low s.high o.0 o.2.0 o.1.1),
+  λ o. and_from (are_ordered s.low t.high) (are_ordered t.low s.high) (order_from_point s.low t.high o.0 o.1.0 o.2.1)
+      (order_from_point t.low s.high o.0 o.2.0 o.1.1),
 )
 
 -- ---- ends that reach

@@ -29,7 +29,7 @@ use Rattle.media_rows.specs.Objects.{object_of, is_stored_object, free_place, bl
 use Rattle.media_rows.specs.Outbox.{hook_of}
 use Rattle.media_rows.specs.Ranges.{eternity}
 use Rattle.media_rows.specs.Refusals.{when, first_refusal}
-use Rattle.media_rows.specs.Requests.{step_size, is_deleting, asked_row}
+use Rattle.media_rows.specs.Requests.{Deletion, step_size, is_deleting, asked_row}
 use Rattle.media_rows.specs.Segments.{segments_of, overlapping, covered, posted}
 use Rattle.media_rows.specs.Views.{asked}
 
@@ -168,17 +168,18 @@ abbrev pub created_unless : Bool → Reply
 created_unless there = if there then replies.Done else replies.Created
 
 -- more segments than go at once: a delete request is made, and is the reply
-abbrev pub accepted_request : Library → ℕ → Option Span → Bool → ℕ → Outcome
-accepted_request library flow range delete_flow moment =
-    changed (replies.Accepted (asked_row flow range delete_flow library.next_serial moment))
-    (changes.AskDelete moment flow range delete_flow)
+abbrev pub accepted_request : Library → Deletion → ℕ → Outcome
+accepted_request library asked moment =
+    changed (replies.Accepted (asked_row asked library.next_serial moment))
+    (changes.AskDelete moment asked.flow asked.range asked.delete_flow)
 
 -- a flow goes with at most so many segments as go at once
 abbrev pub accepted_drop : Library → ℕ → ℕ → Outcome
 accepted_drop library flow moment =
     if nat_le (length (segments_of flow library.segments)) step_size
     then changed replies.Done (changes.DropFlow moment flow)
-    else accepted_request library flow eternity true moment
+    else accepted_request library
+    (record { flow = flow; range = eternity; delete_flow = true }) moment
 
 -- no segment is covered; so many as go at once; or more
 abbrev pub accepted_cut : Library → ℕ → Option Span → ℕ → Outcome
@@ -186,7 +187,8 @@ accepted_cut library flow range moment =
     if length (covered library.segments flow range) == 0 then unchanged replies.Done
     else if nat_le (length (covered library.segments flow range)) step_size
     then changed replies.Done (changes.CutSegments moment flow range)
-    else accepted_request library flow range false moment
+    else accepted_request library
+    (record { flow = flow; range = range; delete_flow = false }) moment
 
 -- a hook goes, if there is one of this address
 abbrev pub accepted_drop_hook : Library → List ℕ → ℕ → Outcome

@@ -15,9 +15,9 @@ use Rattle.media_rows.specs.declared.segment.SegmentRow.{SegmentRow}
 use Rattle.media_rows.specs.Catalog.{after_put, after_set, after_set_source, after_touch, after_drop}
 use Rattle.media_rows.specs.Events.{put_events, set_events, source_event, added_events, removed_events, drop_events}
 use Rattle.media_rows.specs.Library.{Library, with_happened}
-use Rattle.media_rows.specs.Objects.{allocated_rows, with_bytes, idled, swept_objects, without_objects}
+use Rattle.media_rows.specs.Objects.{allocated_rows, stored_row, with_object, idled, swept_objects, without_objects}
 use Rattle.media_rows.specs.Outbox.{after_put_hook, after_drop_hook}
-use Rattle.media_rows.specs.Requests.{asked_row, first_unfinished, removed_by_step, is_finished_by_step, after_step, after_end}
+use Rattle.media_rows.specs.Requests.{Deletion, asked_row, first_unfinished, removed_by_step, is_finished_by_step, after_step, after_end}
 use Rattle.media_rows.specs.Segments.{segments_of, covered, posted, without_segments}
 
 -- ---- parts that several changes share
@@ -76,7 +76,9 @@ after_allocate moment ids library = record library {
 -- an allocated object has its bytes at a place from now on
 abbrev pub after_store : ℕ → List ℕ → ℕ → ℕ → Library → Library
 after_store moment object start size library =
-    record library { objects = with_bytes object start size moment library.objects }
+    record library {
+      objects = with_object object (stored_row start size moment) library.objects;
+    }
 
 -- the rows of a post, with rising serials in its order
 abbrev pub added_rows : ℕ → List Segment → Library → List SegmentRow
@@ -97,9 +99,9 @@ after_cut moment flow range library =
     (remove_segments (covered library.segments flow range) moment library)
 
 -- a delete request comes, with the next serial; no segment goes yet
-abbrev pub after_ask : ℕ → ℕ → Option Span → Bool → Library → Library
-after_ask moment flow range delete_flow library = record library {
-  requests = library.requests ++ asked_row flow range delete_flow library.next_serial moment ∷ [];
+abbrev pub after_ask : ℕ → Deletion → Library → Library
+after_ask moment asked library = record library {
+  requests = library.requests ++ asked_row asked library.next_serial moment ∷ [];
   next_serial = library.next_serial + 1;
 }
 
@@ -204,7 +206,7 @@ with_change (changes.AddSegments moment flow segments) library =
     after_add moment flow segments library
 with_change (changes.CutSegments moment flow range) library = after_cut moment flow range library
 with_change (changes.AskDelete moment flow range delete_flow) library =
-    after_ask moment flow range delete_flow library
+    after_ask moment (record { flow = flow; range = range; delete_flow = delete_flow }) library
 with_change (changes.DeleteStep moment) library = after_delete_step moment library
 with_change (changes.SweepStep moment) library = after_sweep moment library
 with_change (changes.PutHook moment hook) library = after_hook hook library

@@ -88,10 +88,10 @@ allocated_rows serial moment (id ∷ later) =
 abbrev pub stored_row : ℕ → ℕ → ℕ → ObjectRow → ObjectRow
 stored_row start size moment row = record row { state = Stored start size; idle_since = moment }
 
--- the objects once the one of an id was stored at a place; all others stay
-abbrev pub with_bytes : List ℕ → ℕ → ℕ → ℕ → List ObjectRow → List ObjectRow
-with_bytes id start size moment objects =
-    map (λ row. if bytes_eq row.id id then stored_row start size moment row else row) objects
+-- the objects once the one of an id was changed in this way; all others stay
+abbrev pub with_object : List ℕ → (ObjectRow → ObjectRow) → List ObjectRow → List ObjectRow
+with_object id change objects =
+    map (λ row. if bytes_eq row.id id then change row else row) objects
 
 -- an object that loses its last reference is idle since this moment
 abbrev pub idled_row : List SegmentRow → List SegmentRow → ℕ → ObjectRow → ObjectRow

@@ -50,13 +50,20 @@ newest_done (row ∷ later) =
     if is_done row.status
     && nat_le done_kept (done_count later) then newest_done later else row ∷ newest_done later
 
--- a request that is asked for
-abbrev pub asked_row : ℕ → Option Span → Bool → ℕ → ℕ → DeleteRow
-asked_row flow range delete_flow serial moment = record {
+-- what a delete request asks for: that the segments of a flow go that a range covers, and, if so
+-- asked, the flow with them
+pub record Deletion : Type 0 where
+  pub flow : ℕ
+  pub range : Option Span
+  pub delete_flow : Bool
+
+-- a request that is asked for, of this serial and at this moment
+abbrev pub asked_row : Deletion → ℕ → ℕ → DeleteRow
+asked_row asked serial moment = record {
   serial = serial;
-  flow = flow;
-  range = range;
-  delete_flow = delete_flow;
+  flow = asked.flow;
+  range = asked.range;
+  delete_flow = asked.delete_flow;
   status = Created;
   created = moment;
   updated = moment;

@@ -6,8 +6,7 @@ use Rattle.time_range.specs.Points.{low_of}
 use Rattle.time_range.specs.declared.ranges.Span.{Span}
 use Rattle.media_rows.specs.declared.segment.Segment.{Segment}
 use Rattle.media_rows.specs.declared.segment.SegmentRow.{SegmentRow}
-use Rattle.media_rows.specs.declared.command.Page.{Page}
-use Rattle.media_rows.specs.Lists.{in_order, page_items, next_key}
+use Rattle.media_rows.specs.Lists.{in_order}
 use Rattle.media_rows.specs.Ranges.{overlaps, covers, hull_of}
 
 -- the first point of a segment, in half nanoseconds; a good segment has one
@@ -42,18 +41,6 @@ overlapping segments flow range object =
     in_order starts_before
     (filter (λ row. overlaps row.segment.range range && names_object object row)
     (segments_of flow segments))
-
--- a page of the segments of a flow that overlap a range and name the object, in the page's
--- direction
-abbrev pub segment_page : List SegmentRow → ℕ → Option Span → Option (List ℕ) → Page
-    → List SegmentRow
-segment_page segments flow range object page =
-    page_items first_point page (overlapping segments flow range object)
-
--- the first point after which the next of these pages begins, where a further segment lies behind
-abbrev pub segment_next_key : List SegmentRow → ℕ → Option Span → Option (List ℕ) → Page → Option ℤ
-segment_next_key segments flow range object page =
-    next_key first_point page (overlapping segments flow range object)
 
 -- the segments of a flow that a range wholly covers, by rising first point
 abbrev pub covered : List SegmentRow → ℕ → Option Span → List SegmentRow

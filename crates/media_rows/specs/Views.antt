@@ -8,7 +8,6 @@ use Rattle.media_rows.specs.declared.command.Command.{Command}
 use Rattle.media_rows.specs.declared.command.Command.TheVariants as commands
 use Rattle.media_rows.specs.declared.command.FlowFilter.{FlowFilter}
 use Rattle.media_rows.specs.declared.command.SourceFilter.{SourceFilter}
-use Rattle.media_rows.specs.declared.command.SegmentFilter.{SegmentFilter}
 use Rattle.media_rows.specs.declared.command.Page.{Page}
 use Rattle.media_rows.specs.declared.command.TagTest.{TagTest}
 use Rattle.media_rows.specs.declared.command.TagTest.TheVariants.{Equals, Exists}
@@ -38,7 +37,7 @@ use Rattle.media_rows.specs.Objects.{object_of, flows_naming}
 use Rattle.media_rows.specs.Outbox.{waiting_count}
 use Rattle.media_rows.specs.Ranges.{overlaps}
 use Rattle.media_rows.specs.Requests.{request_of}
-use Rattle.media_rows.specs.Segments.{segments_of, hull_of_segments, segment_page, segment_next_key}
+use Rattle.media_rows.specs.Segments.{first_point, segments_of, overlapping, hull_of_segments}
 
 -- ---- filters
 
@@ -193,11 +192,10 @@ abbrev pub kept_or : {X : Type 0} → Refusal → (X → Result View Refusal) �
 kept_or refusal show None = Err refusal
 kept_or refusal show (Some kept) = show kept
 
--- a page of a flow's segments, with the key of the next page
-abbrev pub shown_segments : Library → ℕ → SegmentFilter → Page → View
-shown_segments library flow wanted page =
-    views.Segments (segment_page library.segments flow wanted.range wanted.object page)
-    (segment_next_key library.segments flow wanted.range wanted.object page)
+-- a page of segments in the page's direction, with the first point after which the next one begins
+abbrev pub shown_segments : Page → List SegmentRow → View
+shown_segments page rows =
+    views.Segments (page_items first_point page rows) (next_key first_point page rows)
 
 -- a page of sources, with the key of the next page
 abbrev pub shown_sources : Page → List SourceRow → View
@@ -254,7 +252,8 @@ asked library (commands.FlowPart id name) =
     (kept_or refusals.NoFlow (λ row. flow_part row.body name) (flow_of id library.catalog.flows))
 asked library (commands.Segments id wanted page) =
     Some
-    (kept_or refusals.NoFlow (λ row. Ok (shown_segments library id wanted page))
+    (kept_or refusals.NoFlow (λ row. Ok (shown_segments page
+    (overlapping library.segments id wanted.range wanted.object)))
     (flow_of id library.catalog.flows))
 asked library (commands.Object id) =
     Some

@@ -74,21 +74,24 @@ all_changes-push : {State Request : Type 0} (m : Machine State Request) (at : St
 all_changes-push m at [] session = append-nil (changes_of m at session.steps)
 all_changes-push m at (x ∷ finished) session =
     ap (λ l. changes_of m at x.steps ++ l) (all_changes-push m (after_steps m at x.steps) finished session)
-    ∙ sym (append_assoc (changes_of m at x.steps) (all_changes m (after_steps m at x.steps) finished) (changes_of m (after_sessions m at (x ∷ finished)) session.steps))
+    ∙ sym (append_assoc (changes_of m at x.steps) (all_changes m (after_steps m at x.steps) finished)
+        (changes_of m (after_sessions m at (x ∷ finished)) session.steps))
 
 all_moments-push : {State Request : Type 0} (m : Machine State Request) (at : Stage State) (finished : List (Session Request)) (session : Session Request)
     → all_moments m at (finished ++ session ∷ []) ≡ all_moments m at finished ++ moments_of m (after_sessions m at finished) session.steps
 all_moments-push m at [] session = append-nil (moments_of m at session.steps)
 all_moments-push m at (x ∷ finished) session =
     ap (λ l. moments_of m at x.steps ++ l) (all_moments-push m (after_steps m at x.steps) finished session)
-    ∙ sym (append_assoc (moments_of m at x.steps) (all_moments m (after_steps m at x.steps) finished) (moments_of m (after_sessions m at (x ∷ finished)) session.steps))
+    ∙ sym (append_assoc (moments_of m at x.steps) (all_moments m (after_steps m at x.steps) finished)
+        (moments_of m (after_sessions m at (x ∷ finished)) session.steps))
 
 -- the trace of a state, scripts and changes
 abbrev trace-by : {State : Type 0} → State → List (List Piece) → List State → Trace State
 trace-by first scripts changes = record { scripts = scripts; first = first; changes = changes }
 
 -- two traces from one state are the same by their parts
-trace-same : {State : Type 0} (first : State) (scripts scripts_too : List (List Piece)) (changes changes_too : List State) → scripts ≡ scripts_too → changes ≡ changes_too
+trace-same : {State : Type 0} (first : State) (scripts scripts_too : List (List Piece)) (changes changes_too : List State) → scripts ≡ scripts_too
+    → changes ≡ changes_too
     → trace-by first scripts changes ≡ trace-by first scripts_too changes_too
 trace-same first scripts scripts_too changes changes_too one two =
     ap (λ s. trace-by first s changes) one ∙ ap (trace-by first scripts_too) two
@@ -102,10 +105,12 @@ trace-opened m from finished link =
     (scripts-push m at finished (under_way [] link))
     (all_changes-push m at finished (under_way [] link) ∙ append-nil (all_changes m at finished))
 
-scripts-step : {State Request : Type 0} (m : Machine State Request) (at : Stage State) (finished : List (Session Request)) (steps : List (Step Request)) (step : Step Request)
+scripts-step : {State Request : Type 0} (m : Machine State Request) (at : Stage State) (finished : List (Session Request)) (steps : List (Step Request))
+    (step : Step Request)
     (link link_after : LinkEnd)
     → scripts_of m at (finished ++ under_way (steps ++ step ∷ []) link_after ∷ [])
-    ≡ change_last (λ s. s ++ (effect m (after_steps m (after_sessions m at finished) steps) step).pieces) (scripts_of m at (finished ++ under_way steps link ∷ []))
+    ≡ change_last (λ s. s ++ (effect m (after_steps m (after_sessions m at finished) steps) step).pieces)
+        (scripts_of m at (finished ++ under_way steps link ∷ []))
 scripts-step m at finished steps step link link_after =
     let front = scripts_of m at finished in
     let stage = after_sessions m at finished in
@@ -115,7 +120,8 @@ scripts-step m at finished steps step link link_after =
     ∙ sym (change_last_push (λ s. s ++ more) front (pieces_of m stage steps))
     ∙ ap (change_last (λ s. s ++ more)) (sym (scripts-push m at finished (under_way steps link)))
 
-changes-step : {State Request : Type 0} (m : Machine State Request) (at : Stage State) (finished : List (Session Request)) (steps : List (Step Request)) (step : Step Request)
+changes-step : {State Request : Type 0} (m : Machine State Request) (at : Stage State) (finished : List (Session Request)) (steps : List (Step Request))
+    (step : Step Request)
     (link link_after : LinkEnd)
     → all_changes m at (finished ++ under_way (steps ++ step ∷ []) link_after ∷ [])
     ≡ all_changes m at (finished ++ under_way steps link ∷ []) ++ (effect m (after_steps m (after_sessions m at finished) steps) step).changes
@@ -128,7 +134,8 @@ changes-step m at finished steps step link link_after =
     ∙ sym (append_assoc front (changes_of m stage steps) more)
     ∙ ap (λ l. l ++ more) (sym (all_changes-push m at finished (under_way steps link)))
 
-moments-step : {State Request : Type 0} (m : Machine State Request) (at : Stage State) (finished : List (Session Request)) (steps : List (Step Request)) (step : Step Request)
+moments-step : {State Request : Type 0} (m : Machine State Request) (at : Stage State) (finished : List (Session Request)) (steps : List (Step Request))
+    (step : Step Request)
     (link link_after : LinkEnd)
     → all_moments m at (finished ++ under_way (steps ++ step ∷ []) link_after ∷ [])
     ≡ all_moments m at (finished ++ under_way steps link ∷ []) ++ (effect m (after_steps m (after_sessions m at finished) steps) step).moments

@@ -120,7 +120,8 @@ now-change m b t s whole writing q p n told stands = record {
 }
 
 -- while a record is being written, each crash leaves what is right with its change
-right-change : {State Request : Type 0} (m : Machine State Request) (b : Beginning State) (t : Trace State) (s : State) (whole : Bool) (ended : Left → Left → Type 0)
+right-change : {State Request : Type 0} (m : Machine State Request) (b : Beginning State) (t : Trace State) (s : State) (whole : Bool) (ended : Left → Left
+    → Type 0)
     (old new : Device) → Reached m b t whole false old → Elapses (Writes m t s) ended old new → AllRight m b (with_change s t) new
 right-change {State} {Request} m b t s whole ended old new r time =
     let longer = length-append t.changes (s ∷ []) in
@@ -163,7 +164,8 @@ change_last-behind f front xs ys x is =
     ∙ ap (λ l. front ++ change_last f l) (sym is)
 
 -- a trace with a piece more has the states that it had
-stands-piece : {State Request : Type 0} (m : Machine State Request) (image : List ℕ) (t : Trace State) (p : Piece) (writing : Bool) → StandsNow m image t writing
+stands-piece : {State Request : Type 0} (m : Machine State Request) (image : List ℕ) (t : Trace State) (p : Piece) (writing : Bool)
+    → StandsNow m image t writing
     → StandsNow m image (with_piece p t) writing
 stands-piece m image t p false stands = stands
 stands-piece m image t p true stands = stands
@@ -183,14 +185,16 @@ now-piece m b t piece ok writing q p n tells =
     let part : Sends false (piece_bytes piece) sent = record { prefix = sends.prefix; whole = λ e. absurd (false≢true e) } in
     record {
       told = change_last (λ x. x ++ sent) n.told;
-      told_is = tells.told.2 ∙ ap (change_last (λ x. x ++ sent)) n.told_is ∙ change_last-behind (λ x. x ++ sent) (told_first b) n.told last.told_before last.last last.told_is;
+      told_is = tells.told.2 ∙ ap (change_last (λ x. x ++ sent)) n.told_is ∙ change_last-behind (λ x. x ++ sent) (told_first b) n.told last.told_before
+          last.last last.told_is;
       prefixes = subst (ArePrefixes (change_last (λ x. x ++ sent) n.told)) (sym (bytes-piece t.scripts piece))
           (prefixes_told n.told said (piece_bytes piece) sent part last);
       same_length = part_length n.told said (piece_bytes piece) sent last ∙ ap length (sym (bytes-piece t.scripts piece));
       all = λ e.
           let whole : sent ≡ piece_bytes piece = sends.whole e in
           subst (λ b. IsToldToLast (change_last (λ x. x ++ b) n.told) (map bytes_of (with_piece piece t).scripts)) (sym whole)
-          (subst (IsToldToLast (change_last (λ x. x ++ piece_bytes piece) n.told)) (sym (bytes-piece t.scripts piece)) (told_whole n.told said (piece_bytes piece) last));
+          (subst (IsToldToLast (change_last (λ x. x ++ piece_bytes piece) n.told)) (sym (bytes-piece t.scripts piece))
+              (told_whole n.told said (piece_bytes piece) last));
       stands = stands-piece m p.image t piece writing (subst (λ i. StandsNow m i t writing) (sym tells.image) n.stands);
     }
 

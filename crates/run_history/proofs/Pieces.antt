@@ -15,7 +15,8 @@ bytes-push pieces p =
     flat_map-append piece_bytes pieces (p ∷ []) ∙ ap (λ b. bytes_of pieces ++ b) (append-nil (piece_bytes p))
 
 -- a piece more of the last script is so many bytes more
-pub bytes-piece : (scripts : List (List Piece)) (p : Piece) → map bytes_of (change_last (λ s. s ++ p ∷ []) scripts) ≡ said_also (piece_bytes p) (map bytes_of scripts)
+pub bytes-piece : (scripts : List (List Piece)) (p : Piece) → map bytes_of (change_last (λ s. s ++ p ∷ []) scripts) ≡ said_also (piece_bytes p)
+    (map bytes_of scripts)
 bytes-piece [] p = refl
 bytes-piece (s ∷ []) p = ap (λ b. b ∷ []) (bytes-push s p)
 bytes-piece (s ∷ r ∷ scripts) p = ap (λ b. bytes_of s ∷ b) (bytes-piece (r ∷ scripts) p)
@@ -78,11 +79,13 @@ begun-most (s ∷ scripts) (t ∷ told) n all =
 
 -- ---- what pieces count
 
-pieces-count : (script : List Piece) (p : Piece) (n : ℕ) → AllByRecursion (λ p. counted_by p ≤ n) script → counted_by p ≤ n → AllByRecursion (λ p. counted_by p ≤ n) (script ++ p ∷ [])
+pieces-count : (script : List Piece) (p : Piece) (n : ℕ) → AllByRecursion (λ p. counted_by p ≤ n) script → counted_by p ≤ n
+    → AllByRecursion (λ p. counted_by p ≤ n) (script ++ p ∷ [])
 pieces-count [] p n all le = (le, tt)
 pieces-count (q ∷ script) p n all le = (all.0, pieces-count script p n all.1 le)
 
-pub count-piece : (scripts : List (List Piece)) (p : Piece) (n : ℕ) → CountAtMost n scripts → counted_by p ≤ n → CountAtMost n (change_last (λ s. s ++ p ∷ []) scripts)
+pub count-piece : (scripts : List (List Piece)) (p : Piece) (n : ℕ) → CountAtMost n scripts → counted_by p ≤ n
+    → CountAtMost n (change_last (λ s. s ++ p ∷ []) scripts)
 count-piece [] p n all le = all
 count-piece (s ∷ []) p n all le = (pieces-count s p n all.0 le, tt)
 count-piece (s ∷ r ∷ scripts) p n all le = (all.0, count-piece (r ∷ scripts) p n all.1 le)
@@ -142,14 +145,16 @@ greatest-bounds (Interim bytes ∷ script) told n le made h = elim (split-script
   | inl first ↦ absurd (interim-reply bytes h.bytes made first.1)
   | inr later ↦
       greatest-bounds script (told - length bytes) n le made
-      (record { front = later.0; bytes = h.bytes; rear = h.rear; script_is = later.2; reached = omega (arith, h.reached, ap (λ f. length (bytes_of f)) later.1, length-append bytes (bytes_of later.0)) })
+      (record { front = later.0; bytes = h.bytes; rear = h.rear; script_is = later.2; reached = omega (arith, h.reached, ap (λ f. length (bytes_of f)) later.1,
+          length-append bytes (bytes_of later.0)) })
 ]
 greatest-bounds (Reply bytes counted ∷ script) zero n le made h = absurd (omega (arith, h.reached))
 greatest-bounds (Reply bytes counted ∷ script) (suc k) n le made h = elim (split-script (Reply bytes counted) script h.front h.rear h.bytes made h.script_is) [
   | inl first ↦ omega (arith, le, ap counted_by first.1)
   | inr later ↦
       greatest-bounds script (suc k - length bytes) n (omega (arith, le)) made
-      (record { front = later.0; bytes = h.bytes; rear = h.rear; script_is = later.2; reached = omega (arith, h.reached, ap (λ f. length (bytes_of f)) later.1, length-append bytes (bytes_of later.0)) })
+      (record { front = later.0; bytes = h.bytes; rear = h.rear; script_is = later.2; reached = omega (arith, h.reached, ap (λ f. length (bytes_of f)) later.1,
+          length-append bytes (bytes_of later.0)) })
 ]
 
 greatest-reached : (script : List Piece) (told n : ℕ) → ((made : ℕ) → HasBegun script told made → made ≤ n) → begun_in script told ≤ n

@@ -24,7 +24,8 @@ hull_two a b c d first last =
     rw (low, high) refl
 
 -- the hull of all from one on, by the last of them
-hull_from : (p : Pair) (ps : List Pair) (q : Pair) → AllByRecursion IsKeyed (p ∷ ps) → IsApart (p ∷ ps) → last_or (Some p) ps ≡ Some q → hull_of_segments (values (p ∷ ps)) ≡ span (Some p.0) (Some (last_point q.1))
+hull_from : (p : Pair) (ps : List Pair) (q : Pair) → AllByRecursion IsKeyed (p ∷ ps) → IsApart (p ∷ ps) → last_or (Some p) ps ≡ Some q
+    → hull_of_segments (values (p ∷ ps)) ≡ span (Some p.0) (Some (last_point q.1))
 hull_from p [] q keyed apart e =
     let same : p ≡ q = some_same e in
     rw (kept_range p keyed.0) (ap (λ r. span (Some p.0) (Some (last_point r.1))) same)
@@ -39,7 +40,8 @@ hull_from p (r ∷ rest) q keyed apart e =
     behind : (x : Pair) → IsKeyed x → last_point p.1 <ℤ x.0 → last_point p.1 ≤ℤ last_point x.1
     behind x k lt = let o = k.ordered in grind (arith, ints)
 
-    all_behind : (xs : List Pair) → AllByRecursion IsKeyed xs → AllByRecursion (λ x. last_point p.1 <ℤ x.0) xs → AllByRecursion (λ x. last_point p.1 ≤ℤ last_point x.1) xs
+    all_behind : (xs : List Pair) → AllByRecursion IsKeyed xs → AllByRecursion (λ x. last_point p.1 <ℤ x.0) xs
+        → AllByRecursion (λ x. last_point p.1 ≤ℤ last_point x.1) xs
     all_behind [] k a = tt
     all_behind (x ∷ xs) k a = (behind x k.0 a.0, all_behind xs k.1 a.1)
 
@@ -55,11 +57,13 @@ Behind p x = (p.0 ≤ℤ x.0) × (last_point p.1 ≤ℤ last_point x.1)
 hull_pairs : (p q : Pair) → IsKeyed p → IsKeyed q → Behind p q → hull p.1.segment.range q.1.segment.range ≡ span (Some p.0) (Some (last_point q.1))
 hull_pairs p q kp kq far = rw (kept_range p kp, kept_range q kq) (hull_two p.0 (last_point p.1) q.0 (last_point q.1) far.0 far.1)
 
-same_ends : (a b f : SegmentRow) (l : Option SegmentRow) → f ≡ a → l ≡ Some b → hull f.segment.range (segment_or l f).segment.range ≡ hull a.segment.range b.segment.range
+same_ends : (a b f : SegmentRow) (l : Option SegmentRow) → f ≡ a → l ≡ Some b → hull f.segment.range (segment_or l f).segment.range ≡ hull a.segment.range
+    b.segment.range
 same_ends a b f l ef el = rw (ef, el) refl
 
 -- by the first and the last of them
-pub hull_ends : (ps : List Pair) (f : SegmentRow) (l : Option SegmentRow) → AllByRecursion IsKeyed ps → IsApart ps → Some f ≡ row_of (first ps) → l ≡ row_of (last ps) → hull_of_segments (values ps) ≡ hull f.segment.range (segment_or l f).segment.range
+pub hull_ends : (ps : List Pair) (f : SegmentRow) (l : Option SegmentRow) → AllByRecursion IsKeyed ps → IsApart ps → Some f ≡ row_of (first ps)
+    → l ≡ row_of (last ps) → hull_of_segments (values ps) ≡ hull f.segment.range (segment_or l f).segment.range
 hull_ends [] f l keyed apart ef el = absurd (grind (arith, ef))
 hull_ends (p ∷ ps) f l keyed apart ef el =
     let there = last_there p ps in
@@ -77,7 +81,8 @@ hull_ends (p ∷ ps) f l keyed apart ef el =
 
     all_near : (xs : List Pair) → AllByRecursion IsKeyed xs → AllByRecursion (λ x. last_point p.1 <ℤ x.0) xs → AllByRecursion (Behind p) xs
     all_near [] k a = tt
-    all_near (x ∷ xs) k a = ((let o = keyed.0.ordered in let b = k.0.ordered in let lt = a.0 in (grind (arith, ints), grind (arith, ints))), all_near xs k.1 a.1)
+    all_near (x ∷ xs) k a = ((let o = keyed.0.ordered in let b = k.0.ordered in let lt = a.0 in (grind (arith, ints), grind (arith, ints))),
+        all_near xs k.1 a.1)
 
 -- all of them stand above the least key, and up to the greatest
 pub all_above : (ps : List Pair) → AllByRecursion IsKeyed ps → filter (is_above (negsuc (2 ^ 127 - 1))) ps ≡ ps

@@ -26,11 +26,13 @@ pub overlaps_is : (p : Pair) (low high : Option ℤ) → IsKeyed p → overlaps 
 overlaps_is p low high keyed = rw (range_is p.1.segment.range p.0 (last_point p.1) keyed.low keyed.high) refl
 
 -- the segments that have a point in a range are those that begin by its end among those that end behind its beginning
-pub met_is : (ps : List Pair) (low high : Option ℤ) → AllByRecursion IsKeyed ps → met (values ps) (span low high) ≡ values (filter (begins high) (filter (ends low) ps))
+pub met_is : (ps : List Pair) (low high : Option ℤ) → AllByRecursion IsKeyed ps
+    → met (values ps) (span low high) ≡ values (filter (begins high) (filter (ends low) ps))
 met_is [] low high keyed = refl
 met_is (p ∷ ps) low high keyed = by (begins high p) (ends low p) refl refl (met_is ps low high keyed.1)
   where
-    by : (b e : Bool) → begins high p ≡ b → ends low p ≡ e → met (values ps) (span low high) ≡ values (filter (begins high) (filter (ends low) ps)) → met (values (p ∷ ps)) (span low high) ≡ values (filter (begins high) (filter (ends low) (p ∷ ps)))
+    by : (b e : Bool) → begins high p ≡ b → ends low p ≡ e → met (values ps) (span low high) ≡ values (filter (begins high) (filter (ends low) ps))
+        → met (values (p ∷ ps)) (span low high) ≡ values (filter (begins high) (filter (ends low) (p ∷ ps)))
     by true true eb ee ih = rw (overlaps_is p low high keyed.0, ee, eb) (ap (λ l. p.1 ∷ l) ih)
     by true false eb ee ih = rw (overlaps_is p low high keyed.0, ee, eb) ih
     by false true eb ee ih = rw (overlaps_is p low high keyed.0, ee, eb) ih
@@ -51,13 +53,16 @@ abbrev pub chosen : ℤ → ℤ → Option Pair → Option Pair → Option Pair
 chosen low high before next = or_else (reaching low before) (beginning_by high next)
 
 -- the first segment that has a point between two: the last up to the lower one, if it reaches that, or the first behind it, if it begins by the higher one
-pub first_between : (low high : ℤ) (ps : List Pair) → low ≤ℤ high → AllByRecursion IsKeyed ps → IsApart ps → IsRising ps → first (met (values ps) (span (Some low) (Some high))) ≡ or_else (row_of (reaching low (last (filter (is_up_to low) ps)))) (row_of (beginning_by high (first (filter (is_above low) ps))))
+pub first_between : (low high : ℤ) (ps : List Pair) → low ≤ℤ high → AllByRecursion IsKeyed ps → IsApart ps → IsRising ps
+    → first (met (values ps) (span (Some low) (Some high))) ≡ or_else (row_of (reaching low (last (filter (is_up_to low) ps))))
+    (row_of (beginning_by high (first (filter (is_above low) ps))))
 first_between low high ps le keyed apart rising =
     let behind = filter (is_above low) ps in
     ap first (met_is ps (Some low) (Some high) keyed)
     ∙ first_values (filter (begins_by high) (filter (reaches low) ps))
     ∙ ap (λ l. option_map (λ p. p.1) (first (filter (begins_by high) l))) (reach_from low ps keyed apart rising)
-    ∙ ap (option_map (λ p. p.1)) (by (last (filter (is_up_to low) ps)) refl (first_begins high behind (rising_kept (is_above low) ps rising) (first behind) refl))
+    ∙ ap (option_map (λ p. p.1)) (by (last (filter (is_up_to low) ps)) refl (first_begins high behind (rising_kept (is_above low) ps rising) (first behind)
+        refl))
     ∙ mapped (reaching low (last (filter (is_up_to low) ps))) (beginning_by high (first behind))
   where
     mapped : (o n : Option Pair) → row_of (or_else o n) ≡ or_else (row_of o) (row_of n)
@@ -72,14 +77,17 @@ first_between low high ps le keyed apart rising =
     early p [] all e = absurd (grind (arith, e))
     early p (x ∷ xs) all e = last_all (λ q. is_up_to low q ≡ true) x p xs all.0 all.1 e
 
-    by : (o : Option Pair) → last (filter (is_up_to low) ps) ≡ o → first (filter (begins_by high) (filter (is_above low) ps)) ≡ beginning_by high (first (filter (is_above low) ps)) → first (filter (begins_by high) (from_last low o (filter (is_above low) ps))) ≡ chosen low high o (first (filter (is_above low) ps))
+    by : (o : Option Pair) → last (filter (is_up_to low) ps) ≡ o → first (filter (begins_by high) (filter (is_above low) ps)) ≡ beginning_by high
+        (first (filter (is_above low) ps)) → first (filter (begins_by high) (from_last low o (filter (is_above low) ps))) ≡ chosen low high o
+        (first (filter (is_above low) ps))
     by None e rest = rest
     by (Some p) e rest = each (reaches low p) refl
       where
         begins_early : begins_by high p ≡ true
         begins_early = let up = early p (filter (is_up_to low) ps) (each_passes (is_up_to low) ps) e in grind (arith, ints)
 
-        each : (t : Bool) → reaches low p ≡ t → first (filter (begins_by high) (if t then p ∷ filter (is_above low) ps else filter (is_above low) ps)) ≡ or_else (if t then Some p else None) (beginning_by high (first (filter (is_above low) ps)))
+        each : (t : Bool) → reaches low p ≡ t → first (filter (begins_by high) (if t then p ∷ filter (is_above low) ps else filter (is_above low) ps)) ≡ or_else
+            (if t then Some p else None) (beginning_by high (first (filter (is_above low) ps)))
         each true h = rw begins_early refl
         each false h = rest
 
@@ -87,5 +95,6 @@ first_between low high ps le keyed apart rising =
 pub some_first : {X : Type 0} {all : Option X} (before next : Option X) {x : X} → all ≡ or_else before next → Some x ≡ before → Some x ≡ all
 some_first {X} {all} before next whole e = subst (λ o. or_else o next ≡ all) (sym e) (sym whole)
 
-pub none_first : {X : Type 0} {all : Option X} (before next : Option X) {found : Option X} → all ≡ or_else before next → None ≡ before → found ≡ next → found ≡ all
+pub none_first : {X : Type 0} {all : Option X} (before next : Option X) {found : Option X} → all ≡ or_else before next → None ≡ before → found ≡ next
+    → found ≡ all
 none_first {X} {all} before next whole e same = same ∙ subst (λ o. or_else o next ≡ all) (sym e) (sym whole)

@@ -49,7 +49,8 @@ module _ {X : Type 0} where
 
   leads_end : (test : X → Bool) (xs : List X) (x : X) → Leads test xs → (test x ≡ true → AllByRecursion (λ y. test y ≡ true) xs) → Leads test (xs ++ x ∷ [])
   leads_end test [] x h f = ((λ e. tt), tt)
-  leads_end test (y ∷ ys) x h f = ((λ e. all_append (λ z. test z ≡ false) ys (x ∷ []) (h.0 e) (failed e (test x) refl, tt)), leads_end test ys x h.1 (λ e. (f e).1))
+  leads_end test (y ∷ ys) x h f = ((λ e. all_append (λ z. test z ≡ false) ys (x ∷ []) (h.0 e) (failed e (test x) refl, tt)),
+      leads_end test ys x h.1 (λ e. (f e).1))
     where
       failed : test y ≡ false → (t : Bool) → test x ≡ t → test x ≡ false
       failed e true held = absurd (let yes = (f held).0 in grind arith)
@@ -58,9 +59,11 @@ module _ {X : Type 0} where
   take_while-take : (test : X → Bool) (n : ℕ) (xs : List X) → take_while test (take n xs) ≡ take n (take_while test xs)
   take_while-take test zero xs = refl
   take_while-take test (suc n) [] = refl
-  take_while-take test (suc n) (x ∷ xs) = take_while-cons test x (take n xs) ∙ by (test x) (take_while-take test n xs) ∙ ap (take (suc n)) (sym (take_while-cons test x xs))
+  take_while-take test (suc n) (x ∷ xs) = take_while-cons test x (take n xs) ∙ by (test x) (take_while-take test n xs) ∙ ap (take (suc n))
+      (sym (take_while-cons test x xs))
     where
-      by : (t : Bool) → take_while test (take n xs) ≡ take n (take_while test xs) → cond t (x ∷ take_while test (take n xs)) [] ≡ take (suc n) (cond t (x ∷ take_while test xs) [])
+      by : (t : Bool) → take_while test (take n xs) ≡ take n (take_while test xs)
+          → cond t (x ∷ take_while test (take n xs)) [] ≡ take (suc n) (cond t (x ∷ take_while test xs) [])
       by true rest = ap (λ l. x ∷ l) rest
       by false rest = refl
 
@@ -73,11 +76,14 @@ module _ {X : Type 0} where
       by false e rest = sym (filter_none test xs (h.0 e))
 
   -- two tests one after the other keep the same as two others, where each element passes both or neither
-  filters : (first second third fourth : X → Bool) (xs : List X) → AllByRecursion (λ x. (first x && second x) ≡ (third x && fourth x)) xs → filter second (filter first xs) ≡ filter third (filter fourth xs)
+  filters : (first second third fourth : X → Bool) (xs : List X) → AllByRecursion (λ x. (first x && second x) ≡ (third x && fourth x)) xs
+      → filter second (filter first xs) ≡ filter third (filter fourth xs)
   filters first second third fourth [] h = refl
   filters first second third fourth (x ∷ xs) h = by (first x) (second x) (third x) (fourth x) refl refl refl refl h.0 (filters first second third fourth xs h.1)
     where
-      by : (a b c d : Bool) → first x ≡ a → second x ≡ b → third x ≡ c → fourth x ≡ d → (a && b) ≡ (c && d) → filter second (filter first xs) ≡ filter third (filter fourth xs) → filter second (cond a (x ∷ filter first xs) (filter first xs)) ≡ filter third (cond d (x ∷ filter fourth xs) (filter fourth xs))
+      by : (a b c d : Bool) → first x ≡ a → second x ≡ b → third x ≡ c → fourth x ≡ d → (a && b) ≡ (c && d)
+          → filter second (filter first xs) ≡ filter third (filter fourth xs) → filter second (cond a (x ∷ filter first xs) (filter first xs)) ≡ filter third
+          (cond d (x ∷ filter fourth xs) (filter fourth xs))
       by true true true true ea eb ec ed e rest = rw (eb, ec) (ap (λ l. x ∷ l) rest)
       by true true true false ea eb ec ed e rest = absurd (grind arith)
       by true true false true ea eb ec ed e rest = absurd (grind arith)
@@ -91,30 +97,36 @@ module _ {X : Type 0} where
       by false b false true ea eb ec ed e rest = rw ec rest
       by false b false false ea eb ec ed e rest = rest
 
-  page_walked : (walk met past : X → Bool) (n : ℕ) (xs : List X) → AllByRecursion (λ x. (walk x && met x) ≡ (past x && met x)) xs → Leads met (filter walk xs) → take_while met (take n (filter walk xs)) ≡ take n (filter past (filter met xs))
+  page_walked : (walk met past : X → Bool) (n : ℕ) (xs : List X) → AllByRecursion (λ x. (walk x && met x) ≡ (past x && met x)) xs → Leads met (filter walk xs)
+      → take_while met (take n (filter walk xs)) ≡ take n (filter past (filter met xs))
   page_walked walk met past n xs wanted leads =
       take_while-take met n (filter walk xs) ∙ ap (take n) (leading met (filter walk xs) leads ∙ filters walk met past met xs wanted)
 
 module _ {X Y : Type 0} (f : X → Y) where
   map-reverse : (xs : List X) → map f (reverse xs) ≡ reverse (map f xs)
   map-reverse [] = refl
-  map-reverse (x ∷ xs) = ap (map f) (reverse-append (x ∷ []) xs) ∙ map-append f (reverse xs) (x ∷ []) ∙ ap (λ l. l ++ f x ∷ []) (map-reverse xs) ∙ sym (reverse-append (f x ∷ []) (map f xs))
+  map-reverse (x ∷ xs) = ap (map f) (reverse-append (x ∷ []) xs) ∙ map-append f (reverse xs) (x ∷ []) ∙ ap (λ l. l ++ f x ∷ []) (map-reverse xs) ∙ sym
+      (reverse-append (f x ∷ []) (map f xs))
 
   prefix_len-map : (test : Y → Bool) (xs : List X) → prefix_len test (map f xs) ≡ prefix_len (λ x. test (f x)) xs
   prefix_len-map test [] = refl
   prefix_len-map test (x ∷ xs) = ap (λ n. cond (test (f x)) (1 + n) 0) (prefix_len-map test xs)
 
 -- what is kept of references from a place on
-pub kept_from : (test : SegmentRow → Bool) (start n : ℕ) (refs part new : List (Bor SegmentRow)) → part ≡ drop start refs → n ≡ prefix_len (λ r. test r.now) part → new ≡ take (start + n) refs → values_of new ≡ take start (values_of refs) ++ take_while test (drop start (values_of refs))
+pub kept_from : (test : SegmentRow → Bool) (start n : ℕ) (refs part new : List (Bor SegmentRow)) → part ≡ drop start refs
+    → n ≡ prefix_len (λ r. test r.now) part → new ≡ take (start + n) refs → values_of new ≡ take start (values_of refs) ++ take_while test
+    (drop start (values_of refs))
 kept_from test start n refs part new from count is =
-    let same : n ≡ prefix_len test (drop start (values_of refs)) = count ∙ ap (prefix_len (λ r. test r.now)) from ∙ sym (ap (prefix_len test) (drop-map (λ r. r.now) start refs) ∙ prefix_len-map (λ r. r.now) test (drop start refs)) in
+    let same : n ≡ prefix_len test (drop start (values_of refs)) = count ∙ ap (prefix_len (λ r. test r.now)) from ∙ sym
+        (ap (prefix_len test) (drop-map (λ r. r.now) start refs) ∙ prefix_len-map (λ r. r.now) test (drop start refs)) in
     ap values_of is
     ∙ sym (take-map (λ r. r.now) (start + n) refs)
     ∙ take-add start n (values_of refs)
     ∙ ap (λ k. take start (values_of refs) ++ take k (drop start (values_of refs))) same
 
 -- what stood before the walk stays
-pub kept_behind : (test : SegmentRow → Bool) (n : ℕ) (old walked all new : List SegmentRow) → n ≡ length old → all ≡ old ++ walked → new ≡ take n all ++ take_while test (drop n all) → new ≡ old ++ take_while test walked
+pub kept_behind : (test : SegmentRow → Bool) (n : ℕ) (old walked all new : List SegmentRow) → n ≡ length old → all ≡ old ++ walked
+    → new ≡ take n all ++ take_while test (drop n all) → new ≡ old ++ take_while test walked
 kept_behind test n old walked all new size whole e =
     rw (e, whole, size) (rw (take-append_seam old walked, drop-append_seam old walked) refl)
 
@@ -160,7 +172,8 @@ met_ends None p k met = absurd (let no = never_met p.1.segment.range in grind (a
 met_ends (Some s) p k met = second_holds (begins s.high p) (ends s.low p) (sym (overlaps_is p s.low s.high k) ∙ met)
 
 -- of two segments that end behind the range's beginning, the later isn't met where the first isn't
-late_unmet : (range : Option Span) (p q : Pair) → IsKeyed p → IsKeyed q → p.0 <ℤ q.0 → ends (low_of range) p ≡ true → is_met range p.1 ≡ false → is_met range q.1 ≡ false
+late_unmet : (range : Option Span) (p q : Pair) → IsKeyed p → IsKeyed q → p.0 <ℤ q.0 → ends (low_of range) p ≡ true → is_met range p.1 ≡ false
+    → is_met range q.1 ≡ false
 late_unmet None p q kp kq lt ended unmet = never_met q.1.segment.range
 late_unmet (Some s) p q kp kq lt ended unmet =
     overlaps_is q s.low s.high kq
@@ -171,7 +184,8 @@ late_unmet (Some s) p q kp kq lt ended unmet =
     late (Some h) e = grind (arith, ints)
 
 -- of two segments that begin by the range's end, the later is met where the first is
-late_met : (range : Option Span) (p q : Pair) → IsKeyed p → IsKeyed q → last_point p.1 <ℤ q.0 → begins (high_of range) q ≡ true → is_met range p.1 ≡ true → is_met range q.1 ≡ true
+late_met : (range : Option Span) (p q : Pair) → IsKeyed p → IsKeyed q → last_point p.1 <ℤ q.0 → begins (high_of range) q ≡ true → is_met range p.1 ≡ true
+    → is_met range q.1 ≡ true
 late_met None p q kp kq lt begun met = absurd (let no = never_met p.1.segment.range in grind (arith, no))
 late_met (Some s) p q kp kq lt begun met =
     overlaps_is q s.low s.high kq
@@ -183,52 +197,69 @@ late_met (Some s) p q kp kq lt begun met =
     late (Some l) e = let o = kq.ordered in grind (arith, ints)
 
 -- behind a segment that isn't met none is, where all end behind the range's beginning
-leads_rising : (range : Option Span) (ps : List Pair) → AllByRecursion IsKeyed ps → IsRising ps → AllByRecursion (λ p. ends (low_of range) p ≡ true) ps → Leads (is_met range) (values ps)
+leads_rising : (range : Option Span) (ps : List Pair) → AllByRecursion IsKeyed ps → IsRising ps → AllByRecursion (λ p. ends (low_of range) p ≡ true) ps
+    → Leads (is_met range) (values ps)
 leads_rising range [] keyed rising ended = tt
 leads_rising range (p ∷ ps) keyed rising ended =
-    ((λ unmet. all_values (λ row. is_met range row ≡ false) ps (all_two IsKeyed (λ q. p.0 <ℤ q.0) (λ q. is_met range q.1 ≡ false) (λ q k lt. late_unmet range p q keyed.0 k lt ended.0 unmet) ps keyed.1 rising.0)), leads_rising range ps keyed.1 rising.1 ended.1)
+    ((λ unmet. all_values (λ row. is_met range row ≡ false) ps (all_two IsKeyed (λ q. p.0 <ℤ q.0) (λ q. is_met range q.1 ≡ false)
+        (λ q k lt. late_unmet range p q keyed.0 k lt ended.0 unmet) ps keyed.1 rising.0)), leads_rising range ps keyed.1 rising.1 ended.1)
 
 -- and in reverse, where all begin by the range's end
-leads_falling : (range : Option Span) (ps : List Pair) → AllByRecursion IsKeyed ps → IsApart ps → AllByRecursion (λ p. begins (high_of range) p ≡ true) ps → Leads (is_met range) (reverse (values ps))
+leads_falling : (range : Option Span) (ps : List Pair) → AllByRecursion IsKeyed ps → IsApart ps → AllByRecursion (λ p. begins (high_of range) p ≡ true) ps
+    → Leads (is_met range) (reverse (values ps))
 leads_falling range [] keyed apart begun = tt
 leads_falling range (p ∷ ps) keyed apart begun =
     subst (Leads (is_met range)) (sym (reverse-append (p.1 ∷ []) (values ps)))
-    (leads_end (is_met range) (reverse (values ps)) p.1 (leads_falling range ps keyed.1 apart.1 begun.1) (λ met. all_reverse (λ row. is_met range row ≡ true) (values ps) (all_values (λ row. is_met range row ≡ true) ps (later met ps keyed.1 apart.0 begun.1))))
+    (leads_end (is_met range) (reverse (values ps)) p.1 (leads_falling range ps keyed.1 apart.1 begun.1)
+        (λ met. all_reverse (λ row. is_met range row ≡ true) (values ps)
+        (all_values (λ row. is_met range row ≡ true) ps (later met ps keyed.1 apart.0 begun.1))))
   where
-    later : is_met range p.1 ≡ true → (qs : List Pair) → AllByRecursion IsKeyed qs → AllByRecursion (λ q. last_point p.1 <ℤ q.0) qs → AllByRecursion (λ q. begins (high_of range) q ≡ true) qs → AllByRecursion (λ q. is_met range q.1 ≡ true) qs
+    later : is_met range p.1 ≡ true → (qs : List Pair) → AllByRecursion IsKeyed qs → AllByRecursion (λ q. last_point p.1 <ℤ q.0) qs
+        → AllByRecursion (λ q. begins (high_of range) q ≡ true) qs → AllByRecursion (λ q. is_met range q.1 ≡ true) qs
     later met [] k lt b = tt
     later met (q ∷ qs) k lt b = (late_met range p q keyed.0 k.0 lt.0 b.0 met, later met qs k.1 lt.1 b.1)
 
 -- what is wanted of pairs by their keys is wanted of segments by their first points
-wanted_rows : (walk : ℤ → Bool) (past : ℤ → Bool) (range : Option Span) (ps : List Pair) → AllByRecursion IsKeyed ps → AllByRecursion (λ p. (walk p.0 && is_met range p.1) ≡ (past p.0 && is_met range p.1)) ps → AllByRecursion (λ row. (walk (first_point row) && is_met range row) ≡ (past (first_point row) && is_met range row)) (values ps)
+wanted_rows : (walk : ℤ → Bool) (past : ℤ → Bool) (range : Option Span) (ps : List Pair) → AllByRecursion IsKeyed ps
+    → AllByRecursion (λ p. (walk p.0 && is_met range p.1) ≡ (past p.0 && is_met range p.1)) ps
+    → AllByRecursion (λ row. (walk (first_point row) && is_met range row) ≡ (past (first_point row) && is_met range row)) (values ps)
 wanted_rows walk past range ps keyed wanted =
     all_values (λ row. (walk (first_point row) && is_met range row) ≡ (past (first_point row) && is_met range row)) ps
-    (all_two (λ p. first_point p.1 ≡ p.0) (λ p. (walk p.0 && is_met range p.1) ≡ (past p.0 && is_met range p.1)) _ (λ p e w. subst (λ k. (walk k && is_met range p.1) ≡ (past k && is_met range p.1)) (sym e) w) ps (keys_are ps keyed) wanted)
+    (all_two (λ p. first_point p.1 ≡ p.0) (λ p. (walk p.0 && is_met range p.1) ≡ (past p.0 && is_met range p.1)) _
+        (λ p e w. subst (λ k. (walk k && is_met range p.1) ≡ (past k && is_met range p.1)) (sym e) w) ps (keys_are ps keyed) wanted)
 
 -- the segments of a walk by their first points
-walked_rows : (walk : ℤ → Bool) (ps : List Pair) → AllByRecursion IsKeyed ps → filter (λ row. walk (first_point row)) (values ps) ≡ values (filter (λ p. walk p.0) ps)
+walked_rows : (walk : ℤ → Bool) (ps : List Pair) → AllByRecursion IsKeyed ps
+    → filter (λ row. walk (first_point row)) (values ps) ≡ values (filter (λ p. walk p.0) ps)
 walked_rows walk ps keyed =
-    values_kept (λ row. walk (first_point row)) (λ p. walk p.0) ps (all_map (λ p. first_point p.1 ≡ p.0) (λ p. walk (first_point p.1) ≡ walk p.0) (λ p e. ap walk e) ps (keys_are ps keyed))
+    values_kept (λ row. walk (first_point row)) (λ p. walk p.0) ps (all_map (λ p. first_point p.1 ≡ p.0) (λ p. walk (first_point p.1) ≡ walk p.0)
+        (λ p e. ap walk e) ps (keys_are ps keyed))
 
 -- what follows for those that a test keeps
 kept_so : (test : Pair → Bool) (P : Pair → Type 0) (ps : List Pair) → AllByRecursion (λ p. test p ≡ true → P p) ps → AllByRecursion P (filter test ps)
 kept_so test P ps h = all_two (λ p. test p ≡ true → P p) (λ p. test p ≡ true) P (λ p f e. f e) (filter test ps) (all_kept _ test ps h) (each_passes test ps)
 
-pub page_rising : (range : Option Span) (after : Option ℤ) (limit : ℕ) (key : ℤ) (ps : List Pair) → IsIndex ps → IsRising ps → StartsPage range after key ps → take_while (is_met range) (take limit (values (walk_of false key ps))) ≡ met_page (values ps) range (page_of after limit false)
+pub page_rising : (range : Option Span) (after : Option ℤ) (limit : ℕ) (key : ℤ) (ps : List Pair) → IsIndex ps → IsRising ps → StartsPage range after key ps
+    → take_while (is_met range) (take limit (values (walk_of false key ps))) ≡ met_page (values ps) range (page_of after limit false)
 page_rising range after limit key ps index rising starts =
     let walked = walked_rows (λ k. int_le key k) ps index.keyed in
-    let leads = leads_rising range (filter (is_from key) ps) (all_kept IsKeyed (is_from key) ps index.keyed) (rising_kept (is_from key) ps rising) (kept_so (is_from key) (λ p. ends (low_of range) p ≡ true) ps starts.reached) in
+    let leads = leads_rising range (filter (is_from key) ps) (all_kept IsKeyed (is_from key) ps index.keyed) (rising_kept (is_from key) ps rising)
+        (kept_so (is_from key) (λ p. ends (low_of range) p ≡ true) ps starts.reached) in
     ap (λ l. take_while (is_met range) (take limit l)) (sym walked)
-    ∙ page_walked (λ row. int_le key (first_point row)) (is_met range) (λ row. is_past after false (first_point row)) limit (values ps) (wanted_rows (λ k. int_le key k) (is_past after false) range ps index.keyed starts.wanted) (subst (Leads (is_met range)) (sym walked) leads)
+    ∙ page_walked (λ row. int_le key (first_point row)) (is_met range) (λ row. is_past after false (first_point row)) limit (values ps)
+        (wanted_rows (λ k. int_le key k) (is_past after false) range ps index.keyed starts.wanted) (subst (Leads (is_met range)) (sym walked) leads)
 
-pub page_falling : (range : Option Span) (after : Option ℤ) (limit : ℕ) (key : ℤ) (ps : List Pair) → IsIndex ps → StartsReverse range after key ps → take_while (is_met range) (take limit (values (walk_of true key ps))) ≡ met_page (values ps) range (page_of after limit true)
+pub page_falling : (range : Option Span) (after : Option ℤ) (limit : ℕ) (key : ℤ) (ps : List Pair) → IsIndex ps → StartsReverse range after key ps
+    → take_while (is_met range) (take limit (values (walk_of true key ps))) ≡ met_page (values ps) range (page_of after limit true)
 page_falling range after limit key ps index starts =
     let walk : SegmentRow → Bool = λ row. int_le (first_point row) key in
     let past : SegmentRow → Bool = λ row. is_past after true (first_point row) in
     let back = reverse (values ps) in
     let walked = filter-reverse walk (values ps) ∙ ap reverse (walked_rows (λ k. int_le k key) ps index.keyed) in
-    let leads = leads_falling range (filter (is_up_to key) ps) (all_kept IsKeyed (is_up_to key) ps index.keyed) (apart_kept (is_up_to key) ps index.apart) (kept_so (is_up_to key) (λ p. begins (high_of range) p ≡ true) ps starts.begun) in
-    let wanted = all_reverse (λ row. (walk row && is_met range row) ≡ (past row && is_met range row)) (values ps) (wanted_rows (λ k. int_le k key) (is_past after true) range ps index.keyed starts.wanted) in
+    let leads = leads_falling range (filter (is_up_to key) ps) (all_kept IsKeyed (is_up_to key) ps index.keyed) (apart_kept (is_up_to key) ps index.apart)
+        (kept_so (is_up_to key) (λ p. begins (high_of range) p ≡ true) ps starts.begun) in
+    let wanted = all_reverse (λ row. (walk row && is_met range row) ≡ (past row && is_met range row)) (values ps)
+        (wanted_rows (λ k. int_le k key) (is_past after true) range ps index.keyed starts.wanted) in
     ap (λ l. take_while (is_met range) (take limit l)) (map-reverse (λ p. p.1) (filter (is_up_to key) ps) ∙ sym walked)
     ∙ page_walked walk (is_met range) past limit back wanted (subst (Leads (is_met range)) (sym walked) leads)
     ∙ ap (λ l. take limit (filter past l)) (filter-reverse (is_met range) (values ps))

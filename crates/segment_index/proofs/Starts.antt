@@ -23,7 +23,8 @@ pub start_here : (point : ℤ) (p : Pair) (o : Option Pair) → Some p ≡ o →
 start_here point p o e h = subst (λ x. point ≡ start_of point x) e (rw h refl)
 
 -- segments that begin behind a point and a start reach that point
-all_later : (start point : ℤ) (qs : List Pair) → start ≤ℤ point → AllByRecursion IsKeyed qs → AllByRecursion (λ q. point <ℤ q.0) qs → AllByRecursion (λ q. is_from start q ≡ reaches point q) qs
+all_later : (start point : ℤ) (qs : List Pair) → start ≤ℤ point → AllByRecursion IsKeyed qs → AllByRecursion (λ q. point <ℤ q.0) qs
+    → AllByRecursion (λ q. is_from start q ≡ reaches point q) qs
 all_later start point [] le k a = tt
 all_later start point (q ∷ qs) le k a = (later (int_le start q.0) (int_le point (last_point q.1)) refl refl, all_later start point qs le k.1 a.1)
   where
@@ -37,7 +38,8 @@ none_kept : (test : Pair → Bool) (ps : List Pair) → [] ≡ filter test ps �
 none_kept test [] e = tt
 none_kept test (p ∷ ps) e = by (test p) refl e (none_kept test ps)
   where
-    by : (t : Bool) → test p ≡ t → [] ≡ cond t (p ∷ filter test ps) (filter test ps) → ([] ≡ filter test ps → AllByRecursion (λ q. test q ≡ false) ps) → AllByRecursion (λ q. test q ≡ false) (p ∷ ps)
+    by : (t : Bool) → test p ≡ t → [] ≡ cond t (p ∷ filter test ps) (filter test ps) → ([] ≡ filter test ps → AllByRecursion (λ q. test q ≡ false) ps)
+        → AllByRecursion (λ q. test q ≡ false) (p ∷ ps)
     by true h e' rest = absurd (grind arith)
     by false h e' rest = (h, rest e')
 
@@ -61,7 +63,8 @@ starts_are point (p ∷ rest) keyed apart rising = by (int_le p.0 point) refl (s
         each false h = (let o = keyed.0.ordered in grind (arith, ints), all_later point point rest (omega (arith, ints)) keyed.1 behind)
 
     -- the start is behind p, which ends before the point
-    ended : (u : Pair) (us : List Pair) → last_point p.1 <ℤ u.0 → int_le u.0 point ≡ true → AllByRecursion (λ q. p.0 <ℤ q.0) (u ∷ us) → is_from (start_of point (last (u ∷ us))) p ≡ reaches point p
+    ended : (u : Pair) (us : List Pair) → last_point p.1 <ℤ u.0 → int_le u.0 point ≡ true → AllByRecursion (λ q. p.0 <ℤ q.0) (u ∷ us)
+        → is_from (start_of point (last (u ∷ us))) p ≡ reaches point p
     ended u us from until late = each (last (u ∷ us)) refl
       where
         not_from : (start : ℤ) → p.0 <ℤ start → is_from start p ≡ reaches point p
@@ -81,7 +84,8 @@ starts_are point (p ∷ rest) keyed apart rising = by (int_le p.0 point) refl (s
             by_reach false = not_from point (let l = late.0 in grind (arith, ints))
 
     next : (us : List Pair) → us ≡ filter (is_up_to point) rest → int_le p.0 point ≡ true → Starts point us rest → Starts point (p ∷ us) (p ∷ rest)
-    next [] e up ih = alone up (all_map (λ q. is_up_to point q ≡ false) (λ q. point <ℤ q.0) (λ q no. grind (arith, ints)) rest (none_kept (is_up_to point) rest e))
+    next [] e up ih = alone up (all_map (λ q. is_up_to point q ≡ false) (λ q. point <ℤ q.0) (λ q no. grind (arith, ints)) rest
+        (none_kept (is_up_to point) rest e))
     next (u ∷ us) e up ih =
         let early = subst (AllByRecursion (λ q. is_up_to point q ≡ true)) (sym e) (each_passes (is_up_to point) rest) in
         let later = subst (AllByRecursion (λ q. last_point p.1 <ℤ q.0)) (sym e) (all_kept (λ q. last_point p.1 <ℤ q.0) (is_up_to point) rest apart.0) in
@@ -90,7 +94,8 @@ starts_are point (p ∷ rest) keyed apart rising = by (int_le p.0 point) refl (s
 
     by : (t : Bool) → int_le p.0 point ≡ t → Starts point (filter (is_up_to point) rest) rest → Starts point (filter (is_up_to point) (p ∷ rest)) (p ∷ rest)
     by false past ih =
-        let above : AllByRecursion (λ q. point <ℤ q.0) (p ∷ rest) = (grind (arith, ints), all_map (λ q. p.0 <ℤ q.0) (λ q. point <ℤ q.0) (λ q lt. grind (arith, ints)) rest rising.0) in
+        let above : AllByRecursion (λ q. point <ℤ q.0) (p ∷ rest) =
+            (grind (arith, ints), all_map (λ q. p.0 <ℤ q.0) (λ q. point <ℤ q.0) (λ q lt. grind (arith, ints)) rest rising.0) in
         let none = filter_none (is_up_to point) (p ∷ rest) (all_map (λ q. point <ℤ q.0) _ (λ q lt. grind (arith, ints)) (p ∷ rest) above) in
         subst (λ l. Starts point l (p ∷ rest)) (sym none) (all_later point point (p ∷ rest) (omega (arith, ints)) keyed above)
     by true up ih =
@@ -141,28 +146,37 @@ lower_so a b x h = by (int_le x b) refl
     by false e = absurd (omega (arith, ints, clamps, h, e))
 
 -- the range has no beginning
-pub page_open : (range : Option Span) (after : Option ℤ) (behind : ℤ) (ps : List Pair) → low_of range ≡ None → AllByRecursion IsKeyed ps → ((p : ℤ) → IsInner p → int_le behind p ≡ is_past after false p) → StartsPage range after behind ps
+pub page_open : (range : Option Span) (after : Option ℤ) (behind : ℤ) (ps : List Pair) → low_of range ≡ None → AllByRecursion IsKeyed ps
+    → ((p : ℤ) → IsInner p → int_le behind p ≡ is_past after false p) → StartsPage range after behind ps
 page_open range after behind ps none keyed past = record {
   wanted = all_map IsKeyed _ (λ p k. ap (λ b. b && is_met range p.1) (past p.0 (k.inner, k.outer))) ps keyed;
   reached = all_map IsKeyed _ (λ p k e. rw none refl) ps keyed;
 }
 
 -- the range begins at a point
-pub page_from : (range : Option Span) (after : Option ℤ) (low start behind key : ℤ) (ps : List Pair) → low_of range ≡ Some low → AllByRecursion IsKeyed ps → ((p : ℤ) → IsInner p → int_le behind p ≡ is_past after false p) → AllByRecursion (λ p. is_from start p ≡ reaches low p) ps → key ≡ int_max behind start → StartsPage range after key ps
+pub page_from : (range : Option Span) (after : Option ℤ) (low start behind key : ℤ) (ps : List Pair) → low_of range ≡ Some low → AllByRecursion IsKeyed ps
+    → ((p : ℤ) → IsInner p → int_le behind p ≡ is_past after false p) → AllByRecursion (λ p. is_from start p ≡ reaches low p) ps → key ≡ int_max behind start
+    → StartsPage range after key ps
 page_from range after low start behind key ps from keyed past starts is = rw is (record {
-  wanted = all_two IsKeyed (λ p. is_from start p ≡ reaches low p) _ (λ p k s. both_ways (int_le (int_max behind start) p.0) (is_past after false p.0) (is_from start p) (is_met range p.1) (λ e. higher_is behind start p.0 e ∙ past p.0 (k.inner, k.outer)) (λ e. s ∙ subst (λ l. ends l p ≡ true) from (met_ends range p k e))) ps keyed starts;
-  reached = all_two IsKeyed (λ p. is_from start p ≡ reaches low p) _ (λ p k s e. subst (λ l. ends l p ≡ true) (sym from) (sym s ∙ higher_so behind start p.0 e)) ps keyed starts;
+  wanted = all_two IsKeyed (λ p. is_from start p ≡ reaches low p) _ (λ p k s. both_ways (int_le (int_max behind start) p.0) (is_past after false p.0)
+      (is_from start p) (is_met range p.1) (λ e. higher_is behind start p.0 e ∙ past p.0 (k.inner, k.outer))
+      (λ e. s ∙ subst (λ l. ends l p ≡ true) from (met_ends range p k e))) ps keyed starts;
+  reached = all_two IsKeyed (λ p. is_from start p ≡ reaches low p) _ (λ p k s e. subst (λ l. ends l p ≡ true) (sym from) (sym s ∙ higher_so behind start p.0 e))
+      ps keyed starts;
 })
 
 -- the range has no end, or ends at a point
-pub reverse_open : (range : Option Span) (after : Option ℤ) (before : ℤ) (ps : List Pair) → high_of range ≡ None → AllByRecursion IsKeyed ps → ((p : ℤ) → IsInner p → int_le p before ≡ is_past after true p) → StartsReverse range after before ps
+pub reverse_open : (range : Option Span) (after : Option ℤ) (before : ℤ) (ps : List Pair) → high_of range ≡ None → AllByRecursion IsKeyed ps
+    → ((p : ℤ) → IsInner p → int_le p before ≡ is_past after true p) → StartsReverse range after before ps
 reverse_open range after before ps none keyed past = record {
   wanted = all_map IsKeyed _ (λ p k. ap (λ b. b && is_met range p.1) (past p.0 (k.inner, k.outer))) ps keyed;
   begun = all_map IsKeyed _ (λ p k e. rw none refl) ps keyed;
 }
 
-pub reverse_from : (range : Option Span) (after : Option ℤ) (high before key : ℤ) (ps : List Pair) → high_of range ≡ Some high → AllByRecursion IsKeyed ps → ((p : ℤ) → IsInner p → int_le p before ≡ is_past after true p) → key ≡ int_min before high → StartsReverse range after key ps
+pub reverse_from : (range : Option Span) (after : Option ℤ) (high before key : ℤ) (ps : List Pair) → high_of range ≡ Some high → AllByRecursion IsKeyed ps
+    → ((p : ℤ) → IsInner p → int_le p before ≡ is_past after true p) → key ≡ int_min before high → StartsReverse range after key ps
 reverse_from range after high before key ps by keyed past is = rw is (record {
-  wanted = all_map IsKeyed _ (λ p k. both_ways (int_le p.0 (int_min before high)) (is_past after true p.0) (int_le p.0 high) (is_met range p.1) (λ e. lower_is before high p.0 e ∙ past p.0 (k.inner, k.outer)) (λ e. subst (λ h. begins h p ≡ true) by (met_begins range p k e))) ps keyed;
+  wanted = all_map IsKeyed _ (λ p k. both_ways (int_le p.0 (int_min before high)) (is_past after true p.0) (int_le p.0 high) (is_met range p.1)
+      (λ e. lower_is before high p.0 e ∙ past p.0 (k.inner, k.outer)) (λ e. subst (λ h. begins h p ≡ true) by (met_begins range p k e))) ps keyed;
   begun = all_map IsKeyed _ (λ p k e. subst (λ h. begins h p ≡ true) (sym by) (lower_so before high p.0 e)) ps keyed;
 })

@@ -27,7 +27,8 @@ first_met rows range = first (ranges_of (met rows range))
 -- What adding a segment answers: the segments with it at its place, where it overlaps none, and otherwise the
 -- range of the first one that it overlaps. Want of memory may stand in place of the first.
 abbrev pub Adds : List SegmentRow → SegmentRow → Result (List SegmentRow) AddFault → Type 0
-Adds rows row (Ok index) = (first_met rows row.segment.range ≡ None) × (index ≡ placed starts_before row rows)
+Adds rows row (Ok index) = (first_met rows row.segment.range ≡ None) ×
+    (index ≡ placed starts_before row rows)
 Adds rows row (Err (Overlap range)) = first_met rows row.segment.range ≡ Some range
 Adds rows row (Err Memory) = first_met rows row.segment.range ≡ None
 

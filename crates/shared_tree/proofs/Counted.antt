@@ -25,7 +25,8 @@ module _ {X : Type 0} where
   each_passes test [] = tt
   each_passes test (x ∷ xs) = by (test x) refl (each_passes test xs)
     where
-      by : (t : Bool) → test x ≡ t → AllByRecursion (λ y. test y ≡ true) (filter test xs) → AllByRecursion (λ y. test y ≡ true) (cond t (x ∷ filter test xs) (filter test xs))
+      by : (t : Bool) → test x ≡ t → AllByRecursion (λ y. test y ≡ true) (filter test xs)
+          → AllByRecursion (λ y. test y ≡ true) (cond t (x ∷ filter test xs) (filter test xs))
       by true e rest = (e, rest)
       by false e rest = rest
 
@@ -39,10 +40,12 @@ module _ {V : Type 0} where
       by false rest = rest
 
   -- pairs below a key, and then pairs from it on
-  rising_meet : (key : ℤ) (l r : List (ℤ × V)) → IsRising l → IsRising r → AllByRecursion (λ p. p.0 <ℤ key) l → AllByRecursion (λ p. key ≤ℤ p.0) r → IsRising (l ++ r)
+  rising_meet : (key : ℤ) (l r : List (ℤ × V)) → IsRising l → IsRising r → AllByRecursion (λ p. p.0 <ℤ key) l → AllByRecursion (λ p. key ≤ℤ p.0) r
+      → IsRising (l ++ r)
   rising_meet key [] r hl hr bl br = hr
   rising_meet key (p ∷ l) r hl hr bl br =
-      (all_append (λ q. p.0 <ℤ q.0) l r hl.0 (all_map (λ q. key ≤ℤ q.0) (λ q. p.0 <ℤ q.0) (λ q le. let lt = bl.0 in grind (arith, ints)) r br), rising_meet key l r hl.1 hr bl.1 br)
+      (all_append (λ q. p.0 <ℤ q.0) l r hl.0 (all_map (λ q. key ≤ℤ q.0) (λ q. p.0 <ℤ q.0) (λ q le. let lt = bl.0 in grind (arith, ints)) r br),
+          rising_meet key l r hl.1 hr bl.1 br)
 
   below_key : (key : ℤ) (ps : List (ℤ × V)) → AllByRecursion (λ p. p.0 <ℤ key) (filter (is_below key) ps)
   below_key key ps = all_map (λ p. is_below key p ≡ true) (λ p. p.0 <ℤ key) (λ p held. grind (arith, ints)) _ (each_passes (is_below key) ps)
@@ -74,17 +77,21 @@ module _ {V : Type 0} where
   fit_without key ps h = all_append _ (filter (is_below key) ps) _ (all_kept _ (is_below key) ps h) (all_kept _ (is_above key) ps h)
 
   -- Distinct keys between two ends are no more than there are numbers between them.
-  few_between : (low high : ℤ) (ps : List (ℤ × V)) → low ≤ℤ (high +ℤ pos 1) → AllByRecursion (λ p. low ≤ℤ p.0) ps → AllByRecursion (λ p. p.0 ≤ℤ high) ps → IsRising ps → (pos (length ps) +ℤ low) ≤ℤ (high +ℤ pos 1)
+  few_between : (low high : ℤ) (ps : List (ℤ × V)) → low ≤ℤ (high +ℤ pos 1) → AllByRecursion (λ p. low ≤ℤ p.0) ps → AllByRecursion (λ p. p.0 ≤ℤ high) ps
+      → IsRising ps → (pos (length ps) +ℤ low) ≤ℤ (high +ℤ pos 1)
   few_between low high [] ends above below rising = omega (arith, ints)
   few_between low high (p ∷ ps) ends above below rising =
       let first : low ≤ℤ p.0 = above.0 in
       let last : p.0 ≤ℤ high = below.0 in
-      let rest = few_between (p.0 +ℤ pos 1) high ps (omega (arith, ints)) (all_map (λ q. p.0 <ℤ q.0) (λ q. (p.0 +ℤ pos 1) ≤ℤ q.0) (λ q lt. omega (arith, ints)) ps rising.0) below.1 rising.1 in
+      let rest = few_between (p.0 +ℤ pos 1) high ps (omega (arith, ints)) (all_map (λ q. p.0 <ℤ q.0) (λ q. (p.0 +ℤ pos 1) ≤ℤ q.0) (λ q lt. omega (arith, ints))
+          ps rising.0) below.1 rising.1 in
       omega (arith, ints, rest)
 
   pub few : (ps : List (ℤ × V)) → IsRising ps → Fit ps → length ps ≤ 2 ^ 128
   few ps rising fits =
-      let all = few_between (negsuc (2 ^ 127 - 1)) (pos (2 ^ 127 - 1)) ps (omega (arith, ints)) (all_map (λ p. FitsSigned w128 p.0) _ (λ p fit. omega (arith, ints)) ps fits) (all_map (λ p. FitsSigned w128 p.0) _ (λ p fit. omega (arith, ints)) ps fits) rising in
+      let all = few_between (negsuc (2 ^ 127 - 1)) (pos (2 ^ 127 - 1)) ps (omega (arith, ints))
+          (all_map (λ p. FitsSigned w128 p.0) _ (λ p fit. omega (arith, ints)) ps fits) (all_map (λ p. FitsSigned w128 p.0) _ (λ p fit. omega (arith, ints)) ps
+          fits) rising in
       omega (arith, ints, all)
 
   -- each pair stands below a key, above it, or at it
@@ -92,7 +99,9 @@ module _ {V : Type 0} where
   apart key [] = refl
   apart key (p ∷ ps) = by (int_lt p.0 key) (int_lt key p.0) refl refl (apart key ps)
     where
-      by : (b a : Bool) → int_lt p.0 key ≡ b → int_lt key p.0 ≡ a → length ps ≡ length (filter (is_below key) ps) + length (filter (is_above key) ps) + length (filter (is_at key) ps) → length (p ∷ ps) ≡ length (filter (is_below key) (p ∷ ps)) + length (filter (is_above key) (p ∷ ps)) + length (filter (is_at key) (p ∷ ps))
+      by : (b a : Bool) → int_lt p.0 key ≡ b → int_lt key p.0 ≡ a → length ps ≡ length (filter (is_below key) ps) + length (filter (is_above key) ps) + length
+          (filter (is_at key) ps) → length (p ∷ ps) ≡ length (filter (is_below key) (p ∷ ps)) + length (filter (is_above key) (p ∷ ps)) + length
+          (filter (is_at key) (p ∷ ps))
       by true true eb ea rest = absurd (grind (arith, ints))
       by true false eb ea rest = rw (eb, ea) (omega (arith, rest))
       by false true eb ea rest = rw (eb, ea) (omega (arith, rest))
@@ -132,14 +141,17 @@ module _ {V : Type 0} where
   -- a pair put makes one more than the others
   pub length_with : (pair : ℤ × V) (ps : List (ℤ × V)) → length (with_pair pair ps) ≡ length (without_key pair.0 ps) + 1
   length_with pair ps =
-      rw (length-append (filter (is_below pair.0) ps) (pair ∷ filter (is_above pair.0) ps), length-append (filter (is_below pair.0) ps) (filter (is_above pair.0) ps)) (omega arith)
+      rw (length-append (filter (is_below pair.0) ps) (pair ∷ filter (is_above pair.0) ps), length-append (filter (is_below pair.0) ps)
+          (filter (is_above pair.0) ps)) (omega arith)
 
   -- where none has the key, another pair has room among all keys
-  pub fewer_than_keys : (key : ℤ) (ps : List (ℤ × V)) → IsRising ps → Fit ps → FitsSigned w128 key → is_some (value_at key ps) ≡ false → 1 ≤ length ps → length ps + 1 ≤ 2 ^ 128
+  pub fewer_than_keys : (key : ℤ) (ps : List (ℤ × V)) → IsRising ps → Fit ps → FitsSigned w128 key → is_some (value_at key ps) ≡ false → 1 ≤ length ps
+      → length ps + 1 ≤ 2 ^ 128
   fewer_than_keys key (p ∷ qs) rising fits fit not_there some =
       let ps = p ∷ qs in
       let value = p.1 in
-      omega (arith, few (with_pair (key, value) ps) (rising_with key value ps rising) (fit_with key value ps fit fits), length_with (key, value) ps, others_not key ps not_there)
+      omega (arith, few (with_pair (key, value) ps) (rising_with key value ps rising) (fit_with key value ps fit fits), length_with (key, value) ps,
+          others_not key ps not_there)
   fewer_than_keys key [] rising fits fit not_there some = absurd (omega (arith, some))
 
   -- what isn't empty has a pair
@@ -153,7 +165,8 @@ module _ {V : Type 0} where
     pub fits : Fit pairs
     pub more : count ≡ length pairs - 1
 
-  pub follows_with : (old new : List (ℤ × V)) (key : ℤ) (value : V) (more : ℕ) → IsRising old → Fit old → FitsSigned w128 key → new ≡ with_pair (key, value) old → more ≡ length (without_key key old) → Follows new more
+  pub follows_with : (old new : List (ℤ × V)) (key : ℤ) (value : V) (more : ℕ) → IsRising old → Fit old → FitsSigned w128 key → new ≡ with_pair (key, value) old
+      → more ≡ length (without_key key old) → Follows new more
   follows_with old new key value more rising fits fit is others =
       rw is (record {
         rising = rising_with key value old rising;
@@ -161,7 +174,8 @@ module _ {V : Type 0} where
         more = omega (arith, length_with (key, value) old, others);
       })
 
-  pub follows_without : (old new : List (ℤ × V)) (key : ℤ) (more others : ℕ) → IsRising old → Fit old → new ≡ without_key key old → others ≡ length (without_key key old) → more ≡ others - 1 → Follows new more
+  pub follows_without : (old new : List (ℤ × V)) (key : ℤ) (more others : ℕ) → IsRising old → Fit old → new ≡ without_key key old
+      → others ≡ length (without_key key old) → more ≡ others - 1 → Follows new more
   follows_without old new key more others rising fits is count e =
       rw is (record {
         rising = rising_without key old rising;

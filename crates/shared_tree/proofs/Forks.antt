@@ -17,7 +17,8 @@ module _ {V Z : Type 0} where
   at_fork_same root fork level e =
       rw e (record { pairs = refl; height = refl; level = subst IsBalancedRoot e level })
 
-  pub at_fork : {root : Option (Rc (Fork V) Z)} {d : List (ℤ × V) × ℕ} {fork : Rc (Fork V) Z} {f : Fork V} → seen_root root ≡ d → IsBalancedRoot root → root ≡ Some fork → f ≡ fork.value → AtFork d f
+  pub at_fork : {root : Option (Rc (Fork V) Z)} {d : List (ℤ × V) × ℕ} {fork : Rc (Fork V) Z} {f : Fork V} → seen_root root ≡ d → IsBalancedRoot root
+      → root ≡ Some fork → f ≡ fork.value → AtFork d f
   at_fork {root} {d} {fork} {f} view level e same =
       rw (sym view, same) (at_fork_same root fork level e)
 

@@ -46,12 +46,14 @@ pub low : (d h n : ℕ) → least h ≤ n + 1 → n + 1 < 2 ^ (d + 1) → h ≤ 
 low d h n filled few = grind (arith, least_large d h)
 
 -- a node has as many pairs as its height asks for, where its sides have
-pub filled_joined : {A : Type 0} (h : ℕ) (l r : List A) (p : A) (lh rh : ℕ) → DifferByAtMost 1 lh rh → least lh ≤ length l + 1 → least rh ≤ length r + 1 → h ≡ max lh rh + 1 → least h ≤ length (l ++ p ∷ r) + 1
+pub filled_joined : {A : Type 0} (h : ℕ) (l r : List A) (p : A) (lh rh : ℕ) → DifferByAtMost 1 lh rh → least lh ≤ length l + 1 → least rh ≤ length r + 1
+    → h ≡ max lh rh + 1 → least h ≤ length (l ++ p ∷ r) + 1
 filled_joined h l r p lh rh level fl fr e =
     rw (e, length-append l (p ∷ r)) (omega (arith, least_joined lh rh level, fl, fr))
 
 -- a tree is at most twice as high as its number of pairs has digits
 pub height_by_digits : (h n : ℕ) → least h ≤ n + 1 → h ≤ 2 * digits n
 height_by_digits h n filled =
-    let below : n < 2 ^ digits n = subst (λ m. m < 2 ^ digits n) (number_digits_of 2 n (omega arith)) (number_lt 2 (digits_of 2 n) (all_below_base_digits_of 2 n (omega arith))) in
+    let below : n < 2 ^ digits n = subst (λ m. m < 2 ^ digits n) (number_digits_of 2 n (omega arith))
+        (number_lt 2 (digits_of 2 n) (all_below_base_digits_of 2 n (omega arith))) in
     low (digits n) h n filled (grind (arith, pow_more 2 (digits n)))

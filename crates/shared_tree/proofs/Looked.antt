@@ -51,38 +51,45 @@ module _ {V : Type 0} {d : List (ℤ × V) × ℕ} {f : Fork V} where
   found_left at rising key less =
       let w = around_fork at rising in
       let lt = int_ranked key f.key Less less in
-      rw (at.pairs, filter-append (is_at key) f.left.0 ((f.key, f.value.value) ∷ f.right.0), none_above key ((f.key, f.value.value) ∷ f.right.0) (lt, all_map _ _ (λ p above. grind (arith, ints)) f.right.0 w.behind), append-nil (filter (is_at key) f.left.0)) refl
+      rw (at.pairs, filter-append (is_at key) f.left.0 ((f.key, f.value.value) ∷ f.right.0), none_above key ((f.key, f.value.value) ∷ f.right.0)
+          (lt, all_map _ _ (λ p above. grind (arith, ints)) f.right.0 w.behind), append-nil (filter (is_at key) f.left.0)) refl
 
   pub found_right : (at : AtFork d f) (rising : IsRising d.0) (key : ℤ) → Greater ≡ int_cmp key f.key → value_at key d.0 ≡ value_at key f.right.0
   found_right at rising key greater =
       let w = around_fork at rising in
       let gt = int_ranked key f.key Greater greater in
       let other : is_at {V = V} key (f.key, f.value.value) ≡ false = grind (arith, ints) in
-      rw (at.pairs, filter-append (is_at key) f.left.0 ((f.key, f.value.value) ∷ f.right.0), none_below key f.left.0 (all_map _ _ (λ p below. grind (arith, ints)) f.left.0 w.before), other) refl
+      rw (at.pairs, filter-append (is_at key) f.left.0 ((f.key, f.value.value) ∷ f.right.0),
+          none_below key f.left.0 (all_map _ _ (λ p below. grind (arith, ints)) f.left.0 w.before), other) refl
 
   pub found_here : (at : AtFork d f) (rising : IsRising d.0) (key : ℤ) → Equal ≡ int_cmp key f.key → value_at key d.0 ≡ Some f.value.value
   found_here at rising key equal =
       let w = around_fork at rising in
       let e : key ≡ f.key = int_ranked key f.key Equal equal in
-      let same : is_at {V = V} key (f.key, f.value.value) ≡ true = subst (λ k. is_at {V = V} k (f.key, f.value.value) ≡ true) (sym e) (is_at_itself f.key f.value.value) in
+      let same : is_at {V = V} key (f.key, f.value.value) ≡ true = subst (λ k. is_at {V = V} k (f.key, f.value.value) ≡ true) (sym e)
+          (is_at_itself f.key f.value.value) in
       let none = none_below key f.left.0 (subst (λ k. AllByRecursion (λ p. p.0 <ℤ k) f.left.0) (sym e) w.before) in
       rw (at.pairs, filter-append (is_at key) f.left.0 ((f.key, f.value.value) ∷ f.right.0), none, same) refl
 
   -- the pairs above a key, and those below and up to it
-  pub above_on_right : (at : AtFork d f) (rising : IsRising d.0) (key : ℤ) → int_lt key f.key ≡ false → filter (is_above key) d.0 ≡ filter (is_above key) f.right.0
+  pub above_on_right : (at : AtFork d f) (rising : IsRising d.0) (key : ℤ) → int_lt key f.key ≡ false
+      → filter (is_above key) d.0 ≡ filter (is_above key) f.right.0
   above_on_right at rising key failed =
       ap (filter (is_above key)) at.pairs ∙ upper_no {test = is_above key} _ _ _ (above_is_upper key) (around_fork at rising) failed
 
-  pub first_above_left : (at : AtFork d f) (rising : IsRising d.0) (key : ℤ) → int_lt key f.key ≡ true → first (filter (is_above key) d.0) ≡ first_or (first (filter (is_above key) f.left.0)) (f.key, f.value.value)
+  pub first_above_left : (at : AtFork d f) (rising : IsRising d.0) (key : ℤ) → int_lt key f.key ≡ true
+      → first (filter (is_above key) d.0) ≡ first_or (first (filter (is_above key) f.left.0)) (f.key, f.value.value)
   first_above_left at rising key held =
       ap first (ap (filter (is_above key)) at.pairs ∙ upper_yes {test = is_above key} _ _ _ (above_is_upper key) (around_fork at rising) held)
       ∙ first_of (filter (is_above key) f.left.0) (f.key, f.value.value) f.right.0
 
-  pub below_on_left : (at : AtFork d f) (rising : IsRising d.0) (key : ℤ) → int_lt f.key key ≡ false → filter (is_below key) d.0 ≡ filter (is_below key) f.left.0
+  pub below_on_left : (at : AtFork d f) (rising : IsRising d.0) (key : ℤ) → int_lt f.key key ≡ false
+      → filter (is_below key) d.0 ≡ filter (is_below key) f.left.0
   below_on_left at rising key failed =
       ap (filter (is_below key)) at.pairs ∙ lower_no {test = is_below key} _ _ _ (below_is_lower key) (around_fork at rising) failed
 
-  pub last_below_right : (at : AtFork d f) (rising : IsRising d.0) (key : ℤ) → int_lt f.key key ≡ true → last (filter (is_below key) d.0) ≡ first_or (last (filter (is_below key) f.right.0)) (f.key, f.value.value)
+  pub last_below_right : (at : AtFork d f) (rising : IsRising d.0) (key : ℤ) → int_lt f.key key ≡ true
+      → last (filter (is_below key) d.0) ≡ first_or (last (filter (is_below key) f.right.0)) (f.key, f.value.value)
   last_below_right at rising key held =
       ap last (ap (filter (is_below key)) at.pairs ∙ lower_yes {test = is_below key} _ _ _ (below_is_lower key) (around_fork at rising) held)
       ∙ last_of f.left.0 (f.key, f.value.value) (filter (is_below key) f.right.0)
@@ -91,7 +98,8 @@ module _ {V : Type 0} {d : List (ℤ × V) × ℕ} {f : Fork V} where
   up_to_on_left at rising key lt =
       ap (filter (is_up_to key)) at.pairs ∙ lower_no {test = is_up_to key} _ _ _ (up_to_is_lower key) (around_fork at rising) (grind (arith, ints))
 
-  pub last_up_to_right : (at : AtFork d f) (rising : IsRising d.0) (key : ℤ) → int_lt key f.key ≡ false → last (filter (is_up_to key) d.0) ≡ first_or (last (filter (is_up_to key) f.right.0)) (f.key, f.value.value)
+  pub last_up_to_right : (at : AtFork d f) (rising : IsRising d.0) (key : ℤ) → int_lt key f.key ≡ false
+      → last (filter (is_up_to key) d.0) ≡ first_or (last (filter (is_up_to key) f.right.0)) (f.key, f.value.value)
   last_up_to_right at rising key le =
       ap last (ap (filter (is_up_to key)) at.pairs ∙ lower_yes {test = is_up_to key} _ _ _ (up_to_is_lower key) (around_fork at rising) (grind (arith, ints)))
       ∙ last_of f.left.0 (f.key, f.value.value) (filter (is_up_to key) f.right.0)

@@ -58,22 +58,26 @@ module _ {V : Type 0} where
   abbrev pub IsLower : (ℤ × V → Bool) → Type 0
   IsLower test = (p q : ℤ × V) → p.0 <ℤ q.0 → test q ≡ true → test p ≡ true
 
-  pub upper_yes : {test : ℤ × V → Bool} (l : List (ℤ × V)) (m : ℤ × V) (r : List (ℤ × V)) → IsUpper test → Around l m r → test m ≡ true → filter test (l ++ m ∷ r) ≡ filter test l ++ m ∷ r
+  pub upper_yes : {test : ℤ × V → Bool} (l : List (ℤ × V)) (m : ℤ × V) (r : List (ℤ × V)) → IsUpper test → Around l m r → test m ≡ true
+      → filter test (l ++ m ∷ r) ≡ filter test l ++ m ∷ r
   upper_yes {test} l m r up h held =
       filter-append test l (m ∷ r)
       ∙ ap (λ t. filter test l ++ t) (filter_all test (m ∷ r) (held, all_map _ _ (λ p lt. up m p lt held) r h.behind))
 
-  pub upper_no : {test : ℤ × V → Bool} (l : List (ℤ × V)) (m : ℤ × V) (r : List (ℤ × V)) → IsUpper test → Around l m r → test m ≡ false → filter test (l ++ m ∷ r) ≡ filter test r
+  pub upper_no : {test : ℤ × V → Bool} (l : List (ℤ × V)) (m : ℤ × V) (r : List (ℤ × V)) → IsUpper test → Around l m r → test m ≡ false
+      → filter test (l ++ m ∷ r) ≡ filter test r
   upper_no {test} l m r up h failed =
       filter-append test l (m ∷ r)
       ∙ rw (filter_none test l (all_map _ _ (λ p lt. fails (test p) (test m) (up p m lt) failed) l h.before), failed) refl
 
-  pub lower_yes : {test : ℤ × V → Bool} (l : List (ℤ × V)) (m : ℤ × V) (r : List (ℤ × V)) → IsLower test → Around l m r → test m ≡ true → filter test (l ++ m ∷ r) ≡ l ++ m ∷ filter test r
+  pub lower_yes : {test : ℤ × V → Bool} (l : List (ℤ × V)) (m : ℤ × V) (r : List (ℤ × V)) → IsLower test → Around l m r → test m ≡ true
+      → filter test (l ++ m ∷ r) ≡ l ++ m ∷ filter test r
   lower_yes {test} l m r low h held =
       filter-append test l (m ∷ r)
       ∙ rw (filter_all test l (all_map _ _ (λ p lt. low p m lt held) l h.before), held) refl
 
-  pub lower_no : {test : ℤ × V → Bool} (l : List (ℤ × V)) (m : ℤ × V) (r : List (ℤ × V)) → IsLower test → Around l m r → test m ≡ false → filter test (l ++ m ∷ r) ≡ filter test l
+  pub lower_no : {test : ℤ × V → Bool} (l : List (ℤ × V)) (m : ℤ × V) (r : List (ℤ × V)) → IsLower test → Around l m r → test m ≡ false
+      → filter test (l ++ m ∷ r) ≡ filter test l
   lower_no {test} l m r low h failed =
       filter-append test l (m ∷ r)
       ∙ rw (failed, filter_none test r (all_map _ _ (λ p lt. fails (test p) (test m) (low m p lt) failed) r h.behind)) (append-nil (filter test l))
@@ -92,14 +96,18 @@ module _ {V : Type 0} where
   up_to_is_lower key p q lt held = grind (arith, ints)
 
   -- a pair put left of a node's own, right of it, or in its place
-  pub put_left : (key : ℤ) (value : V) (l : List (ℤ × V)) (m : ℤ × V) (r : List (ℤ × V)) → Around l m r → key <ℤ m.0 → with_pair (key, value) (l ++ m ∷ r) ≡ with_pair (key, value) l ++ m ∷ r
+  pub put_left : (key : ℤ) (value : V) (l : List (ℤ × V)) (m : ℤ × V) (r : List (ℤ × V)) → Around l m r → key <ℤ m.0
+      → with_pair (key, value) (l ++ m ∷ r) ≡ with_pair (key, value) l ++ m ∷ r
   put_left key value l m r h lt =
-      rw (lower_no {test = is_below key} l m r (below_is_lower key) h (grind (arith, ints)), upper_yes {test = is_above key} l m r (above_is_upper key) h (grind (arith, ints)))
+      rw (lower_no {test = is_below key} l m r (below_is_lower key) h (grind (arith, ints)), upper_yes {test = is_above key} l m r (above_is_upper key) h
+          (grind (arith, ints)))
       (sym (append_assoc (filter (is_below key) l) ((key, value) ∷ filter (is_above key) l) (m ∷ r)))
 
-  pub put_right : (key : ℤ) (value : V) (l : List (ℤ × V)) (m : ℤ × V) (r : List (ℤ × V)) → Around l m r → m.0 <ℤ key → with_pair (key, value) (l ++ m ∷ r) ≡ l ++ m ∷ with_pair (key, value) r
+  pub put_right : (key : ℤ) (value : V) (l : List (ℤ × V)) (m : ℤ × V) (r : List (ℤ × V)) → Around l m r → m.0 <ℤ key
+      → with_pair (key, value) (l ++ m ∷ r) ≡ l ++ m ∷ with_pair (key, value) r
   put_right key value l m r h lt =
-      rw (lower_yes {test = is_below key} l m r (below_is_lower key) h (grind (arith, ints)), upper_no {test = is_above key} l m r (above_is_upper key) h (grind (arith, ints)))
+      rw (lower_yes {test = is_below key} l m r (below_is_lower key) h (grind (arith, ints)), upper_no {test = is_above key} l m r (above_is_upper key) h
+          (grind (arith, ints)))
       (append_assoc l (m ∷ filter (is_below key) r) ((key, value) ∷ filter (is_above key) r))
 
   -- what a key's own pair stands between
@@ -113,18 +121,23 @@ module _ {V : Type 0} where
       upper_no {test = is_above key} l m r (above_is_upper key) h (grind (arith, ints))
       ∙ filter_all (is_above key) r (all_map _ _ (λ p lt. grind (arith, ints)) r h.behind)
 
-  pub put_at : (key : ℤ) (value : V) (l : List (ℤ × V)) (m : ℤ × V) (r : List (ℤ × V)) → Around l m r → key ≡ m.0 → with_pair (key, value) (l ++ m ∷ r) ≡ l ++ (key, value) ∷ r
+  pub put_at : (key : ℤ) (value : V) (l : List (ℤ × V)) (m : ℤ × V) (r : List (ℤ × V)) → Around l m r → key ≡ m.0
+      → with_pair (key, value) (l ++ m ∷ r) ≡ l ++ (key, value) ∷ r
   put_at key value l m r h e = rw (below_at key l m r h e, above_at key l m r h e) refl
 
   -- a key taken out left of a node's own, right of it, or the node's own
-  pub cut_left : (key : ℤ) (l : List (ℤ × V)) (m : ℤ × V) (r : List (ℤ × V)) → Around l m r → key <ℤ m.0 → without_key key (l ++ m ∷ r) ≡ without_key key l ++ m ∷ r
+  pub cut_left : (key : ℤ) (l : List (ℤ × V)) (m : ℤ × V) (r : List (ℤ × V)) → Around l m r → key <ℤ m.0
+      → without_key key (l ++ m ∷ r) ≡ without_key key l ++ m ∷ r
   cut_left key l m r h lt =
-      rw (lower_no {test = is_below key} l m r (below_is_lower key) h (grind (arith, ints)), upper_yes {test = is_above key} l m r (above_is_upper key) h (grind (arith, ints)))
+      rw (lower_no {test = is_below key} l m r (below_is_lower key) h (grind (arith, ints)), upper_yes {test = is_above key} l m r (above_is_upper key) h
+          (grind (arith, ints)))
       (sym (append_assoc (filter (is_below key) l) (filter (is_above key) l) (m ∷ r)))
 
-  pub cut_right : (key : ℤ) (l : List (ℤ × V)) (m : ℤ × V) (r : List (ℤ × V)) → Around l m r → m.0 <ℤ key → without_key key (l ++ m ∷ r) ≡ l ++ m ∷ without_key key r
+  pub cut_right : (key : ℤ) (l : List (ℤ × V)) (m : ℤ × V) (r : List (ℤ × V)) → Around l m r → m.0 <ℤ key
+      → without_key key (l ++ m ∷ r) ≡ l ++ m ∷ without_key key r
   cut_right key l m r h lt =
-      rw (lower_yes {test = is_below key} l m r (below_is_lower key) h (grind (arith, ints)), upper_no {test = is_above key} l m r (above_is_upper key) h (grind (arith, ints)))
+      rw (lower_yes {test = is_below key} l m r (below_is_lower key) h (grind (arith, ints)), upper_no {test = is_above key} l m r (above_is_upper key) h
+          (grind (arith, ints)))
       (append_assoc l (m ∷ filter (is_below key) r) (filter (is_above key) r))
 
   pub cut_at : (key : ℤ) (l : List (ℤ × V)) (m : ℤ × V) (r : List (ℤ × V)) → Around l m r → key ≡ m.0 → without_key key (l ++ m ∷ r) ≡ l ++ r

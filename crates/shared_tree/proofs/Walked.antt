@@ -17,7 +17,8 @@ length-values [] = refl
 length-values (p ∷ ps) = ap suc (length-values ps)
 
 -- one side was passed, and there is room for more: the node's value, and then the other side
-pub walked_on : {V : Type 0} (a0 a1 a2 a3 : List V) (room r1 r3 : ℕ) (xs : List (ℤ × V)) (y : ℤ × V) (ys : List (ℤ × V)) (v : V) → Walked a0 a1 room r1 xs → r1 ≢ 0 → v ≡ y.1 → a2 ≡ a1 ++ v ∷ [] → Walked a2 a3 (r1 - 1) r3 ys → Walked a0 a3 room r3 (xs ++ y ∷ ys)
+pub walked_on : {V : Type 0} (a0 a1 a2 a3 : List V) (room r1 r3 : ℕ) (xs : List (ℤ × V)) (y : ℤ × V) (ys : List (ℤ × V)) (v : V) → Walked a0 a1 room r1 xs
+    → r1 ≢ 0 → v ≡ y.1 → a2 ≡ a1 ++ v ∷ [] → Walked a2 a3 (r1 - 1) r3 ys → Walked a0 a3 room r3 (xs ++ y ∷ ys)
 walked_on a0 a1 a2 a3 room r1 r3 xs y ys v first some same own second =
     let e : room ≡ length (values xs) + suc (r1 - 1) = omega (arith, first.rest, some, length-values xs) in
     let all : take room (values xs) ≡ values xs = take_all room (values xs) (omega (arith, e)) in
@@ -41,7 +42,8 @@ module _ {V : Type 0} {d : List (ℤ × V) × ℕ} {f : Fork V} where
   from_on_right at rising key lt =
       ap (filter (is_from key)) at.pairs ∙ upper_no {test = is_from key} _ _ _ (from_is_upper key) (around_fork at rising) (grind (arith, ints))
 
-  pub from_on_left : (at : AtFork d f) (rising : IsRising d.0) (key : ℤ) → int_lt f.key key ≡ false → filter (is_from key) d.0 ≡ filter (is_from key) f.left.0 ++ (f.key, f.value.value) ∷ f.right.0
+  pub from_on_left : (at : AtFork d f) (rising : IsRising d.0) (key : ℤ) → int_lt f.key key ≡ false
+      → filter (is_from key) d.0 ≡ filter (is_from key) f.left.0 ++ (f.key, f.value.value) ∷ f.right.0
   from_on_left at rising key le =
       ap (filter (is_from key)) at.pairs ∙ upper_yes {test = is_from key} _ _ _ (from_is_upper key) (around_fork at rising) (grind (arith, ints))
 
@@ -49,11 +51,14 @@ module _ {V : Type 0} {d : List (ℤ × V) × ℕ} {f : Fork V} where
   pub all_back : (at : AtFork d f) → reverse d.0 ≡ reverse f.right.0 ++ (f.key, f.value.value) ∷ reverse f.left.0
   all_back at = ap reverse at.pairs ∙ reversed f.left.0 (f.key, f.value.value) f.right.0
 
-  pub up_to_on_left : (at : AtFork d f) (rising : IsRising d.0) (key : ℤ) → int_lt key f.key ≡ true → reverse (filter (is_up_to key) d.0) ≡ reverse (filter (is_up_to key) f.left.0)
+  pub up_to_on_left : (at : AtFork d f) (rising : IsRising d.0) (key : ℤ) → int_lt key f.key ≡ true
+      → reverse (filter (is_up_to key) d.0) ≡ reverse (filter (is_up_to key) f.left.0)
   up_to_on_left at rising key lt =
       ap reverse (ap (filter (is_up_to key)) at.pairs ∙ lower_no {test = is_up_to key} _ _ _ (up_to_is_lower key) (around_fork at rising) (grind (arith, ints)))
 
-  pub up_to_on_right : (at : AtFork d f) (rising : IsRising d.0) (key : ℤ) → int_lt key f.key ≡ false → reverse (filter (is_up_to key) d.0) ≡ reverse (filter (is_up_to key) f.right.0) ++ (f.key, f.value.value) ∷ reverse f.left.0
+  pub up_to_on_right : (at : AtFork d f) (rising : IsRising d.0) (key : ℤ) → int_lt key f.key ≡ false
+      → reverse (filter (is_up_to key) d.0) ≡ reverse (filter (is_up_to key) f.right.0) ++ (f.key, f.value.value) ∷ reverse f.left.0
   up_to_on_right at rising key le =
-      ap reverse (ap (filter (is_up_to key)) at.pairs ∙ lower_yes {test = is_up_to key} _ _ _ (up_to_is_lower key) (around_fork at rising) (grind (arith, ints)))
+      ap reverse (ap (filter (is_up_to key)) at.pairs ∙ lower_yes {test = is_up_to key} _ _ _ (up_to_is_lower key) (around_fork at rising)
+          (grind (arith, ints)))
       ∙ reversed f.left.0 (f.key, f.value.value) (filter (is_up_to key) f.right.0)

@@ -78,13 +78,15 @@ pub record LeavesTold (step : Left → Left → Type 0) : Type 0 where
 
 -- an image at the last moment follows from one before the call, with what was told
 follows_now : (step : Left → Left → Type 0) (call : Call) (site : SiteState) (p : Left) → LeavesTold step → IsKept site
-    → ((q : Left) → LeavesSince (with_call call site.disk.past) (length site.disk.past.calls + 1) q → Follows step (LeavesSince site.disk.past (length site.disk.past.calls)) q)
+    → ((q : Left) → LeavesSince (with_call call site.disk.past) (length site.disk.past.calls + 1) q
+        → Follows step (LeavesSince site.disk.past (length site.disk.past.calls)) q)
     → LeavesAt (with_call call site.disk.past) (length site.disk.past.calls + 1) p.image → p.told ≡ told_of site
     → Follows step (SiteLeaves site (disk_calls site + length site.spans)) p
 follows_now step call site p told_stays kept inner leaves told =
     let past = site.disk.past in
     let before =
-    inner (record { image = p.image; told = [] }) (record { moment = length past.calls + 1; later = omega arith; within = omega (arith, length_push past.calls call); image = leaves; told = refl }) in
+    inner (record { image = p.image; told = [] }) (record { moment = length past.calls + 1; later = omega arith; within =
+        omega (arith, length_push past.calls call); image = leaves; told = refl }) in
     let left = before.1 in
     let at_last : left.moment ≡ length past.calls = omega (arith, left.later, left.within) in
     let bare : step (record { image = before.0.image; told = [] }) (record { image = p.image; told = [] }) =
@@ -98,19 +100,22 @@ follows_now step call site p told_stays kept inner leaves told =
         later = omega arith;
         leaves = subst (λ n. LeavesAt past n before.0.image) at_last left.image;
       }) refl,
-      subst (λ t. step (record { image = before.0.image; told = told_of site }) (record { image = p.image; told = t })) (sym told) (told_stays.lifts before.0.image p.image [] (told_of site) bare),
+      subst (λ t. step (record { image = before.0.image; told = told_of site }) (record { image = p.image; told = t })) (sym told)
+          (told_stays.lifts before.0.image p.image [] (told_of site) bare),
     )
 
 -- what a crash may leave after a disk call, at the last moment or before
 split_now : (step : Left → Left → Type 0) (call : Call) (site : SiteState) (t : ℕ) (p : Left) → LeavesTold step → IsKept site
-    → ((q : Left) → LeavesSince (with_call call site.disk.past) (length site.disk.past.calls + 1) q → Follows step (LeavesSince site.disk.past (length site.disk.past.calls)) q)
+    → ((q : Left) → LeavesSince (with_call call site.disk.past) (length site.disk.past.calls + 1) q
+        → Follows step (LeavesSince site.disk.past (length site.disk.past.calls)) q)
     → SiteLeaves (with_past (with_call call site.disk.past) site) t p
     → (SiteLeaves site t p × (t ≤ disk_calls site + length site.spans)) ⊎ Follows step (SiteLeaves site (disk_calls site + length site.spans)) p
 split_now step call site t p told_stays kept inner (now left told) =
     let past = site.disk.past in
     let one_more : length (past.calls ++ call ∷ []) ≡ length past.calls + 1 = length_push past.calls call in
     elim (cases_lt (length past.calls) left.moment) [
-      | inl last ↦ inr (follows_now step call site p told_stays kept inner (subst (λ n. LeavesAt (with_call call past) n p.image) (omega (arith, last, left.within, one_more)) left.leaves) told)
+      | inl last ↦ inr (follows_now step call site p told_stays kept inner (subst (λ n. LeavesAt (with_call call past) n p.image)
+          (omega (arith, last, left.within, one_more)) left.leaves) told)
       | inr before_it ↦
           let was = before_call call past _ _ _ t p.image left before_it in
           inl (
@@ -152,7 +157,8 @@ keeps_past call site t p kept (ending n span within at left so_far) = ending n s
 
 -- time over a disk call that was noted
 noted_time : (step : Left → Left → Type 0) (call : Call) (site : SiteState) → LeavesTold step → IsKept site
-    → ((q : Left) → LeavesSince (with_call call site.disk.past) (length site.disk.past.calls + 1) q → Follows step (LeavesSince site.disk.past (length site.disk.past.calls)) q)
+    → ((q : Left) → LeavesSince (with_call call site.disk.past) (length site.disk.past.calls + 1) q
+        → Follows step (LeavesSince site.disk.past (length site.disk.past.calls)) q)
     → Elapses step step (site_device site) (site_device (with_past (with_call call site.disk.past) site))
 noted_time step call site told_stays kept inner =
     let one_more : length (site.disk.past.calls ++ call ∷ []) ≡ length site.disk.past.calls + 1 = length_push site.disk.past.calls call in
@@ -186,7 +192,8 @@ disk_time : (asked : Request) (step : Left → Left → Type 0) (ok : Bool) (sit
     → Elapses step step (site_device site) (site_device (record site { disk = disk }))
 disk_time asked step ok site disk told_stays kept made called =
     elim called.past [
-      | inl starved ↦ quiet_time step site (record site { disk = disk }) told_stays.itself (record { past = starved.past; spans = refl; since = refl; told = refl })
+      | inl starved ↦ quiet_time step site (record site { disk = disk }) told_stays.itself
+          (record { past = starved.past; spans = refl; since = refl; told = refl })
       | inr noted ↦ noted_disk_time step site disk (call_of asked ok) told_stays kept made.time noted
     ]
 
@@ -198,6 +205,7 @@ disk_call asked step ok site disk told_stays kept made called = record {
   link = refl;
   counted = made.counted;
   time = disk_time asked step ok site disk told_stays kept made called;
+  one_moment = omega (arith, made.one_moment);
 }
 
 pub unchanged_leaves_told : LeavesTold Unchanged
@@ -215,7 +223,8 @@ torn_leaves_told at n = record {
 durable_at : (site : SiteState) (seen : List ℕ) (p : Left) → LeavesOnly seen (memory_device site.disk) → SiteLeaves site (disk_calls site + length site.spans) p
     → p.image ≡ seen
 durable_at site seen p only (now left told) =
-    only (record { image = p.image; told = [] }) (record { moment = left.moment; later = omega (arith, left.later); within = left.within; image = left.leaves; told = refl })
+    only (record { image = p.image; told = [] }) (record { moment = left.moment; later = omega (arith, left.later); within = left.within; image = left.leaves;
+        told = refl })
 durable_at site seen p only (earlier n span within at left told) = absurd (omega (arith, within, left.within, left.later))
 durable_at site seen p only (ending n span within at left so_far) = absurd (omega (arith, within, left.within, left.later))
 
@@ -247,7 +256,8 @@ spans_before site last n within = ap (λ spans. told_after spans []) (take-appen
 -- what was told before the last span
 told_before_last : (site : SiteState) (last : Span) → IsKept site → told_after (take (length site.spans) (site.spans ++ last ∷ [])) [] ≡ told_of site
 told_before_last site last kept =
-    spans_before site last (length site.spans) (omega arith) ∙ (ap (λ spans. told_after spans []) (take_all (length site.spans) site.spans (omega arith)) ∙ kept.told)
+    spans_before site last (length site.spans) (omega arith) ∙ (ap (λ spans. told_after spans []) (take_all (length site.spans) site.spans (omega arith)) ∙
+        kept.told)
 
 -- the site with one more span
 abbrev pub with_span : Added → SiteState → List Talk → SiteState
@@ -258,13 +268,16 @@ keeps_ended : (adds : Added) (site : SiteState) (talks : List Talk) (t : ℕ) (p
     → SiteLeaves (with_span adds site talks) t p
 keeps_ended adds site talks t p kept (now left told) =
     let last = ended_by adds site in
-    earlier (length site.spans) last (omega (arith, length_push site.spans last)) (get_or_at site.spans last [] last (length site.spans) refl) (ended_in _ _ _ _ t p.image kept.since left) (told ∙ sym (told_before_last site last kept))
+    earlier (length site.spans) last (omega (arith, length_push site.spans last)) (get_or_at site.spans last [] last (length site.spans) refl)
+        (ended_in _ _ _ _ t p.image kept.since left) (told ∙ sym (told_before_last site last kept))
 keeps_ended adds site talks t p kept (earlier n span within at left told) =
     let last = ended_by adds site in
-    earlier n span (omega (arith, within, length_push site.spans last)) (get_or_append_left site.spans (last ∷ []) span n within ∙ at) left (told ∙ sym (spans_before site last n (omega (arith, within))))
+    earlier n span (omega (arith, within, length_push site.spans last)) (get_or_append_left site.spans (last ∷ []) span n within ∙ at) left
+        (told ∙ sym (spans_before site last n (omega (arith, within))))
 keeps_ended adds site talks t p kept (ending n span within at left so_far) =
     let last = ended_by adds site in
-    ending n span (omega (arith, within, length_push site.spans last)) (get_or_append_left site.spans (last ∷ []) span n within ∙ at) left (subst (λ told. SoFar span.adds told p.told) (sym (spans_before site last n (omega (arith, within)))) so_far)
+    ending n span (omega (arith, within, length_push site.spans last)) (get_or_append_left site.spans (last ∷ []) span n within ∙ at) left
+        (subst (λ told. SoFar span.adds told p.told) (sym (spans_before site last n (omega (arith, within)))) so_far)
 
 -- an image that the disk may leave now, and what was told by then
 follows_at : (step : Left → Left → Type 0) (site : SiteState) (p : Left) → LeavesAt site.disk.past (disk_calls site) p.image
@@ -301,15 +314,18 @@ split_ended : (step : Left → Left → Type 0) (adds : Added) (site : SiteState
 split_ended step adds site talks t p kept steps (now left told) =
     let at_last : LeavesAt site.disk.past (disk_calls site) p.image =
     subst (λ n. LeavesAt site.disk.past n p.image) (omega (arith, left.begun, left.not_over)) left.leaves in
-    inr (follows_at step site p at_last (subst (λ u. step (record { image = p.image; told = told_of site }) (record { image = p.image; told = u })) (sym told) (steps.whole p.image)))
+    inr (follows_at step site p at_last (subst (λ u. step (record { image = p.image; told = told_of site }) (record { image = p.image; told = u })) (sym told)
+        (steps.whole p.image)))
 split_ended step adds site talks t p kept steps (earlier n span within at left told) =
     let last = ended_by adds site in
     elim (cases_lt n (length site.spans)) [
-      | inl old ↦ inl (earlier n span old (sym (get_or_append_left site.spans (last ∷ []) span n old) ∙ at) left (told ∙ spans_before site last n (omega (arith, old))))
+      | inl old ↦ inl (earlier n span old (sym (get_or_append_left site.spans (last ∷ []) span n old) ∙ at) left
+          (told ∙ spans_before site last n (omega (arith, old))))
       | inr past ↦
           let is = is_last site last span n within past at in
           let there : LeavesIn site.disk.past site.since (disk_calls site) (length site.spans) t p.image =
-          subst (λ s. LeavesIn site.disk.past s.from s.to (length site.spans) t p.image) is.1 (subst (λ m. LeavesIn site.disk.past span.from span.to m t p.image) is.0 left) in
+          subst (λ s. LeavesIn site.disk.past s.from s.to (length site.spans) t p.image) is.1
+              (subst (λ m. LeavesIn site.disk.past span.from span.to m t p.image) is.0 left) in
           inl (now (record {
             moment = there.moment;
             begun = omega (arith, there.begun);
@@ -322,14 +338,17 @@ split_ended step adds site talks t p kept steps (earlier n span within at left t
 split_ended step adds site talks t p kept steps (ending n span within at left so_far) =
     let last = ended_by adds site in
     elim (cases_lt n (length site.spans)) [
-      | inl old ↦ inl (ending n span old (sym (get_or_append_left site.spans (last ∷ []) span n old) ∙ at) left (subst (λ told. SoFar span.adds told p.told) (spans_before site last n (omega (arith, old))) so_far))
+      | inl old ↦ inl (ending n span old (sym (get_or_append_left site.spans (last ∷ []) span n old) ∙ at) left
+          (subst (λ told. SoFar span.adds told p.told) (spans_before site last n (omega (arith, old))) so_far))
       | inr past ↦
           let is = is_last site last span n within past at in
           let there : LeavesIn site.disk.past (disk_calls site) (disk_calls site) n t p.image =
           subst (λ s. LeavesIn site.disk.past s.to s.to n t p.image) is.1 left in
           let so : SoFar adds (told_of site) p.told =
-          subst (λ told. SoFar adds told p.told) (ap (λ m. told_after (take m (site.spans ++ last ∷ [])) []) is.0 ∙ told_before_last site last kept) (subst (λ s. SoFar s.adds (told_after (take n (site.spans ++ last ∷ [])) []) p.told) is.1 so_far) in
-          inr (follows_at step site p (subst (λ m. LeavesAt site.disk.past m p.image) (omega (arith, there.begun, there.not_over)) there.leaves) (steps.part p.image p.told so))
+          subst (λ told. SoFar adds told p.told) (ap (λ m. told_after (take m (site.spans ++ last ∷ [])) []) is.0 ∙ told_before_last site last kept)
+              (subst (λ s. SoFar s.adds (told_after (take n (site.spans ++ last ∷ [])) []) p.told) is.1 so_far) in
+          inr (follows_at step site p (subst (λ m. LeavesAt site.disk.past m p.image) (omega (arith, there.begun, there.not_over)) there.leaves)
+              (steps.part p.image p.told so))
     ]
 
 ends_now : (step : Left → Left → Type 0) (adds : Added) (site : SiteState) (talks : List Talk) (p : Left)
@@ -339,7 +358,8 @@ ends_now : (step : Left → Left → Type 0) (adds : Added) (site : SiteState) (
 ends_now step adds site talks p whole (now left told) =
     let at_last : LeavesAt site.disk.past (disk_calls site) p.image =
     subst (λ n. LeavesAt site.disk.past n p.image) (omega (arith, left.begun, left.not_over)) left.leaves in
-    follows_at step site p at_last (subst (λ u. step (record { image = p.image; told = told_of site }) (record { image = p.image; told = u })) (sym told) (whole p.image))
+    follows_at step site p at_last (subst (λ u. step (record { image = p.image; told = told_of site }) (record { image = p.image; told = u })) (sym told)
+        (whole p.image))
 ends_now step adds site talks p whole (earlier n span within at left told) =
     absurd (omega (arith, within, left.within, left.later, length_push site.spans (ended_by adds site)))
 ends_now step adds site talks p whole (ending n span within at left so_far) =

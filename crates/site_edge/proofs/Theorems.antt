@@ -63,7 +63,8 @@ prefixes_told told said bytes sent sends is =
     rw (told_now, said_now) (prefixes_push is.told_before is.said_before (is.last ++ sent) (is.last ++ bytes) is.same_length is.prefixes more)
 
 -- or all of them
-pub told_whole : (told said : List (List ℕ)) (bytes : List ℕ) → IsToldToLast told said → IsToldToLast (change_last (λ t. t ++ bytes) told) (said_also bytes said)
+pub told_whole : (told said : List (List ℕ)) (bytes : List ℕ) → IsToldToLast told said
+    → IsToldToLast (change_last (λ t. t ++ bytes) told) (said_also bytes said)
 told_whole told said bytes is = record {
   told_before = is.told_before;
   said_before = is.said_before;
@@ -170,7 +171,8 @@ said_over_failed_say bytes t said old new le call is = record {
       let before = call.time.now p left in
       let tells = before.2 in
       let whole = is.now before.0 before.1 in
-      (rw tells.told.2 (prefixes_told before.0.told said bytes tells.told.0 tells.told.1 whole), rw tells.told.2 (part_length before.0.told said bytes tells.told.0 whole));
+      (rw tells.told.2 (prefixes_told before.0.told said bytes tells.told.0 tells.told.1 whole),
+          rw tells.told.2 (part_length before.0.told said bytes tells.told.0 whole));
 }
 
 -- a peer that comes was told nothing yet, whatever became of the connection before it

@@ -19,7 +19,8 @@ change_last f (x ∷ y ∷ xs) = x ∷ change_last f (y ∷ xs)
 -- What each call to a peer leaves: the disk's count of faults, its bytes and what was handed to it,
 -- and the count of link faults unless it fails. The steps are what it may do to what a crash
 -- leaves, so far at a moment within it, and once it has ended.
-pub record LinkCall (within ended : Left → Left → Type 0) (ok : Bool) (old new : Device) : Type 0 where
+pub record LinkCall (within ended : Left → Left → Type 0) (ok : Bool) (old new : Device) : Type 0
+    where
   pub same : SameDevice old new
   pub faults : new.faults ≡ old.faults
   pub seen : new.seen ≡ old.seen
@@ -31,7 +32,8 @@ pub record LinkCall (within ended : Left → Left → Type 0) (ok : Bool) (old n
 -- far it may have told any prefix.
 pub record Tells (ok : Bool) (bytes : List ℕ) (old new : Left) : Type 0 where
   pub image : new.image ≡ old.image
-  pub told : (sent : List ℕ) × Sends ok bytes sent × (new.told ≡ change_last (λ t. t ++ sent) old.told)
+  pub told : (sent : List ℕ) × Sends ok bytes sent ×
+      (new.told ≡ change_last (λ t. t ++ sent) old.told)
 
 -- a step that adds a connection that was told nothing yet
 pub record AddsConnection (old new : Left) : Type 0 where
@@ -97,7 +99,8 @@ pub record Said (ok : Bool) (bytes : List ℕ) (old new : Device) : Type 0 where
   pub peers : SamePeers old new
   pub under_way : new.link.under_way ≡ old.link.under_way
   pub connections : old.tells ≡ true
-      → (sent : List ℕ) × Sends ok bytes sent × (new.link.connections ≡ change_last (after_say ok sent) old.link.connections)
+      → (sent : List ℕ) × Sends ok bytes sent ×
+          (new.link.connections ≡ change_last (after_say ok sent) old.link.connections)
 
 -- the site after its connection was ended
 pub record Closed (old new : Device) : Type 0 where

@@ -25,5 +25,6 @@ pub extends_more : (old text new : List ℕ) → take (length (old ++ text)) new
     (take (length (old ++ text)) new ≡ take (length (old ++ text)) new) × (take (length old) new ≡ old)
 extends_more old text new h = (
   refl,
-  sym (take-take (length old) (length (old ++ text)) new (omega (arith, length-append old text))) ∙ ap (take (length old)) h ∙ take_at old text (length old) refl,
+  sym (take-take (length old) (length (old ++ text)) new (omega (arith, length-append old text))) ∙ ap (take (length old)) h ∙ take_at old text (length old)
+      refl,
 )

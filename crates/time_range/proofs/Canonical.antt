@@ -58,7 +58,8 @@ split_spells low high range within_low within_high between = (
   record { left = bracket_of low; middle = Split (stamp_of low) (stamp_of high); right = bracket_of high },
   ((stamp_fine low, stamp_fine high), refl),
   (stamp_within low within_low, stamp_within high within_high),
-  subst (λ e. Between e (meant_end (bracket_of high) (stamp_of high)) range) (sym (meant_end-printed low)) (subst (λ e. Between low e range) (sym (meant_end-printed high)) between),
+  subst (λ e. Between e (meant_end (bracket_of high) (stamp_of high)) range) (sym (meant_end-printed low))
+      (subst (λ e. Between low e range) (sym (meant_end-printed high)) between),
 )
 
 -- one timestamp spells the range of one instant

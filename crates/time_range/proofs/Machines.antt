@@ -51,10 +51,12 @@ module _ {S P : Type 0} (next : S → ℕ → Option S) (start : S) (parts : S �
       let cut = take-append-drop (at + 1) (take k text) in
       let same = take-take (at + 1) k text (omega arith) in
       let split : take k text ++ front.0 ≡ take (at + 1) text ++ (drop (at + 1) (take k text) ++ front.0) =
-      ap (λ l. l ++ front.0) (sym cut ∙ ap (λ l. l ++ drop (at + 1) (take k text)) same) ∙ append_assoc (take (at + 1) text) (drop (at + 1) (take k text)) front.0 in
+      ap (λ l. l ++ front.0) (sym cut ∙ ap (λ l. l ++ drop (at + 1) (take k text)) same) ∙ append_assoc (take (at + 1) text) (drop (at + 1) (take k text))
+          front.0 in
       refused reader (take (at + 1) text) _ stuck (subst IsText split front.1) in
       record {
-        no_text = λ text_is. longest (length text) within (omega arith) ([], subst IsText (sym (append-nil (take (length text) text) ∙ take_all (length text) text (omega arith))) text_is);
+        no_text = λ text_is. longest (length text) within (omega arith)
+            ([], subst IsText (sym (append-nil (take (length text) text) ∙ take_all (length text) text (omega arith))) text_is);
         within = omega arith;
         front = reader.completes (take at text) s read;
         longest = longest;

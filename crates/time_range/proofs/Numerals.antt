@@ -31,12 +31,14 @@ numeral_more n d above digit =
     let split = digits_of_step 10 (10 * n + d) (omega arith) (omega arith) in
     let front : (10 * n + d) / 10 ≡ n = omega arith in
     let last : (10 * n + d) % 10 ≡ d = omega arith in
-    let digits : digits_of 10 (10 * n + d) ≡ digits_of 10 n ++ d ∷ [] = split ∙ ap (λ q. digits_of 10 q ++ (10 * n + d) % 10 ∷ []) front ∙ ap (λ k. digits_of 10 n ++ k ∷ []) last in
+    let digits : digits_of 10 (10 * n + d) ≡ digits_of 10 n ++ d ∷ [] = split ∙ ap (λ q. digits_of 10 q ++ (10 * n + d) % 10 ∷ []) front ∙ ap
+        (λ k. digits_of 10 n ++ k ∷ []) last in
     numeral_above (10 * n + d) (omega arith) ∙ ap (map (λ k. 48 + k)) digits ∙ map-append (λ k. 48 + k) (digits_of 10 n) (d ∷ [])
     ∙ ap (λ l. l ++ (48 + d) ∷ []) (sym (numeral_above n above))
 
 -- a reader that enters at a digit and goes on at each further one reads every numeral below a bound
-module _ {S : Type 0} (next : S → ℕ → Option S) (enter : S) (at : ℕ → S) (bound : ℕ) (first : (d : ℕ) → d < 10 → next enter (48 + d) ≡ Some (at d)) (more : (n d : ℕ) → 0 < n → d < 10 → 10 * n + d < bound → next (at n) (48 + d) ≡ Some (at (10 * n + d))) where
+module _ {S : Type 0} (next : S → ℕ → Option S) (enter : S) (at : ℕ → S) (bound : ℕ) (first : (d : ℕ) → d < 10 → next enter (48 + d) ≡ Some (at d))
+    (more : (n d : ℕ) → 0 < n → d < 10 → 10 * n + d < bound → next (at n) (48 + d) ≡ Some (at (10 * n + d))) where
   one_digit : (n : ℕ) → n < 10 → run next enter (numeral n) ≡ Some (at n)
   one_digit n digit = ap (run next enter) (numeral_digit n digit) ∙ ap (option_and_then (λ s. Some s)) (first n digit)
 

@@ -103,7 +103,8 @@ ts_too_large text k None (p, fine, spelled, kept) within =
 -- where a byte is refused, the text fails there
 pub range_stops : (text : List ℕ) (at : ℕ) → StopsAt (range_next capped) (Left None) text at → FailsAt IsRangeText text at
 range_stops text at stop =
-    fails_within next_range (Left None) range_read range_text HasFineStamps range_reader text at (kept_stop next_range (range_next capped) cap_range range_capped (Left None) text at stop)
+    fails_within next_range (Left None) range_read range_text HasFineStamps range_reader text at
+        (kept_stop next_range (range_next capped) cap_range range_capped (Left None) text at stop)
 
 -- a text that ends too early fails at its end
 pub range_unfinished : (text : List ℕ) (k : RangeScan) → run (range_next capped) (Left None) text ≡ Some k →
@@ -136,7 +137,8 @@ uncapped_stamp (Some p) h = ap (λ q. Some q) (uncapped p h)
 uncapped_middle : (m : Middle) → IsWithin (cap_middle m) → cap_middle m ≡ m
 uncapped_middle Empty h = refl
 uncapped_middle (Single at) h = ap Single (uncapped at h)
-uncapped_middle (Split first second) h = ap (λ o. Split o (option_map cap_parts second)) (uncapped_stamp first h.0) ∙ ap (Split first) (uncapped_stamp second h.1)
+uncapped_middle (Split first second) h = ap (λ o. Split o (option_map cap_parts second)) (uncapped_stamp first h.0) ∙ ap (Split first)
+    (uncapped_stamp second h.1)
 
 -- `kept_whole` for a timestamp that may be there
 kept_stamp : (o : Option TsParts) → IsStampWithin o → option_map cap_parts o ≡ o

@@ -39,4 +39,5 @@ IsBalanced tree = IsBalancedRoot tree.root
 abbrev pub IsTakenFrom : {V : Type 0} → List (ℤ × V) × ℕ → Option (Taken V) → Type 0
 IsTakenFrom tree None = tree ≡ ([], 0)
 IsTakenFrom tree (Some taken) =
-    (tree.0 ≡ (taken.key, taken.value.value) ∷ taken.rest.0) × ((taken.rest.1 ≤ tree.1) × (tree.1 ≤ taken.rest.1 + 1))
+    (tree.0 ≡ (taken.key, taken.value.value) ∷ taken.rest.0) ×
+        ((taken.rest.1 ≤ tree.1) × (tree.1 ≤ taken.rest.1 + 1))

@@ -3,7 +3,8 @@ use Rattle.std.specs.Prelude.{◌≡◌, ℕ, ℤ, ◌+◌, ◌-◌, ◌≤◌, 
 use Rattle.shared_tree.specs.Pairs.{values}
 
 -- the values of these pairs were appended as far as there was room, and so much room is left
-pub record Walked {V : Type 0} (before after : List V) (room left : ℕ) (ps : List (ℤ × V)) : Type 0 where
+pub record Walked {V : Type 0} (before after : List V) (room left : ℕ) (ps : List (ℤ × V)) : Type 0
+    where
   pub values : after ≡ before ++ take room (values ps)
   pub rest : left ≡ room - length ps
 

@@ -23,7 +23,8 @@ returns-in_err-make_store g c =
       moments = λ rest none.
           let size = (g.met.D.Disk.sound c.args.disk.now).length rest.shows ∙ sym (c.len.ensures ∙ first.reads.calls.same.size) in
           let fits = rw (← size) at (c.if-not-fits_store.ensures.0 refl) in
-          formats _ rest none _ _ fits c.ranges.id.fits false c.in_ok-gate.gate _ _ _ _ c.header_bytes.ensures (c.deref.ensures.value ∙ c.in_ok-half.ensures.text) first.reads (first.gate rest.shows) c.in_err-make_store.ensures.moments;
+          formats _ rest none _ _ fits c.ranges.id.fits false c.in_ok-gate.gate _ _ _ _ c.header_bytes.ensures
+              (c.deref.ensures.value ∙ c.in_ok-half.ensures.text) first.reads (first.gate rest.shows) c.in_err-make_store.ensures.moments;
       durable = λ honest. tt;
       others =
           let size = ap length c.deref.ensures.value ∙ c.in_ok-half.ensures.len in
@@ -44,12 +45,14 @@ returns g c =
           let made = c.in_ok-make_store.ensures.written (first.reads.calls.same.shows ∙ shows) in (
             not_store _ c.in_ok-gate.gate c.in_default.not-Store (first.gate shows),
             fits,
-            reads_formatted _ _ header c.args.rows.now fits c.ranges.id.fits (rw (c.header_bytes.ensures, c.deref.ensures.value, c.in_ok-half.ensures.text, first.reads.seen) at made),
+            reads_formatted _ _ header c.args.rows.now fits c.ranges.id.fits
+                (rw (c.header_bytes.ensures, c.deref.ensures.value, c.in_ok-half.ensures.text, first.reads.seen) at made),
           );
       moments = λ rest none.
           let size = (g.met.D.Disk.sound c.args.disk.now).length rest.shows ∙ sym (c.len.ensures ∙ first.reads.calls.same.size) in
           let fits : FitsStore header (length (g.D.Disk.device c.args.disk.now).seen) c.args.rows.now = rw size (c.if-not-fits_store.ensures.0 refl) in
-          formats _ rest none header c.args.rows.now fits c.ranges.id.fits true c.in_ok-gate.gate _ _ _ _ c.header_bytes.ensures (c.deref.ensures.value ∙ c.in_ok-half.ensures.text) first.reads (first.gate rest.shows) c.in_ok-make_store.ensures.moments;
+          formats _ rest none header c.args.rows.now fits c.ranges.id.fits true c.in_ok-gate.gate _ _ _ _ c.header_bytes.ensures
+              (c.deref.ensures.value ∙ c.in_ok-half.ensures.text) first.reads (first.gate rest.shows) c.in_ok-make_store.ensures.moments;
       durable = λ honest. c.in_ok-make_store.ensures.durable (first.reads.calls.same.honest ∙ honest);
       others =
           let size = ap length c.deref.ensures.value ∙ c.in_ok-half.ensures.len in

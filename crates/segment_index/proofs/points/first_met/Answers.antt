@@ -9,7 +9,8 @@ pub returns-in-Some-clause-row : goal.returns-in-Some-clause-row
 returns-in-Some-clause-row g c =
     let before = row_of (reaching c.args.low.now (last (filter (is_up_to c.args.low.now) c.args.rows.now))) in
     let next = row_of (beginning_by c.args.high.now (first (filter (is_above c.args.low.now) c.args.rows.now))) in
-    let whole = first_between c.args.low.now c.args.high.now c.args.rows.now c.requires.ordered c.requires.kept.keyed c.requires.kept.apart c.keys_rise.ensures in
+    let whole = first_between c.args.low.now c.args.high.now c.args.rows.now c.requires.ordered c.requires.kept.keyed c.requires.kept.apart c.keys_rise.ensures
+        in
     some_first before next whole c.in-Some.ensures.row
 
 -- otherwise the first one behind it that begins by the high point
@@ -17,5 +18,6 @@ pub returns-in-None-clause-row : goal.returns-in-None-clause-row
 returns-in-None-clause-row g c =
     let before = row_of (reaching c.args.low.now (last (filter (is_up_to c.args.low.now) c.args.rows.now))) in
     let next = row_of (beginning_by c.args.high.now (first (filter (is_above c.args.low.now) c.args.rows.now))) in
-    let whole = first_between c.args.low.now c.args.high.now c.args.rows.now c.requires.ordered c.requires.kept.keyed c.requires.kept.apart c.keys_rise.ensures in
+    let whole = first_between c.args.low.now c.args.high.now c.args.rows.now c.requires.ordered c.requires.kept.keyed c.requires.kept.apart c.keys_rise.ensures
+        in
     none_first before next whole c.in-None.ensures.row c.first_beginning.ensures.row

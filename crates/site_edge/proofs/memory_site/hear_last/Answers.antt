@@ -6,7 +6,8 @@ use Rattle.site_edge.proofs.memory_site.hear_last.Goals as goal
 pub returns-clause-heard : goal.returns-clause-heard
 returns-clause-heard c =
     let lines = c.args.lines.now in
-    set_last (with_connection (heard_more c.hear.result c.hear.new.out)) lines.items _ c.index_mut.result.now _ (omega (arith, lines.ok.0)) c.index_mut.ensures.value c.hear.ensures.heard
+    set_last (with_connection (heard_more c.hear.result c.hear.new.out)) lines.items _ c.index_mut.result.now _ (omega (arith, lines.ok.0))
+        c.index_mut.ensures.value c.hear.ensures.heard
 
 pub returns-clause-end : goal.returns-clause-end
 returns-clause-end c =

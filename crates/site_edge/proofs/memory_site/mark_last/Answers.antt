@@ -6,4 +6,5 @@ use Rattle.site_edge.proofs.memory_site.mark_last.Goals as goal
 pub returns : goal.returns
 returns c =
     let lines = c.args.lines.now in
-    set_last (with_connection (marked c.args.passed)) lines.items _ c.index_mut.result.now _ (omega (arith, lines.ok.0)) c.index_mut.ensures.value c.mark.ensures
+    set_last (with_connection (marked c.args.passed)) lines.items _ c.index_mut.result.now _ (omega (arith, lines.ok.0)) c.index_mut.ensures.value
+        c.mark.ensures

@@ -12,8 +12,10 @@ returns-clause-content g c = λ shows held given.
     let half = ap (λ (p : Position). p.half) c.self.view_is in
     let blocks = ap (λ (p : Position). p.blocks) c.self.view_is in
     let start = c.other_half-start.ensures.start ∙ ap other_start c.self.view_is in
-    let there = content_there c.args.self.now c.other_half-start.result c.args.rows.now start (omega (arith, half, c.if-size-bytes.false)) (omega (arith, c.if-size-bytes.false, c.self.invariant.half))
-    (g.D.Disk.device c.args.disk.now).seen _ held (omega (arith, whole, c.self.invariant.sizes, c.requires.device, half, blocks, c.other_half-start.ensures.most, c.if-size-bytes.false)) (c.in_ok-switch_half.ensures.written shows) given in
+    let there = content_there c.args.self.now c.other_half-start.result c.args.rows.now start (omega (arith, half, c.if-size-bytes.false))
+        (omega (arith, c.if-size-bytes.false, c.self.invariant.half))
+    (g.D.Disk.device c.args.disk.now).seen _ held (omega (arith, whole, c.self.invariant.sizes, c.requires.device, half, blocks,
+        c.other_half-start.ensures.most, c.if-size-bytes.false)) (c.in_ok-switch_half.ensures.written shows) given in
     rw c.other_half-start.ensures.start (rw (← c.self.view_is) at there)
 
 pub returns-clause-elsewhere : goal.returns-clause-elsewhere
@@ -22,8 +24,11 @@ returns-clause-elsewhere g c = λ shows.
     let half = ap (λ (p : Position). p.half) c.self.view_is in
     let blocks = ap (λ (p : Position). p.blocks) c.self.view_is in
     let start = c.other_half-start.ensures.start ∙ ap other_start c.self.view_is in
-    wrote_there c.args.self.now c.other_half-start.result c.args.rows.now start (omega (arith, half, c.if-size-bytes.false)) (omega (arith, c.if-size-bytes.false, c.self.invariant.half))
-    (g.D.Disk.device c.args.disk.now).seen _ c.other_half-start.ensures.least (omega (arith, whole, c.self.invariant.sizes, c.requires.device, half, blocks, c.other_half-start.ensures.most, c.if-size-bytes.false)) (c.in_ok-switch_half.ensures.written shows)
+    wrote_there c.args.self.now c.other_half-start.result c.args.rows.now start (omega (arith, half, c.if-size-bytes.false))
+        (omega (arith, c.if-size-bytes.false, c.self.invariant.half))
+    (g.D.Disk.device c.args.disk.now).seen _ c.other_half-start.ensures.least
+        (omega (arith, whole, c.self.invariant.sizes, c.requires.device, half, blocks, c.other_half-start.ensures.most, c.if-size-bytes.false))
+        (c.in_ok-switch_half.ensures.written shows)
 
 -- The half is whole in each image before the selector is written, and both halves read so then.
 pub returns-clause-moments : goal.returns-clause-moments
@@ -32,8 +37,10 @@ returns-clause-moments g c = λ honest shows held each.
     let half = ap (λ (p : Position). p.half) c.self.view_is in
     let blocks = ap (λ (p : Position). p.blocks) c.self.view_is in
     let start = c.other_half-start.ensures.start ∙ ap other_start c.self.view_is in
-    moments_there c.args.self.now c.other_half-start.result c.args.rows.now start (omega (arith, half, c.if-size-bytes.false)) (omega (arith, c.if-size-bytes.false, c.self.invariant.half))
-    true (g.D.Disk.device c.args.disk.now) _ held (omega (arith, whole, c.self.invariant.sizes, c.requires.device, half, blocks, c.other_half-start.ensures.most, c.if-size-bytes.false)) each
+    moments_there c.args.self.now c.other_half-start.result c.args.rows.now start (omega (arith, half, c.if-size-bytes.false))
+        (omega (arith, c.if-size-bytes.false, c.self.invariant.half))
+    true (g.D.Disk.device c.args.disk.now) _ held (omega (arith, whole, c.self.invariant.sizes, c.requires.device, half, blocks,
+        c.other_half-start.ensures.most, c.if-size-bytes.false)) each
     (c.in_ok-switch_half.ensures.moments honest shows)
 
 pub returns-clause-acknowledged : goal.returns-clause-acknowledged
@@ -49,8 +56,10 @@ returns-in_err-switch_half-clause-moments g c =
     let half = ap (λ (p : Position). p.half) c.self.view_is in
     let blocks = ap (λ (p : Position). p.blocks) c.self.view_is in
     let start = c.other_half-start.ensures.start ∙ ap other_start c.self.view_is in
-    moments_there c.args.self.now c.other_half-start.result c.args.rows.now start (omega (arith, half, c.if-size-bytes.false)) (omega (arith, c.if-size-bytes.false, c.self.invariant.half))
-    false (g.D.Disk.device c.args.disk.now) _ held (omega (arith, whole, c.self.invariant.sizes, c.requires.device, half, blocks, c.other_half-start.ensures.most, c.if-size-bytes.false)) each
+    moments_there c.args.self.now c.other_half-start.result c.args.rows.now start (omega (arith, half, c.if-size-bytes.false))
+        (omega (arith, c.if-size-bytes.false, c.self.invariant.half))
+    false (g.D.Disk.device c.args.disk.now) _ held (omega (arith, whole, c.self.invariant.sizes, c.requires.device, half, blocks,
+        c.other_half-start.ensures.most, c.if-size-bytes.false)) each
     (c.in_err-switch_half.ensures.moments honest shows))
 
 pub returns-in_err-switch_half-clause-left : goal.returns-in_err-switch_half-clause-left
