@@ -75,8 +75,10 @@ unfolding change_spelling
 change_lawful =
     via_lawful change_with change_fields _ fields-change change-fields
     (one_kind 1 2 (at_moment flow_spelling) _ (omega arith) (at_moment_lawful _ flow_lawful)
-    (one_kind 2 3 (at_moment (pair u128_spelling flow_part_spelling)) _ (omega arith) (at_moment_lawful _ (pair_lawful u128_spelling _ u128_lawful flow_part_lawful))
-    (one_kind 3 4 (at_moment (pair u128_spelling source_part_spelling)) _ (omega arith) (at_moment_lawful _ (pair_lawful u128_spelling _ u128_lawful source_part_lawful))
+    (one_kind 2 3 (at_moment (pair u128_spelling flow_part_spelling)) _ (omega arith)
+    (at_moment_lawful _ (pair_lawful u128_spelling _ u128_lawful flow_part_lawful))
+    (one_kind 3 4 (at_moment (pair u128_spelling source_part_spelling)) _ (omega arith)
+    (at_moment_lawful _ (pair_lawful u128_spelling _ u128_lawful source_part_lawful))
     (one_kind 4 5 (at_moment u128_spelling) _ (omega arith) (at_moment_lawful _ u128_lawful)
     (one_kind 5 6 (at_moment (pair u128_spelling (listed text_spelling))) _ (omega arith)
     (at_moment_lawful _ (pair_lawful u128_spelling _ u128_lawful (listed_lawful text_spelling text_lawful)))

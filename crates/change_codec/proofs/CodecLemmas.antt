@@ -14,7 +14,8 @@ use Rattle.change_codec.proofs.ChangeLaws.{change_lawful}
 use Rattle.change_codec.proofs.RowLaws.{row_lawful}
 
 -- where bytes remain behind a value that was read, the first of them is the place of the fault
-pub bytes_remain : {A : Type 0} (f : Spelling A) (bytes rest : List ℕ) (x : A) (left : ℕ) → Lawful f → IsBytes bytes → f.read bytes ≡ Ok (x, rest) → left ≡ length rest → (left ≡ 0 → ⊥) → WholeFault f bytes left
+pub bytes_remain : {A : Type 0} (f : Spelling A) (bytes rest : List ℕ) (x : A) (left : ℕ) → Lawful f → IsBytes bytes → f.read bytes ≡ Ok (x, rest)
+    → left ≡ length rest → (left ≡ 0 → ⊥) → WholeFault f bytes left
 bytes_remain f bytes rest x left law is e size some = rw size (left_over f law bytes rest x is e (λ none. some (size ∙ none)))
 
 -- ---- changes
@@ -32,13 +33,15 @@ change_fault bytes left is fault =
 pub row_written : (old : List ℕ) (row : Row) (text new : List ℕ) → Wrote row_spelling [] row text → new ≡ old ++ text → AppendsRow old row new
 row_written old row text new w e = record { spelling = text; spells = record { fits = w.fits; whole = w.written ∙ row_lawful.adds [] row }; appended = e }
 
-pub row_read : (bytes rest : List ℕ) (row : Row) → IsBytes bytes → row_spelling.read bytes ≡ Ok (row, rest) → BeginsWithRow bytes row (length bytes - length rest)
+pub row_read : (bytes rest : List ℕ) (row : Row) → IsBytes bytes → row_spelling.read bytes ≡ Ok (row, rest)
+    → BeginsWithRow bytes row (length bytes - length rest)
 row_read bytes rest row is e =
     let within = less_left row_spelling row_lawful bytes rest row is e in
     record { rest = rest; begins = row_lawful.takes bytes row rest is e; place = omega arith }
 
 -- bytes begin with one row at most
-pub one_row : (bytes : List ℕ) (row other : Row) (taken more : ℕ) → BeginsWithRow bytes row taken → BeginsWithRow bytes other more → (row ≡ other) × (taken ≡ more)
+pub one_row : (bytes : List ℕ) (row other : Row) (taken more : ℕ) → BeginsWithRow bytes row taken → BeginsWithRow bytes other more
+    → (row ≡ other) × (taken ≡ more)
 one_row bytes row other taken more a b =
     let same = one_front row_spelling row_lawful bytes row other a.rest b.rest a.begins b.begins in
     (same.0, omega (arith, a.place, b.place, ap length same.1))

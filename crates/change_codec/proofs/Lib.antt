@@ -6,3 +6,4 @@ pub mod TagLemmas
 pub mod PartLemmas
 pub mod SizedLemmas
 pub mod CodecLemmas
+pub mod Fitting

@@ -94,13 +94,15 @@ event_row_lawful =
 
 -- ---- fields behind their length
 
-measured_is : {A : Type 0} (spell : A → List ℕ) (n : ℕ) (x y : A) (b : Bool) → (length (spell x) == n) ≡ b → (if b then Some x else None) ≡ Some y → (length (spell y) ≡ n) × (y ≡ x)
+measured_is : {A : Type 0} (spell : A → List ℕ) (n : ℕ) (x y : A) (b : Bool) → (length (spell x) == n) ≡ b → (if b then Some x else None) ≡ Some y
+    → (length (spell y) ≡ n) × (y ≡ x)
 measured_is spell n x y true is e =
     let same : y ≡ x = cc in
     (ap (λ z. length (spell z)) same ∙ eqb-true (length (spell x)) n is, same)
 measured_is spell n x y false is e = absurd cc
 
-sized_laws : {A : Type 0} (f : Spelling A) → NarrowLaws (measured f.spell) (λ x. (length (f.spell x), x)) (λ x. Unit {0}) (λ x. length (f.spell x) < 2 ^ 32) (pair u32_spelling f).fits
+sized_laws : {A : Type 0} (f : Spelling A) → NarrowLaws (measured f.spell) (λ x. (length (f.spell x), x)) (λ x. Unit {0}) (λ x. length (f.spell x) < 2 ^ 32)
+    (pair u32_spelling f).fits
 sized_laws {A = A} f = record {
   is = λ p y fits e.
       let m = measured_is f.spell p.0 p.1 y (length (f.spell p.1) == p.0) refl e in

@@ -80,7 +80,8 @@ flow_head_lawful = pair_lawful u128_spelling _ u128_lawful (pair_lawful u128_spe
 
 flow_texts_lawful : Lawful flow_texts_spelling
 unfolding flow_texts_spelling
-flow_texts_lawful = pair_lawful (optional text_spelling) _ opt_text (pair_lawful (optional text_spelling) _ opt_text (pair_lawful (optional text_spelling) _ opt_text opt_text))
+flow_texts_lawful = pair_lawful (optional text_spelling) _ opt_text
+    (pair_lawful (optional text_spelling) _ opt_text (pair_lawful (optional text_spelling) _ opt_text opt_text))
 
 flow_rest_lawful : Lawful flow_rest_spelling
 unfolding flow_rest_spelling
@@ -99,7 +100,8 @@ unfolding segment_spelling
 segment_lawful =
     via_lawful _ _ _ (λ x. refl) (λ x. refl)
     (pair_lawful text_spelling _ text_lawful (pair_lawful range_spelling _ range_lawful (pair_lawful ts_spelling _ ts_lawful
-    (pair_lawful (optional ts_spelling) _ (optional_lawful ts_spelling ts_lawful) (pair_lawful u64_spelling _ u64_lawful (pair_lawful (optional u64_spelling) _ opt_u64 opt_u64))))))
+    (pair_lawful (optional ts_spelling) _ (optional_lawful ts_spelling ts_lawful)
+    (pair_lawful u64_spelling _ u64_lawful (pair_lawful (optional u64_spelling) _ opt_u64 opt_u64))))))
 
 -- ---- parts
 

@@ -2,3 +2,5 @@ pub mod Values
 pub mod Changes
 pub mod Rows
 pub mod Codec
+pub mod Fitting
+pub mod WorkedFitting

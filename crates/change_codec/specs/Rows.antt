@@ -1,7 +1,6 @@
 -- The spelling of rows: a kind, the length of the fields in 4 bytes, and the fields. Our own rules.
 use Rattle.std.proofs.Common.{inl, inr}
 use Rattle.std.specs.Prelude.{◌⊎◌, ◌==◌, ◌<◌, ◌^◌, ℕ, List, length, Option, Some, None, if◌then◌else◌}
-use Rattle.std.specs.Prelude.{[], ◌∷◌}
 use Rattle.media_rows.specs.Formats.{status_number, all_statuses}
 use Rattle.media_rows.specs.declared.event.EventRow.{EventRow}
 use Rattle.media_rows.specs.declared.flow.FlowRow.{FlowRow}

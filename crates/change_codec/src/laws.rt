@@ -7,6 +7,7 @@ ghost use Rattle.change_codec.specs.Rows.{row_spelling};
 ghost use Rattle.media_rows.specs.declared.change.Change.{Change};
 ghost use Rattle.media_rows.specs.declared.row.Row.{Row};
 ghost use Rattle.media_rows.specs.Snapshot.{kind_number};
+ghost use Rattle.change_codec.specs.WorkedFitting.{FitsAsWorked};
 
 /// Bytes are the spelling of one change at most.
 pub fn changes_have_one_spelling()
@@ -35,4 +36,9 @@ pub fn row_faults_have_one_place()
 /// The first byte of a row's spelling is the number of its kind.
 pub fn rows_begin_with_their_kinds()
     ensures { (row : Row) → slice_get (row_spelling.spell row) 0 ≡ Some (kind_number row) }
+{}
+
+/// What fits a small journal, by hand.
+pub fn fits_as_worked()
+    ensures { FitsAsWorked }
 {}

@@ -16,8 +16,8 @@ mod values;
 mod whole;
 
 pub use crate::laws::{
-    change_faults_have_one_place, changes_have_one_spelling, row_faults_have_one_place,
-    rows_are_no_prefixes, rows_begin_with_their_kinds,
+    change_faults_have_one_place, changes_have_one_spelling, fits_as_worked,
+    row_faults_have_one_place, rows_are_no_prefixes, rows_begin_with_their_kinds,
 };
 pub use crate::whole::{decode_change, decode_row, encode_change, encode_row};
 pub use field_codec::{CodecFault, Fields};

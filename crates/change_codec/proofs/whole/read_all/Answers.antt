@@ -6,7 +6,8 @@ use Rattle.change_codec.proofs.whole.read_all.Goals as goal
 pub returns-in_err-value : goal.returns-in_err-value
 returns-in_err-value g c =
     let p = err_from_is_err_and c.from_residual.result c.from_residual.ensures.1 in
-    rw (p.1, p.2) (read_fault g.T.Field.spelling c.requires c.args.bytes.now c.in_err-value.field-0.0 (λ i. omega (arith, c.type_inv.bytes i)) (rw c.new-input.ensures at c.in_err-value.ensures))
+    rw (p.1, p.2) (read_fault g.T.Field.spelling c.requires c.args.bytes.now c.in_err-value.field-0.0 (λ i. omega (arith, c.type_inv.bytes i))
+    (rw c.new-input.ensures at c.in_err-value.ensures))
 
 -- `search` finds that no byte is left
 pub returns : goal.returns
