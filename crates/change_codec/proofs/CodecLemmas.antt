@@ -3,7 +3,8 @@ use Rattle.std.proofs.Common.{◌≡◌, ◌-◌, ℕ, List, [], ◌++◌, lengt
 use Rattle.std.proofs.lemmas.List.{append-nil}
 use Rattle.media_rows.specs.declared.change.Change.{Change}
 use Rattle.media_rows.specs.declared.row.Row.{Row}
-use Rattle.field_codec.specs.Spelling.{Spelling, Spells, WholeFault}
+use Rattle.field_codec.specs.Meaning.{Spells, WholeFault}
+use Rattle.field_codec.specs.Spelling.{Spelling}
 use Rattle.field_codec.specs.Laws.{IsBytes, Lawful}
 use Rattle.field_codec.specs.Reading.{Wrote}
 use Rattle.field_codec.proofs.Wholes.{one_front, one_value, one_place, one_whole_place, left_over, less_left, fault_within, fault_begins_none, whole_within}
@@ -15,15 +16,15 @@ use Rattle.change_codec.proofs.RowLaws.{row_lawful}
 
 -- where bytes remain behind a value that was read, the first of them is the place of the fault
 pub bytes_remain : {A : Type 0} (f : Spelling A) (bytes rest : List ℕ) (x : A) (left : ℕ) → Lawful f → IsBytes bytes → f.read bytes ≡ Ok (x, rest)
-    → left ≡ length rest → (left ≡ 0 → ⊥) → WholeFault f bytes left
+    → left ≡ length rest → (left ≡ 0 → ⊥) → WholeFault f.meaning bytes left
 bytes_remain f bytes rest x left law is e size some = rw size (left_over f law bytes rest x is e (λ none. some (size ∙ none)))
 
 -- ---- changes
 
-pub change_written : (change : Change) (text : List ℕ) → Wrote change_spelling [] change text → Spells change_spelling text change
+pub change_written : (change : Change) (text : List ℕ) → Wrote change_spelling [] change text → Spells change_spelling.meaning text change
 change_written change text w = record { fits = w.fits; whole = w.written ∙ change_lawful.adds [] change }
 
-pub change_fault : (bytes : List ℕ) (left : ℕ) → IsBytes bytes → WholeFault change_spelling bytes left → ChangeFaultAt bytes (length bytes - left)
+pub change_fault : (bytes : List ℕ) (left : ℕ) → IsBytes bytes → WholeFault change_spelling.meaning bytes left → ChangeFaultAt bytes (length bytes - left)
 change_fault bytes left is fault =
     let within = whole_within change_spelling change_lawful bytes left is fault in
     record { left = left; fault = fault; place = omega arith }
@@ -56,13 +57,13 @@ no_row bytes left e row taken b = fault_begins_none row_spelling row_lawful byte
 
 -- ---- laws
 
-pub one_change : (bytes : List ℕ) (a b : Change) → Spells change_spelling bytes a → Spells change_spelling bytes b → a ≡ b
+pub one_change : (bytes : List ℕ) (a b : Change) → Spells change_spelling.meaning bytes a → Spells change_spelling.meaning bytes b → a ≡ b
 one_change bytes a b left right = one_value change_spelling change_lawful bytes a b left right
 
-pub no_prefix : (text more : List ℕ) (a b : Row) → Spells row_spelling text a → Spells row_spelling (text ++ more) b → more ≡ []
+pub no_prefix : (text more : List ℕ) (a b : Row) → Spells row_spelling.meaning text a → Spells row_spelling.meaning (text ++ more) b → more ≡ []
 no_prefix text more a b left right =
     (one_front row_spelling row_lawful (text ++ more) a b more [] (record { fits = left.fits; parts = ap (λ (t : List ℕ). t ++ more) left.whole })
-    (record { fits = right.fits; parts = right.whole ∙ sym (append-nil (row_spelling.spell b)) })).1
+    (record { fits = right.fits; parts = right.whole ∙ sym (append-nil (row_spelling.meaning.spell b)) })).1
 
 pub one_change_fault : (bytes : List ℕ) (at other : ℕ) → IsBytes bytes → ChangeFaultAt bytes at → ChangeFaultAt bytes other → at ≡ other
 one_change_fault bytes at other is a b =

@@ -34,29 +34,29 @@ flow_row = record { body = plain_flow; created = 0; metadata_updated = 0; segmen
 three_rows : rows_of one_flow ≡ Source source_row ∷ Flow flow_row ∷ Numbers 1 ∷ []
 three_rows = refl
 
-source_size : length (row_spelling.spell (Source source_row)) ≡ 44
+source_size : length (row_spelling.meaning.spell (Source source_row)) ≡ 44
 unfolding row_spelling source_row_spelling flow_row_spelling flow_spelling flow_head_spelling flow_texts_spelling flow_rest_spelling u8_spelling u32_spelling u64_spelling u128_spelling kind_spelling bool_spelling tags_spelling text_spelling
 source_size = simp (length-append, length-u32_bytes, length-u64_bytes, length-u128_bytes) refl
 
-flow_fields : length (flow_row_spelling.spell flow_row) ≡ 66
+flow_fields : length (flow_row_spelling.meaning.spell flow_row) ≡ 66
 unfolding flow_row_spelling flow_spelling flow_head_spelling flow_texts_spelling flow_rest_spelling u8_spelling u32_spelling u64_spelling u128_spelling kind_spelling bool_spelling tags_spelling text_spelling
 flow_fields = simp (length-append, length-u32_bytes, length-u64_bytes, length-u128_bytes) refl
 
 -- a kind and a length stand before the fields
-flow_behind : (row : FlowRow) → length (row_spelling.spell (Flow row)) ≡ 5 + length (flow_row_spelling.spell row)
+flow_behind : (row : FlowRow) → length (row_spelling.meaning.spell (Flow row)) ≡ 5 + length (flow_row_spelling.meaning.spell row)
 unfolding row_spelling u32_spelling
 flow_behind row = simp (length-append, length-u32_bytes) (omega arith)
 
-flow_size : length (row_spelling.spell (Flow flow_row)) ≡ 71
+flow_size : length (row_spelling.meaning.spell (Flow flow_row)) ≡ 71
 flow_size = rw (flow_behind flow_row, flow_fields) refl
 
-numbers_size : length (row_spelling.spell (Numbers 1)) ≡ 13
+numbers_size : length (row_spelling.meaning.spell (Numbers 1)) ≡ 13
 unfolding row_spelling source_row_spelling flow_row_spelling flow_spelling flow_head_spelling flow_texts_spelling flow_rest_spelling u8_spelling u32_spelling u64_spelling u128_spelling kind_spelling bool_spelling tags_spelling text_spelling
 numbers_size = simp (length-append, length-u32_bytes, length-u64_bytes, length-u128_bytes) refl
 
 rows : snapshot_size one_flow ≡ 128
-rows = subst (λ (l : List Row). length (flat_map row_spelling.spell l) ≡ 128) (sym three_rows)
-    (sum3 (row_spelling.spell (Source source_row)) (row_spelling.spell (Flow flow_row)) (row_spelling.spell (Numbers 1)) source_size flow_size numbers_size)
+rows = subst (λ (l : List Row). length (flat_map row_spelling.meaning.spell l) ≡ 128) (sym three_rows)
+    (sum3 (row_spelling.meaning.spell (Source source_row)) (row_spelling.meaning.spell (Flow flow_row)) (row_spelling.meaning.spell (Numbers 1)) source_size flow_size numbers_size)
   where
     sum3 : (a b c : List ℕ) → length a ≡ 44 → length b ≡ 71 → length c ≡ 13 → length (a ++ (b ++ (c ++ []))) ≡ 128
     sum3 a b c x y z = omega (arith, x, y, z, length-append a (b ++ (c ++ [])), length-append b (c ++ []), length-append c [])

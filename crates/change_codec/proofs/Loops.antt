@@ -48,7 +48,7 @@ is_done {A = A} f front count i bytes total le so_far =
 -- so many items are written: what is left to write stands behind them, and they fit
 pub record Written {A : Type 0} (f : Spelling A) (old : List ℕ) (xs : List A) (i : ℕ) (now : List ℕ) : Type 0 where
   pub rest : items_onto f.onto now (drop i xs) ≡ items_onto f.onto old xs
-  pub fits : AllByRecursion f.fits (take i xs)
+  pub fits : AllByRecursion f.meaning.fits (take i xs)
 
 pub none_written : {A : Type 0} (f : Spelling A) (old : List ℕ) (xs : List A) → Written f old xs 0 old
 none_written f old xs = record { rest = refl; fits = tt }
@@ -71,7 +71,7 @@ one_written {A = A} f old xs i x now next lt is before wrote =
     let step : items_onto f.onto next (drop (suc i) xs) ≡ items_onto f.onto now (drop i xs) =
     ap (λ (t : List ℕ). items_onto f.onto t (drop (suc i) xs)) (wrote.written ∙ ap (f.onto now) is)
     ∙ sym (ap (items_onto f.onto now) (drop_one xs i x lt)) in
-    rw more (record { rest = step ∙ before.rest; fits = all_more f.fits xs i x lt before.fits (subst f.fits is wrote.fits) })
+    rw more (record { rest = step ∙ before.rest; fits = all_more f.meaning.fits xs i x lt before.fits (subst f.meaning.fits is wrote.fits) })
 
 drop_all : {A : Type 0} (xs : List A) (i : ℕ) → length xs ≤ i → drop i xs ≡ []
 drop_all xs i le = nil_from_length (drop i xs) (omega (arith, length-drop i xs))
@@ -80,5 +80,5 @@ pub all_written : {A : Type 0} (f : Spelling A) (old : List ℕ) (xs : List A) (
     → Wrote (items f (length xs)) old xs now
 all_written f old xs i now le w = record {
   written = sym (ap (items_onto f.onto now) (drop_all xs i le)) ∙ w.rest;
-  fits = (refl, subst (AllByRecursion f.fits) (take_all i xs le) w.fits);
+  fits = (refl, subst (AllByRecursion f.meaning.fits) (take_all i xs le) w.fits);
 }

@@ -101,20 +101,20 @@ measured_is spell n x y true is e =
     (ap (λ z. length (spell z)) same ∙ eqb-true (length (spell x)) n is, same)
 measured_is spell n x y false is e = absurd cc
 
-sized_laws : {A : Type 0} (f : Spelling A) → NarrowLaws (measured f.spell) (λ x. (length (f.spell x), x)) (λ x. Unit {0}) (λ x. length (f.spell x) < 2 ^ 32)
-    (pair u32_spelling f).fits
+sized_laws : {A : Type 0} (f : Spelling A) → NarrowLaws (measured f.meaning.spell) (λ x. (length (f.meaning.spell x), x)) (λ x. Unit {0}) (λ x. length (f.meaning.spell x) < 2 ^ 32)
+    (pair u32_spelling f).meaning.fits
 sized_laws {A = A} f = record {
   is = λ p y fits e.
-      let m = measured_is f.spell p.0 p.1 y (length (f.spell p.1) == p.0) refl e in
+      let m = measured_is f.meaning.spell p.0 p.1 y (length (f.meaning.spell p.1) == p.0) refl e in
       (ap₂ (λ (n : ℕ) (x : A). (n, x)) m.0 m.1, tt);
-  again = λ y fits has. rw (eq-eqb (length (f.spell y)) (length (f.spell y)) refl) refl;
-  writable = λ y fits has. u32_below (length (f.spell y)) fits.0;
+  again = λ y fits has. rw (eq-eqb (length (f.meaning.spell y)) (length (f.meaning.spell y)) refl) refl;
+  writable = λ y fits has. u32_below (length (f.meaning.spell y)) fits.0;
 }
 
 -- fields behind their length, where the fields are lawful
 pub sized_lawful : {A : Type 0} (f : Spelling A) → Lawful f → Lawful (sized f)
 sized_lawful f law =
-    narrowed_lawful (measured f.spell) (λ x. (length (f.spell x), x)) (λ x. Unit {0}) (λ x. length (f.spell x) < 2 ^ 32) (pair u32_spelling f) (sized_laws f)
+    narrowed_lawful (measured f.meaning.spell) (λ x. (length (f.meaning.spell x), x)) (λ x. Unit {0}) (λ x. length (f.meaning.spell x) < 2 ^ 32) (pair u32_spelling f) (sized_laws f)
     (pair_lawful u32_spelling f u32_lawful law)
 
 -- ---- rows
@@ -159,7 +159,7 @@ row_lawful =
 -- ---- kinds
 
 -- a row's first byte is its kind's number
-pub first_is_kind : (row : Row) → slice_get (row_spelling.spell row) 0 ≡ Some (kind_number row)
+pub first_is_kind : (row : Row) → slice_get (row_spelling.meaning.spell row) 0 ≡ Some (kind_number row)
 unfolding row_spelling
 first_is_kind (rows.Source row) = refl
 first_is_kind (rows.Flow row) = refl

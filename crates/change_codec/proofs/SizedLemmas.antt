@@ -9,38 +9,38 @@ use Rattle.change_codec.specs.Rows.{sized}
 
 -- what a value takes of the bytes is its spelling
 taken : {A : Type 0} (f : Spelling A) → Lawful f → (bytes rest : List ℕ) (x : A) → IsBytes bytes → f.read bytes ≡ Ok (x, rest)
-    → length (f.spell x) + length rest ≡ length bytes
+    → length (f.meaning.spell x) + length rest ≡ length bytes
 taken f law bytes rest x is e =
     let b = law.takes bytes x rest is e in
-    omega (arith, ap length b.parts, length-append (f.spell x) rest)
+    omega (arith, ap length b.parts, length-append (f.meaning.spell x) rest)
 
 pub sized_found : {A : Type 0} (f : Spelling A) → Lawful f → (bytes fields rest : List ℕ) (size : ℕ) (x : A) → IsBytes fields
     → u32_spelling.read bytes ≡ Ok (size, fields) → f.read fields ≡ Ok (x, rest)
     → length fields - length rest ≡ size → (sized f).read bytes ≡ Ok (x, rest)
 sized_found f law bytes fields rest size x is head e same =
-    let len : length (f.spell x) ≡ size = omega (arith, taken f law fields rest x is e) in
-    rw (head, e, eq-eqb (length (f.spell x)) size len) refl
+    let len : length (f.meaning.spell x) ≡ size = omega (arith, taken f law fields rest x is e) in
+    rw (head, e, eq-eqb (length (f.meaning.spell x)) size len) refl
 
 pub sized_wrong : {A : Type 0} (f : Spelling A) → Lawful f → (bytes fields rest : List ℕ) (size : ℕ) (x : A) → IsBytes fields
     → u32_spelling.read bytes ≡ Ok (size, fields) → f.read fields ≡ Ok (x, rest)
     → (length fields - length rest ≡ size → ⊥) → (sized f).read bytes ≡ Err (length bytes)
 sized_wrong f law bytes fields rest size x is head e apart =
-    let len : length (f.spell x) ≡ size → ⊥ = λ same. apart (omega (arith, taken f law fields rest x is e, same)) in
-    rw (head, e, ne_eqb (length (f.spell x)) size len) refl
+    let len : length (f.meaning.spell x) ≡ size → ⊥ = λ same. apart (omega (arith, taken f law fields rest x is e, same)) in
+    rw (head, e, ne_eqb (length (f.meaning.spell x)) size len) refl
 
 -- the fields, which were written by themselves, are the value's spelling
-pub fields_are : {A : Type 0} (f : Spelling A) → Lawful f → (x : A) (fields : List ℕ) → Wrote f [] x fields → fields ≡ f.spell x
+pub fields_are : {A : Type 0} (f : Spelling A) → Lawful f → (x : A) (fields : List ℕ) → Wrote f [] x fields → fields ≡ f.meaning.spell x
 fields_are f law x fields w = w.written ∙ law.adds [] x
 
 pub sized_wrote : {A : Type 0} (f : Spelling A) → Lawful f → (kind middle new fields : List ℕ) (x : A) → Wrote f [] x fields
     → Wrote u32_spelling kind (length fields) middle
-    → new ≡ middle ++ fields → length (f.spell x) < 2 ^ 32 → Wrote (sized f) kind x new
+    → new ≡ middle ++ fields → length (f.meaning.spell x) < 2 ^ 32 → Wrote (sized f) kind x new
 sized_wrote f law kind middle new fields x wrote head behind short =
     let is = fields_are f law x fields wrote in
-    let len : length fields ≡ length (f.spell x) = ap length is in
+    let len : length fields ≡ length (f.meaning.spell x) = ap length is in
     record {
       written =
           behind ∙ ap (λ (t : List ℕ). middle ++ t) is ∙ sym (law.adds middle x)
           ∙ ap (λ (t : List ℕ). f.onto t x) (head.written ∙ ap (u32_spelling.onto kind) len);
-      fits = ((subst u32_spelling.fits len head.fits, wrote.fits), tt);
+      fits = ((subst u32_spelling.meaning.fits len head.fits, wrote.fits), tt);
     }

@@ -2,13 +2,13 @@
 use Rattle.std.specs.Prelude.{◌≡◌, ◌+◌, ◌++◌, ℕ, List, length}
 use Rattle.media_rows.specs.declared.change.Change.{Change}
 use Rattle.media_rows.specs.declared.row.Row.{Row}
-use Rattle.field_codec.specs.Spelling.{SpellsFirst, Spells, WholeFault}
+use Rattle.field_codec.specs.Meaning.{SpellsFirst, Spells, WholeFault}
 use Rattle.change_codec.specs.Changes.{change_spelling}
 use Rattle.change_codec.specs.Rows.{row_spelling}
 
 -- the bytes are the change's spelling
 abbrev pub SpellsChange : List ℕ → Change → Type 0
-SpellsChange bytes change = Spells change_spelling bytes change
+SpellsChange bytes change = Spells change_spelling.meaning bytes change
 
 -- The change can be written: its tags rise by name and a single one has one value, the name beside
 -- a tag is the tag's, a part of a source is a tag, a label or a description, and each text has
@@ -19,19 +19,19 @@ CanWriteChange change = change_spelling.asks change
 -- The bytes are no change's spelling: there a field is faulty, or bytes remain behind the last one.
 pub record ChangeFaultAt (bytes : List ℕ) (at : ℕ) : Type 0 where
   pub left : ℕ
-  pub fault : WholeFault change_spelling bytes left
+  pub fault : WholeFault change_spelling.meaning bytes left
   pub place : at + left ≡ length bytes
 
 -- the bytes begin with the row's spelling, which takes so many of them
 pub record BeginsWithRow (bytes : List ℕ) (row : Row) (taken : ℕ) : Type 0 where
   pub rest : List ℕ
-  pub begins : SpellsFirst row_spelling bytes row rest
+  pub begins : SpellsFirst row_spelling.meaning bytes row rest
   pub place : taken + length rest ≡ length bytes
 
 -- the row's spelling stands behind what was there
 pub record AppendsRow (old : List ℕ) (row : Row) (new : List ℕ) : Type 0 where
   pub spelling : List ℕ
-  pub spells : Spells row_spelling spelling row
+  pub spells : Spells row_spelling.meaning spelling row
   pub appended : new ≡ old ++ spelling
 
 -- The row can be written: as for changes, and its fields together have fewer than 2 ^ 32 bytes.
@@ -41,5 +41,5 @@ CanWriteRow row = row_spelling.asks row
 -- The bytes begin with no row's spelling: there a field is faulty.
 pub record RowFaultAt (bytes : List ℕ) (at : ℕ) : Type 0 where
   pub left : ℕ
-  pub fault : row_spelling.faulty bytes left
+  pub fault : row_spelling.meaning.faulty bytes left
   pub place : at + left ≡ length bytes

@@ -20,11 +20,11 @@ pub record State : Type 0 where
 
 -- the length of a change's bytes
 abbrev pub change_size : Change → ℕ
-change_size change = length (change_spelling.spell change)
+change_size change = length (change_spelling.meaning.spell change)
 
 -- the length of the snapshot rows of a library
 abbrev pub snapshot_size : Library → ℕ
-snapshot_size library = length (flat_map row_spelling.spell (rows_of library))
+snapshot_size library = length (flat_map row_spelling.meaning.spell (rows_of library))
 
 -- the record of a change fits the room
 abbrev pub fits_room : State → Change → Bool

@@ -141,8 +141,8 @@ measured spell p = if length (spell p.1) == p.0 then Some p.1 else None
 -- length. A length that isn't the value's is faulty at its own beginning.
 abbrev pub sized : {A : Type 0} → Spelling A → Spelling A
 sized f =
-    narrowed (measured f.spell) (λ x. (length (f.spell x), x)) (λ x. Unit {0})
-    (λ x. length (f.spell x) < 2 ^ 32) (pair u32_spelling f)
+    narrowed (measured f.meaning.spell) (λ x. (length (f.meaning.spell x), x)) (λ x. Unit {0})
+    (λ x. length (f.meaning.spell x) < 2 ^ 32) (pair u32_spelling f)
 
 -- ---- rows
 

@@ -1,6 +1,6 @@
 //! Laws of the spellings, which hold of all bytes.
 ghost use Rattle.std.specs.Prelude.{◌≡◌, ◌++◌, [], List, ℕ, Some, slice_get};
-ghost use Rattle.field_codec.specs.Spelling.{Spells};
+ghost use Rattle.field_codec.specs.Meaning.{Spells};
 ghost use Rattle.field_codec.specs.Laws.{IsBytes};
 ghost use Rattle.change_codec.specs.Codec.{SpellsChange, ChangeFaultAt, RowFaultAt};
 ghost use Rattle.change_codec.specs.Rows.{row_spelling};
@@ -18,7 +18,7 @@ pub fn changes_have_one_spelling()
 /// No spelling of a row is a proper prefix of another's.
 pub fn rows_are_no_prefixes()
     ensures { (text more : List ℕ) (a b : Row) →
-        Spells row_spelling text a → Spells row_spelling (text ++ more) b → more ≡ [] }
+        Spells row_spelling.meaning text a → Spells row_spelling.meaning (text ++ more) b → more ≡ [] }
 {}
 
 /// The fault of some bytes as a change has one place.
@@ -35,7 +35,7 @@ pub fn row_faults_have_one_place()
 
 /// The first byte of a row's spelling is the number of its kind.
 pub fn rows_begin_with_their_kinds()
-    ensures { (row : Row) → slice_get (row_spelling.spell row) 0 ≡ Some (kind_number row) }
+    ensures { (row : Row) → slice_get (row_spelling.meaning.spell row) 0 ≡ Some (kind_number row) }
 {}
 
 /// What fits a small journal, by hand.

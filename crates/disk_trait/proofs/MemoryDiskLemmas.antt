@@ -72,7 +72,7 @@ ends_noted : (call : Call) (past : Past) (p : Left) → LeavesSince (with_call c
     → Follows (step_of call) (LeavesSince past (length past.calls)) p
 ends_noted call past p left =
     last_follows call past p (subst (λ n. LeavesAt (with_call call past) n p.image) (omega (arith, left.later, left.within, length_push past.calls call))
-        left.image) left.told
+    left.image) left.told
 
 keeps_noted : (call : Call) (past : Past) (t : ℕ) (p : Left) → LeavesSince past t p → LeavesSince (with_call call past) t p
 keeps_noted call past t p left = record {
@@ -193,7 +193,7 @@ synced true true disk ok = λ p left.
     let after : LeavesAt (with_call call disk.past) (length (disk.past.calls ++ call ∷ [])) p.image =
     subst (λ n. LeavesAt (with_call call disk.past) n p.image) (omega (arith, left.later, left.within)) left.image in
     subst (λ F. F p.image) (left_after-push disk.past.calls call disk.past.first (λ i. i ≡ disk.past.first))
-        (subst (λ T. T) (leaves_at_last (with_call call disk.past) p.image) after)
+    (subst (λ T. T) (leaves_at_last (with_call call disk.past) p.image) after)
 synced true false disk wrong = cc
 synced false passed disk wrong = cc
 

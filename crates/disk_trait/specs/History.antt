@@ -89,7 +89,7 @@ stopped past zero kept = past.first
 stopped past (suc n) kept =
     let before = seen_after (take n past.calls) past.first in
     unwrap_or (option_map (λ call. stopped_within kept call before) (slice_get past.calls n))
-        past.first
+    past.first
 
 -- these bytes are what the calls made of those at first, each within them
 pub record IsReplayed (past : Past) (bytes : List ℕ) : Type 0 where

@@ -59,22 +59,25 @@ length-left_after : (calls : List Call) (seen : List ℕ) (left : List ℕ → T
 length-left_after [] seen left sized image now = sized image now
 length-left_after (call ∷ later) seen left sized image now =
     length-left_after later (seen_after_call call seen) (left_after_call call seen left)
-        (λ i could. length-left_after_call call seen left sized i could ∙ sym
-        (length-seen_after_call call seen)) image now ∙ length-seen_after_call call seen
+    (λ i could. length-left_after_call call seen left sized i could ∙ sym
+    (length-seen_after_call call seen)) image now ∙ length-seen_after_call call seen
 
 pub length-leaves_at : (past : Past) (moment : ℕ) (image : List ℕ) → LeavesAt past moment image
     → length image ≡ length (seen_of past)
 length-leaves_at past moment image now =
     length-left_after (take moment past.calls) past.first (λ i. i ≡ past.first)
-        (λ i is. ap length is) image now ∙ sym (length-seen_after past.calls past.first)
+    (λ i is. ap length is) image now ∙ sym (length-seen_after past.calls past.first)
 
 -- a disk as it reads may be left, if it could before the call
 itself_after_call : (call : Call) (seen : List ℕ) (left : List ℕ → Type 0) → left seen
     → left_after_call call seen left (seen_after_call call seen)
 itself_after_call (Read at n passed) seen left now = now
-itself_after_call (Write at bytes passed) seen left now =
-    (seen, now, torn-put_over at (length bytes) (kept_bytes passed bytes) seen
-        (length-kept_bytes passed bytes))
+itself_after_call (Write at bytes passed) seen left now = (
+  seen,
+  now,
+  torn-put_over at (length bytes) (kept_bytes passed bytes) seen
+      (length-kept_bytes passed bytes),
+)
 itself_after_call (Sync true) seen left now = refl
 itself_after_call (Sync false) seen left now = now
 
@@ -84,15 +87,15 @@ pub itself_after : (calls : List Call) (seen : List ℕ) (left : List ℕ → Ty
 itself_after [] seen left now = now
 itself_after (call ∷ later) seen left now =
     itself_after later (seen_after_call call seen) (left_after_call call seen left)
-        (itself_after_call call seen left now)
+    (itself_after_call call seen left now)
 
 -- those at the last moment are those of all calls
 pub leaves_at_last : (past : Past) (image : List ℕ)
     → LeavesAt past (length past.calls) image ≡ left_after past.calls past.first
-        (λ i. i ≡ past.first) image
+    (λ i. i ≡ past.first) image
 leaves_at_last past image =
     ap (λ calls. left_after calls past.first (λ i. i ≡ past.first) image)
-        (take_all (length past.calls) past.calls (omega arith))
+    (take_all (length past.calls) past.calls (omega arith))
 
 -- the images at an earlier moment stay what they were
 pub leaves_at_more : (call : Call) (past : Past) (moment : ℕ) (image : List ℕ)
@@ -100,13 +103,13 @@ pub leaves_at_more : (call : Call) (past : Past) (moment : ℕ) (image : List �
     → LeavesAt (with_call call past) moment image ≡ LeavesAt past moment image
 leaves_at_more call past moment image within =
     ap (λ calls. left_after calls past.first (λ i. i ≡ past.first) image)
-        (take-append-le moment past.calls (call ∷ []) within)
+    (take-append-le moment past.calls (call ∷ []) within)
 
 -- as it reads it may be left now
 pub itself_at_last : (past : Past) → LeavesAt past (length past.calls) (seen_of past)
 itself_at_last past =
     subst (λ T. T) (sym (leaves_at_last past (seen_of past)))
-        (itself_after past.calls past.first (λ i. i ≡ past.first) refl)
+    (itself_after past.calls past.first (λ i. i ≡ past.first) refl)
 
 -- a device in memory is a device
 pub memory_device_is_sound : (disk : DiskState) → IsDevice (memory_device disk)
@@ -114,8 +117,13 @@ memory_device_is_sound disk = record {
   length = λ _. refl;
   images = λ _ t p left. length-leaves_at disk.past left.moment p.image left.image;
   earlier =
-      λ t u p le within left. record { moment = left.moment; later = omega (arith, left.later);
-          within = left.within; image = left.image; told = left.told };
+      λ t u p le within left. record {
+        moment = left.moment;
+        later = omega (arith, left.later);
+        within = left.within;
+        image = left.image;
+        told = left.told;
+      };
   itself = λ _ _ _. record {
     moment = length disk.past.calls;
     later = omega arith;

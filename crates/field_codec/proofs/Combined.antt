@@ -2,7 +2,8 @@
 use Rattle.std.proofs.Common.{◌≡◌, ◌≤◌, ℕ, List, ◌++◌, length, Option, Some, None, Ok, Err, refl, sym, ap, subst, ◌∙◌, append_assoc, arith, inl, inr, ◌⊎◌, length-append}
 use Rattle.std.proofs.lemmas.List.{append-nil}
 use Rattle.std.specs.Prelude.{Bool, true, false, if◌then◌else◌}
-use Rattle.field_codec.specs.Spelling.{Spelling, SpellsFirst, ◌>>=◌, HasNone, found_or, leaf, no_field, followed, pair, via, narrowed, kept, where_is}
+use Rattle.field_codec.specs.Meaning.{SpellsFirst, HasNone}
+use Rattle.field_codec.specs.Spelling.{Spelling, ◌>>=◌, found_or, leaf, no_field, followed, pair, via, narrowed, kept, where_is}
 use Rattle.field_codec.specs.Laws.{IsBytes, Lawful}
 use Rattle.field_codec.proofs.Lawful.{IsBytes-behind, bind_ok, bind_err, ok_is}
 
@@ -65,68 +66,76 @@ nothing_lawful = record {
 
 -- ---- fields one after the other
 
-two_begin : {A B : Type 0} (f : Spelling A) (g : A → Spelling B) (bytes : List ℕ) (x : A) (y : B) (middle rest : List ℕ) → SpellsFirst f bytes x middle
-    → SpellsFirst (g x) middle y rest → SpellsFirst (followed f g) bytes (x, y) rest
+two_begin : {A B : Type 0} (f : Spelling A) (g : A → Spelling B) (bytes : List ℕ) (x : A) (y : B) (middle rest : List ℕ) → SpellsFirst f.meaning bytes x middle
+    → SpellsFirst (g x).meaning middle y rest → SpellsFirst (followed f g).meaning bytes (x, y) rest
 two_begin f g bytes x y middle rest first second = record {
   fits = (first.fits, second.fits);
-  parts = first.parts ∙ ap (λ (t : List ℕ). f.spell x ++ t) second.parts ∙ sym (append_assoc (f.spell x) ((g x).spell y) rest);
+  parts = first.parts ∙ ap (λ (t : List ℕ). f.meaning.spell x ++ t) second.parts ∙ sym (append_assoc (f.meaning.spell x) ((g x).meaning.spell y) rest);
 }
 
 followed_takes : {A B : Type 0} (f : Spelling A) (g : A → Spelling B) → Lawful f → ((x : A) → Lawful (g x)) → (bytes : List ℕ) (x : A × B) (rest : List ℕ)
     → IsBytes bytes
-    → (followed f g).read bytes ≡ Ok (x, rest) → SpellsFirst (followed f g) bytes x rest
+    → (followed f g).read bytes ≡ Ok (x, rest) → SpellsFirst (followed f g).meaning bytes x rest
 followed_takes {A = A} {B = B} f g law laws bytes x rest is e =
     let a = bind_ok (f.read bytes) (λ x. (g x.0).read x.1 >>= λ y. Ok ((x.0, y.0), y.1)) (x, rest) e in
     let b = bind_ok ((g a.0.0).read a.0.1) (λ y. Ok ((a.0.0, y.0), y.1)) (x, rest) a.2 in
     let first = law.takes bytes a.0.0 a.0.1 is a.1 in
-    let second = (laws a.0.0).takes a.0.1 b.0.0 b.0.1 (IsBytes-behind bytes (f.spell a.0.0) a.0.1 is first.parts) b.1 in
-    let whole : SpellsFirst (followed f g) bytes (a.0.0, b.0.0) b.0.1 = two_begin f g bytes a.0.0 b.0.0 a.0.1 b.0.1 first second in
-    subst (λ (p : (A × B) × List ℕ). SpellsFirst (followed f g) bytes p.0 p.1) (ok_is ((a.0.0, b.0.0), b.0.1) (x, rest) b.2) whole
+    let second = (laws a.0.0).takes a.0.1 b.0.0 b.0.1 (IsBytes-behind bytes (f.meaning.spell a.0.0) a.0.1 is first.parts) b.1 in
+    let whole : SpellsFirst (followed f g).meaning bytes (a.0.0, b.0.0) b.0.1 = two_begin f g bytes a.0.0 b.0.0 a.0.1 b.0.1 first second in
+    subst (λ (p : (A × B) × List ℕ). SpellsFirst (followed f g).meaning bytes p.0 p.1) (ok_is ((a.0.0, b.0.0), b.0.1) (x, rest) b.2) whole
 
 followed_again : {A B : Type 0} (f : Spelling A) (g : A → Spelling B) → Lawful f → ((x : A) → Lawful (g x)) → (x : A × B) (rest : List ℕ)
-    → (followed f g).fits x
-    → (followed f g).read ((followed f g).spell x ++ rest) ≡ Ok (x, rest)
+    → (followed f g).meaning.fits x
+    → (followed f g).read ((followed f g).meaning.spell x ++ rest) ≡ Ok (x, rest)
 followed_again f g law laws x rest fits =
-    rw (append_assoc (f.spell x.0) ((g x.0).spell x.1) rest, law.again x.0 ((g x.0).spell x.1 ++ rest) fits.0, (laws x.0).again x.1 rest fits.1) refl
+    rw (append_assoc (f.meaning.spell x.0) ((g x.0).meaning.spell x.1) rest, law.again x.0 ((g x.0).meaning.spell x.1 ++ rest) fits.0, (laws x.0).again x.1 rest fits.1) refl
 
 -- what stands behind a front that is spelled is read
-pub read_behind : {A : Type 0} (f : Spelling A) → Lawful f → (bytes : List ℕ) (x : A) (rest : List ℕ) → SpellsFirst f bytes x rest → f.read bytes ≡ Ok (x, rest)
+pub read_behind : {A : Type 0} (f : Spelling A) → Lawful f → (bytes : List ℕ) (x : A) (rest : List ℕ) → SpellsFirst f.meaning bytes x rest → f.read bytes ≡ Ok (x, rest)
 read_behind f law bytes x rest b = ap f.read b.parts ∙ law.again x rest b.fits
 
 followed_ends : {A B : Type 0} (f : Spelling A) (g : A → Spelling B) → Lawful f → ((x : A) → Lawful (g x)) → (bytes : List ℕ) (left : ℕ) → IsBytes bytes
-    → (followed f g).faulty bytes left → (followed f g).read bytes ≡ Err left
+    → (followed f g).meaning.faulty bytes left → (followed f g).read bytes ≡ Err left
 followed_ends f g law laws bytes left is (inl h) = rw (law.ends bytes left is h) refl
 followed_ends f g law laws bytes left is (inr b) =
-    rw (read_behind f law bytes b.value b.rest b.begins, (laws b.value).ends b.rest left (IsBytes-behind bytes (f.spell b.value) b.rest is b.begins.parts)
-        b.keeps) refl
+    rw (
+      read_behind f law bytes b.value b.rest b.begins,
+      (laws b.value).ends b.rest left (IsBytes-behind bytes (f.meaning.spell b.value) b.rest is b.begins.parts)
+          b.keeps,
+    ) refl
 
 followed_faults : {A B : Type 0} (f : Spelling A) (g : A → Spelling B) → Lawful f → ((x : A) → Lawful (g x)) → (bytes : List ℕ) (left : ℕ) → IsBytes bytes
-    → (followed f g).read bytes ≡ Err left → (followed f g).faulty bytes left
+    → (followed f g).read bytes ≡ Err left → (followed f g).meaning.faulty bytes left
 followed_faults f g law laws bytes left is e =
     elim (bind_err (f.read bytes) (λ x. (g x.0).read x.1 >>= λ y. Ok ((x.0, y.0), y.1)) left e) [
       | inl h ↦ inl (law.faults bytes left is h)
       | inr a ↦
           let first = law.takes bytes a.0.0 a.0.1 is a.1 in
           elim (bind_err ((g a.0.0).read a.0.1) (λ y. Ok ((a.0.0, y.0), y.1)) left a.2) [
-            | inl h ↦ inr (record { value = a.0.0; rest = a.0.1; begins = first; keeps = (laws a.0.0).faults a.0.1 left
-                (IsBytes-behind bytes (f.spell a.0.0) a.0.1 is first.parts) h })
+            | inl h ↦ inr (record {
+              value = a.0.0;
+              rest = a.0.1;
+              begins = first;
+              keeps = (laws a.0.0).faults a.0.1 left
+                  (IsBytes-behind bytes (f.meaning.spell a.0.0) a.0.1 is first.parts) h;
+            })
             | inr b ↦ absurd (let impossible = b.2 in cc)
           ]
     ]
 
 followed_within : {A B : Type 0} (f : Spelling A) (g : A → Spelling B) → Lawful f → ((x : A) → Lawful (g x)) → (bytes : List ℕ) (left : ℕ) → IsBytes bytes
-    → (followed f g).faulty bytes left → left ≤ length bytes
+    → (followed f g).meaning.faulty bytes left → left ≤ length bytes
 followed_within f g law laws bytes left is (inl h) = law.within bytes left is h
 followed_within f g law laws bytes left is (inr b) =
-    let rest_is = IsBytes-behind bytes (f.spell b.value) b.rest is b.begins.parts in
-    omega (arith, (laws b.value).within b.rest left rest_is b.keeps, ap length b.begins.parts, length-append (f.spell b.value) b.rest)
+    let rest_is = IsBytes-behind bytes (f.meaning.spell b.value) b.rest is b.begins.parts in
+    omega (arith, (laws b.value).within b.rest left rest_is b.keeps, ap length b.begins.parts, length-append (f.meaning.spell b.value) b.rest)
 
 pub followed_lawful : {A B : Type 0} (f : Spelling A) (g : A → Spelling B) → Lawful f → ((x : A) → Lawful (g x)) → Lawful (followed f g)
 followed_lawful f g law laws = record {
   takes = followed_takes f g law laws;
   again = followed_again f g law laws;
-  adds = λ front x. (laws x.0).adds (f.onto front x.0) x.1 ∙ ap (λ (t : List ℕ). t ++ (g x.0).spell x.1) (law.adds front x.0) ∙ append_assoc front (f.spell x.0)
-      ((g x.0).spell x.1);
+  adds = λ front x. (laws x.0).adds (f.onto front x.0) x.1 ∙ ap (λ (t : List ℕ). t ++ (g x.0).meaning.spell x.1) (law.adds front x.0) ∙ append_assoc front (f.meaning.spell x.0)
+      ((g x.0).meaning.spell x.1);
   faults = followed_faults f g law laws;
   ends = followed_ends f g law laws;
   within = followed_within f g law laws;
@@ -144,8 +153,8 @@ via_lawful {A = A} {B = B} to from f back forth law = record {
   takes = λ bytes y rest is e.
       let a = bind_ok (f.read bytes) (λ x. Ok (to x.0, x.1)) (y, rest) e in
       let first = law.takes bytes a.0.0 a.0.1 is a.1 in
-      let whole : SpellsFirst (via to from f) bytes (to a.0.0) a.0.1 = record { fits = rw (back a.0.0) first.fits; parts = rw (back a.0.0) first.parts } in
-      subst (λ (p : B × List ℕ). SpellsFirst (via to from f) bytes p.0 p.1) (ok_is (to a.0.0, a.0.1) (y, rest) a.2) whole;
+      let whole : SpellsFirst (via to from f).meaning bytes (to a.0.0) a.0.1 = record { fits = rw (back a.0.0) first.fits; parts = rw (back a.0.0) first.parts } in
+      subst (λ (p : B × List ℕ). SpellsFirst (via to from f).meaning bytes p.0 p.1) (ok_is (to a.0.0, a.0.1) (y, rest) a.2) whole;
   again = λ y rest fits. rw (law.again (from y) rest fits, forth y) refl;
   adds = λ front y. law.adds front (from y);
   faults = λ bytes left is e.
@@ -166,19 +175,19 @@ pub record NarrowLaws {A B : Type 0} (to : A → Option B) (from : B → A) (has
   pub again : (y : B) → given_first (from y) → has y → to (from y) ≡ Some y
   pub writable : (y : B) → given_first (from y) → has y → asks y
 
-narrowed_takes : {A B : Type 0} (to : A → Option B) (from : B → A) (has asks : B → Type 0) (f : Spelling A) → NarrowLaws to from has asks f.fits → Lawful f
+narrowed_takes : {A B : Type 0} (to : A → Option B) (from : B → A) (has asks : B → Type 0) (f : Spelling A) → NarrowLaws to from has asks f.meaning.fits → Lawful f
     → (bytes : List ℕ) (y : B) (rest : List ℕ) → IsBytes bytes → (narrowed to from has asks f).read bytes ≡ Ok (y, rest)
-        → SpellsFirst (narrowed to from has asks f) bytes y rest
+    → SpellsFirst (narrowed to from has asks f).meaning bytes y rest
 narrowed_takes {A = A} {B = B} to from has asks f laws law bytes y rest is e =
     let a = bind_ok (f.read bytes) (λ x. found_or (length bytes) (to x.0) >>= λ y. Ok (y, x.1)) (y, rest) e in
     let b = bind_ok (found_or (length bytes) (to a.0.0)) (λ y. Ok (y, a.0.1)) (y, rest) a.2 in
     let first = law.takes bytes a.0.0 a.0.1 is a.1 in
     let n = laws.is a.0.0 b.0 first.fits (found_ok (length bytes) (to a.0.0) b.0 b.1) in
-    let whole : SpellsFirst (narrowed to from has asks f) bytes b.0 a.0.1 = record { fits = (rw n.0 first.fits, n.1); parts = rw n.0 first.parts } in
-    subst (λ (p : B × List ℕ). SpellsFirst (narrowed to from has asks f) bytes p.0 p.1) (ok_is (b.0, a.0.1) (y, rest) b.2) whole
+    let whole : SpellsFirst (narrowed to from has asks f).meaning bytes b.0 a.0.1 = record { fits = (rw n.0 first.fits, n.1); parts = rw n.0 first.parts } in
+    subst (λ (p : B × List ℕ). SpellsFirst (narrowed to from has asks f).meaning bytes p.0 p.1) (ok_is (b.0, a.0.1) (y, rest) b.2) whole
 
 narrowed_faults : {A B : Type 0} (to : A → Option B) (from : B → A) (has asks : B → Type 0) (f : Spelling A) → Lawful f
-    → (bytes : List ℕ) (left : ℕ) → IsBytes bytes → (narrowed to from has asks f).read bytes ≡ Err left → (narrowed to from has asks f).faulty bytes left
+    → (bytes : List ℕ) (left : ℕ) → IsBytes bytes → (narrowed to from has asks f).read bytes ≡ Err left → (narrowed to from has asks f).meaning.faulty bytes left
 narrowed_faults to from has asks f law bytes left is e =
     elim (bind_err (f.read bytes) (λ x. found_or (length bytes) (to x.0) >>= λ y. Ok (y, x.1)) left e) [
       | inl h ↦ inl (law.faults bytes left is h)
@@ -192,16 +201,16 @@ narrowed_faults to from has asks f law bytes left is e =
     ]
 
 narrowed_ends : {A B : Type 0} (to : A → Option B) (from : B → A) (has asks : B → Type 0) (f : Spelling A) → Lawful f
-    → (bytes : List ℕ) (left : ℕ) → IsBytes bytes → (narrowed to from has asks f).faulty bytes left → (narrowed to from has asks f).read bytes ≡ Err left
+    → (bytes : List ℕ) (left : ℕ) → IsBytes bytes → (narrowed to from has asks f).meaning.faulty bytes left → (narrowed to from has asks f).read bytes ≡ Err left
 narrowed_ends to from has asks f law bytes left is (inl h) = rw (law.ends bytes left is h) refl
 narrowed_ends to from has asks f law bytes left is (inr b) = rw (read_behind f law bytes b.value b.rest b.begins, b.keeps.0, b.keeps.1) refl
 
 narrowed_within : {A B : Type 0} (to : A → Option B) (from : B → A) (has asks : B → Type 0) (f : Spelling A) → Lawful f
-    → (bytes : List ℕ) (left : ℕ) → IsBytes bytes → (narrowed to from has asks f).faulty bytes left → left ≤ length bytes
+    → (bytes : List ℕ) (left : ℕ) → IsBytes bytes → (narrowed to from has asks f).meaning.faulty bytes left → left ≤ length bytes
 narrowed_within to from has asks f law bytes left is (inl h) = law.within bytes left is h
 narrowed_within to from has asks f law bytes left is (inr b) = omega (arith, b.keeps.1)
 
-pub narrowed_lawful : {A B : Type 0} (to : A → Option B) (from : B → A) (has asks : B → Type 0) (f : Spelling A) → NarrowLaws to from has asks f.fits → Lawful f
+pub narrowed_lawful : {A B : Type 0} (to : A → Option B) (from : B → A) (has asks : B → Type 0) (f : Spelling A) → NarrowLaws to from has asks f.meaning.fits → Lawful f
     → Lawful (narrowed to from has asks f)
 narrowed_lawful to from has asks f laws law = record {
   takes = narrowed_takes to from has asks f laws law;
@@ -227,4 +236,4 @@ kept_laws test fits = record {
 }
 
 pub where_is_lawful : {A : Type 0} (test : A → Bool) (f : Spelling A) → Lawful f → Lawful (where_is test f)
-where_is_lawful test f law = narrowed_lawful (kept test) (λ x. x) (λ x. test x ≡ true) (λ x. test x ≡ true) f (kept_laws test f.fits) law
+where_is_lawful test f law = narrowed_lawful (kept test) (λ x. x) (λ x. test x ≡ true) (λ x. test x ≡ true) f (kept_laws test f.meaning.fits) law

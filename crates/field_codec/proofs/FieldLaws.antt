@@ -28,7 +28,7 @@ pub field_taken : {A : Type 0} (f : Spelling A) → Lawful f → (old new : Unre
 field_taken f law old new slice cursor after x s e is same =
     let at_slice : f.read slice ≡ Ok (x, after) = rw s.cursor_is at e in
     let b = law.takes slice x after s.bytes at_slice in
-    record { field = record { fits = b.fits; parts = sym s.unread ∙ b.parts ∙ ap (λ (t : List ℕ). f.spell x ++ t) (sym is) }; same_bytes = same }
+    record { field = record { fits = b.fits; parts = sym s.unread ∙ b.parts ∙ ap (λ (t : List ℕ). f.meaning.spell x ++ t) (sym is) }; same_bytes = same }
 
 pub field_within : {A : Type 0} (f : Spelling A) → Lawful f → (old : Unread) (slice cursor : List ℕ) (left : ℕ) → StartsAt old slice cursor
     → f.read cursor ≡ Err left

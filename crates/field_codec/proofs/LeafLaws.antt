@@ -90,8 +90,13 @@ text_takes bytes text rest is e =
 pub text_again : (text rest : List ℕ) → IsShort text → text_at (number_at 4 u32_of (counted_text text ++ rest)) ≡ Some (text, rest)
 text_again text rest short =
     let long : nat_lt (length (text ++ rest)) (length text) ≡ false = le-ltb _ _ (omega (arith, length-append text rest)) in
-    rw (append_assoc (u32_bytes (length text)) text rest, number_again 4 (2 ^ 32) u32_bytes u32_of wide32 (length text) (text ++ rest) short, long,
-        take_at text rest (length text) refl, drop_at text rest (length text) refl) refl
+    rw (
+      append_assoc (u32_bytes (length text)) text rest,
+      number_again 4 (2 ^ 32) u32_bytes u32_of wide32 (length text) (text ++ rest) short,
+      long,
+      take_at text rest (length text) refl,
+      drop_at text rest (length text) refl,
+    ) refl
 
 pub text_lawful : Lawful text_spelling
 unfolding text_spelling
@@ -101,7 +106,7 @@ text_lawful = leaf_lawful counted_text IsShort IsShort (λ bytes. text_at (numbe
 -- ---- lists
 
 listed_laws : {A : Type 0} (f : Spelling A)
-    → NarrowLaws (λ (x : ℕ × List A). Some x.1) (λ xs. (length xs, xs)) (λ xs. Unit {0}) HasFew (followed u32_spelling (items f)).fits
+    → NarrowLaws (λ (x : ℕ × List A). Some x.1) (λ xs. (length xs, xs)) (λ xs. Unit {0}) HasFew (followed u32_spelling (items f)).meaning.fits
 listed_laws {A = A} f = record {
   is = λ x xs fits e.
       let same : x.1 ≡ xs = some_is x.1 xs (Some x.1) refl e in

@@ -59,7 +59,7 @@ u128_back bytes len is =
     let low = wide64.below (drop 8 bytes) back_len (IsBytes-drop 8 bytes is) in
     u128_of_halves (u64_of (take 8 bytes)) (u64_of (drop 8 bytes)) low
     ∙ ap₂ (λ (x y : List ℕ). x ++ y) (wide64.back (take 8 bytes) front_len (IsBytes-take 8 bytes is))
-        (wide64.back (drop 8 bytes) back_len (IsBytes-drop 8 bytes is))
+    (wide64.back (drop 8 bytes) back_len (IsBytes-drop 8 bytes is))
     ∙ take-append-drop 8 bytes
 
 u128_again : (n : ℕ) → n < 2 ^ 128 → u128_of (u128_bytes n) ≡ n
@@ -119,7 +119,7 @@ pub u32_lawful : Lawful u32_spelling
 unfolding u32_spelling
 u32_lawful = number_lawful 4 (2 ^ 32) u32_bytes u32_of wide32
 
-pub u32_below : (n : ℕ) → u32_spelling.fits n → n < 2 ^ 32
+pub u32_below : (n : ℕ) → u32_spelling.meaning.fits n → n < 2 ^ 32
 unfolding u32_spelling
 u32_below n h = h
 

@@ -51,11 +51,11 @@ ts_lawful =
     narrowed_lawful nanos_of (cast_unsigned w128) IsNanos (λ n. Unit {0}) u128_spelling
     (record { is = λ bits z lt e. nanos_is bits z lt e; again = λ z lt h. nanos_again z h; writable = λ z lt h. tt }) u128_lawful
 
-pub ts_fits : (z : ℤ) → IsNanos z → ts_spelling.fits z
+pub ts_fits : (z : ℤ) → IsNanos z → ts_spelling.meaning.fits z
 unfolding ts_spelling u128_spelling
 ts_fits z h = (bits_below z h, h)
 
-pub nanos_fit : (z : ℤ) → ts_spelling.fits z → IsNanos z
+pub nanos_fit : (z : ℤ) → ts_spelling.meaning.fits z → IsNanos z
 unfolding ts_spelling u128_spelling
 nanos_fit z h = h.1
 
@@ -80,13 +80,13 @@ end_lawful =
     (one_kind 1 2 ts_spelling (either 2 ts_spelling no_kind) (omega arith) ts_lawful
     (one_kind 2 3 ts_spelling no_kind (omega arith) ts_lawful (no_kinds 3)))).lawful
 
-pub end_within : (e : End) → end_spelling.fits e → IsEndWithin e
+pub end_within : (e : End) → end_spelling.meaning.fits e → IsEndWithin e
 unfolding end_spelling
 end_within Unbounded h = tt
 end_within (Including t) h = nanos_fit t h
 end_within (Excluding t) h = nanos_fit t h
 
-pub end_fits : (e : End) → IsEndWithin e → end_spelling.fits e
+pub end_fits : (e : End) → IsEndWithin e → end_spelling.meaning.fits e
 unfolding end_spelling
 end_fits Unbounded h = tt
 end_fits (Including t) h = ts_fits t h
@@ -133,7 +133,7 @@ high_point-high_end (Some p) = high_by p (int_eq (instant (half p)) p) refl
 abbrev span : Option ℤ → Option ℤ → Span
 span low high = record { low = low; high = high }
 
-range_is : (o : Option (End × End)) (r : Option Span) → (optional (pair end_spelling end_spelling)).fits o → span_of o ≡ Some r → (ends_of r ≡ o) × IsRange r
+range_is : (o : Option (End × End)) (r : Option Span) → (optional (pair end_spelling end_spelling)).meaning.fits o → span_of o ≡ Some r → (ends_of r ≡ o) × IsRange r
 range_is None None fits e = (refl, tt)
 range_is None (Some s) fits e = absurd cc
 range_is (Some ends) r fits e =
@@ -141,8 +141,12 @@ range_is (Some ends) r fits e =
     let high = high_point ends.1 in
     let k = kept_some (are_ordered low high) (Some (span low high)) r e in
     let is : ends_of (Some (span low high)) ≡ Some ends = ap₂ (λ (a b : End). Some (a, b)) (low_end-low_point ends.0) (high_end-high_point ends.1) in
-    let good : IsRange (Some (span low high)) = record { ordered = ordered_from_test low high k.1; low = low_within ends.0 (end_within ends.0 fits.0); high =
-        high_within ends.1 (end_within ends.1 fits.1) } in
+    let good : IsRange (Some (span low high)) = record {
+      ordered = ordered_from_test low high k.1;
+      low = low_within ends.0 (end_within ends.0 fits.0);
+      high =
+          high_within ends.1 (end_within ends.1 fits.1);
+    } in
     subst (λ (x : Option Span). (ends_of x ≡ Some ends) × IsRange x) k.0 (is, good)
 
 range_again : (r : Option Span) → IsRange r → span_of (ends_of r) ≡ Some r
@@ -156,4 +160,4 @@ unfolding range_spelling
 range_lawful =
     narrowed_lawful span_of ends_of IsRange (λ r. Unit {0}) (optional (pair end_spelling end_spelling))
     (record { is = range_is; again = λ r fits h. range_again r h; writable = λ r fits h. tt })
-        (optional_lawful (pair end_spelling end_spelling) (pair_lawful end_spelling end_spelling end_lawful end_lawful))
+    (optional_lawful (pair end_spelling end_spelling) (pair_lawful end_spelling end_spelling end_lawful end_lawful))

@@ -9,7 +9,7 @@ use Rattle.field_codec.proofs.Numbers.{IsWide, wide32, wide64, wide128}
 -- the number whose bytes stand at the front is found
 found : (size limit : ℕ) (bytes_of : ℕ → List ℕ) (number_of : List ℕ → ℕ) → IsWide size limit bytes_of number_of
     → (bytes front : List ℕ) (n : ℕ) → size ≤ length bytes → n < limit → front ≡ take size bytes → bytes_of n ≡ front
-        → number_at size number_of bytes ≡ Some (n, drop size bytes)
+    → number_at size number_of bytes ≡ Some (n, drop size bytes)
 found size limit bytes_of number_of wide bytes front n long lt cut is =
     let fits : nat_lt (length bytes) size ≡ false = le-ltb _ _ long in
     let value : number_of (take size bytes) ≡ n = ap number_of (sym cut ∙ sym is) ∙ wide.again n lt in

@@ -1,3 +1,4 @@
+pub mod Meaning
 pub mod Spelling
 pub mod Leaves
 pub mod Laws

@@ -1,6 +1,7 @@
 -- What a reader or a writer of one field answers, by the field's spelling.
 use Rattle.std.specs.Prelude.{◌≡◌, ℕ, List, [], ◌∷◌, Option, Some, None, Result, Ok, Err}
-use Rattle.field_codec.specs.Spelling.{Spelling, Spells, WholeFault}
+use Rattle.field_codec.specs.Meaning.{Spells, WholeFault}
+use Rattle.field_codec.specs.Spelling.{Spelling}
 use Rattle.field_codec.specs.declared.fault.BadField.{BadField}
 use Rattle.field_codec.specs.declared.fault.ReadFault.{ReadFault}
 use Rattle.field_codec.specs.declared.fault.ReadFault.TheVariants as faults
@@ -24,15 +25,15 @@ Finds f old new (Err field) = f.read old ≡ Err field.left
 -- What a reader of the whole of some bytes answers: the value that they spell, or where they are
 -- faulty.
 abbrev pub ReadsWhole : {A : Type 0} → Spelling A → List ℕ → Result A ReadFault → Type 0
-ReadsWhole f bytes (Ok x) = Spells f bytes x
+ReadsWhole f bytes (Ok x) = Spells f.meaning bytes x
 ReadsWhole f bytes (Err faults.Memory) = Unit {0}
-ReadsWhole f bytes (Err (faults.Bad field)) = WholeFault f bytes field.left
+ReadsWhole f bytes (Err (faults.Bad field)) = WholeFault f.meaning bytes field.left
 
 -- the value's spelling stands behind what was there, and the value has one
 pub record Wrote {A : Type 0} (f : Spelling A) (old : List ℕ) (value : A)
     (new : List ℕ) : Type 0 where
   pub written : new ≡ f.onto old value
-  pub fits : f.fits value
+  pub fits : f.meaning.fits value
 
 -- the first byte is taken off, where there is one
 abbrev pub TakesFirst : List ℕ → List ℕ → Option ℕ → Type 0

@@ -68,7 +68,7 @@ posted_more flow serial [] post at e =
     let first : serial ≡ at = omega (arith, e) in ap (λ n. (let row : SegmentRow = record { flow = flow; serial = n; segment = post } in row) ∷ []) first
 posted_more flow serial (x ∷ front) post at e =
     ap (λ l. (let row : SegmentRow = record { flow = flow; serial = serial; segment = x } in row) ∷ l)
-        (posted_more flow (serial + 1) front post at (omega (arith, e)))
+    (posted_more flow (serial + 1) front post at (omega (arith, e)))
 
 posts_compatible : (library : Library) (flow : ℕ) (front posts : List Segment) → rises are_compatible (kept_behind library flow front) ≡ true
     → first_refusal (refusals_behind library flow front posts) ≡ None → rises are_compatible (kept_behind library flow (front ++ posts)) ≡ true
@@ -81,10 +81,10 @@ posts_compatible library flow front (post ∷ later) e none =
     (overlap_refusal (slice_get (overlapping (kept_behind library flow front) flow post.range None) 0)) outer.0 in
     let one_more : kept_behind library flow (front ++ post ∷ []) ≡ kept_behind library flow front ++ row ∷ [] =
     ap (λ l. library.segments ++ l) (posted_more flow library.next_serial front post at refl) ∙ sym
-        (append_assoc library.segments (posted flow library.next_serial front) (row ∷ [])) in
+    (append_assoc library.segments (posted flow library.next_serial front) (row ∷ [])) in
     ap (λ l. rises are_compatible (kept_behind library flow l)) (sym (append_assoc front (post ∷ []) later))
     ∙ posts_compatible library flow (front ++ post ∷ []) later (ap (rises are_compatible) one_more ∙ posts_step (kept_behind library flow front) flow at post e
-        inner.1) outer.1
+    inner.1) outer.1
 
 -- the objects of a post that isn't refused are stored
 all_stored : (library : Library) (flow : ℕ) (front posts : List Segment) → first_refusal (refusals_behind library flow front posts) ≡ None
@@ -97,7 +97,7 @@ all_stored library flow front (first ∷ later) none post here =
     elim here [
       | inl same ↦ ap (λ (p : Segment). is_stored_object library.objects p.object) same
           ∙ not-false (is_stored_object library.objects first.object) (not_when (not (is_stored_object library.objects first.object))
-              (refusals.NoObject first.object) inner.0)
+          (refusals.NoObject first.object) inner.0)
       | inr more ↦ all_stored library flow (front ++ first ∷ []) later outer.1 post more
     ]
 

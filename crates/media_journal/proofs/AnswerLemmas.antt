@@ -58,8 +58,14 @@ same_half image a b None None first second =
     let same = one_reading image _ _ _ _ _ _ _ _ (gives_reads image a.journal (contents_of a) first) (gives_reads image b.journal (contents_of b) second) in
     let half : b.half ≡ a.half = ap (λ (x : Header). x.half) same.0 in
     let start : active_start image b.half ≡ active_start image a.half = ap (active_start image) half in
-    record { torn = refl; gate = same.1; room = omega (arith, first.half.room, second.half.room, first.active, second.active, half, start, same.1); rows =
-        same.2; found = same.3 }
+    record {
+      torn = refl;
+      gate = same.1;
+      room = omega (arith, first.half.room, second.half.room, first.active, second.active, half, start, same.1);
+      rows =
+          same.2;
+      found = same.3;
+    }
 same_half image a b None (Some k) first second = absurd (torn_or_whole image _ _ _ _ _ _ _ _ second.reads (gives_reads image a.journal (contents_of a) first))
 same_half image a b (Some at) None first second = absurd (torn_or_whole image _ _ _ _ _ _ _ _ first.reads (gives_reads image b.journal (contents_of b) second))
 same_half image a b (Some at) (Some k) first second =
@@ -98,7 +104,7 @@ one_opened image a b first second =
     let same = same_half image a b a.torn b.torn first.half second.half in
     let journal =
     same_position a.journal b.journal (second.blocks ∙ blocks ∙ sym first.blocks) (second.half_blocks ∙ ap (λ (h : Header). h.half) header ∙ sym
-        first.half_blocks) (second.start ∙ start ∙ sym first.start) same.gate same.room in
+    first.half_blocks) (second.start ∙ start ∙ sym first.start) same.gate same.room in
     same_opened a b journal same.rows same.found same.torn header (omega (arith, first.rows_at, second.rows_at, start))
 
 -- two answers of an image are one

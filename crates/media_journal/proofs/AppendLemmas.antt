@@ -69,7 +69,7 @@ module _ (image payload : List ℕ) (gate : ℕ) (fits : gate + (6 + length payl
       let none : gate + 1 + 0 ≡ gate + 1 = omega arith in
       let behind : bytes_at (recorded image gate payload) (gate + 1) (4 + length payload) ≡ u32_bytes (length payload) ++ payload =
       bytes_at-behind gate (1 ∷ []) _ opened_fits (gate + 1) (4 + length payload) (omega arith)
-          (omega (arith, length-overwritten (gate + 1) (frame_text payload) image framed_fits))
+      (omega (arith, length-overwritten (gate + 1) (frame_text payload) image framed_fits))
       ∙ (rw none at (bytes_at-written (gate + 1) (frame_text payload) image framed_fits 0 (4 + length payload) (omega (arith, length-frame_text payload))))
       ∙ front-frame_text payload in
       let size : 5 + length payload ≡ 1 + (4 + length payload) = omega arith in
@@ -83,7 +83,7 @@ module _ (image payload : List ℕ) (gate : ℕ) (fits : gate + (6 + length payl
       let place : gate + (5 + length payload) ≡ gate + 1 + (4 + length payload) = omega arith in
       get_or-behind gate (1 ∷ []) _ opened_fits (gate + (5 + length payload)) 0 (omega arith)
       ∙ rw place (get_or-written (gate + 1) (frame_text payload) image framed_fits (4 + length payload) 0 (omega (arith, length-frame_text payload)) ∙
-          gate-frame_text payload)
+      gate-frame_text payload)
 
 -- the half has one record more
 half_more : (image : List ℕ) (start end gate : ℕ) (rows : List ℕ) (records : List Record) (payload : List ℕ) → end ≤ length image
@@ -98,7 +98,7 @@ half_more image start end gate rows records payload within room short h =
       few = h.few;
       chain =
           rw place (chain_push _ _ records gate payload (chain_kept image _ _ records gate (recorded-before image payload gate fits) h.chain)
-              (recorded-record image payload gate fits short));
+          (recorded-record image payload gate fits short));
       closed =
           λ one. let shut : get_or (recorded image gate payload) (gate + (length payload + 5)) 0 ≡ 0 = rw place (recorded-gate image payload gate fits) in cc;
       within = omega arith;

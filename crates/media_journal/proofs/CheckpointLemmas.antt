@@ -31,7 +31,7 @@ module _ (at n : ℕ) (image other : List ℕ) (torn : Torn at n image other) wh
   same_byte i place =
       let here : i + 0 ≡ i = omega arith in
       rw here at (sym (get_or-bytes_at other i 1 0 0 (omega arith)) ∙ ap (λ text. get_or text 0 0) (same_bytes i 1 place) ∙ get_or-bytes_at image i 1 0 0
-          (omega arith))
+      (omega arith))
 
   -- within a half that the write doesn't meet
   outside : (start gate i k : ℕ) → (gate + 1 ≤ at) ⊎ (at + n ≤ start) → start ≤ i → i + k ≤ gate + 1 → (i + k ≤ at) ⊎ (at + n ≤ i)
@@ -94,7 +94,7 @@ pub places_of : (p : Position) → 1 ≤ p.half → (p.start ≡ 8192) ⊎ (p.st
 places_of p some (inl a) = InA a (ap (λ (s : ℕ). if s == 8192 then 8192 + 4096 * p.half else 8192) a)
 places_of p some (inr b) =
     InB b (ap (λ (s : ℕ). if s == 8192 then 8192 + 4096 * p.half else 8192) b ∙ ap (λ (t : Bool). if t then 8192 + 4096 * p.half else 8192)
-        (not_first p.half some))
+    (not_first p.half some))
 
 -- the two halves don't meet
 pub other_outside : (p : Position) (n : ℕ) → Places p → p.gate + 1 ≤ p.start + 4096 * p.half → 9 + n ≤ 4096 * p.half
@@ -339,4 +339,4 @@ module _ (p : Position) (start : ℕ) (rows : List ℕ) (is : start ≡ other_st
   moments_there ok old new held long each time =
       checkpoint_moments p rows held (omega arith) fits few old new (omega arith) each ok (selector_for start) (ap selector_for is)
       (subst (λ (s : ℕ). Elapses (WithinWrites s (half_text rows) 4096 old.seen) (WritesEnd ok s (half_text rows) 4096 (selector_for start) old.seen) old new)
-          is time)
+      is time)

@@ -67,7 +67,7 @@ pub gives_without_frame : (seen : List ℕ) (p : Position) (held : Contents) (fr
     → Gives (overwritten (p.gate + 1) frame seen) p held → Gives seen p held
 gives_without_frame seen p held frame fits g =
     gives_before (overwritten (p.gate + 1) frame seen) seen p held (sym (length-overwritten (p.gate + 1) frame seen fits))
-        (sym (bytes_at-before (p.gate + 1) frame seen fits 0 (p.gate + 1) (omega arith))) g
+    (sym (bytes_at-before (p.gate + 1) frame seen fits 0 (p.gate + 1) (omega arith))) g
 
 -- once the frame is there, the gate's write gives the records as they were, or with the payload
 pub gives_torn_gate : (seen other : List ℕ) (p : Position) (payload : List ℕ) (held : Contents) → p.gate + p.room ≤ length seen → length payload + 6 ≤ p.room
@@ -135,7 +135,7 @@ module _ (old new : Device) (p : Position) (payload : List ℕ) (held : Contents
       → Elapses (KeepsOrAdds p payload held) (AppendEnds ok p payload held) old new
   append_moments ok time =
       elapses_weaker (WithinRecord p.gate (frame_text payload) old.seen) (RecordEnds ok p.gate (frame_text payload) old.seen) _ _ old new time so_far
-          (λ q l could left steps. at_end ok q l could steps)
+      (λ q l could left steps. at_end ok q l could steps)
 
 -- what is read after the call is one of the images
 pub append_left : (old new : Device) (p : Position) (payload : List ℕ) (held : Contents) → IsDevice new → new.honest ≡ true → new.shows ≡ true

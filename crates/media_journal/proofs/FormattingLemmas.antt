@@ -84,18 +84,28 @@ module _ (image : List ℕ) (h : Header) (rows : List ℕ) (fits : FitsStore h (
 
   half_fits : 8192 + length (half_text rows) ≤ length with_selector
   half_fits =
-      omega (arith, length-overwritten 0 (header_text h) image header_fits, length-overwritten 4096 (0 ∷ []) with_header selector_fits, length-half_text rows,
-          room)
+      omega (
+        arith,
+        length-overwritten 0 (header_text h) image header_fits,
+        length-overwritten 4096 (0 ∷ []) with_header selector_fits,
+        length-half_text rows,
+        room,
+      )
 
   gate_fits : 40 + length {A = ℕ} (1 ∷ []) ≤ length with_half
   gate_fits =
-      omega (arith, length-overwritten 0 (header_text h) image header_fits, length-overwritten 4096 (0 ∷ []) with_header selector_fits,
-          length-overwritten 8192 (half_text rows) with_selector half_fits, large)
+      omega (
+        arith,
+        length-overwritten 0 (header_text h) image header_fits,
+        length-overwritten 4096 (0 ∷ []) with_header selector_fits,
+        length-overwritten 8192 (half_text rows) with_selector half_fits,
+        large,
+      )
 
   length-formatted : length formatted_image ≡ length image
   length-formatted =
       length-overwritten 40 (1 ∷ []) with_half gate_fits ∙ length-overwritten 8192 (half_text rows) with_selector half_fits ∙ length-overwritten 4096 (0 ∷ [])
-          with_header selector_fits ∙ length-overwritten 0 (header_text h) image header_fits
+      with_header selector_fits ∙ length-overwritten 0 (header_text h) image header_fits
 
   text_is : bytes_at formatted_image 0 40 ≡ header_text h
   text_is =
@@ -115,7 +125,7 @@ module _ (image : List ℕ) (h : Header) (rows : List ℕ) (fits : FitsStore h (
   rows_are : bytes_at formatted_image 8192 (8 + length rows) ≡ rows_text rows
   rows_are =
       bytes_at-behind 40 (1 ∷ []) with_half gate_fits 8192 (8 + length rows) (omega arith)
-          (omega (arith, half_fits, length-half_text rows, length-overwritten 8192 (half_text rows) with_selector half_fits))
+      (omega (arith, half_fits, length-half_text rows, length-overwritten 8192 (half_text rows) with_selector half_fits))
       ∙ bytes_at-written 8192 (half_text rows) with_selector half_fits 0 (8 + length rows) (omega (arith, length-half_text rows))
       ∙ front-half_text rows
 

@@ -44,5 +44,5 @@ unfolding frame_text
 filled at bytes payload fits =
     let size = length-overwritten at bytes payload fits in
     overwritten-behind 4 at bytes (u32_bytes (length payload)) (payload ++ 0 ∷ []) (length-u32_bytes (length payload))
-        (omega (arith, length-append payload (0 ∷ [])))
+    (omega (arith, length-append payload (0 ∷ [])))
     ∙ ap₂ (λ (a b : List ℕ). a ++ b) (ap u32_bytes (sym size)) (overwritten-before at bytes payload (0 ∷ []) fits)

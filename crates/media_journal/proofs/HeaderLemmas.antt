@@ -14,7 +14,7 @@ pub header_text-parts : (text : List ℕ) (h : Header) → take 8 text ≡ magic
 unfolding header_text
 header_text-parts text h begins blocks half id =
     sym (take-append-drop 8 text) ∙ ap₂ ◌++◌ begins (sym (take-append-drop 8 (drop 8 text)) ∙ ap₂ ◌++◌ (sym blocks)
-        (sym (take-append-drop 8 (drop 8 (drop 8 text))) ∙ ap₂ ◌++◌ (sym half) (sym id)))
+    (sym (take-append-drop 8 (drop 8 (drop 8 text))) ∙ ap₂ ◌++◌ (sym half) (sym id)))
 
 -- an image has an open header where its first 41 bytes have
 pub has_front : (image : List ℕ) → HasOpenHeader image → HasOpenHeader (bytes_at image 0 41)
@@ -49,16 +49,16 @@ pub one_header : (image : List ℕ) (a b : Header) → IsHeader image a → IsHe
 unfolding header_text
 one_header image a b first second =
     let texts : magic ++ (u64_bytes a.blocks ++ (u64_bytes a.half ++ u128_bytes a.id)) ≡ magic
-        ++ (u64_bytes b.blocks ++ (u64_bytes b.half ++ u128_bytes b.id)) =
+    ++ (u64_bytes b.blocks ++ (u64_bytes b.half ++ u128_bytes b.id)) =
     sym first.text ∙ second.text in
     let numbers = same_rest 8 magic _ magic _ length-magic length-magic texts in
     let blocks =
     same_u64 a.blocks b.blocks first.blocks second.blocks (same_front 8 (u64_bytes a.blocks) _ (u64_bytes b.blocks) _ (length-u64_bytes a.blocks)
-        (length-u64_bytes b.blocks) numbers) in
+    (length-u64_bytes b.blocks) numbers) in
     let behind = same_rest 8 (u64_bytes a.blocks) _ (u64_bytes b.blocks) _ (length-u64_bytes a.blocks) (length-u64_bytes b.blocks) numbers in
     let half =
     same_u64 a.half b.half first.half second.half (same_front 8 (u64_bytes a.half) _ (u64_bytes b.half) _ (length-u64_bytes a.half) (length-u64_bytes b.half)
-        behind) in
+    behind) in
     let id =
     same_u128 a.id b.id first.id second.id (same_rest 8 (u64_bytes a.half) _ (u64_bytes b.half) _ (length-u64_bytes a.half) (length-u64_bytes b.half) behind) in
     let make : ℕ → ℕ → ℕ → Header = λ x y z. record { blocks = x; half = y; id = z } in

@@ -41,7 +41,7 @@ pub bytes_written : (ok : Bool) (at : ℕ) (bytes : List ℕ) (byte_at byte : �
 bytes_written ok at bytes byte_at byte old mid new seen first second =
     let both =
     elapses_twice (TornWrite at (length bytes)) (SyncedWrite at bytes old.seen) (TornWrite byte_at 1) (SyncedWriteEnds ok byte_at (byte ∷ []) mid.seen) old mid
-        new first second in
+    new first second in
     elapses_weaker _ _ _ _ old new both (λ q p could steps. steps) (λ q p could left steps. ends ok q p steps)
   where
     ends : (ok : Bool) (q p : Left) → Then (SyncedWrite at bytes old.seen) (SyncedWriteEnds ok byte_at (byte ∷ []) mid.seen) q p

@@ -40,9 +40,16 @@ damaged-sizes image h header wrong = inl (refl, record { header = h; is = header
 pub open_fault : (image : List ℕ) (h : Header) (start : ℕ) (fault : JournalFault) → IsHeader image h → 20480 ≤ length image → AreSizes h (length image)
     → start ≡ active_start image h.half → HalfAnswer image start (start + 4096 * h.half) (Err fault) → OpenAnswer image (Err fault)
 open_fault image h start NotStore header size sizes place answer = absurd answer
-open_fault image h start (Damaged at) header size sizes place answer =
-    (is_store image h header size, inr (subst (λ (x : ℕ). HasWrongRows image x) (sym answer.0) record { header = h; is = header; sizes = sizes; active = place;
-        long = answer.1 }))
+open_fault image h start (Damaged at) header size sizes place answer = (
+  is_store image h header size,
+  inr (subst (λ (x : ℕ). HasWrongRows image x) (sym answer.0) record {
+    header = h;
+    is = header;
+    sizes = sizes;
+    active = place;
+    long = answer.1;
+  }),
+)
 open_fault image h start Disk header size sizes place answer = tt
 open_fault image h start Memory header size sizes place answer = tt
 

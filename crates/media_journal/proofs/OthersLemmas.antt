@@ -63,7 +63,7 @@ module _ (size at n : ℕ) (q p : Left) (torn : TornWrite at n q p) where
 pub others_quiet : (size : ℕ) (old new : Device) → Elapses Unchanged Unchanged old new → Elapses (WritesStore size) (WritesStore size) old new
 others_quiet size old new time =
     elapses_weaker Unchanged Unchanged (WritesStore size) (WritesStore size) old new time (λ q p could same. same_step q p same)
-        (λ q p could left same. same_step q p same)
+    (λ q p could left same. same_step q p same)
   where
     same_step : (q p : Left) → p ≡ q → WritesStore size q p
     same_step q p same = subst (λ (r : Left). WritesStore size q r) (sym same) (itself size q)
@@ -72,7 +72,7 @@ pub others_header : (size at n : ℕ) (old new : Device) → at + n ≤ 41 → E
     → Elapses (WritesStore size) (WritesStore size) old new
 others_header size at n old new within time =
     elapses_weaker (TornWrite at n) (TornWrite at n) (WritesStore size) (WritesStore size) old new time (λ q p could torn. of_header size at n q p torn within)
-        (λ q p could left torn. of_header size at n q p torn within)
+    (λ q p could left torn. of_header size at n q p torn within)
 
 pub others_selector : (size : ℕ) (old new : Device) → Elapses (TornWrite 4096 1) (TornWrite 4096 1) old new
     → Elapses (WritesStore size) (WritesStore size) old new

@@ -109,7 +109,7 @@ unfolding rows_text
 one_part image start end g k rows other rs qs first second =
     let size : length other ≡ length rows =
     same_u64 (length other) (length rows) second.few first.few (sym (part_length image start end k other qs second) ∙ part_length image start end g rows rs
-        first) in
+    first) in
     let texts : u64_bytes (length other) ++ other ≡ u64_bytes (length rows) ++ rows =
     sym second.text ∙ ap (λ n. bytes_at image start (8 + n)) size ∙ first.text in
     let chain = subst (λ (n : ℕ). AreRecords image (start + (8 + n)) qs k) size second.chain in
@@ -139,7 +139,7 @@ same_active : (image : List ℕ) (h j : Header) (gate : ℕ) (rows : List ℕ) (
     → HasPart image (active_start image h.half) (active_start image h.half + 4096 * h.half) gate rows records
 same_active image h j gate rows records header reads =
     subst (λ (x : Header). HasPart image (active_start image x.half) (active_start image x.half + 4096 * x.half) gate rows records)
-        (one_header image j h reads.header header) reads.part
+    (one_header image j h reads.header header) reads.part
 
 -- two readings of an image are one
 pub one_of_both : (image : List ℕ) (h j : Header) (g k : ℕ) (rows other : List ℕ) (rs qs : List Record) → HasReading image h g rows rs

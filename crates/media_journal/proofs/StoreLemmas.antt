@@ -107,7 +107,7 @@ pub none_so_far : (header half seen : List ℕ) (old new : Device) → Elapses L
     → Elapses (NoneOrFormatted header half seen) (NoneOrFormatted header half seen) old new
 none_so_far header half seen old new time =
     elapses_weaker LeavesNone LeavesNone (NoneOrFormatted header half seen) (NoneOrFormatted header half seen) old new time (λ q p could none. weaker q p none)
-        (λ q p could left none. weaker q p none)
+    (λ q p could left none. weaker q p none)
   where
     weaker : (q p : Left) → LeavesNone q p → NoneOrFormatted header half seen q p
     weaker q p none = record { told = none.told; image = inl none.image }
@@ -145,7 +145,7 @@ module _ (header half seen closed : List ℕ) (same_length : length closed ≡ l
       (λ q p could left none. record { told = none.told; whole = only p left }) in
       let both = elapses_twice LeavesNone (Settles mid.seen) (TornWrite 40 1) (SyncedWriteEnds ok 40 (1 ∷ []) mid.seen) old mid new settles second in
       elapses_weaker (WithinTwo LeavesNone (Settles mid.seen) (TornWrite 40 1)) (Then (Settles mid.seen) (SyncedWriteEnds ok 40 (1 ∷ []) mid.seen))
-          (NoneOrFormatted header half seen) (StoreEnds ok header half seen) old new both
+      (NoneOrFormatted header half seen) (StoreEnds ok header half seen) old new both
       (λ q p could steps. elim steps [ inl none ↦ record { told = none.told; image = inl none.image } | inr then ↦ gate_torn q p then ])
       (λ q p could left then. gate_ends ok q p then)
 
@@ -193,13 +193,13 @@ module _ (old : Device) (rest : IsAtRest old) (none : ¬ (HasOpenHeader old.seen
     pub formats : (ok : Bool) (gate : Gate) (header half : List ℕ) (mid new : Device) → header ≡ header_text h → half ≡ half_text rows → DiskReads true old mid
         → GateIs old.seen gate
         → (IsAtRest mid → GateIs mid.seen gate → ¬ (HasOpenHeader mid.seen) → Elapses (NoneOrFormatted header half mid.seen) (StoreEnds ok header half mid.seen)
-            mid new)
+        mid new)
         → Elapses (NoneOrNew h rows) (MakesOrNot ok) old new
     formats ok gate header half mid new header_is half_is reads is makes =
         let second = makes (rests_after_reads old mid rest reads) (rw reads.seen is) (rw reads.seen none) in
         let writes = subst (λ (image : List ℕ). Elapses (NoneOrFormatted header half image) (StoreEnds ok header half image) mid new) reads.seen second in
         let both = elapses_twice Unchanged Unchanged (NoneOrFormatted header half old.seen) (StoreEnds ok header half old.seen) old mid new reads.time writes in
         elapses_weaker (WithinTwo Unchanged Unchanged (NoneOrFormatted header half old.seen)) (Then Unchanged (StoreEnds ok header half old.seen))
-            (NoneOrNew h rows) (MakesOrNot ok) old new both
+        (NoneOrNew h rows) (MakesOrNot ok) old new both
         (λ q p could steps. elim steps [ inl same ↦ still_none q p could same | inr then ↦ new_store q then.0 p then.1 (rw (header_is, half_is) at then.2) ])
         (λ q p could left then. store_ends ok q then.0 p then.1 (rw (header_is, half_is) at then.2))

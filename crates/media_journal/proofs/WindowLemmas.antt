@@ -10,4 +10,4 @@ piece_part image p at n shown covers =
     let within : at - p.offset + n ≤ length p.bytes = omega (arith, covers.from, covers.to) in
     let place : p.offset + (at - p.offset) ≡ at = omega (arith, covers.from) in
     ap (λ bytes. bytes_at bytes (at - p.offset) n) shown ∙ bytes_at-bytes_at image p.offset (length p.bytes) (at - p.offset) n within ∙ ap
-        (λ x. bytes_at image x n) place
+    (λ x. bytes_at image x n) place

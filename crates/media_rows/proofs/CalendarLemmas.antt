@@ -64,8 +64,13 @@ over_year d n is last end =
       month_most = omega arith;
       day_least = omega arith;
       day_most = omega (arith, days_in_month_bounds (pos (d.year + 1)) 1);
-      number = omega (arith, signed_arith, here, days_from_civil-next_year (pos d.year) (pos (d.year + 1)) (omega (arith, signed_arith))
-          (omega (arith, signed_arith)));
+      number = omega (
+        arith,
+        signed_arith,
+        here,
+        days_from_civil-next_year (pos d.year) (pos (d.year + 1)) (omega (arith, signed_arith))
+            (omega (arith, signed_arith)),
+      );
     }
 
 -- a choice of the month's end
@@ -96,9 +101,16 @@ last_date = ((search rules, search rules), (omega arith, omega arith), (omega ar
 year_within : (d : CivilDate) (n : ℕ) → IsDay d n → n ≤ 2932896 → d.year ≤ 9999
 year_within d n is most =
     elim (cases_lt 9999 d.year) [
-      | inl past ↦ absurd (omega (arith, signed_arith, is.number, days_from_civil-max, days_from_civil-day_count (pos 9999) 12 31,
-          days_from_civil-day_count (pos d.year) d.month d.day, day_count-lt_year (pos 9999) 12 31 (pos d.year) d.month d.day last_date is.day_least
-          (omega (arith, signed_arith))))
+      | inl past ↦ absurd (omega (
+        arith,
+        signed_arith,
+        is.number,
+        days_from_civil-max,
+        days_from_civil-day_count (pos 9999) 12 31,
+        days_from_civil-day_count (pos d.year) d.month d.day,
+        day_count-lt_year (pos 9999) 12 31 (pos d.year) d.month d.day last_date is.day_least
+            (omega (arith, signed_arith)),
+      ))
       | inr within ↦ within
     ]
 

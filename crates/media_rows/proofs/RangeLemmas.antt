@@ -79,7 +79,7 @@ common_point : (s t : Span) → IsSpan s → IsSpan t → are_ordered s.low t.hi
 unfolding AreOrdered
 common_point s t fine_s fine_t across back =
     let upper = earlier_ordered (later s.low t.low) s.high t.high (later_ordered s.low t.low s.high fine_s.ordered (ordered_from_test t.low s.high back))
-        (later_ordered s.low t.low t.high (ordered_from_test s.low t.high across) fine_t.ordered) in
+    (later_ordered s.low t.low t.high (ordered_from_test s.low t.high across) fine_t.ordered) in
     let q = point_between (later s.low t.low) (earlier s.high t.high) upper in
     let from = From-later s.low t.low q.0 q.1 in
     let up = UpTo-earlier s.high t.high q.0 q.2 in

@@ -75,7 +75,7 @@ all_changes-push m at [] session = append-nil (changes_of m at session.steps)
 all_changes-push m at (x ∷ finished) session =
     ap (λ l. changes_of m at x.steps ++ l) (all_changes-push m (after_steps m at x.steps) finished session)
     ∙ sym (append_assoc (changes_of m at x.steps) (all_changes m (after_steps m at x.steps) finished)
-        (changes_of m (after_sessions m at (x ∷ finished)) session.steps))
+    (changes_of m (after_sessions m at (x ∷ finished)) session.steps))
 
 all_moments-push : {State Request : Type 0} (m : Machine State Request) (at : Stage State) (finished : List (Session Request)) (session : Session Request)
     → all_moments m at (finished ++ session ∷ []) ≡ all_moments m at finished ++ moments_of m (after_sessions m at finished) session.steps
@@ -83,7 +83,7 @@ all_moments-push m at [] session = append-nil (moments_of m at session.steps)
 all_moments-push m at (x ∷ finished) session =
     ap (λ l. moments_of m at x.steps ++ l) (all_moments-push m (after_steps m at x.steps) finished session)
     ∙ sym (append_assoc (moments_of m at x.steps) (all_moments m (after_steps m at x.steps) finished)
-        (moments_of m (after_sessions m at (x ∷ finished)) session.steps))
+    (moments_of m (after_sessions m at (x ∷ finished)) session.steps))
 
 -- the trace of a state, scripts and changes
 abbrev trace-by : {State : Type 0} → State → List (List Piece) → List State → Trace State
@@ -110,7 +110,7 @@ scripts-step : {State Request : Type 0} (m : Machine State Request) (at : Stage 
     (link link_after : LinkEnd)
     → scripts_of m at (finished ++ under_way (steps ++ step ∷ []) link_after ∷ [])
     ≡ change_last (λ s. s ++ (effect m (after_steps m (after_sessions m at finished) steps) step).pieces)
-        (scripts_of m at (finished ++ under_way steps link ∷ []))
+    (scripts_of m at (finished ++ under_way steps link ∷ []))
 scripts-step m at finished steps step link link_after =
     let front = scripts_of m at finished in
     let stage = after_sessions m at finished in

@@ -194,7 +194,7 @@ now-piece m b t piece ok writing q p n tells =
           let whole : sent ≡ piece_bytes piece = sends.whole e in
           subst (λ b. IsToldToLast (change_last (λ x. x ++ b) n.told) (map bytes_of (with_piece piece t).scripts)) (sym whole)
           (subst (IsToldToLast (change_last (λ x. x ++ piece_bytes piece) n.told)) (sym (bytes-piece t.scripts piece))
-              (told_whole n.told said (piece_bytes piece) last));
+          (told_whole n.told said (piece_bytes piece) last));
       stands = stands-piece m p.image t piece writing (subst (λ i. StandsNow m i t writing) (sym tells.image) n.stands);
     }
 

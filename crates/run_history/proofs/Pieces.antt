@@ -145,16 +145,36 @@ greatest-bounds (Interim bytes ∷ script) told n le made h = elim (split-script
   | inl first ↦ absurd (interim-reply bytes h.bytes made first.1)
   | inr later ↦
       greatest-bounds script (told - length bytes) n le made
-      (record { front = later.0; bytes = h.bytes; rear = h.rear; script_is = later.2; reached = omega (arith, h.reached, ap (λ f. length (bytes_of f)) later.1,
-          length-append bytes (bytes_of later.0)) })
+      (record {
+        front = later.0;
+        bytes = h.bytes;
+        rear = h.rear;
+        script_is = later.2;
+        reached = omega (
+          arith,
+          h.reached,
+          ap (λ f. length (bytes_of f)) later.1,
+          length-append bytes (bytes_of later.0),
+        );
+      })
 ]
 greatest-bounds (Reply bytes counted ∷ script) zero n le made h = absurd (omega (arith, h.reached))
 greatest-bounds (Reply bytes counted ∷ script) (suc k) n le made h = elim (split-script (Reply bytes counted) script h.front h.rear h.bytes made h.script_is) [
   | inl first ↦ omega (arith, le, ap counted_by first.1)
   | inr later ↦
       greatest-bounds script (suc k - length bytes) n (omega (arith, le)) made
-      (record { front = later.0; bytes = h.bytes; rear = h.rear; script_is = later.2; reached = omega (arith, h.reached, ap (λ f. length (bytes_of f)) later.1,
-          length-append bytes (bytes_of later.0)) })
+      (record {
+        front = later.0;
+        bytes = h.bytes;
+        rear = h.rear;
+        script_is = later.2;
+        reached = omega (
+          arith,
+          h.reached,
+          ap (λ f. length (bytes_of f)) later.1,
+          length-append bytes (bytes_of later.0),
+        );
+      })
 ]
 
 greatest-reached : (script : List Piece) (told n : ℕ) → ((made : ℕ) → HasBegun script told made → made ≤ n) → begun_in script told ≤ n

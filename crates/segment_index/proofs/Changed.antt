@@ -58,9 +58,11 @@ apart_kept test (p ∷ ps) h = by (test p) (apart_kept test ps h.1)
 apart_meet : (point : ℤ) (l r : List Pair) → IsApart l → IsApart r → AllByRecursion (λ p. last_point p.1 <ℤ point) l → AllByRecursion (λ p. point ≤ℤ p.0) r
     → IsApart (l ++ r)
 apart_meet point [] r hl hr bl br = hr
-apart_meet point (p ∷ l) r hl hr bl br =
-    (all_append (λ q. last_point p.1 <ℤ q.0) l r hl.0 (all_map (λ q. point ≤ℤ q.0) (λ q. last_point p.1 <ℤ q.0) (λ q le. let lt = bl.0 in grind (arith, ints)) r
-        br), apart_meet point l r hl.1 hr bl.1 br)
+apart_meet point (p ∷ l) r hl hr bl br = (
+  all_append (λ q. last_point p.1 <ℤ q.0) l r hl.0 (all_map (λ q. point ≤ℤ q.0) (λ q. last_point p.1 <ℤ q.0) (λ q le. let lt = bl.0 in grind (arith, ints)) r
+      br),
+  apart_meet point l r hl.1 hr bl.1 br,
+)
 
 -- three facts of each pair
 all_three : (P Q R S : Pair → Type 0) → ((p : Pair) → P p → Q p → R p → S p) → (ps : List Pair) → AllByRecursion P ps → AllByRecursion Q ps
@@ -75,9 +77,9 @@ index_with low row ps new index keyed misses is =
     let below = filter (is_below low) ps in
     let above = filter (is_above low) ps in
     let under = all_three IsKeyed (Misses low (last_point row)) (λ p. is_below low p ≡ true) (λ p. last_point p.1 <ℤ low) (λ p k m lt. ended p k m lt) below
-        (all_kept _ (is_below low) ps index.keyed) (all_kept _ (is_below low) ps misses) (each_passes (is_below low) ps) in
+    (all_kept _ (is_below low) ps index.keyed) (all_kept _ (is_below low) ps misses) (each_passes (is_below low) ps) in
     let over = all_three IsKeyed (Misses low (last_point row)) (λ p. is_above low p ≡ true) (λ p. last_point row <ℤ p.0) (λ p k m gt. begun p k m gt) above
-        (all_kept _ (is_above low) ps index.keyed) (all_kept _ (is_above low) ps misses) (each_passes (is_above low) ps) in
+    (all_kept _ (is_above low) ps index.keyed) (all_kept _ (is_above low) ps misses) (each_passes (is_above low) ps) in
     let ordered : low ≤ℤ last_point row = keyed.ordered in
     rw is (record {
       keyed = all_append IsKeyed below ((low, row) ∷ above) (all_kept _ (is_below low) ps index.keyed) (keyed, all_kept _ (is_above low) ps index.keyed);
@@ -120,9 +122,12 @@ differs low high p le k m e = elim m [ inl h ↦ let o = k.ordered in grind (ari
 pub values_with : (low : ℤ) (row : SegmentRow) (ps new : List Pair) → AllByRecursion IsKeyed ps → IsKeyed (low, row)
     → AllByRecursion (Misses low (last_point row)) ps → new ≡ with_pair (low, row) ps → values new ≡ placed starts_before row (values ps)
 values_with low row ps new keys keyed misses is =
-    rw (is, map-append (λ p. p.1) (filter (is_below low) ps) ((low, row) ∷ filter (is_above low) ps),
-        sym (values_kept (λ y. starts_before y row) (is_below low) ps (each_below ps keys misses)),
-        sym (values_kept (starts_before row) (is_above low) ps (each_above ps keys misses))) refl
+    rw (
+      is,
+      map-append (λ p. p.1) (filter (is_below low) ps) ((low, row) ∷ filter (is_above low) ps),
+      sym (values_kept (λ y. starts_before y row) (is_below low) ps (each_below ps keys misses)),
+      sym (values_kept (starts_before row) (is_above low) ps (each_above ps keys misses)),
+    ) refl
   where
     each_below : (qs : List Pair) → AllByRecursion IsKeyed qs → AllByRecursion (Misses low (last_point row)) qs
         → AllByRecursion (λ p. starts_before p.1 row ≡ is_below low p) qs
@@ -132,8 +137,10 @@ values_with low row ps new keys keyed misses is =
     each_above : (qs : List Pair) → AllByRecursion IsKeyed qs → AllByRecursion (Misses low (last_point row)) qs
         → AllByRecursion (λ p. starts_before row p.1 ≡ is_above low p) qs
     each_above [] k m = tt
-    each_above (p ∷ qs) k m = (before_is row p.1 low p.0 keyed.low k.0.low (λ e. differs low (last_point row) p keyed.ordered k.0 m.0 (sym e)),
-        each_above qs k.1 m.1)
+    each_above (p ∷ qs) k m = (
+      before_is row p.1 low p.0 keyed.low k.0.low (λ e. differs low (last_point row) p keyed.ordered k.0 m.0 (sym e)),
+      each_above qs k.1 m.1,
+    )
 
 -- the pairs of other keys, in order
 others_are : (key : ℤ) (ps : List Pair) → IsRising ps → without_key key ps ≡ filter (λ p. not (int_eq p.0 key)) ps
@@ -146,9 +153,9 @@ others_are key (p ∷ rest) rising = by (int_lt p.0 key) (int_lt key p.0) refl r
     by true false eb ea ih = rw (eb, ea) (ap (λ l. p ∷ l) ih)
     by false true eb ea ih =
         let none : filter (is_below key) rest ≡ [] = filter_none (is_below key) rest
-            (all_map (λ q. p.0 <ℤ q.0) (λ q. is_below key q ≡ false) (λ q lt. grind (arith, ints)) rest rising.0) in
+        (all_map (λ q. p.0 <ℤ q.0) (λ q. is_below key q ≡ false) (λ q lt. grind (arith, ints)) rest rising.0) in
         let behind : filter (is_above key) rest ≡ filter (λ q. not (int_eq q.0 key)) rest =
-            subst (λ l. l ++ filter (is_above key) rest ≡ filter (λ q. not (int_eq q.0 key)) rest) none ih in
+        subst (λ l. l ++ filter (is_above key) rest ≡ filter (λ q. not (int_eq q.0 key)) rest) none ih in
         rw (eb, ea, none) (ap (λ l. p ∷ l) behind)
     by false false eb ea ih = rw (eb, ea) ih
 

@@ -81,8 +81,10 @@ hull_ends (p ∷ ps) f l keyed apart ef el =
 
     all_near : (xs : List Pair) → AllByRecursion IsKeyed xs → AllByRecursion (λ x. last_point p.1 <ℤ x.0) xs → AllByRecursion (Behind p) xs
     all_near [] k a = tt
-    all_near (x ∷ xs) k a = ((let o = keyed.0.ordered in let b = k.0.ordered in let lt = a.0 in (grind (arith, ints), grind (arith, ints))),
-        all_near xs k.1 a.1)
+    all_near (x ∷ xs) k a = (
+      (let o = keyed.0.ordered in let b = k.0.ordered in let lt = a.0 in (grind (arith, ints), grind (arith, ints))),
+      all_near xs k.1 a.1,
+    )
 
 -- all of them stand above the least key, and up to the greatest
 pub all_above : (ps : List Pair) → AllByRecursion IsKeyed ps → filter (is_above (negsuc (2 ^ 127 - 1))) ps ≡ ps

@@ -62,7 +62,7 @@ first_between low high ps le keyed apart rising =
     ∙ first_values (filter (begins_by high) (filter (reaches low) ps))
     ∙ ap (λ l. option_map (λ p. p.1) (first (filter (begins_by high) l))) (reach_from low ps keyed apart rising)
     ∙ ap (option_map (λ p. p.1)) (by (last (filter (is_up_to low) ps)) refl (first_begins high behind (rising_kept (is_above low) ps rising) (first behind)
-        refl))
+    refl))
     ∙ mapped (reaching low (last (filter (is_up_to low) ps))) (beginning_by high (first behind))
   where
     mapped : (o n : Option Pair) → row_of (or_else o n) ≡ or_else (row_of o) (row_of n)

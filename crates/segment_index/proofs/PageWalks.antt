@@ -49,8 +49,10 @@ module _ {X : Type 0} where
 
   leads_end : (test : X → Bool) (xs : List X) (x : X) → Leads test xs → (test x ≡ true → AllByRecursion (λ y. test y ≡ true) xs) → Leads test (xs ++ x ∷ [])
   leads_end test [] x h f = ((λ e. tt), tt)
-  leads_end test (y ∷ ys) x h f = ((λ e. all_append (λ z. test z ≡ false) ys (x ∷ []) (h.0 e) (failed e (test x) refl, tt)),
-      leads_end test ys x h.1 (λ e. (f e).1))
+  leads_end test (y ∷ ys) x h f = (
+    (λ e. all_append (λ z. test z ≡ false) ys (x ∷ []) (h.0 e) (failed e (test x) refl, tt)),
+    leads_end test ys x h.1 (λ e. (f e).1),
+  )
     where
       failed : test y ≡ false → (t : Bool) → test x ≡ t → test x ≡ false
       failed e true held = absurd (let yes = (f held).0 in grind arith)
@@ -118,7 +120,7 @@ pub kept_from : (test : SegmentRow → Bool) (start n : ℕ) (refs part new : Li
     (drop start (values_of refs))
 kept_from test start n refs part new from count is =
     let same : n ≡ prefix_len test (drop start (values_of refs)) = count ∙ ap (prefix_len (λ r. test r.now)) from ∙ sym
-        (ap (prefix_len test) (drop-map (λ r. r.now) start refs) ∙ prefix_len-map (λ r. r.now) test (drop start refs)) in
+    (ap (prefix_len test) (drop-map (λ r. r.now) start refs) ∙ prefix_len-map (λ r. r.now) test (drop start refs)) in
     ap values_of is
     ∙ sym (take-map (λ r. r.now) (start + n) refs)
     ∙ take-add start n (values_of refs)
@@ -200,9 +202,11 @@ late_met (Some s) p q kp kq lt begun met =
 leads_rising : (range : Option Span) (ps : List Pair) → AllByRecursion IsKeyed ps → IsRising ps → AllByRecursion (λ p. ends (low_of range) p ≡ true) ps
     → Leads (is_met range) (values ps)
 leads_rising range [] keyed rising ended = tt
-leads_rising range (p ∷ ps) keyed rising ended =
-    ((λ unmet. all_values (λ row. is_met range row ≡ false) ps (all_two IsKeyed (λ q. p.0 <ℤ q.0) (λ q. is_met range q.1 ≡ false)
-        (λ q k lt. late_unmet range p q keyed.0 k lt ended.0 unmet) ps keyed.1 rising.0)), leads_rising range ps keyed.1 rising.1 ended.1)
+leads_rising range (p ∷ ps) keyed rising ended = (
+  (λ unmet. all_values (λ row. is_met range row ≡ false) ps (all_two IsKeyed (λ q. p.0 <ℤ q.0) (λ q. is_met range q.1 ≡ false)
+      (λ q k lt. late_unmet range p q keyed.0 k lt ended.0 unmet) ps keyed.1 rising.0)),
+  leads_rising range ps keyed.1 rising.1 ended.1,
+)
 
 -- and in reverse, where all begin by the range's end
 leads_falling : (range : Option Span) (ps : List Pair) → AllByRecursion IsKeyed ps → IsApart ps → AllByRecursion (λ p. begins (high_of range) p ≡ true) ps
@@ -211,8 +215,8 @@ leads_falling range [] keyed apart begun = tt
 leads_falling range (p ∷ ps) keyed apart begun =
     subst (Leads (is_met range)) (sym (reverse-append (p.1 ∷ []) (values ps)))
     (leads_end (is_met range) (reverse (values ps)) p.1 (leads_falling range ps keyed.1 apart.1 begun.1)
-        (λ met. all_reverse (λ row. is_met range row ≡ true) (values ps)
-        (all_values (λ row. is_met range row ≡ true) ps (later met ps keyed.1 apart.0 begun.1))))
+    (λ met. all_reverse (λ row. is_met range row ≡ true) (values ps)
+    (all_values (λ row. is_met range row ≡ true) ps (later met ps keyed.1 apart.0 begun.1))))
   where
     later : is_met range p.1 ≡ true → (qs : List Pair) → AllByRecursion IsKeyed qs → AllByRecursion (λ q. last_point p.1 <ℤ q.0) qs
         → AllByRecursion (λ q. begins (high_of range) q ≡ true) qs → AllByRecursion (λ q. is_met range q.1 ≡ true) qs
@@ -226,14 +230,14 @@ wanted_rows : (walk : ℤ → Bool) (past : ℤ → Bool) (range : Option Span) 
 wanted_rows walk past range ps keyed wanted =
     all_values (λ row. (walk (first_point row) && is_met range row) ≡ (past (first_point row) && is_met range row)) ps
     (all_two (λ p. first_point p.1 ≡ p.0) (λ p. (walk p.0 && is_met range p.1) ≡ (past p.0 && is_met range p.1)) _
-        (λ p e w. subst (λ k. (walk k && is_met range p.1) ≡ (past k && is_met range p.1)) (sym e) w) ps (keys_are ps keyed) wanted)
+    (λ p e w. subst (λ k. (walk k && is_met range p.1) ≡ (past k && is_met range p.1)) (sym e) w) ps (keys_are ps keyed) wanted)
 
 -- the segments of a walk by their first points
 walked_rows : (walk : ℤ → Bool) (ps : List Pair) → AllByRecursion IsKeyed ps
     → filter (λ row. walk (first_point row)) (values ps) ≡ values (filter (λ p. walk p.0) ps)
 walked_rows walk ps keyed =
     values_kept (λ row. walk (first_point row)) (λ p. walk p.0) ps (all_map (λ p. first_point p.1 ≡ p.0) (λ p. walk (first_point p.1) ≡ walk p.0)
-        (λ p e. ap walk e) ps (keys_are ps keyed))
+    (λ p e. ap walk e) ps (keys_are ps keyed))
 
 -- what follows for those that a test keeps
 kept_so : (test : Pair → Bool) (P : Pair → Type 0) (ps : List Pair) → AllByRecursion (λ p. test p ≡ true → P p) ps → AllByRecursion P (filter test ps)
@@ -244,10 +248,10 @@ pub page_rising : (range : Option Span) (after : Option ℤ) (limit : ℕ) (key 
 page_rising range after limit key ps index rising starts =
     let walked = walked_rows (λ k. int_le key k) ps index.keyed in
     let leads = leads_rising range (filter (is_from key) ps) (all_kept IsKeyed (is_from key) ps index.keyed) (rising_kept (is_from key) ps rising)
-        (kept_so (is_from key) (λ p. ends (low_of range) p ≡ true) ps starts.reached) in
+    (kept_so (is_from key) (λ p. ends (low_of range) p ≡ true) ps starts.reached) in
     ap (λ l. take_while (is_met range) (take limit l)) (sym walked)
     ∙ page_walked (λ row. int_le key (first_point row)) (is_met range) (λ row. is_past after false (first_point row)) limit (values ps)
-        (wanted_rows (λ k. int_le key k) (is_past after false) range ps index.keyed starts.wanted) (subst (Leads (is_met range)) (sym walked) leads)
+    (wanted_rows (λ k. int_le key k) (is_past after false) range ps index.keyed starts.wanted) (subst (Leads (is_met range)) (sym walked) leads)
 
 pub page_falling : (range : Option Span) (after : Option ℤ) (limit : ℕ) (key : ℤ) (ps : List Pair) → IsIndex ps → StartsReverse range after key ps
     → take_while (is_met range) (take limit (values (walk_of true key ps))) ≡ met_page (values ps) range (page_of after limit true)
@@ -257,9 +261,9 @@ page_falling range after limit key ps index starts =
     let back = reverse (values ps) in
     let walked = filter-reverse walk (values ps) ∙ ap reverse (walked_rows (λ k. int_le k key) ps index.keyed) in
     let leads = leads_falling range (filter (is_up_to key) ps) (all_kept IsKeyed (is_up_to key) ps index.keyed) (apart_kept (is_up_to key) ps index.apart)
-        (kept_so (is_up_to key) (λ p. begins (high_of range) p ≡ true) ps starts.begun) in
+    (kept_so (is_up_to key) (λ p. begins (high_of range) p ≡ true) ps starts.begun) in
     let wanted = all_reverse (λ row. (walk row && is_met range row) ≡ (past row && is_met range row)) (values ps)
-        (wanted_rows (λ k. int_le k key) (is_past after true) range ps index.keyed starts.wanted) in
+    (wanted_rows (λ k. int_le k key) (is_past after true) range ps index.keyed starts.wanted) in
     ap (λ l. take_while (is_met range) (take limit l)) (map-reverse (λ p. p.1) (filter (is_up_to key) ps) ∙ sym walked)
     ∙ page_walked walk (is_met range) past limit back wanted (subst (Leads (is_met range)) (sym walked) leads)
     ∙ ap (λ l. take limit (filter past l)) (filter-reverse (is_met range) (values ps))

@@ -24,11 +24,15 @@ behind : (point : ℤ) (p : Pair) (rest : List Pair) → AllByRecursion IsKeyed 
     → filter (reaches point) (p ∷ rest) ≡ from_last point (last (filter (is_up_to point) (p ∷ rest))) (filter (is_above point) (p ∷ rest))
 behind point p rest keyed rising past =
     let above : AllByRecursion (λ q. point <ℤ q.0) (p ∷ rest) =
-        (grind (arith, ints), all_map (λ q. p.0 <ℤ q.0) (λ q. point <ℤ q.0) (λ q lt. grind (arith, ints)) rest rising.0) in
+    (grind (arith, ints), all_map (λ q. p.0 <ℤ q.0) (λ q. point <ℤ q.0) (λ q lt. grind (arith, ints)) rest rising.0) in
     let reach = both_map (p ∷ rest) above keyed in
-    rw (filter_all (reaches point) (p ∷ rest) reach, filter_none (is_up_to point) (p ∷ rest)
-        (all_map (λ q. point <ℤ q.0) _ (λ q lt. grind (arith, ints)) (p ∷ rest) above), filter_all (is_above point) (p ∷ rest)
-        (all_map (λ q. point <ℤ q.0) _ (λ q lt. grind (arith, ints)) (p ∷ rest) above)) refl
+    rw (
+      filter_all (reaches point) (p ∷ rest) reach,
+      filter_none (is_up_to point) (p ∷ rest)
+          (all_map (λ q. point <ℤ q.0) _ (λ q lt. grind (arith, ints)) (p ∷ rest) above),
+      filter_all (is_above point) (p ∷ rest)
+          (all_map (λ q. point <ℤ q.0) _ (λ q lt. grind (arith, ints)) (p ∷ rest) above),
+    ) refl
   where
     both_map : (xs : List Pair) → AllByRecursion (λ q. point <ℤ q.0) xs → AllByRecursion IsKeyed xs → AllByRecursion (λ q. reaches point q ≡ true) xs
     both_map [] a k = tt

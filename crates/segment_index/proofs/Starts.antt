@@ -95,7 +95,7 @@ starts_are point (p ∷ rest) keyed apart rising = by (int_le p.0 point) refl (s
     by : (t : Bool) → int_le p.0 point ≡ t → Starts point (filter (is_up_to point) rest) rest → Starts point (filter (is_up_to point) (p ∷ rest)) (p ∷ rest)
     by false past ih =
         let above : AllByRecursion (λ q. point <ℤ q.0) (p ∷ rest) =
-            (grind (arith, ints), all_map (λ q. p.0 <ℤ q.0) (λ q. point <ℤ q.0) (λ q lt. grind (arith, ints)) rest rising.0) in
+        (grind (arith, ints), all_map (λ q. p.0 <ℤ q.0) (λ q. point <ℤ q.0) (λ q lt. grind (arith, ints)) rest rising.0) in
         let none = filter_none (is_up_to point) (p ∷ rest) (all_map (λ q. point <ℤ q.0) _ (λ q lt. grind (arith, ints)) (p ∷ rest) above) in
         subst (λ l. Starts point l (p ∷ rest)) (sym none) (all_later point point (p ∷ rest) (omega (arith, ints)) keyed above)
     by true up ih =

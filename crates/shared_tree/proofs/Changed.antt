@@ -39,7 +39,7 @@ module _ {V : Type 0} {d : List (ℤ × V) × ℕ} {f : Fork V} where
       → v ≡ f.value.value → r ≡ with_pair (key, value) f.right.0 → l ++ (f.key, v) ∷ r ≡ with_pair (key, value) d.0
   put_on_right at rising key value v l r greater el ev er =
       rw (el, ev, er) (sym (put_right key value _ _ _ (around_fork at rising) (int_ranked key f.key Greater greater)) ∙ ap (with_pair (key, value))
-          (sym at.pairs))
+      (sym at.pairs))
 
   pub put_in_place : (at : AtFork d f) (rising : IsRising d.0) (key : ℤ) (value : V) (l r : List (ℤ × V)) → Equal ≡ int_cmp key f.key → l ≡ f.left.0
       → r ≡ f.right.0 → l ++ (key, value) ∷ r ≡ with_pair (key, value) d.0

@@ -43,9 +43,10 @@ module _ {V : Type 0} where
   rising_meet : (key : ℤ) (l r : List (ℤ × V)) → IsRising l → IsRising r → AllByRecursion (λ p. p.0 <ℤ key) l → AllByRecursion (λ p. key ≤ℤ p.0) r
       → IsRising (l ++ r)
   rising_meet key [] r hl hr bl br = hr
-  rising_meet key (p ∷ l) r hl hr bl br =
-      (all_append (λ q. p.0 <ℤ q.0) l r hl.0 (all_map (λ q. key ≤ℤ q.0) (λ q. p.0 <ℤ q.0) (λ q le. let lt = bl.0 in grind (arith, ints)) r br),
-          rising_meet key l r hl.1 hr bl.1 br)
+  rising_meet key (p ∷ l) r hl hr bl br = (
+    all_append (λ q. p.0 <ℤ q.0) l r hl.0 (all_map (λ q. key ≤ℤ q.0) (λ q. p.0 <ℤ q.0) (λ q le. let lt = bl.0 in grind (arith, ints)) r br),
+    rising_meet key l r hl.1 hr bl.1 br,
+  )
 
   below_key : (key : ℤ) (ps : List (ℤ × V)) → AllByRecursion (λ p. p.0 <ℤ key) (filter (is_below key) ps)
   below_key key ps = all_map (λ p. is_below key p ≡ true) (λ p. p.0 <ℤ key) (λ p held. grind (arith, ints)) _ (each_passes (is_below key) ps)
@@ -84,14 +85,14 @@ module _ {V : Type 0} where
       let first : low ≤ℤ p.0 = above.0 in
       let last : p.0 ≤ℤ high = below.0 in
       let rest = few_between (p.0 +ℤ pos 1) high ps (omega (arith, ints)) (all_map (λ q. p.0 <ℤ q.0) (λ q. (p.0 +ℤ pos 1) ≤ℤ q.0) (λ q lt. omega (arith, ints))
-          ps rising.0) below.1 rising.1 in
+      ps rising.0) below.1 rising.1 in
       omega (arith, ints, rest)
 
   pub few : (ps : List (ℤ × V)) → IsRising ps → Fit ps → length ps ≤ 2 ^ 128
   few ps rising fits =
       let all = few_between (negsuc (2 ^ 127 - 1)) (pos (2 ^ 127 - 1)) ps (omega (arith, ints))
-          (all_map (λ p. FitsSigned w128 p.0) _ (λ p fit. omega (arith, ints)) ps fits) (all_map (λ p. FitsSigned w128 p.0) _ (λ p fit. omega (arith, ints)) ps
-          fits) rising in
+      (all_map (λ p. FitsSigned w128 p.0) _ (λ p fit. omega (arith, ints)) ps fits) (all_map (λ p. FitsSigned w128 p.0) _ (λ p fit. omega (arith, ints)) ps
+      fits) rising in
       omega (arith, ints, all)
 
   -- each pair stands below a key, above it, or at it
@@ -141,8 +142,11 @@ module _ {V : Type 0} where
   -- a pair put makes one more than the others
   pub length_with : (pair : ℤ × V) (ps : List (ℤ × V)) → length (with_pair pair ps) ≡ length (without_key pair.0 ps) + 1
   length_with pair ps =
-      rw (length-append (filter (is_below pair.0) ps) (pair ∷ filter (is_above pair.0) ps), length-append (filter (is_below pair.0) ps)
-          (filter (is_above pair.0) ps)) (omega arith)
+      rw (
+        length-append (filter (is_below pair.0) ps) (pair ∷ filter (is_above pair.0) ps),
+        length-append (filter (is_below pair.0) ps)
+            (filter (is_above pair.0) ps),
+      ) (omega arith)
 
   -- where none has the key, another pair has room among all keys
   pub fewer_than_keys : (key : ℤ) (ps : List (ℤ × V)) → IsRising ps → Fit ps → FitsSigned w128 key → is_some (value_at key ps) ≡ false → 1 ≤ length ps
@@ -150,8 +154,12 @@ module _ {V : Type 0} where
   fewer_than_keys key (p ∷ qs) rising fits fit not_there some =
       let ps = p ∷ qs in
       let value = p.1 in
-      omega (arith, few (with_pair (key, value) ps) (rising_with key value ps rising) (fit_with key value ps fit fits), length_with (key, value) ps,
-          others_not key ps not_there)
+      omega (
+        arith,
+        few (with_pair (key, value) ps) (rising_with key value ps rising) (fit_with key value ps fit fits),
+        length_with (key, value) ps,
+        others_not key ps not_there,
+      )
   fewer_than_keys key [] rising fits fit not_there some = absurd (omega (arith, some))
 
   -- what isn't empty has a pair

@@ -55,5 +55,5 @@ filled_joined h l r p lh rh level fl fr e =
 pub height_by_digits : (h n : ℕ) → least h ≤ n + 1 → h ≤ 2 * digits n
 height_by_digits h n filled =
     let below : n < 2 ^ digits n = subst (λ m. m < 2 ^ digits n) (number_digits_of 2 n (omega arith))
-        (number_lt 2 (digits_of 2 n) (all_below_base_digits_of 2 n (omega arith))) in
+    (number_lt 2 (digits_of 2 n) (all_below_base_digits_of 2 n (omega arith))) in
     low (digits n) h n filled (grind (arith, pow_more 2 (digits n)))

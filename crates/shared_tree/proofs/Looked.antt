@@ -51,23 +51,32 @@ module _ {V : Type 0} {d : List (ℤ × V) × ℕ} {f : Fork V} where
   found_left at rising key less =
       let w = around_fork at rising in
       let lt = int_ranked key f.key Less less in
-      rw (at.pairs, filter-append (is_at key) f.left.0 ((f.key, f.value.value) ∷ f.right.0), none_above key ((f.key, f.value.value) ∷ f.right.0)
-          (lt, all_map _ _ (λ p above. grind (arith, ints)) f.right.0 w.behind), append-nil (filter (is_at key) f.left.0)) refl
+      rw (
+        at.pairs,
+        filter-append (is_at key) f.left.0 ((f.key, f.value.value) ∷ f.right.0),
+        none_above key ((f.key, f.value.value) ∷ f.right.0)
+            (lt, all_map _ _ (λ p above. grind (arith, ints)) f.right.0 w.behind),
+        append-nil (filter (is_at key) f.left.0),
+      ) refl
 
   pub found_right : (at : AtFork d f) (rising : IsRising d.0) (key : ℤ) → Greater ≡ int_cmp key f.key → value_at key d.0 ≡ value_at key f.right.0
   found_right at rising key greater =
       let w = around_fork at rising in
       let gt = int_ranked key f.key Greater greater in
       let other : is_at {V = V} key (f.key, f.value.value) ≡ false = grind (arith, ints) in
-      rw (at.pairs, filter-append (is_at key) f.left.0 ((f.key, f.value.value) ∷ f.right.0),
-          none_below key f.left.0 (all_map _ _ (λ p below. grind (arith, ints)) f.left.0 w.before), other) refl
+      rw (
+        at.pairs,
+        filter-append (is_at key) f.left.0 ((f.key, f.value.value) ∷ f.right.0),
+        none_below key f.left.0 (all_map _ _ (λ p below. grind (arith, ints)) f.left.0 w.before),
+        other,
+      ) refl
 
   pub found_here : (at : AtFork d f) (rising : IsRising d.0) (key : ℤ) → Equal ≡ int_cmp key f.key → value_at key d.0 ≡ Some f.value.value
   found_here at rising key equal =
       let w = around_fork at rising in
       let e : key ≡ f.key = int_ranked key f.key Equal equal in
       let same : is_at {V = V} key (f.key, f.value.value) ≡ true = subst (λ k. is_at {V = V} k (f.key, f.value.value) ≡ true) (sym e)
-          (is_at_itself f.key f.value.value) in
+      (is_at_itself f.key f.value.value) in
       let none = none_below key f.left.0 (subst (λ k. AllByRecursion (λ p. p.0 <ℤ k) f.left.0) (sym e) w.before) in
       rw (at.pairs, filter-append (is_at key) f.left.0 ((f.key, f.value.value) ∷ f.right.0), none, same) refl
 

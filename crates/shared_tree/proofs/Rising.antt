@@ -99,15 +99,21 @@ module _ {V : Type 0} where
   pub put_left : (key : ℤ) (value : V) (l : List (ℤ × V)) (m : ℤ × V) (r : List (ℤ × V)) → Around l m r → key <ℤ m.0
       → with_pair (key, value) (l ++ m ∷ r) ≡ with_pair (key, value) l ++ m ∷ r
   put_left key value l m r h lt =
-      rw (lower_no {test = is_below key} l m r (below_is_lower key) h (grind (arith, ints)), upper_yes {test = is_above key} l m r (above_is_upper key) h
-          (grind (arith, ints)))
+      rw (
+        lower_no {test = is_below key} l m r (below_is_lower key) h (grind (arith, ints)),
+        upper_yes {test = is_above key} l m r (above_is_upper key) h
+            (grind (arith, ints)),
+      )
       (sym (append_assoc (filter (is_below key) l) ((key, value) ∷ filter (is_above key) l) (m ∷ r)))
 
   pub put_right : (key : ℤ) (value : V) (l : List (ℤ × V)) (m : ℤ × V) (r : List (ℤ × V)) → Around l m r → m.0 <ℤ key
       → with_pair (key, value) (l ++ m ∷ r) ≡ l ++ m ∷ with_pair (key, value) r
   put_right key value l m r h lt =
-      rw (lower_yes {test = is_below key} l m r (below_is_lower key) h (grind (arith, ints)), upper_no {test = is_above key} l m r (above_is_upper key) h
-          (grind (arith, ints)))
+      rw (
+        lower_yes {test = is_below key} l m r (below_is_lower key) h (grind (arith, ints)),
+        upper_no {test = is_above key} l m r (above_is_upper key) h
+            (grind (arith, ints)),
+      )
       (append_assoc l (m ∷ filter (is_below key) r) ((key, value) ∷ filter (is_above key) r))
 
   -- what a key's own pair stands between
@@ -129,15 +135,21 @@ module _ {V : Type 0} where
   pub cut_left : (key : ℤ) (l : List (ℤ × V)) (m : ℤ × V) (r : List (ℤ × V)) → Around l m r → key <ℤ m.0
       → without_key key (l ++ m ∷ r) ≡ without_key key l ++ m ∷ r
   cut_left key l m r h lt =
-      rw (lower_no {test = is_below key} l m r (below_is_lower key) h (grind (arith, ints)), upper_yes {test = is_above key} l m r (above_is_upper key) h
-          (grind (arith, ints)))
+      rw (
+        lower_no {test = is_below key} l m r (below_is_lower key) h (grind (arith, ints)),
+        upper_yes {test = is_above key} l m r (above_is_upper key) h
+            (grind (arith, ints)),
+      )
       (sym (append_assoc (filter (is_below key) l) (filter (is_above key) l) (m ∷ r)))
 
   pub cut_right : (key : ℤ) (l : List (ℤ × V)) (m : ℤ × V) (r : List (ℤ × V)) → Around l m r → m.0 <ℤ key
       → without_key key (l ++ m ∷ r) ≡ l ++ m ∷ without_key key r
   cut_right key l m r h lt =
-      rw (lower_yes {test = is_below key} l m r (below_is_lower key) h (grind (arith, ints)), upper_no {test = is_above key} l m r (above_is_upper key) h
-          (grind (arith, ints)))
+      rw (
+        lower_yes {test = is_below key} l m r (below_is_lower key) h (grind (arith, ints)),
+        upper_no {test = is_above key} l m r (above_is_upper key) h
+            (grind (arith, ints)),
+      )
       (append_assoc l (m ∷ filter (is_below key) r) (filter (is_above key) r))
 
   pub cut_at : (key : ℤ) (l : List (ℤ × V)) (m : ℤ × V) (r : List (ℤ × V)) → Around l m r → key ≡ m.0 → without_key key (l ++ m ∷ r) ≡ l ++ r

@@ -35,16 +35,20 @@ module _ {V : Type 0} where
       → AllByRecursion (λ p. before value p.1 ≡ is_above key p) ps → values (with_pair (key, value) ps) ≡ filter (λ other. before other value) (values ps)
       ++ value ∷ filter (λ other. before value other) (values ps)
   placed_is before key value ps below above =
-      rw (map-append (λ p. p.1) (filter (is_below key) ps) ((key, value) ∷ filter (is_above key) ps), values_kept (λ other. before other value) (is_below key)
-          ps below, values_kept (λ other. before value other) (is_above key) ps above) refl
+      rw (
+        map-append (λ p. p.1) (filter (is_below key) ps) ((key, value) ∷ filter (is_above key) ps),
+        values_kept (λ other. before other value) (is_below key)
+            ps below,
+        values_kept (λ other. before value other) (is_above key) ps above,
+      ) refl
 
   -- a pair whose key is above all others stands at the end
   pub added_is : (key : ℤ) (value : V) (ps : List (ℤ × V)) → AllByRecursion (λ p. p.0 <ℤ key) ps → values (with_pair (key, value) ps) ≡ values ps ++ value ∷ []
   added_is key value ps last =
       let below : filter (is_below key) ps ≡ ps = filter_all (is_below key) ps
-          (all_map (λ p. p.0 <ℤ key) (λ p. is_below key p ≡ true) (λ p lt. grind (arith, ints)) ps last) in
+      (all_map (λ p. p.0 <ℤ key) (λ p. is_below key p ≡ true) (λ p lt. grind (arith, ints)) ps last) in
       let above : filter (is_above key) ps ≡ [] = filter_none (is_above key) ps
-          (all_map (λ p. p.0 <ℤ key) (λ p. is_above key p ≡ false) (λ p lt. grind (arith, ints)) ps last) in
+      (all_map (λ p. p.0 <ℤ key) (λ p. is_above key p ≡ false) (λ p lt. grind (arith, ints)) ps last) in
       rw (below, above) (map-append (λ p. p.1) ps ((key, value) ∷ []))
 
   -- the pairs of other keys, in order
@@ -58,9 +62,9 @@ module _ {V : Type 0} where
       by true false eb ea ih = rw (eb, ea) (ap (λ l. p ∷ l) ih)
       by false true eb ea ih =
           let none : filter (is_below key) rest ≡ [] = filter_none (is_below key) rest
-              (all_map (λ q. p.0 <ℤ q.0) (λ q. is_below key q ≡ false) (λ q lt. grind (arith, ints)) rest rising.0) in
+          (all_map (λ q. p.0 <ℤ q.0) (λ q. is_below key q ≡ false) (λ q lt. grind (arith, ints)) rest rising.0) in
           let behind : filter (is_above key) rest ≡ filter (λ q. not (is_at key q)) rest =
-              subst (λ l. l ++ filter (is_above key) rest ≡ filter (λ q. not (is_at key q)) rest) none ih in
+          subst (λ l. l ++ filter (is_above key) rest ≡ filter (λ q. not (is_at key q)) rest) none ih in
           rw (eb, ea, none) (ap (λ l. p ∷ l) behind)
       by false false eb ea ih = rw (eb, ea) ih
 
@@ -70,7 +74,7 @@ module _ {V : Type 0} where
   left_out_is test key ps rising tests =
       ap values (others_are key ps rising)
       ∙ sym (values_kept (λ value. not (test value)) (λ p. not (is_at key p)) ps
-          (all_map (λ p. test p.1 ≡ is_at key p) (λ p. not (test p.1) ≡ not (is_at key p)) (λ p e. ap not e) ps tests))
+      (all_map (λ p. test p.1 ≡ is_at key p) (λ p. not (test p.1) ≡ not (is_at key p)) (λ p e. ap not e) ps tests))
 
   -- a change of values that pass no test changes none
   unchanged : (test : V → Bool) (change : V → V) (ps : List (ℤ × V)) → AllByRecursion (λ p. test p.1 ≡ false) ps
@@ -116,17 +120,17 @@ module _ {V : Type 0} where
       by true false true eb ea ee ih = absurd (grind (arith, ints))
       by true false false eb ea ee ih =
           let found' : value_at key rest ≡ Some old = subst (λ b. option_map (λ q. q.1) (first (cond b (p ∷ filter (is_at key) rest) (filter (is_at key) rest)))
-              ≡ Some old) ee found in
+          ≡ Some old) ee found in
           rw (eb, ea, tests.0 ∙ ee) (ap (λ l. p.1 ∷ l) (ih found'))
       by false true true eb ea ee ih = absurd (grind (arith, ints))
       by false true false eb ea ee ih =
           let found' : value_at key rest ≡ Some old = subst (λ b. option_map (λ q. q.1) (first (cond b (p ∷ filter (is_at key) rest) (filter (is_at key) rest)))
-              ≡ Some old) ee found in
+          ≡ Some old) ee found in
           absurd (let none = none_at eb in let f = subst (λ l. option_map (λ q. q.1) (first l) ≡ Some old) none found' in grind (arith, f))
       by false false false eb ea ee ih = absurd (grind (arith, ints))
       by false false true eb ea ee ih =
           let same : p.1 ≡ old = some_same (subst (λ b. option_map (λ q. q.1) (first (cond b (p ∷ filter (is_at key) rest) (filter (is_at key) rest))) ≡ Some
-              old) ee found) in
+          old) ee found) in
           rw (eb, ea, tests.0 ∙ ee, none_below eb, all_above eb) (rw same (ap (λ l. change old ∷ l) (sym (unchanged test change rest (none_tested eb)))))
 
   -- each value still stands at its own key

@@ -60,5 +60,5 @@ module _ {V : Type 0} {d : List (ℤ × V) × ℕ} {f : Fork V} where
       → reverse (filter (is_up_to key) d.0) ≡ reverse (filter (is_up_to key) f.right.0) ++ (f.key, f.value.value) ∷ reverse f.left.0
   up_to_on_right at rising key le =
       ap reverse (ap (filter (is_up_to key)) at.pairs ∙ lower_yes {test = is_up_to key} _ _ _ (up_to_is_lower key) (around_fork at rising)
-          (grind (arith, ints)))
+      (grind (arith, ints)))
       ∙ reversed f.left.0 (f.key, f.value.value) (filter (is_up_to key) f.right.0)

@@ -43,7 +43,7 @@ heard_more-is E (suc n) out c = refl
 -- what the connections were told, once the last of them changed
 pub told_changed : (f : Connection → Connection) (h : List ℕ → List ℕ) (talks : List Talk) → ((c : Connection) → (f c).told ≡ h c.told)
     → map (λ c. c.told) (map (λ talk. talk.connection) (change_last (with_connection f) talks)) ≡ change_last h
-        (map (λ c. c.told) (map (λ talk. talk.connection) talks))
+    (map (λ c. c.told) (map (λ talk. talk.connection) talks))
 told_changed f h talks same =
     ap (map (λ c. c.told)) (connection_changed f f talks (λ c. refl)) ∙ map-change_last (λ c. c.told) f h (map (λ talk. talk.connection) talks) same
 

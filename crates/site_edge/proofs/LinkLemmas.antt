@@ -34,8 +34,13 @@ pub silent_call : (ok : Bool) (change : Connection → Connection) (site : SiteS
 silent_call ok change site tally talks same is counted =
     let new = record site { tally = tally; talks = talks } in
     let left : SameLeft site new =
-    record { past = refl; spans = refl; since = refl; told = ap (λ ts. map (λ c. c.told) (map (λ talk. talk.connection) ts)) is ∙ told_kept change site.talks
-        same } in
+    record {
+      past = refl;
+      spans = refl;
+      since = refl;
+      told = ap (λ ts. map (λ c. c.told) (map (λ talk. talk.connection) ts)) is ∙ told_kept change site.talks
+          same;
+    } in
     link_call Unchanged Unchanged ok site new refl counted (quiet_time Unchanged site new (λ p. refl) left)
 
 -- the connections after such a call
@@ -84,7 +89,7 @@ said_changed : (passes : Bool) (sent : List ℕ) (before talks : List Talk)
     → talks ≡ change_last (with_connection (after_say passes sent)) before
 said_changed passes sent before talks is =
     is ∙ change_last-change_last (with_connection (marked passes)) (with_connection (told_more sent)) (with_connection (after_say passes sent)) before
-        (λ talk. refl)
+    (λ talk. refl)
 
 -- what was told, once the last connection was told bytes
 said_told : (passes : Bool) (sent : List ℕ) (before talks : List Talk) → talks ≡ change_last (with_connection (after_say passes sent)) before
@@ -105,7 +110,7 @@ noted_say passes bytes sent site tally talks kept sends is =
     let time =
     ended_time (Tells false bytes) (Tells passes bytes) (Bytes sent) site talks kept steps (λ image. record { image = refl; told = (sent, sends, told) }) in
     same_time (Tells false bytes) (Tells passes bytes) site (with_span (Bytes sent) site talks) (record (after_tell sent site) { tally = tally; talks = talks })
-        (record { past = refl; spans = refl; since = refl; told = refl }) time
+    (record { past = refl; spans = refl; since = refl; told = refl }) time
 
 -- a step that tells nothing
 tells_none : (bytes : List ℕ) (p : Left) → Tells false bytes p p
@@ -115,18 +120,23 @@ pub say_call : (noted passes : Bool) (bytes : List ℕ) (site mid : SiteState) (
     → mid ≡ (if noted then after_tell (kept_bytes passes bytes) site else site) → talks ≡ change_last (with_connection (marked (noted && passes))) mid.talks
     → IsCounted (noted && passes) mid.tally.faults tally.faults
     → LinkCall (Tells false bytes) (Tells (noted && passes) bytes) (noted && passes) (site_device site)
-        (site_device (record mid { tally = tally; talks = talks }))
+    (site_device (record mid { tally = tally; talks = talks }))
 say_call true passes bytes site mid tally talks kept mid_is is counted =
     let sent = kept_bytes passes bytes in
     let changed = said_changed passes sent site.talks talks (is ∙ ap (λ m. change_last (with_connection (marked passes)) m.talks) mid_is) in
     rw mid_is (link_call _ _ passes site (record (after_tell sent site) { tally = tally; talks = talks }) refl (rw mid_is at counted)
-        (noted_say passes bytes sent site tally talks kept (sends_kept passes bytes) changed))
+    (noted_say passes bytes sent site tally talks kept (sends_kept passes bytes) changed))
 say_call false passes bytes site mid tally talks kept mid_is is counted =
     let new = record site { tally = tally; talks = talks } in
     let marks : talks ≡ change_last (with_connection (marked false)) site.talks = is ∙ ap (λ m. change_last (with_connection (marked false)) m.talks) mid_is in
     let left : SameLeft site new =
-    record { past = refl; spans = refl; since = refl; told = ap (λ ts. map (λ c. c.told) (map (λ talk. talk.connection) ts)) marks ∙ told_kept (marked false)
-        site.talks (λ c. refl) } in
+    record {
+      past = refl;
+      spans = refl;
+      since = refl;
+      told = ap (λ ts. map (λ c. c.told) (map (λ talk. talk.connection) ts)) marks ∙ told_kept (marked false)
+          site.talks (λ c. refl);
+    } in
     rw mid_is (link_call _ _ false site new refl (rw mid_is at counted) (quiet_time (Tells false bytes) site new (tells_none bytes) left))
 
 pub said_clause : (noted passes : Bool) (bytes : List ℕ) (site mid : SiteState) (tally : Tally) (talks : List Talk)
@@ -146,8 +156,12 @@ said_clause false passes bytes site mid tally talks mid_is is peer_faults =
       peers = record { peer_faults = rw mid_is at peer_faults; closed = refl };
       under_way = refl;
       connections =
-          λ _. ([], sends_none bytes, changed_to (marked false) (after_say false []) site.talks talks
-              (λ c. ap (λ t. record c { told = t; failed = c.failed || true }) (sym (append-nil c.told))) marks);
+          λ _. (
+            [],
+            sends_none bytes,
+            changed_to (marked false) (after_say false []) site.talks talks
+                (λ c. ap (λ t. record c { told = t; failed = c.failed || true }) (sym (append-nil c.told))) marks,
+          );
     })
 
 -- A call that waited for a peer and failed left the site, but for its counts.
@@ -177,21 +191,21 @@ begun_time E sends later site tally kept =
     let talks = site.talks ++ talk ∷ [] in
     let told : map (λ c. c.told) (map (λ talk. talk.connection) talks) ≡ told_of site ++ [] ∷ [] = simp map-append in
     let adds : (image : List ℕ) → AddsConnection (record { image = image; told = told_of site })
-        (record { image = image; told = map (λ c. c.told) (map (λ talk. talk.connection) talks) }) =
+    (record { image = image; told = map (λ c. c.told) (map (λ talk. talk.connection) talks) }) =
     λ image. record { image = refl; told = told } in
     let steps : EndsBy AddsConnection Peer site talks = record { whole = adds; part = λ image so_far none. absurd none } in
     same_time AddsConnection AddsConnection site (with_span Peer site talks) (record (next_of (sends ∷ later) site) { tally = tally })
-        (record { past = refl; spans = refl; since = refl; told = refl }) (ended_time AddsConnection AddsConnection Peer site talks kept steps adds)
+    (record { past = refl; spans = refl; since = refl; told = refl }) (ended_time AddsConnection AddsConnection Peer site talks kept steps adds)
 
 pub next_call : (E : Type 0) (waiting : List (List ℕ)) (site : SiteState) (tally : Tally) → IsKept site → IsCounted true site.tally.faults tally.faults
     → LinkCall (Begins {E = E} (Ok (is_one_left waiting))) (Begins {E = E} (Ok (is_one_left waiting))) true (site_device site)
-        (site_device (record (next_of waiting site) { tally = tally }))
+    (site_device (record (next_of waiting site) { tally = tally }))
 next_call E [] site tally kept counted =
     link_call Unchanged Unchanged true site (record (next_of [] site) { tally = tally }) refl counted
-        (quiet_time Unchanged site (record (next_of [] site) { tally = tally }) (λ p. refl) (record { past = refl; spans = refl; since = refl; told = refl }))
+    (quiet_time Unchanged site (record (next_of [] site) { tally = tally }) (λ p. refl) (record { past = refl; spans = refl; since = refl; told = refl }))
 next_call E (sends ∷ later) site tally kept counted =
     link_call AddsConnection AddsConnection true site (record (next_of (sends ∷ later) site) { tally = tally }) refl counted
-        (begun_time E sends later site tally kept)
+    (begun_time E sends later site tally kept)
 
 pub next_clause : (E : Type 0) (waiting : List (List ℕ)) (site : SiteState) (tally : Tally)
     → NextPeer {E = E} (Ok (is_one_left waiting)) (site_device site) (site_device (record (next_of waiting site) { tally = tally }))
@@ -212,7 +226,7 @@ failed_at E e site tally counts peers =
     record {
       call =
           link_call Unchanged Unchanged false site new refl counts.counted
-              (quiet_time Unchanged site new (λ p. refl) (record { past = refl; spans = refl; since = refl; told = refl }));
+          (quiet_time Unchanged site new (λ p. refl) (record { past = refl; spans = refl; since = refl; told = refl }));
       peers = peers;
       next = record { under_way = refl; connections = λ _. refl; closed = λ _. refl };
       fails = record { counts = counts; disk = refl; piece = refl; peers = refl };
@@ -285,7 +299,7 @@ said_fails true passes bytes site mid tally talks mid_is is counts =
     })
 said_fails false passes bytes site mid tally talks mid_is is counts =
     rw mid_is (changed_fails false (marked false) site tally talks (is ∙ ap (λ m. change_last (with_connection (marked false)) m.talks) mid_is)
-        (rw mid_is at counts))
+    (rw mid_is at counts))
 
 -- what was sent, by whether the call took a number
 sent_if : (noted : Bool) (n m : ℕ) (bytes : List ℕ) → m ≡ (if noted then n + 1 else n) → (if noted then bytes else []) ≡ (if m == n then [] else bytes)
@@ -296,7 +310,7 @@ pub said_sent : (noted passes : Bool) (bytes : List ℕ) (site mid : SiteState) 
     → mid ≡ (if noted then after_tell (kept_bytes passes bytes) site else site) → talks ≡ change_last (with_connection (marked (noted && passes))) mid.talks
     → tally.made ≡ (if noted then mid.tally.made + 1 else mid.tally.made)
     → told_of (record mid { tally = tally; talks = talks }) ≡ change_last (λ t. t ++ sent_by site (record mid { tally = tally; talks = talks })
-        (noted && passes) bytes) (told_of site)
+    (noted && passes) bytes) (told_of site)
 said_sent true passes bytes site mid tally talks mid_is is number =
     let changed =
     said_changed passes (kept_bytes passes bytes) site.talks talks (is ∙ ap (λ m. change_last (with_connection (marked passes)) m.talks) mid_is) in
@@ -308,5 +322,5 @@ said_sent false passes bytes site mid tally talks mid_is is number =
     let sent : [] ≡ (if tally.made == site.tally.made then [] else kept_bytes false bytes) =
     sent_if false site.tally.made tally.made (kept_bytes false bytes) (rw mid_is at number) in
     ap (λ ts. map (λ c. c.told) (map (λ talk. talk.connection) ts)) marks ∙
-        (told_kept (marked false) site.talks (λ c. refl) ∙ (sym (change_last_same (λ t. t ++ []) (told_of site) append-nil) ∙ ap
-        (λ bytes. change_last (λ t. t ++ bytes) (told_of site)) sent))
+    (told_kept (marked false) site.talks (λ c. refl) ∙ (sym (change_last_same (λ t. t ++ []) (told_of site) append-nil) ∙ ap
+    (λ bytes. change_last (λ t. t ++ bytes) (told_of site)) sent))

@@ -79,14 +79,20 @@ pub record LeavesTold (step : Left → Left → Type 0) : Type 0 where
 -- an image at the last moment follows from one before the call, with what was told
 follows_now : (step : Left → Left → Type 0) (call : Call) (site : SiteState) (p : Left) → LeavesTold step → IsKept site
     → ((q : Left) → LeavesSince (with_call call site.disk.past) (length site.disk.past.calls + 1) q
-        → Follows step (LeavesSince site.disk.past (length site.disk.past.calls)) q)
+    → Follows step (LeavesSince site.disk.past (length site.disk.past.calls)) q)
     → LeavesAt (with_call call site.disk.past) (length site.disk.past.calls + 1) p.image → p.told ≡ told_of site
     → Follows step (SiteLeaves site (disk_calls site + length site.spans)) p
 follows_now step call site p told_stays kept inner leaves told =
     let past = site.disk.past in
     let before =
-    inner (record { image = p.image; told = [] }) (record { moment = length past.calls + 1; later = omega arith; within =
-        omega (arith, length_push past.calls call); image = leaves; told = refl }) in
+    inner (record { image = p.image; told = [] }) (record {
+      moment = length past.calls + 1;
+      later = omega arith;
+      within =
+          omega (arith, length_push past.calls call);
+      image = leaves;
+      told = refl;
+    }) in
     let left = before.1 in
     let at_last : left.moment ≡ length past.calls = omega (arith, left.later, left.within) in
     let bare : step (record { image = before.0.image; told = [] }) (record { image = p.image; told = [] }) =
@@ -107,7 +113,7 @@ follows_now step call site p told_stays kept inner leaves told =
 -- what a crash may leave after a disk call, at the last moment or before
 split_now : (step : Left → Left → Type 0) (call : Call) (site : SiteState) (t : ℕ) (p : Left) → LeavesTold step → IsKept site
     → ((q : Left) → LeavesSince (with_call call site.disk.past) (length site.disk.past.calls + 1) q
-        → Follows step (LeavesSince site.disk.past (length site.disk.past.calls)) q)
+    → Follows step (LeavesSince site.disk.past (length site.disk.past.calls)) q)
     → SiteLeaves (with_past (with_call call site.disk.past) site) t p
     → (SiteLeaves site t p × (t ≤ disk_calls site + length site.spans)) ⊎ Follows step (SiteLeaves site (disk_calls site + length site.spans)) p
 split_now step call site t p told_stays kept inner (now left told) =
@@ -158,7 +164,7 @@ keeps_past call site t p kept (ending n span within at left so_far) = ending n s
 -- time over a disk call that was noted
 noted_time : (step : Left → Left → Type 0) (call : Call) (site : SiteState) → LeavesTold step → IsKept site
     → ((q : Left) → LeavesSince (with_call call site.disk.past) (length site.disk.past.calls + 1) q
-        → Follows step (LeavesSince site.disk.past (length site.disk.past.calls)) q)
+    → Follows step (LeavesSince site.disk.past (length site.disk.past.calls)) q)
     → Elapses step step (site_device site) (site_device (with_past (with_call call site.disk.past) site))
 noted_time step call site told_stays kept inner =
     let one_more : length (site.disk.past.calls ++ call ∷ []) ≡ length site.disk.past.calls + 1 = length_push site.disk.past.calls call in
@@ -223,8 +229,13 @@ torn_leaves_told at n = record {
 durable_at : (site : SiteState) (seen : List ℕ) (p : Left) → LeavesOnly seen (memory_device site.disk) → SiteLeaves site (disk_calls site + length site.spans) p
     → p.image ≡ seen
 durable_at site seen p only (now left told) =
-    only (record { image = p.image; told = [] }) (record { moment = left.moment; later = omega (arith, left.later); within = left.within; image = left.leaves;
-        told = refl })
+    only (record { image = p.image; told = [] }) (record {
+      moment = left.moment;
+      later = omega (arith, left.later);
+      within = left.within;
+      image = left.leaves;
+      told = refl;
+    })
 durable_at site seen p only (earlier n span within at left told) = absurd (omega (arith, within, left.within, left.later))
 durable_at site seen p only (ending n span within at left so_far) = absurd (omega (arith, within, left.within, left.later))
 
@@ -257,7 +268,7 @@ spans_before site last n within = ap (λ spans. told_after spans []) (take-appen
 told_before_last : (site : SiteState) (last : Span) → IsKept site → told_after (take (length site.spans) (site.spans ++ last ∷ [])) [] ≡ told_of site
 told_before_last site last kept =
     spans_before site last (length site.spans) (omega arith) ∙ (ap (λ spans. told_after spans []) (take_all (length site.spans) site.spans (omega arith)) ∙
-        kept.told)
+    kept.told)
 
 -- the site with one more span
 abbrev pub with_span : Added → SiteState → List Talk → SiteState
@@ -269,15 +280,15 @@ keeps_ended : (adds : Added) (site : SiteState) (talks : List Talk) (t : ℕ) (p
 keeps_ended adds site talks t p kept (now left told) =
     let last = ended_by adds site in
     earlier (length site.spans) last (omega (arith, length_push site.spans last)) (get_or_at site.spans last [] last (length site.spans) refl)
-        (ended_in _ _ _ _ t p.image kept.since left) (told ∙ sym (told_before_last site last kept))
+    (ended_in _ _ _ _ t p.image kept.since left) (told ∙ sym (told_before_last site last kept))
 keeps_ended adds site talks t p kept (earlier n span within at left told) =
     let last = ended_by adds site in
     earlier n span (omega (arith, within, length_push site.spans last)) (get_or_append_left site.spans (last ∷ []) span n within ∙ at) left
-        (told ∙ sym (spans_before site last n (omega (arith, within))))
+    (told ∙ sym (spans_before site last n (omega (arith, within))))
 keeps_ended adds site talks t p kept (ending n span within at left so_far) =
     let last = ended_by adds site in
     ending n span (omega (arith, within, length_push site.spans last)) (get_or_append_left site.spans (last ∷ []) span n within ∙ at) left
-        (subst (λ told. SoFar span.adds told p.told) (sym (spans_before site last n (omega (arith, within)))) so_far)
+    (subst (λ told. SoFar span.adds told p.told) (sym (spans_before site last n (omega (arith, within)))) so_far)
 
 -- an image that the disk may leave now, and what was told by then
 follows_at : (step : Left → Left → Type 0) (site : SiteState) (p : Left) → LeavesAt site.disk.past (disk_calls site) p.image
@@ -315,7 +326,7 @@ split_ended step adds site talks t p kept steps (now left told) =
     let at_last : LeavesAt site.disk.past (disk_calls site) p.image =
     subst (λ n. LeavesAt site.disk.past n p.image) (omega (arith, left.begun, left.not_over)) left.leaves in
     inr (follows_at step site p at_last (subst (λ u. step (record { image = p.image; told = told_of site }) (record { image = p.image; told = u })) (sym told)
-        (steps.whole p.image)))
+    (steps.whole p.image)))
 split_ended step adds site talks t p kept steps (earlier n span within at left told) =
     let last = ended_by adds site in
     elim (cases_lt n (length site.spans)) [
@@ -325,7 +336,7 @@ split_ended step adds site talks t p kept steps (earlier n span within at left t
           let is = is_last site last span n within past at in
           let there : LeavesIn site.disk.past site.since (disk_calls site) (length site.spans) t p.image =
           subst (λ s. LeavesIn site.disk.past s.from s.to (length site.spans) t p.image) is.1
-              (subst (λ m. LeavesIn site.disk.past span.from span.to m t p.image) is.0 left) in
+          (subst (λ m. LeavesIn site.disk.past span.from span.to m t p.image) is.0 left) in
           inl (now (record {
             moment = there.moment;
             begun = omega (arith, there.begun);
@@ -346,9 +357,9 @@ split_ended step adds site talks t p kept steps (ending n span within at left so
           subst (λ s. LeavesIn site.disk.past s.to s.to n t p.image) is.1 left in
           let so : SoFar adds (told_of site) p.told =
           subst (λ told. SoFar adds told p.told) (ap (λ m. told_after (take m (site.spans ++ last ∷ [])) []) is.0 ∙ told_before_last site last kept)
-              (subst (λ s. SoFar s.adds (told_after (take n (site.spans ++ last ∷ [])) []) p.told) is.1 so_far) in
+          (subst (λ s. SoFar s.adds (told_after (take n (site.spans ++ last ∷ [])) []) p.told) is.1 so_far) in
           inr (follows_at step site p (subst (λ m. LeavesAt site.disk.past m p.image) (omega (arith, there.begun, there.not_over)) there.leaves)
-              (steps.part p.image p.told so))
+          (steps.part p.image p.told so))
     ]
 
 ends_now : (step : Left → Left → Type 0) (adds : Added) (site : SiteState) (talks : List Talk) (p : Left)
@@ -359,7 +370,7 @@ ends_now step adds site talks p whole (now left told) =
     let at_last : LeavesAt site.disk.past (disk_calls site) p.image =
     subst (λ n. LeavesAt site.disk.past n p.image) (omega (arith, left.begun, left.not_over)) left.leaves in
     follows_at step site p at_last (subst (λ u. step (record { image = p.image; told = told_of site }) (record { image = p.image; told = u })) (sym told)
-        (whole p.image))
+    (whole p.image))
 ends_now step adds site talks p whole (earlier n span within at left told) =
     absurd (omega (arith, within, left.within, left.later, length_push site.spans (ended_by adds site)))
 ends_now step adds site talks p whole (ending n span within at left so_far) =

@@ -170,9 +170,10 @@ said_over_failed_say bytes t said old new le call is = record {
   now = λ p left.
       let before = call.time.now p left in
       let tells = before.2 in
-      let whole = is.now before.0 before.1 in
-      (rw tells.told.2 (prefixes_told before.0.told said bytes tells.told.0 tells.told.1 whole),
-          rw tells.told.2 (part_length before.0.told said bytes tells.told.0 whole));
+      let whole = is.now before.0 before.1 in (
+        rw tells.told.2 (prefixes_told before.0.told said bytes tells.told.0 tells.told.1 whole),
+        rw tells.told.2 (part_length before.0.told said bytes tells.told.0 whole),
+      );
 }
 
 -- a peer that comes was told nothing yet, whatever became of the connection before it

@@ -56,8 +56,13 @@ pub record FileSiteState : Type 0 where
 abbrev pub file_site_device : FileSiteState → Device
 file_site_device s = record (file_device s.file) {
   link =
-      record { faults = s.link_faults; peer_faults = 0; under_way = s.under_way; connections = [];
-          closed = false };
+      record {
+        faults = s.link_faults;
+        peer_faults = 0;
+        under_way = s.under_way;
+        connections = [];
+        closed = false;
+      };
 }
 
 -- both are devices, of which nothing is told that a crash leaves

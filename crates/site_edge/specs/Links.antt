@@ -20,13 +20,13 @@ change_last f (x ∷ y ∷ xs) = x ∷ change_last f (y ∷ xs)
 -- and the count of link faults unless it fails. The steps are what it may do to what a crash
 -- leaves, so far at a moment within it, and once it has ended.
 pub record LinkCall (within ended : Left → Left → Type 0) (ok : Bool) (old new : Device) : Type 0
-    where
-  pub same : SameDevice old new
-  pub faults : new.faults ≡ old.faults
-  pub seen : new.seen ≡ old.seen
-  pub handed : new.handed ≡ old.handed
-  pub counted : IsCounted ok old.link.faults new.link.faults
-  pub time : Elapses within ended old new
+  where
+    pub same : SameDevice old new
+    pub faults : new.faults ≡ old.faults
+    pub seen : new.seen ≡ old.seen
+    pub handed : new.handed ≡ old.handed
+    pub counted : IsCounted ok old.link.faults new.link.faults
+    pub time : Elapses within ended old new
 
 -- A step that tells the last connection these bytes, or a prefix of them where the call failed. So
 -- far it may have told any prefix.
@@ -100,7 +100,7 @@ pub record Said (ok : Bool) (bytes : List ℕ) (old new : Device) : Type 0 where
   pub under_way : new.link.under_way ≡ old.link.under_way
   pub connections : old.tells ≡ true
       → (sent : List ℕ) × Sends ok bytes sent ×
-          (new.link.connections ≡ change_last (after_say ok sent) old.link.connections)
+      (new.link.connections ≡ change_last (after_say ok sent) old.link.connections)
 
 -- the site after its connection was ended
 pub record Closed (old new : Device) : Type 0 where

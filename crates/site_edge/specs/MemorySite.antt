@@ -83,7 +83,7 @@ SoFar (Bytes sent) before told =
 abbrev pub LeavesNow : SiteState → ℕ → List ℕ → Type 0
 LeavesNow site t =
     LeavesIn site.disk.past (min site.since (disk_calls site)) (disk_calls site) (length site.spans)
-        t
+    t
 
 -- what was told before the span of this place
 abbrev pub told_before : SiteState → ℕ → List (List ℕ)

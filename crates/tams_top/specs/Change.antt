@@ -33,7 +33,7 @@ media_change c = PutFlow c.moment (plain_flow c.flow c.source)
 
 -- its bytes, as the codec of changes spells them
 unfoldable pub change_text : PutChange → List ℕ
-change_text c = change_spelling.spell (media_change c)
+change_text c = change_spelling.meaning.spell (media_change c)
 
 -- the ids have 128 bits, and the moment is one up to the year 9999
 pub record IsPutChange (c : PutChange) : Type 0 where

@@ -13,7 +13,7 @@ use Rattle.tams_top.specs.Library.{library_after, formatted_library}
 
 -- the rows of the empty library: one row with the next serial, which is 1
 unfoldable pub empty_rows : List ℕ
-empty_rows = row_spelling.spell (Numbers 1)
+empty_rows = row_spelling.meaning.spell (Numbers 1)
 
 -- The records' payloads are changes, which take one library to another in order.
 abbrev pub Folds : List Record → Library → Library → Type 0

@@ -74,21 +74,21 @@ both f false x y u v e g = g
 pub ts_capped : (s : TsScan) (c : ℕ) → ts_next capped (cap_ts s) c ≡ option_map cap_ts (next_ts s c)
 ts_capped Start c =
     both cap_ts (c == 45) _ _ (Some Signed) (option_map (Seconds false) (digit_of c)) refl
-        (digits_capped (Seconds false) (Seconds false) c (λ d digit. ap (Seconds false) (omega arith)))
+    (digits_capped (Seconds false) (Seconds false) c (λ d digit. ap (Seconds false) (omega arith)))
 ts_capped Signed c = digits_capped (Seconds true) (Seconds true) c (λ d digit. ap (Seconds true) (omega arith))
 ts_capped (Seconds n s) c =
     let test : nat_lt 0 (capped s) ≡ nat_lt 0 s = grind (arith, nat_tests) in
     let digits = digits_capped (λ d. Seconds n (capped (10 * capped s + d))) (λ d. Seconds n (10 * s + d)) c (λ d digit. ap (Seconds n) (omega arith)) in
     both cap_ts (c == 58) _ _ (Some (Colon n s)) (if nat_lt 0 s then option_map (λ d. Seconds n (10 * s + d)) (digit_of c) else None) refl
     (ap (λ b. if b then option_map (λ d. Seconds n (capped (10 * capped s + d))) (digit_of c) else None) test ∙ both cap_ts (nat_lt 0 s) _ None _ None digits
-        refl)
+    refl)
 ts_capped (Colon n s) c =
     digits_capped (λ d. Nanos (record { negative = n; seconds = capped s; nanos = d })) (λ d. Nanos (record { negative = n; seconds = s; nanos = d })) c
-        (λ d digit. refl)
+    (λ d digit. refl)
 ts_capped (Nanos p) c =
     both cap_ts (nat_lt 0 p.nanos && nat_lt p.nanos 100_000_000) _ None _ None
     (digits_capped (λ d. Nanos (record { negative = p.negative; seconds = capped p.seconds; nanos = 10 * p.nanos + d }))
-        (λ d. Nanos (record { negative = p.negative; seconds = p.seconds; nanos = 10 * p.nanos + d })) c (λ d digit. refl))
+    (λ d. Nanos (record { negative = p.negative; seconds = p.seconds; nanos = 10 * p.nanos + d })) c (λ d digit. refl))
     refl
 
 -- the parts of a whole timestamp
@@ -132,7 +132,7 @@ longer_capped (Left (Some b)) c = begun_capped (Some b) c
 longer_capped (First left first) c =
     both cap_range (c == 95) _ _ (option_map (λ p. Mark left (Some p)) (stamp_read first)) (option_map (First left) (next_ts first c))
     (ap (option_map (λ p. Mark left (Some p))) (stamp_read_capped first) ∙ map_map (λ p. Mark left (Some p)) cap_parts cap_range (λ p. Mark left (Some p))
-        (λ x. refl) (stamp_read first))
+    (λ x. refl) (stamp_read first))
     (ap (option_map (First left)) (ts_capped first c) ∙ map_map (First left) cap_ts cap_range (First left) (λ x. refl) (next_ts first c))
 longer_capped (Mark left first) c =
     ap (option_map (Second left (option_map cap_parts first))) (ts_capped Start c)
@@ -148,18 +148,18 @@ range_read_capped (Left left) = refl
 range_read_capped (First left first) =
     ap (option_map _) (stamp_read_capped first)
     ∙ map_map (λ p. record { left = left; middle = Single p; right = None }) cap_parts cap_range_parts
-        (λ p. record { left = left; middle = Single p; right = None }) (λ x. refl) (stamp_read first)
+    (λ p. record { left = left; middle = Single p; right = None }) (λ x. refl) (stamp_read first)
 range_read_capped (Mark left first) = refl
 range_read_capped (Second left first second) =
     ap (option_map _) (stamp_read_capped second)
     ∙ map_map (λ p. record { left = left; middle = Split (option_map cap_parts first) (Some p); right = None }) cap_parts cap_range_parts
-        (λ p. record { left = left; middle = Split first (Some p); right = None }) (λ x. refl) (stamp_read second)
+    (λ p. record { left = left; middle = Split first (Some p); right = None }) (λ x. refl) (stamp_read second)
 range_read_capped (Right p) = refl
 
 -- a right bracket leaves the other parts as they are
 closing_capped : (p : RangeParts) (o : Option Bracket) →
     option_map (λ b. Right (record { left = p.left; middle = cap_middle p.middle; right = Some b })) o ≡ option_map cap_range
-        (option_map (λ b. Right (record { left = p.left; middle = p.middle; right = Some b })) o)
+    (option_map (λ b. Right (record { left = p.left; middle = p.middle; right = Some b })) o)
 closing_capped p None = refl
 closing_capped p (Some b) = refl
 

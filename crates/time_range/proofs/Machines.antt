@@ -52,7 +52,7 @@ module _ {S P : Type 0} (next : S → ℕ → Option S) (start : S) (parts : S �
       let same = take-take (at + 1) k text (omega arith) in
       let split : take k text ++ front.0 ≡ take (at + 1) text ++ (drop (at + 1) (take k text) ++ front.0) =
       ap (λ l. l ++ front.0) (sym cut ∙ ap (λ l. l ++ drop (at + 1) (take k text)) same) ∙ append_assoc (take (at + 1) text) (drop (at + 1) (take k text))
-          front.0 in
+      front.0 in
       refused reader (take (at + 1) text) _ stuck (subst IsText split front.1) in
       record {
         no_text = λ text_is. longest (length text) within (omega arith)

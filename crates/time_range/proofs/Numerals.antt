@@ -32,7 +32,7 @@ numeral_more n d above digit =
     let front : (10 * n + d) / 10 ≡ n = omega arith in
     let last : (10 * n + d) % 10 ≡ d = omega arith in
     let digits : digits_of 10 (10 * n + d) ≡ digits_of 10 n ++ d ∷ [] = split ∙ ap (λ q. digits_of 10 q ++ (10 * n + d) % 10 ∷ []) front ∙ ap
-        (λ k. digits_of 10 n ++ k ∷ []) last in
+    (λ k. digits_of 10 n ++ k ∷ []) last in
     numeral_above (10 * n + d) (omega arith) ∙ ap (map (λ k. 48 + k)) digits ∙ map-append (λ k. 48 + k) (digits_of 10 n) (d ∷ [])
     ∙ ap (λ l. l ++ (48 + d) ∷ []) (sym (numeral_above n above))
 

@@ -92,13 +92,15 @@ first_step left s c t true fine mark e =
     let (p, read, same) = map_some (λ p. Mark left (Some p)) (stamp_read s) t e in
     let is = stamp_inv s p read in
     let text = append_assoc (left_text left) (said s) (c ∷ []) ∙ ap (λ k. left_text left ++ (said s ++ k ∷ [])) (mark refl) ∙ ap
-        (λ u. left_text left ++ (said u ++ 95 ∷ [])) is in
+    (λ u. left_text left ++ (said u ++ 95 ∷ [])) is in
     subst (GoodRange ((left_text left ++ said s) ++ c ∷ [])) same (text, subst Fine is fine)
 first_step left s c t false fine mark e =
     let (u, next, same) = map_some (First left) (next_ts s c) t e in
     let more = said_more s u c fine next in
-    subst (GoodRange ((left_text left ++ said s) ++ c ∷ [])) same (append_assoc (left_text left) (said s) (c ∷ []) ∙ ap (λ l. left_text left ++ l) more.0,
-        more.1)
+    subst (GoodRange ((left_text left ++ said s) ++ c ∷ [])) same (
+      append_assoc (left_text left) (said s) (c ∷ []) ∙ ap (λ l. left_text left ++ l) more.0,
+      more.1,
+    )
 
 -- behind the mark and a part of the second timestamp
 second_step : (left : Option Bracket) (first : Option TsParts) (s : TsScan) (c : ℕ) (t : RangeScan) →
@@ -108,7 +110,7 @@ second_step left first s c t stamp fine e =
     let (u, next, same) = map_some (Second left first) (next_ts s c) t e in
     let more = said_more s u c fine next in
     let text = append_assoc (left_text left) (stamp_text first ++ (95 ∷ said s)) (c ∷ []) ∙ ap (λ l. left_text left ++ l)
-        (append_assoc (stamp_text first) (95 ∷ said s) (c ∷ [])) in
+    (append_assoc (stamp_text first) (95 ∷ said s) (c ∷ [])) in
     subst (GoodRange ((left_text left ++ (stamp_text first ++ (95 ∷ said s))) ++ c ∷ [])) same
     (text ∙ ap (λ l. left_text left ++ (stamp_text first ++ (95 ∷ l))) more.0, (stamp, more.1))
 
@@ -223,7 +225,7 @@ range_ending (Second left first s) fine =
         (fine.0, stamp),
         append_assoc (left_text left) (stamp_text first ++ (95 ∷ said s)) rest
             ∙ ap (λ l. left_text left ++ l) (append_assoc (stamp_text first) (95 ∷ said s) rest ∙ ap (λ l. stamp_text first ++ (95 ∷ l)) text ∙ sym
-                (append-nil (stamp_text first ++ (95 ∷ ts_text p)))),
+            (append-nil (stamp_text first ++ (95 ∷ ts_text p)))),
       ),
     )
 range_ending (Right p) fine = ended (Right p) p fine refl
@@ -245,7 +247,7 @@ no_stamp c sign colon digit (Seconds n s) =
 no_stamp c sign colon digit (Colon n s) = ap (option_map _) digit
 no_stamp c sign colon digit (Nanos p) =
     ap (λ o. if nat_lt 0 p.nanos && nat_lt p.nanos 100_000_000 then option_map
-        (λ d. Nanos (record { negative = p.negative; seconds = p.seconds; nanos = 10 * p.nanos + d })) o else None) digit
+    (λ d. Nanos (record { negative = p.negative; seconds = p.seconds; nanos = 10 * p.nanos + d })) o else None) digit
     ∙ same_parts (nat_lt 0 p.nanos && nat_lt p.nanos 100_000_000) None
 
 -- `_` stands in no timestamp
@@ -275,9 +277,9 @@ left_takes None u c e =
     let square = other_byte 91 (no_stamp 91 refl refl refl) Start u c e in
     let round = other_byte 40 (no_stamp 40 refl refl refl) Start u c e in
     let bracket : left_bracket c ≡ None = ap (λ b. if b then Some Square else (if c == 40 then Some Round else None)) square ∙ ap
-        (λ b. if b then Some Round else None) round in
+    (λ b. if b then Some Round else None) round in
     let taken : longer (λ n. n) (Left None) c ≡ Some (First None u) = ap (λ o. option_or (option_map (λ b. Left (Some b)) o) (begun (λ n. n) None c)) bracket ∙
-        begun_takes None u c e in
+    begun_takes None u c e in
     ap (λ o. option_or o (option_and_then (λ p. closed p c) (range_read (Left None)))) taken
 
 -- a byte of the first timestamp is taken
@@ -285,7 +287,7 @@ first_takes : (left : Option Bracket) (s u : TsScan) (c : ℕ) → next_ts s c �
 first_takes left s u c e =
     let rest = option_and_then (λ p. closed p c) (range_read (First left s)) in
     ap (λ b. option_or (if b then option_map (λ p. Mark left (Some p)) (stamp_read s) else option_map (First left) (next_ts s c)) rest)
-        (other_byte 95 no_mark s u c e)
+    (other_byte 95 no_mark s u c e)
     ∙ ap (λ o. option_or (option_map (First left) o) rest) e
 
 -- a byte of the second timestamp is taken
@@ -378,7 +380,7 @@ longer_none c mark bracket never (Left None) =
 longer_none c mark bracket never (Left (Some b)) = begun_none c mark never (Some b)
 longer_none c mark bracket never (First left s) =
     ap (λ b. if b then option_map (λ p. Mark left (Some p)) (stamp_read s) else option_map (First left) (next_ts s c)) mark ∙ ap (option_map (First left))
-        (never s)
+    (never s)
 longer_none c mark bracket never (Mark left first) = ap (option_map (Second left first)) (never Start)
 longer_none c mark bracket never (Second left first s) = ap (option_map (Second left first)) (never s)
 longer_none c mark bracket never (Right p) = refl
@@ -410,7 +412,7 @@ run_both left middle rest fine =
 -- the text of each list of parts is read to them
 read_parts : (left : Option Bracket) (middle : Middle) (right : Option Bracket) → HasStamps middle →
     (s : RangeScan) × (run next_range (Left None) (left_text left ++ (middle_text middle ++ right_text right)) ≡ Some s) ×
-        (range_read s ≡ Some (record { left = left; middle = middle; right = right }))
+    (range_read s ≡ Some (record { left = left; middle = middle; right = right }))
 read_parts left middle None fine = (state_of left middle, run_both left middle [] fine, read_state left middle)
 read_parts left middle (Some b) fine =
     (Right (record { left = left; middle = middle; right = Some b }), run_both left middle (right_text (Some b)) fine ∙ run_right left middle b, refl)

@@ -104,7 +104,7 @@ ts_too_large text k None (p, fine, spelled, kept) within =
 pub range_stops : (text : List ℕ) (at : ℕ) → StopsAt (range_next capped) (Left None) text at → FailsAt IsRangeText text at
 range_stops text at stop =
     fails_within next_range (Left None) range_read range_text HasFineStamps range_reader text at
-        (kept_stop next_range (range_next capped) cap_range range_capped (Left None) text at stop)
+    (kept_stop next_range (range_next capped) cap_range range_capped (Left None) text at stop)
 
 -- a text that ends too early fails at its end
 pub range_unfinished : (text : List ℕ) (k : RangeScan) → run (range_next capped) (Left None) text ≡ Some k →

@@ -126,7 +126,7 @@ span_points false low high p holds = (λ h. absurd h, λ h. let wrong = holds h.
 between_ends : (low high : End) → Between low high (span_between (low_point low) (high_point high))
 between_ends low high p =
     let points = span_points (are_ordered (low_point low) (high_point high)) (low_point low) (high_point high) p
-        (order_from_point (low_point low) (high_point high) p) in (
+    (order_from_point (low_point low) (high_point high) p) in (
       λ h. let is = points.0 h in ((low_points low p).0 is.0, (high_points high p).0 is.1),
       λ h. points.1 ((low_points low p).1 h.0, (high_points high p).1 h.1),
     )

@@ -188,7 +188,7 @@ read_seconds false s =
     run_numeral next_ts Start (Seconds false) (s + 1) start_digit (λ k d above digit below. seconds_digit false k d above digit) s (omega arith)
 read_seconds true s =
     run_numeral next_ts Signed (Seconds true) (s + 1) (λ d digit. ap (option_map (Seconds true)) (digit_of-digit d digit))
-        (λ k d above digit below. seconds_digit true k d above digit) s (omega arith)
+    (λ k d above digit below. seconds_digit true k d above digit) s (omega arith)
 
 -- the digits of the nanoseconds
 read_nanos : (n : Bool) (s f : ℕ) → f < 10 ^ 9 → run next_ts (Colon n s) (numeral f) ≡ Some (Nanos (record { negative = n; seconds = s; nanos = f }))

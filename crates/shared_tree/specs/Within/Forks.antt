@@ -40,4 +40,4 @@ abbrev pub IsTakenFrom : {V : Type 0} → List (ℤ × V) × ℕ → Option (Tak
 IsTakenFrom tree None = tree ≡ ([], 0)
 IsTakenFrom tree (Some taken) =
     (tree.0 ≡ (taken.key, taken.value.value) ∷ taken.rest.0) ×
-        ((taken.rest.1 ≤ tree.1) × (tree.1 ≤ taken.rest.1 + 1))
+    ((taken.rest.1 ≤ tree.1) × (tree.1 ≤ taken.rest.1 + 1))

@@ -4,9 +4,9 @@ use Rattle.shared_tree.specs.Pairs.{values}
 
 -- the values of these pairs were appended as far as there was room, and so much room is left
 pub record Walked {V : Type 0} (before after : List V) (room left : ℕ) (ps : List (ℤ × V)) : Type 0
-    where
-  pub values : after ≡ before ++ take room (values ps)
-  pub rest : left ≡ room - length ps
+  where
+    pub values : after ≡ before ++ take room (values ps)
+    pub rest : left ≡ room - length ps
 
 -- So many steps at most were taken, with one for each value; fewer where room is left.
 pub record Costs (steps_before steps_after room left most most_whole : ℕ) : Type 0 where

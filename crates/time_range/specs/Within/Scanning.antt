@@ -41,7 +41,7 @@ ts_next cap (Seconds negative seconds) byte =
     if byte == 58 then Some (Colon negative seconds)
     else
     (if nat_lt 0 seconds then option_map (λ d. Seconds negative (cap (10 * seconds + d)))
-        (digit_of byte) else None)
+    (digit_of byte) else None)
 ts_next cap (Colon negative seconds) byte =
     option_map (λ d. Nanos (record { negative = negative; seconds = seconds; nanos = d }))
     (digit_of byte)
@@ -49,7 +49,7 @@ ts_next cap (Nanos p) byte =
     if nat_lt 0 p.nanos && nat_lt p.nanos 100_000_000
     then option_map
     (λ d. Nanos (record { negative = p.negative; seconds = p.seconds; nanos = 10 * p.nanos + d }))
-        (digit_of byte)
+    (digit_of byte)
     else None
 
 -- the parts of what has been read, where it is a whole timestamp

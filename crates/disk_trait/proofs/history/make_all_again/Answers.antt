@@ -11,4 +11,4 @@ make_again-requires c =
 pub loop-call-preserved : goal.loop-call-preserved
 loop-call-preserved c =
     c.make_again.ensures ∙ (ap (seen_after_call c.call-item.result) c.loop-call.invariant ∙ sym
-        (seen_after_more c.args.calls.now c.loop-call.call-index c.call-item.result c.args.image.now.items c.loop-call-test.true c.call-item.is))
+    (seen_after_more c.args.calls.now c.loop-call.call-index c.call-item.result c.args.image.now.items c.loop-call-test.true c.call-item.is))

@@ -8,7 +8,7 @@ pub returns-in-Stray-clause-closed : goal.returns-in-Stray-clause-closed
 returns-in-Stray-clause-closed g c = λ shows gate none.
     let whole = (g.met.D.Disk.sound c.args.disk.now).length shows in
     on_ok_weaker c.write_synced.result (λ seen. rw seen (shut_by_zero (g.D.Disk.device c.args.disk.now).seen (omega (arith, whole, c.requires))))
-        (c.write_synced.ensures.written shows)
+    (c.write_synced.ensures.written shows)
 
 -- The image has no header, whatever the gate's byte is.
 pub returns-in-Stray-clause-moments : goal.returns-in-Stray-clause-moments

@@ -24,7 +24,7 @@ returns-in_err-make_store g c =
           let size = (g.met.D.Disk.sound c.args.disk.now).length rest.shows ∙ sym (c.len.ensures ∙ first.reads.calls.same.size) in
           let fits = rw (← size) at (c.if-not-fits_store.ensures.0 refl) in
           formats _ rest none _ _ fits c.ranges.id.fits false c.in_ok-gate.gate _ _ _ _ c.header_bytes.ensures
-              (c.deref.ensures.value ∙ c.in_ok-half.ensures.text) first.reads (first.gate rest.shows) c.in_err-make_store.ensures.moments;
+          (c.deref.ensures.value ∙ c.in_ok-half.ensures.text) first.reads (first.gate rest.shows) c.in_err-make_store.ensures.moments;
       durable = λ honest. tt;
       others =
           let size = ap length c.deref.ensures.value ∙ c.in_ok-half.ensures.len in
@@ -52,7 +52,7 @@ returns g c =
           let size = (g.met.D.Disk.sound c.args.disk.now).length rest.shows ∙ sym (c.len.ensures ∙ first.reads.calls.same.size) in
           let fits : FitsStore header (length (g.D.Disk.device c.args.disk.now).seen) c.args.rows.now = rw size (c.if-not-fits_store.ensures.0 refl) in
           formats _ rest none header c.args.rows.now fits c.ranges.id.fits true c.in_ok-gate.gate _ _ _ _ c.header_bytes.ensures
-              (c.deref.ensures.value ∙ c.in_ok-half.ensures.text) first.reads (first.gate rest.shows) c.in_ok-make_store.ensures.moments;
+          (c.deref.ensures.value ∙ c.in_ok-half.ensures.text) first.reads (first.gate rest.shows) c.in_ok-make_store.ensures.moments;
       durable = λ honest. c.in_ok-make_store.ensures.durable (first.reads.calls.same.honest ∙ honest);
       others =
           let size = ap length c.deref.ensures.value ∙ c.in_ok-half.ensures.len in

@@ -43,7 +43,7 @@ returns-clause-moments g c = λ rest gate none.
     let opens = c.write_synced.ensures.moments (same.honest ∙ once.honest) (same.shows ∙ once.shows) in
     let whole = (g.met.D.Disk.sound c.write_store.new.disk).length (same.shows ∙ once.shows) in
     store_made _ _ _ _ (closes.length rest.shows) _ _ _ (omega (arith, whole, c.requires.device, same.size, closes.calls.same.size)) (writes.written once.shows)
-        _ (writes.durable once.honest) front opens
+    _ (writes.durable once.honest) front opens
 
 pub returns-in_err-close_stray-clause-others : goal.returns-in_err-close_stray-clause-others
 returns-in_err-close_stray-clause-others g c = c.in_err-close_stray.ensures.others _
@@ -54,4 +54,4 @@ returns-in_err-write_store-clause-others g c = others_along _ _ _ _ (c.in_ok-clo
 pub returns-clause-others : goal.returns-clause-others
 returns-clause-others g c =
     others_along _ _ _ _ (others_along _ _ _ _ (c.in_ok-close_stray.ensures.others _) c.in_ok-write_store.ensures.others)
-        (others_header _ 40 1 _ _ (omega arith) c.write_synced.ensures.time)
+    (others_header _ 40 1 _ _ (omega arith) c.write_synced.ensures.time)

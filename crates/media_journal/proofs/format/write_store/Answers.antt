@@ -10,18 +10,18 @@ returns-in_err-write_at-clause-moments g c = keeps_behind _ _ _ c.requires.heade
 pub returns-in_err-write_at-2-clause-moments : goal.returns-in_err-write_at-2-clause-moments
 returns-in_err-write_at-2-clause-moments g c =
     keeps_along _ _ _ (keeps_behind _ _ _ c.requires.header c.in_ok-write_at.ensures.call.time)
-        (keeps_before _ _ _ _ (omega arith) c.in_err-write_at-2.ensures.call.time)
+    (keeps_before _ _ _ _ (omega arith) c.in_err-write_at-2.ensures.call.time)
 
 pub returns-in_err-write_at-3-clause-moments : goal.returns-in_err-write_at-3-clause-moments
 returns-in_err-write_at-3-clause-moments g c =
     keeps_along _ _ _ (keeps_along _ _ _ (keeps_behind _ _ _ c.requires.header c.in_ok-write_at.ensures.call.time)
-        (keeps_before _ _ _ _ (omega arith) c.in_ok-write_at-2.ensures.call.time))
+    (keeps_before _ _ _ _ (omega arith) c.in_ok-write_at-2.ensures.call.time))
     (keeps_before _ _ _ _ (omega arith) c.in_err-write_at-3.ensures.call.time)
 
 pub returns-clause-moments : goal.returns-clause-moments
 returns-clause-moments g c =
     keeps_along _ _ _ (keeps_along _ _ _ (keeps_along _ _ _ (keeps_behind _ _ _ c.requires.header c.in_ok-write_at.ensures.call.time)
-        (keeps_before _ _ _ _ (omega arith) c.in_ok-write_at-2.ensures.call.time))
+    (keeps_before _ _ _ _ (omega arith) c.in_ok-write_at-2.ensures.call.time))
     (keeps_before _ _ _ _ (omega arith) c.in_ok-write_at-3.ensures.call.time)) (keeps_same _ _ c.sync.ensures.call.time)
 
 pub returns-in_err-write_at-clause-others : goal.returns-in_err-write_at-clause-others
@@ -30,16 +30,16 @@ returns-in_err-write_at-clause-others g c = others_header _ _ _ _ _ (omega (arit
 pub returns-in_err-write_at-2-clause-others : goal.returns-in_err-write_at-2-clause-others
 returns-in_err-write_at-2-clause-others g c =
     others_along _ _ _ _ (others_header _ _ _ _ _ (omega (arith, c.requires.header)) c.in_ok-write_at.ensures.call.time)
-        (others_selector _ _ _ c.in_err-write_at-2.ensures.call.time)
+    (others_selector _ _ _ c.in_err-write_at-2.ensures.call.time)
 
 pub returns-in_err-write_at-3-clause-others : goal.returns-in_err-write_at-3-clause-others
 returns-in_err-write_at-3-clause-others g c =
     others_along _ _ _ _ (others_along _ _ _ _ (others_header _ _ _ _ _ (omega (arith, c.requires.header)) c.in_ok-write_at.ensures.call.time)
-        (others_selector _ _ _ c.in_ok-write_at-2.ensures.call.time))
+    (others_selector _ _ _ c.in_ok-write_at-2.ensures.call.time))
     (others_half _ _ _ c.in_err-write_at-3.ensures.call.time)
 
 pub returns-clause-others : goal.returns-clause-others
 returns-clause-others g c =
     others_along _ _ _ _ (others_along _ _ _ _ (others_along _ _ _ _ (others_header _ _ _ _ _ (omega (arith, c.requires.header))
-        c.in_ok-write_at.ensures.call.time) (others_selector _ _ _ c.in_ok-write_at-2.ensures.call.time))
+    c.in_ok-write_at.ensures.call.time) (others_selector _ _ _ c.in_ok-write_at-2.ensures.call.time))
     (others_half _ _ _ c.in_ok-write_at-3.ensures.call.time)) (others_quiet _ _ _ c.sync.ensures.call.time)

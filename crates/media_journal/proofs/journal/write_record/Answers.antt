@@ -19,5 +19,5 @@ returns-clause-torn g c = λ shows.
     let frame = c.in_ok-write_synced.ensures in
     on_ok_weaker c.write_synced-2.result
     (λ gate. torn_twice _ _ _ _ _ (torn_wider _ _ _ _ (frame.torn shows) _ _ (omega arith) (omega arith))
-        (torn_wider _ _ _ _ gate _ _ (omega arith) (omega arith)))
+    (torn_wider _ _ _ _ gate _ _ (omega arith) (omega arith)))
     (c.write_synced-2.ensures.torn (frame.calls.same.shows ∙ shows))

@@ -5,9 +5,16 @@ use Rattle.media_journal.proofs.scan.read_half.Goals as goal
 
 -- No rows of such a length fit the half.
 pub returns-then-length-end-clause-half : goal.returns-then-length-end-clause-half
-returns-then-length-end-clause-half g c = λ shows.
-    (refl, record { size = c.in_ok-length.length; short = c.in_ok-length.ensures.short; text = sym (c.in_ok-length.ensures.length shows); passes =
-        omega arith })
+returns-then-length-end-clause-half g c = λ shows. (
+  refl,
+  record {
+    size = c.in_ok-length.length;
+    short = c.in_ok-length.ensures.short;
+    text = sym (c.in_ok-length.ensures.length shows);
+    passes =
+        omega arith;
+  },
+)
 
 -- The length, the rows and the records were read from the image.
 pub returns-clause-half : goal.returns-clause-half

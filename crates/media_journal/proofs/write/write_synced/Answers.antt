@@ -8,7 +8,7 @@ pub returns-clause-moments : goal.returns-clause-moments
 returns-clause-moments g c = λ honest shows.
     let write = c.in_ok-write_at.ensures in
     synced_write c.sync.result _ _ _ _ _ write.call.time c.sync.ensures.call.time (c.sync.ensures.durable (write.call.same.honest ∙ honest)) c.sync.ensures.seen
-        (write.written shows)
+    (write.written shows)
 
 -- A sync changes nothing of what the write may have left.
 pub returns-clause-time : goal.returns-clause-time

@@ -16,5 +16,5 @@ pub returns-clause-reads_back : goal.returns-clause-reads_back
 unfolding id_text
 returns-clause-reads_back c =
     let printed : c.as_bytes.result.now ≡ id_text c.args.id = c.as_bytes.ensures.value ∙ c.write_id-printed.ensures ∙ ap (hyphenated_text lower)
-        (c.hyphenated-spelled.ensures ∙ c.from_u128.ensures) in
+    (c.hyphenated-spelled.ensures ∙ c.from_u128.ensures) in
     IfOk-weaker c.from_bytes.result _ _ (λ text e. ap id_of (e ∙ printed) ∙ id_of-id_text c.args.id (omega arith)) c.from_bytes.ensures

@@ -9,5 +9,5 @@ returns-clause-piece g c = λ shows.
     let image = (g.D.Disk.device c.args.disk.now).seen in
     on_ok_weaker c.read_at.result
     (λ read. read ∙ sym (bytes_at-bytes_at image (c.args.area + 4096 * c.args.extent.start) c.args.extent.length c.args.at (length c.args.out.now)
-        c.requires.inside))
+    c.requires.inside))
     (c.read_at.ensures.read shows)

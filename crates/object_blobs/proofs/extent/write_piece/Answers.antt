@@ -12,5 +12,5 @@ returns-clause-piece g c = λ shows.
     on_ok_weaker c.write_at.result
     (λ written. ap (extent_bytes c.args.area c.args.extent) written
     ∙ part-overwritten image c.args.piece.now (c.args.area + 4096 * c.args.extent.start) c.args.extent.length c.args.at
-        (omega (arith, whole, c.requires.device)) c.requires.inside)
+    (omega (arith, whole, c.requires.device)) c.requires.inside)
     (c.write_at.ensures.written shows)

@@ -14,5 +14,5 @@ returns-clause-rows g c =
     let size : c.len-start.result ≡ length c.args.out.now.items = search rules in
     kept_behind (is_met c.args.range.now) c.len-start.result (values_of c.args.out.now.items)
     (take c.args.limit (values (walk_of c.args.backwards c.args.key.now c.args.rows.now))) (values_of c.walk_from.new.out.items)
-        (values_of c.keep_met.new.out.items)
+    (values_of c.keep_met.new.out.items)
     (size ∙ sym (length-map c.args.out.now.items (λ r. r.now))) (simp to_z-of_z at c.walk_from.ensures.values) c.keep_met.ensures.rows

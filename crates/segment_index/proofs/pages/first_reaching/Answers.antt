@@ -14,10 +14,10 @@ returns-then-is_by-clause-start g c =
     let fit_start : FitsSigned w128 c.in-Some.start = search rules in
     let fit_last : FitsSigned w128 c.last_point-end.result = search rules in
     let reached : int_le point (last_point c.in-Some.kept.now) ≡ true = ap (int_le point) (sym c.last_point-end.ensures) ∙ sym
-        (simp to_z-of_z at c.is_by.ensures) ∙ c.if-is_by.true in
+    (simp to_z-of_z at c.is_by.ensures) ∙ c.if-is_by.true in
     to_z-of_z w128 c.in-Some.start fit_start
     ∙ start_there point (c.in-Some.start, c.in-Some.kept.now) (last (filter (is_up_to point) c.args.rows.now)) (simp to_z-of_z at c.in-Some.ensures.pair)
-        reached
+    reached
 
 -- it ends before the point
 pub returns-else-is_by-clause-start : goal.returns-else-is_by-clause-start
@@ -26,6 +26,6 @@ returns-else-is_by-clause-start g c =
     let fit : FitsSigned w128 c.args.point.now = search rules in
     let fit_last : FitsSigned w128 c.last_point-end.result = search rules in
     let ended : int_le point (last_point c.in-Some.kept.now) ≡ false = ap (int_le point) (sym c.last_point-end.ensures) ∙ sym
-        (simp to_z-of_z at c.is_by.ensures) ∙ c.if-is_by.false in
+    (simp to_z-of_z at c.is_by.ensures) ∙ c.if-is_by.false in
     to_z-of_z w128 c.args.point.now fit
     ∙ start_here point (c.in-Some.start, c.in-Some.kept.now) (last (filter (is_up_to point) c.args.rows.now)) (simp to_z-of_z at c.in-Some.ensures.pair) ended

@@ -15,7 +15,7 @@ returns-in-Some c =
     let key : c.min.result ≡ int_min c.point_before-before.result c.in-Some.high = simp to_z-of_z at c.min.ensures.value in
     subst (λ k. StartsReverse c.args.range.now c.args.after.now k c.args.rows.now) (sym (to_z-of_z w128 c.min.result fit))
     (reverse_from c.args.range.now c.args.after.now c.in-Some.high c.point_before-before.result c.min.result c.args.rows.now
-        (sym c.high.ensures.value ∙ c.in-Some.is) c.requires.kept.keyed c.point_before-before.ensures key)
+    (sym c.high.ensures.value ∙ c.in-Some.is) c.requires.kept.keyed c.point_before-before.ensures key)
 
 -- it has no end
 pub returns-in-None : goal.returns-in-None
@@ -23,4 +23,4 @@ returns-in-None c =
     let fit : FitsSigned w128 c.point_before-before.result = search rules in
     subst (λ k. StartsReverse c.args.range.now c.args.after.now k c.args.rows.now) (sym (to_z-of_z w128 c.point_before-before.result fit))
     (reverse_open c.args.range.now c.args.after.now c.point_before-before.result c.args.rows.now (sym c.high.ensures.value ∙ c.in-None.is) c.requires.kept.keyed
-        c.point_before-before.ensures)
+    c.point_before-before.ensures)

@@ -10,7 +10,7 @@ returns-in-Some-clause-row g c =
     let before = row_of (reaching c.args.low.now (last (filter (is_up_to c.args.low.now) c.args.rows.now))) in
     let next = row_of (beginning_by c.args.high.now (first (filter (is_above c.args.low.now) c.args.rows.now))) in
     let whole = first_between c.args.low.now c.args.high.now c.args.rows.now c.requires.ordered c.requires.kept.keyed c.requires.kept.apart c.keys_rise.ensures
-        in
+    in
     some_first before next whole c.in-Some.ensures.row
 
 -- otherwise the first one behind it that begins by the high point
@@ -19,5 +19,5 @@ returns-in-None-clause-row g c =
     let before = row_of (reaching c.args.low.now (last (filter (is_up_to c.args.low.now) c.args.rows.now))) in
     let next = row_of (beginning_by c.args.high.now (first (filter (is_above c.args.low.now) c.args.rows.now))) in
     let whole = first_between c.args.low.now c.args.high.now c.args.rows.now c.requires.ordered c.requires.kept.keyed c.requires.kept.apart c.keys_rise.ensures
-        in
+    in
     none_first before next whole c.in-None.ensures.row c.first_beginning.ensures.row

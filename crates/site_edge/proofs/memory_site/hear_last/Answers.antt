@@ -7,7 +7,7 @@ pub returns-clause-heard : goal.returns-clause-heard
 returns-clause-heard c =
     let lines = c.args.lines.now in
     set_last (with_connection (heard_more c.hear.result c.hear.new.out)) lines.items _ c.index_mut.result.now _ (omega (arith, lines.ok.0))
-        c.index_mut.ensures.value c.hear.ensures.heard
+    c.index_mut.ensures.value c.hear.ensures.heard
 
 pub returns-clause-end : goal.returns-clause-end
 returns-clause-end c =

@@ -7,4 +7,4 @@ pub returns : goal.returns
 returns c =
     let lines = c.args.lines.now in
     set_last (with_connection (marked c.args.passed)) lines.items _ c.index_mut.result.now _ (omega (arith, lines.ok.0)) c.index_mut.ensures.value
-        c.mark.ensures
+    c.mark.ensures

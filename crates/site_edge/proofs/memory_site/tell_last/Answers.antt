@@ -8,4 +8,4 @@ pub returns-clause-ok : goal.returns-clause-ok
 returns-clause-ok c =
     let lines = c.args.lines.now in
     on_ok_weaker c.tell.result (λ told. set_last (with_connection (told_more c.args.bytes.now)) lines.items _ c.index_mut.result.now _
-        (omega (arith, lines.ok.0)) c.index_mut.ensures.value told) c.tell.ensures.ok
+    (omega (arith, lines.ok.0)) c.index_mut.ensures.value told) c.tell.ensures.ok

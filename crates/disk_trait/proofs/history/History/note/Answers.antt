@@ -8,4 +8,4 @@ invariant_of-self-2 c =
     let h = c.self.inside in
     let within : range_end c.args.call ≤ length h.bytes.items = rw (← c.self.view_is, c.self.invariant.seen) at c.requires.within in
     rw c.in_ok-push.ensures.items (replayed_quiet (record { first = unwrap_or h.first h.bytes.items; calls = h.calls.items }) h.bytes.items c.args.call
-        c.self.invariant c.requires.quiet within)
+    c.self.invariant c.requires.quiet within)

@@ -12,7 +12,7 @@ make_all_again-requires c =
     let past : Past = record { first = unwrap_or h.first h.bytes.items; calls = h.calls.items } in
     let starts : c.in_ok-image.image.items ≡ past.first = c.in_ok-image.ensures.items ∙ (c.first.ensures ∙ sym (ap (λ past. past.first) c.self.view_is)) in
     rw (c.deref.ensures.value, starts, ← replayed_length past h.bytes.items c.self.invariant)
-        (All-take (λ call. range_end call ≤ length h.bytes.items) (c.args.call - 1) past.calls c.self.invariant.within)
+    (All-take (λ call. range_end call ≤ length h.bytes.items) (c.args.call - 1) past.calls c.self.invariant.within)
 
 pub stop_within-requires-clause-within : goal.stop_within-requires-clause-within
 stop_within-requires-clause-within c =

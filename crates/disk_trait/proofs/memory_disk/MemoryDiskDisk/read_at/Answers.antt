@@ -16,15 +16,19 @@ returns-in_err-make_read-clause-seen c =
 pub copy_out-requires : goal.copy_out-requires
 copy_out-requires c =
     rw (c.image.ensures, same_seen (Read c.args.at (length c.args.out.now) c.in_ok-make_read.ensures.0) _ _ _ (λ _. refl) c.in_ok-make_read.ensures.1)
-        c.requires
+    c.requires
 
 pub returns-clause-call : goal.returns-clause-call
 returns-clause-call c = disk_call (Read c.args.at (length c.args.out.now) c.in_ok-make_read.ensures.0) _ _ _ c.in_ok-make_read.ensures.1
 
 pub returns-clause-read : goal.returns-clause-read
 returns-clause-read c =
-    λ _. rw (c.copy_out.ensures, c.image.ensures, same_seen (Read c.args.at (length c.args.out.now) c.in_ok-make_read.ensures.0) _ _ _ (λ _. refl)
-        c.in_ok-make_read.ensures.1) refl
+    λ _. rw (
+      c.copy_out.ensures,
+      c.image.ensures,
+      same_seen (Read c.args.at (length c.args.out.now) c.in_ok-make_read.ensures.0) _ _ _ (λ _. refl)
+          c.in_ok-make_read.ensures.1,
+    ) refl
 
 pub returns-clause-seen : goal.returns-clause-seen
 returns-clause-seen c = same_seen (Read c.args.at (length c.args.out.now) c.in_ok-make_read.ensures.0) _ _ _ (λ _. refl) c.in_ok-make_read.ensures.1

@@ -12,7 +12,7 @@ returns-clause-content g c = rw (← c.self.view_is) (λ shows held given.
     let whole = (g.met.D.Disk.sound c.args.disk.now).length shows in
     let more =
     gives_more _ _ held c.args.frame.now (omega (arith, whole, c.self.invariant.within, c.requires))
-        (omega (arith, c.if-length-self.false, c.bytes-bytes.ensures.len)) c.bytes-bytes.ensures.short given in
+    (omega (arith, c.if-length-self.false, c.bytes-bytes.ensures.len)) c.bytes-bytes.ensures.short given in
     rw (c.in_ok-write_record.ensures.written shows, c.bytes-bytes.ensures.len, c.bytes-bytes.ensures.text) (rw (length-frame_text c.args.frame.now) at more))
 
 -- The frame is whole in each image before its gate is written, and one byte opens it.
@@ -21,7 +21,7 @@ returns-clause-moments g c = rw (← c.self.view_is) (λ honest shows held each.
     let whole = (g.met.D.Disk.sound c.args.disk.now).length shows in
     let blocks = ap (λ (p : Position). p.blocks) c.self.view_is in
     append_moments _ _ _ c.args.frame.now held (omega (arith, whole, c.self.invariant.within, c.requires))
-        (omega (arith, c.if-length-self.false, c.bytes-bytes.ensures.len)) c.bytes-bytes.ensures.short each true
+    (omega (arith, c.if-length-self.false, c.bytes-bytes.ensures.len)) c.bytes-bytes.ensures.short each true
     (rw c.bytes-bytes.ensures.text at (c.in_ok-write_record.ensures.moments honest shows)))
 
 pub returns-clause-acknowledged : goal.returns-clause-acknowledged
@@ -36,7 +36,7 @@ returns-in_err-write_record-clause-moments g c =
     let whole = (g.met.D.Disk.sound c.args.disk.now).length shows in
     let blocks = ap (λ (p : Position). p.blocks) c.self.view_is in
     append_moments _ _ _ c.args.frame.now held (omega (arith, whole, c.self.invariant.within, c.requires))
-        (omega (arith, c.if-length-self.false, c.bytes-bytes.ensures.len)) c.bytes-bytes.ensures.short each false
+    (omega (arith, c.if-length-self.false, c.bytes-bytes.ensures.len)) c.bytes-bytes.ensures.short each false
     (rw c.bytes-bytes.ensures.text at (c.in_err-write_record.ensures.moments honest shows)))
 
 pub returns-in_err-write_record-clause-left : goal.returns-in_err-write_record-clause-left

@@ -13,9 +13,17 @@ returns-clause-content g c = λ shows held given.
     let blocks = ap (λ (p : Position). p.blocks) c.self.view_is in
     let start = c.other_half-start.ensures.start ∙ ap other_start c.self.view_is in
     let there = content_there c.args.self.now c.other_half-start.result c.args.rows.now start (omega (arith, half, c.if-size-bytes.false))
-        (omega (arith, c.if-size-bytes.false, c.self.invariant.half))
-    (g.D.Disk.device c.args.disk.now).seen _ held (omega (arith, whole, c.self.invariant.sizes, c.requires.device, half, blocks,
-        c.other_half-start.ensures.most, c.if-size-bytes.false)) (c.in_ok-switch_half.ensures.written shows) given in
+    (omega (arith, c.if-size-bytes.false, c.self.invariant.half))
+    (g.D.Disk.device c.args.disk.now).seen _ held (omega (
+      arith,
+      whole,
+      c.self.invariant.sizes,
+      c.requires.device,
+      half,
+      blocks,
+      c.other_half-start.ensures.most,
+      c.if-size-bytes.false,
+    )) (c.in_ok-switch_half.ensures.written shows) given in
     rw c.other_half-start.ensures.start (rw (← c.self.view_is) at there)
 
 pub returns-clause-elsewhere : goal.returns-clause-elsewhere
@@ -25,10 +33,10 @@ returns-clause-elsewhere g c = λ shows.
     let blocks = ap (λ (p : Position). p.blocks) c.self.view_is in
     let start = c.other_half-start.ensures.start ∙ ap other_start c.self.view_is in
     wrote_there c.args.self.now c.other_half-start.result c.args.rows.now start (omega (arith, half, c.if-size-bytes.false))
-        (omega (arith, c.if-size-bytes.false, c.self.invariant.half))
+    (omega (arith, c.if-size-bytes.false, c.self.invariant.half))
     (g.D.Disk.device c.args.disk.now).seen _ c.other_half-start.ensures.least
-        (omega (arith, whole, c.self.invariant.sizes, c.requires.device, half, blocks, c.other_half-start.ensures.most, c.if-size-bytes.false))
-        (c.in_ok-switch_half.ensures.written shows)
+    (omega (arith, whole, c.self.invariant.sizes, c.requires.device, half, blocks, c.other_half-start.ensures.most, c.if-size-bytes.false))
+    (c.in_ok-switch_half.ensures.written shows)
 
 -- The half is whole in each image before the selector is written, and both halves read so then.
 pub returns-clause-moments : goal.returns-clause-moments
@@ -38,9 +46,17 @@ returns-clause-moments g c = λ honest shows held each.
     let blocks = ap (λ (p : Position). p.blocks) c.self.view_is in
     let start = c.other_half-start.ensures.start ∙ ap other_start c.self.view_is in
     moments_there c.args.self.now c.other_half-start.result c.args.rows.now start (omega (arith, half, c.if-size-bytes.false))
-        (omega (arith, c.if-size-bytes.false, c.self.invariant.half))
-    true (g.D.Disk.device c.args.disk.now) _ held (omega (arith, whole, c.self.invariant.sizes, c.requires.device, half, blocks,
-        c.other_half-start.ensures.most, c.if-size-bytes.false)) each
+    (omega (arith, c.if-size-bytes.false, c.self.invariant.half))
+    true (g.D.Disk.device c.args.disk.now) _ held (omega (
+      arith,
+      whole,
+      c.self.invariant.sizes,
+      c.requires.device,
+      half,
+      blocks,
+      c.other_half-start.ensures.most,
+      c.if-size-bytes.false,
+    )) each
     (c.in_ok-switch_half.ensures.moments honest shows)
 
 pub returns-clause-acknowledged : goal.returns-clause-acknowledged
@@ -57,9 +73,17 @@ returns-in_err-switch_half-clause-moments g c =
     let blocks = ap (λ (p : Position). p.blocks) c.self.view_is in
     let start = c.other_half-start.ensures.start ∙ ap other_start c.self.view_is in
     moments_there c.args.self.now c.other_half-start.result c.args.rows.now start (omega (arith, half, c.if-size-bytes.false))
-        (omega (arith, c.if-size-bytes.false, c.self.invariant.half))
-    false (g.D.Disk.device c.args.disk.now) _ held (omega (arith, whole, c.self.invariant.sizes, c.requires.device, half, blocks,
-        c.other_half-start.ensures.most, c.if-size-bytes.false)) each
+    (omega (arith, c.if-size-bytes.false, c.self.invariant.half))
+    false (g.D.Disk.device c.args.disk.now) _ held (omega (
+      arith,
+      whole,
+      c.self.invariant.sizes,
+      c.requires.device,
+      half,
+      blocks,
+      c.other_half-start.ensures.most,
+      c.if-size-bytes.false,
+    )) each
     (c.in_err-switch_half.ensures.moments honest shows))
 
 pub returns-in_err-switch_half-clause-left : goal.returns-in_err-switch_half-clause-left

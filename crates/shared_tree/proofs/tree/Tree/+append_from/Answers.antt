@@ -36,6 +36,6 @@ pub returns-clause-walked : goal.returns-clause-walked
 returns-clause-walked g t c =
     let f = at_fork c.self.view_is c.self.invariant c.in-Some.is c.deref-fork.ensures in
     let whole = walked_on _ _ _ _ _ _ _ _ (c.deref-fork.result.now.key, c.deref-fork.result.now.value.value) _ _ c.append_from-behind.ensures.walked
-        c.if-behind-eq0.false c.as_ref.ensures c.append.ensures.values c.append_all.ensures.walked in
+    c.if-behind-eq0.false c.as_ref.ensures c.append.ensures.values c.append_all.ensures.walked in
     subst (λ ps. Walked (values_of c.args.out.now.items) (values_of c.append_all.new.out.items) c.args.room c.append_all.result ps)
-        (sym (from_on_left f c.requires.rising c.args.key.now (told c.is_less.ensures c.if-is_less.false))) whole
+    (sym (from_on_left f c.requires.rising c.args.key.now (told c.is_less.ensures c.if-is_less.false))) whole

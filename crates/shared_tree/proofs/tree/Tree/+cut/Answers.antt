@@ -36,14 +36,14 @@ pub returns-in_ok-share-in-Less-clause-pairs : goal.returns-in_ok-share-in-Less-
 returns-in_ok-share-in-Less-clause-pairs g t c =
     let f = at_fork c.self.view_is c.self.invariant c.in-Some.is c.deref-fork.ensures in
     let e = cut_on_left f c.requires.rising c.args.key.now _ _ _ c.in-Less.ensures c.in_ok-left-in-Less.ensures.pairs c.in_ok-clone-in-Less.ensures.cases
-        (ap (λ t. t.0) c.in_ok-share-in-Less.ensures) in
+    (ap (λ t. t.0) c.in_ok-share-in-Less.ensures) in
     subst (λ z. IfOk c.balance.result (λ t. t.0 ≡ z)) e c.balance.ensures.pairs
 
 pub returns-in_ok-clone-in-Greater-clause-pairs : goal.returns-in_ok-clone-in-Greater-clause-pairs
 returns-in_ok-clone-in-Greater-clause-pairs g t c =
     let f = at_fork c.self.view_is c.self.invariant c.in-Some.is c.deref-fork.ensures in
     let e = cut_on_right f c.requires.rising c.args.key.now _ _ _ c.in-Greater.ensures (ap (λ t. t.0) c.in_ok-share-in-Greater.ensures)
-        c.in_ok-clone-in-Greater.ensures.cases c.in_ok-right-in-Greater.ensures.pairs in
+    c.in_ok-clone-in-Greater.ensures.cases c.in_ok-right-in-Greater.ensures.pairs in
     subst (λ z. IfOk c.balance-in-Greater-2.result (λ t. t.0 ≡ z)) e c.balance-in-Greater-2.ensures.pairs
 
 pub returns-in-Equal-clause-pairs : goal.returns-in-Equal-clause-pairs

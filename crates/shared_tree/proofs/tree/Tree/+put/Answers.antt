@@ -36,19 +36,19 @@ pub returns-in_ok-share-in-Less-clause-pairs : goal.returns-in_ok-share-in-Less-
 returns-in_ok-share-in-Less-clause-pairs g t c =
     let f = at_fork c.self.view_is c.self.invariant c.in-Some.is c.deref-fork.ensures in
     let e = put_on_left f c.requires.rising c.args.key.now c.args.value.value _ _ _ c.in-Less.ensures c.in_ok-left-in-Less.ensures.pairs
-        c.in_ok-clone-in-Less.ensures.cases (ap (λ t. t.0) c.in_ok-share-in-Less.ensures) in
+    c.in_ok-clone-in-Less.ensures.cases (ap (λ t. t.0) c.in_ok-share-in-Less.ensures) in
     subst (λ z. IfOk c.balance-in-Less.result (λ t. t.0 ≡ z)) e c.balance-in-Less.ensures.pairs
 
 pub returns-in_ok-clone-in-Greater-clause-pairs : goal.returns-in_ok-clone-in-Greater-clause-pairs
 returns-in_ok-clone-in-Greater-clause-pairs g t c =
     let f = at_fork c.self.view_is c.self.invariant c.in-Some.is c.deref-fork.ensures in
     let e = put_on_right f c.requires.rising c.args.key.now c.args.value.value _ _ _ c.in-Greater.ensures (ap (λ t. t.0) c.in_ok-share-in-Greater.ensures)
-        c.in_ok-clone-in-Greater.ensures.cases c.in_ok-right-in-Greater.ensures.pairs in
+    c.in_ok-clone-in-Greater.ensures.cases c.in_ok-right-in-Greater.ensures.pairs in
     subst (λ z. IfOk c.balance-in-Greater-2.result (λ t. t.0 ≡ z)) e c.balance-in-Greater-2.ensures.pairs
 
 pub returns-in_ok-share-in-Equal-2-clause-pairs : goal.returns-in_ok-share-in-Equal-2-clause-pairs
 returns-in_ok-share-in-Equal-2-clause-pairs g t c =
     let f = at_fork c.self.view_is c.self.invariant c.in-Some.is c.deref-fork.ensures in
     let e = put_in_place f c.requires.rising c.args.key.now c.args.value.value _ _ c.in-Equal.ensures (ap (λ t. t.0) c.in_ok-share-in-Equal.ensures)
-        (ap (λ t. t.0) c.in_ok-share-in-Equal-2.ensures) in
+    (ap (λ t. t.0) c.in_ok-share-in-Equal-2.ensures) in
     subst (λ z. IfOk c.balance-in-Equal-2.result (λ t. t.0 ≡ z)) e c.balance-in-Equal-2.ensures.pairs

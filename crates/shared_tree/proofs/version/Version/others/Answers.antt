@@ -15,12 +15,12 @@ overflow_add-result g c =
 pub returns-then-holds : goal.returns-then-holds
 returns-then-holds g c =
     let e : length (without_key c.args.key.now c.self.inside.tree.0) ≡ length c.self.inside.tree.0 - 1 = others_there c.args.key.now c.self.inside.tree.0
-        c.self.invariant.rising (sym c.if-holds.ensures) in
+    c.self.invariant.rising (sym c.if-holds.ensures) in
     rw (← c.self.view_is) (c.self.invariant.more ∙ sym e)
 
 pub returns-else-is_empty : goal.returns-else-is_empty
 returns-else-is_empty g c =
     let e : length (without_key c.args.key.now c.self.inside.tree.0) ≡ length c.self.inside.tree.0 = others_not c.args.key.now c.self.inside.tree.0
-        (sym c.if-holds.ensures) in
+    (sym c.if-holds.ensures) in
     let some : 1 ≤ length c.self.inside.tree.0 = some_left c.self.inside.tree.0 c.if-is_empty.ensures.1 in
     rw (← c.self.view_is) (omega (arith, c.self.invariant.more, e, some))

@@ -11,5 +11,5 @@ invariant_of-result g c =
     let pairs = simp to_z-of_z at c.in_ok-put.ensures.pairs in
     let others = simp to_z-of_z at c.others-more.ensures in
     let next = follows_with c.self.inside.tree.0 c.in_ok-put.field-0.0 c.args.key c.args.value.value c.others-more.result c.self.invariant.rising
-        c.self.invariant.fits fit pairs (rw c.self.view_is others) in
+    c.self.invariant.fits fit pairs (rw c.self.view_is others) in
     record { rising = next.rising; fits = next.fits; more = next.more }

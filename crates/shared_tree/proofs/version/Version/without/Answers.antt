@@ -11,5 +11,5 @@ invariant_of-result g c =
     let pairs = simp to_z-of_z at c.in_ok-cut.ensures.pairs in
     let others = simp to_z-of_z at c.others-others.ensures in
     let next = follows_without c.self.inside.tree.0 c.in_ok-cut.field-0.0 c.args.key c.saturating_sub.result c.others-others.result c.self.invariant.rising
-        c.self.invariant.fits pairs (rw c.self.view_is others) c.saturating_sub.ensures in
+    c.self.invariant.fits pairs (rw c.self.view_is others) c.saturating_sub.ensures in
     record { rising = next.rising; fits = next.fits; more = next.more }

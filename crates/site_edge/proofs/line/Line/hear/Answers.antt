@@ -12,4 +12,4 @@ returns-clause-heard c =
     let rest_is : c.split_at.result.1.now ≡ drop line.heard line.sends = rw c.bytes.ensures at c.split_at.ensures.back in
     let within : line.heard + count ≤ length line.sends = omega (arith, ap length rest_is, length-drop line.heard line.sends) in
     rw (c.copy_from_slice.ensures.after, c.split_at-2.ensures.front, rest_is, ← c.self.view_is, heard_piece)
-        (rw (hears_on line.heard count line.sends (drop count c.args.out.now) within) refl)
+    (rw (hears_on line.heard count line.sends (drop count c.args.out.now) within) refl)

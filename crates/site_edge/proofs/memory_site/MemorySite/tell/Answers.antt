@@ -9,5 +9,5 @@ pub invariant_of-self-2 : goal.invariant_of-self-2
 invariant_of-self-2 c = kept_ended (Bytes c.args.bytes.now) _ _ c.self.invariant refl
     (rw (c.in_ok-tell_last.ensures.ok, length-change_last) (rw (← c.self.view_is) at c.requires))
     refl c.calls-self-inside.ensures.made (rw (c.in_ok-push.ensures.items, c.in_ok-reserve.ensures.items, c.calls.ensures.made, c.in_ok-from_bytes.ensures)
-        refl)
+    refl)
     (rw c.in_ok-tell_last.ensures.ok (told_changed (told_more c.args.bytes.now) (λ t. t ++ c.args.bytes.now) c.self.inside.lines.items (λ k. refl)))

@@ -13,7 +13,7 @@ returns-in_err-count_peer c =
     let failed = ap (λ b. b && c.passes-passes.result) (sym c.is_some.ensures) ∙ sym counted.answer in
     let left =
     peer_failed LinkFailed _ c.passes-passes.result c.try_next-came.result c.args.self.now _ c.count_peer.new.tally
-        (rw (← c.self-2.view_is) at c.try_next-came.ensures.next) failed counted.counts counted.peer_faults in
+    (rw (← c.self-2.view_is) at c.try_next-came.ensures.next) failed counted.counts counted.peer_faults in
     rw p.1 (record { call = left.call; peers = left.peers; next = left.next; fails = left.fails; came = tt })
 
 -- One that passes begins the next connection, if a peer is left.
@@ -24,6 +24,12 @@ returns c =
     let kept : IsKept c.args.self.now = rw (← c.self.view_is) c.self.invariant in
     let left =
     peer_came LinkFailed c.passes-passes.result c.try_next-came.result c.args.self.now _ c.count_peer.new.tally kept
-        (rw (← c.self-2.view_is) at c.try_next-came.ensures.next) c.try_next-came.ensures.came passed counted.counts counted.peer_faults in
-    rw c.unwrap_or.ensures (record { call = left.call; peers = left.peers; next = left.next; fails = left.fails; came = passed_came c.passes-passes.result
-        c.try_next-came.result _ c.try_next-came.ensures.came passed })
+    (rw (← c.self-2.view_is) at c.try_next-came.ensures.next) c.try_next-came.ensures.came passed counted.counts counted.peer_faults in
+    rw c.unwrap_or.ensures (record {
+      call = left.call;
+      peers = left.peers;
+      next = left.next;
+      fails = left.fails;
+      came = passed_came c.passes-passes.result
+          c.try_next-came.result _ c.try_next-came.ensures.came passed;
+    })
