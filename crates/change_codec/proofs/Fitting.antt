@@ -17,11 +17,13 @@ use Rattle.media_rows.specs.declared.row.Row.TheVariants.{Source, Flow, Numbers}
 use Rattle.media_rows.specs.Snapshot.{rows_of}
 
 plain : change_size (labelled None) ≡ 58
-unfolding change_spelling flow_spelling flow_head_spelling flow_texts_spelling flow_rest_spelling u8_spelling u32_spelling u64_spelling u128_spelling kind_spelling bool_spelling tags_spelling
+unfolding change_spelling flow_spelling flow_head_spelling flow_texts_spelling flow_rest_spelling u8_spelling u32_spelling u64_spelling u128_spelling
+    kind_spelling bool_spelling tags_spelling
 plain = simp (length-append, length-u32_bytes, length-u64_bytes, length-u128_bytes) refl
 
 more : (text : List ℕ) → change_size (labelled (Some text)) ≡ 62 + length text
-unfolding change_spelling flow_spelling flow_head_spelling flow_texts_spelling flow_rest_spelling u8_spelling u32_spelling u64_spelling u128_spelling kind_spelling bool_spelling tags_spelling text_spelling
+unfolding change_spelling flow_spelling flow_head_spelling flow_texts_spelling flow_rest_spelling u8_spelling u32_spelling u64_spelling u128_spelling
+    kind_spelling bool_spelling tags_spelling text_spelling
 more text = simp (length-append, length-u32_bytes, length-u64_bytes, length-u128_bytes) (omega arith)
 
 -- the source and the flow of the small library
@@ -35,11 +37,13 @@ three_rows : rows_of one_flow ≡ Source source_row ∷ Flow flow_row ∷ Number
 three_rows = refl
 
 source_size : length (row_spelling.meaning.spell (Source source_row)) ≡ 44
-unfolding row_spelling source_row_spelling flow_row_spelling flow_spelling flow_head_spelling flow_texts_spelling flow_rest_spelling u8_spelling u32_spelling u64_spelling u128_spelling kind_spelling bool_spelling tags_spelling text_spelling
+unfolding row_spelling source_row_spelling flow_row_spelling flow_spelling flow_head_spelling flow_texts_spelling flow_rest_spelling u8_spelling u32_spelling
+    u64_spelling u128_spelling kind_spelling bool_spelling tags_spelling text_spelling
 source_size = simp (length-append, length-u32_bytes, length-u64_bytes, length-u128_bytes) refl
 
 flow_fields : length (flow_row_spelling.meaning.spell flow_row) ≡ 66
-unfolding flow_row_spelling flow_spelling flow_head_spelling flow_texts_spelling flow_rest_spelling u8_spelling u32_spelling u64_spelling u128_spelling kind_spelling bool_spelling tags_spelling text_spelling
+unfolding flow_row_spelling flow_spelling flow_head_spelling flow_texts_spelling flow_rest_spelling u8_spelling u32_spelling u64_spelling u128_spelling
+    kind_spelling bool_spelling tags_spelling text_spelling
 flow_fields = simp (length-append, length-u32_bytes, length-u64_bytes, length-u128_bytes) refl
 
 -- a kind and a length stand before the fields
@@ -51,12 +55,14 @@ flow_size : length (row_spelling.meaning.spell (Flow flow_row)) ≡ 71
 flow_size = rw (flow_behind flow_row, flow_fields) refl
 
 numbers_size : length (row_spelling.meaning.spell (Numbers 1)) ≡ 13
-unfolding row_spelling source_row_spelling flow_row_spelling flow_spelling flow_head_spelling flow_texts_spelling flow_rest_spelling u8_spelling u32_spelling u64_spelling u128_spelling kind_spelling bool_spelling tags_spelling text_spelling
+unfolding row_spelling source_row_spelling flow_row_spelling flow_spelling flow_head_spelling flow_texts_spelling flow_rest_spelling u8_spelling u32_spelling
+    u64_spelling u128_spelling kind_spelling bool_spelling tags_spelling text_spelling
 numbers_size = simp (length-append, length-u32_bytes, length-u64_bytes, length-u128_bytes) refl
 
 rows : snapshot_size one_flow ≡ 128
 rows = subst (λ (l : List Row). length (flat_map row_spelling.meaning.spell l) ≡ 128) (sym three_rows)
-    (sum3 (row_spelling.meaning.spell (Source source_row)) (row_spelling.meaning.spell (Flow flow_row)) (row_spelling.meaning.spell (Numbers 1)) source_size flow_size numbers_size)
+    (sum3 (row_spelling.meaning.spell (Source source_row)) (row_spelling.meaning.spell (Flow flow_row)) (row_spelling.meaning.spell (Numbers 1)) source_size
+    flow_size numbers_size)
   where
     sum3 : (a b c : List ℕ) → length a ≡ 44 → length b ≡ 71 → length c ≡ 13 → length (a ++ (b ++ (c ++ []))) ≡ 128
     sum3 a b c x y z = omega (arith, x, y, z, length-append a (b ++ (c ++ [])), length-append b (c ++ []), length-append c [])

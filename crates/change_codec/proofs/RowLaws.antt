@@ -101,7 +101,8 @@ measured_is spell n x y true is e =
     (ap (λ z. length (spell z)) same ∙ eqb-true (length (spell x)) n is, same)
 measured_is spell n x y false is e = absurd cc
 
-sized_laws : {A : Type 0} (f : Spelling A) → NarrowLaws (measured f.meaning.spell) (λ x. (length (f.meaning.spell x), x)) (λ x. Unit {0}) (λ x. length (f.meaning.spell x) < 2 ^ 32)
+sized_laws : {A : Type 0} (f : Spelling A) → NarrowLaws (measured f.meaning.spell) (λ x. (length (f.meaning.spell x), x)) (λ x. Unit {0})
+    (λ x. length (f.meaning.spell x) < 2 ^ 32)
     (pair u32_spelling f).meaning.fits
 sized_laws {A = A} f = record {
   is = λ p y fits e.
@@ -114,7 +115,8 @@ sized_laws {A = A} f = record {
 -- fields behind their length, where the fields are lawful
 pub sized_lawful : {A : Type 0} (f : Spelling A) → Lawful f → Lawful (sized f)
 sized_lawful f law =
-    narrowed_lawful (measured f.meaning.spell) (λ x. (length (f.meaning.spell x), x)) (λ x. Unit {0}) (λ x. length (f.meaning.spell x) < 2 ^ 32) (pair u32_spelling f) (sized_laws f)
+    narrowed_lawful (measured f.meaning.spell) (λ x. (length (f.meaning.spell x), x)) (λ x. Unit {0}) (λ x. length (f.meaning.spell x) < 2 ^ 32)
+    (pair u32_spelling f) (sized_laws f)
     (pair_lawful u32_spelling f u32_lawful law)
 
 -- ---- rows

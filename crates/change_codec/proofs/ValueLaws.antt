@@ -62,7 +62,8 @@ pub tag_lawful : Lawful tag_spelling
 unfolding tag_spelling
 tag_lawful =
     where_is_lawful has_its_values _
-    (via_lawful _ _ _ (λ x. refl) (λ x. refl) (pair_lawful text_spelling _ text_lawful (pair_lawful bool_spelling _ bool_lawful (listed_lawful text_spelling text_lawful))))
+    (via_lawful _ _ _ (λ x. refl) (λ x. refl)
+    (pair_lawful text_spelling _ text_lawful (pair_lawful bool_spelling _ bool_lawful (listed_lawful text_spelling text_lawful))))
 
 pub tags_lawful : Lawful tags_spelling
 unfolding tags_spelling
@@ -76,7 +77,8 @@ member_lawful = via_lawful _ _ _ (λ x. refl) (λ x. refl) (pair_lawful u128_spe
 
 flow_head_lawful : Lawful flow_head_spelling
 unfolding flow_head_spelling
-flow_head_lawful = pair_lawful u128_spelling _ u128_lawful (pair_lawful u128_spelling _ u128_lawful (pair_lawful kind_spelling bool_spelling kind_lawful bool_lawful))
+flow_head_lawful = pair_lawful u128_spelling _ u128_lawful
+    (pair_lawful u128_spelling _ u128_lawful (pair_lawful kind_spelling bool_spelling kind_lawful bool_lawful))
 
 flow_texts_lawful : Lawful flow_texts_spelling
 unfolding flow_texts_spelling

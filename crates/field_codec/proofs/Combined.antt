@@ -88,10 +88,15 @@ followed_again : {A B : Type 0} (f : Spelling A) (g : A → Spelling B) → Lawf
     → (followed f g).meaning.fits x
     → (followed f g).read ((followed f g).meaning.spell x ++ rest) ≡ Ok (x, rest)
 followed_again f g law laws x rest fits =
-    rw (append_assoc (f.meaning.spell x.0) ((g x.0).meaning.spell x.1) rest, law.again x.0 ((g x.0).meaning.spell x.1 ++ rest) fits.0, (laws x.0).again x.1 rest fits.1) refl
+    rw (
+      append_assoc (f.meaning.spell x.0) ((g x.0).meaning.spell x.1) rest,
+      law.again x.0 ((g x.0).meaning.spell x.1 ++ rest) fits.0,
+      (laws x.0).again x.1 rest fits.1,
+    ) refl
 
 -- what stands behind a front that is spelled is read
-pub read_behind : {A : Type 0} (f : Spelling A) → Lawful f → (bytes : List ℕ) (x : A) (rest : List ℕ) → SpellsFirst f.meaning bytes x rest → f.read bytes ≡ Ok (x, rest)
+pub read_behind : {A : Type 0} (f : Spelling A) → Lawful f → (bytes : List ℕ) (x : A) (rest : List ℕ) → SpellsFirst f.meaning bytes x rest
+    → f.read bytes ≡ Ok (x, rest)
 read_behind f law bytes x rest b = ap f.read b.parts ∙ law.again x rest b.fits
 
 followed_ends : {A B : Type 0} (f : Spelling A) (g : A → Spelling B) → Lawful f → ((x : A) → Lawful (g x)) → (bytes : List ℕ) (left : ℕ) → IsBytes bytes
@@ -134,7 +139,8 @@ pub followed_lawful : {A B : Type 0} (f : Spelling A) (g : A → Spelling B) →
 followed_lawful f g law laws = record {
   takes = followed_takes f g law laws;
   again = followed_again f g law laws;
-  adds = λ front x. (laws x.0).adds (f.onto front x.0) x.1 ∙ ap (λ (t : List ℕ). t ++ (g x.0).meaning.spell x.1) (law.adds front x.0) ∙ append_assoc front (f.meaning.spell x.0)
+  adds = λ front x. (laws x.0).adds (f.onto front x.0) x.1 ∙ ap (λ (t : List ℕ). t ++ (g x.0).meaning.spell x.1) (law.adds front x.0) ∙ append_assoc front
+      (f.meaning.spell x.0)
       ((g x.0).meaning.spell x.1);
   faults = followed_faults f g law laws;
   ends = followed_ends f g law laws;
@@ -153,7 +159,8 @@ via_lawful {A = A} {B = B} to from f back forth law = record {
   takes = λ bytes y rest is e.
       let a = bind_ok (f.read bytes) (λ x. Ok (to x.0, x.1)) (y, rest) e in
       let first = law.takes bytes a.0.0 a.0.1 is a.1 in
-      let whole : SpellsFirst (via to from f).meaning bytes (to a.0.0) a.0.1 = record { fits = rw (back a.0.0) first.fits; parts = rw (back a.0.0) first.parts } in
+      let whole : SpellsFirst (via to from f).meaning bytes (to a.0.0) a.0.1 = record { fits = rw (back a.0.0) first.fits; parts = rw (back a.0.0) first.parts }
+      in
       subst (λ (p : B × List ℕ). SpellsFirst (via to from f).meaning bytes p.0 p.1) (ok_is (to a.0.0, a.0.1) (y, rest) a.2) whole;
   again = λ y rest fits. rw (law.again (from y) rest fits, forth y) refl;
   adds = λ front y. law.adds front (from y);
@@ -175,7 +182,8 @@ pub record NarrowLaws {A B : Type 0} (to : A → Option B) (from : B → A) (has
   pub again : (y : B) → given_first (from y) → has y → to (from y) ≡ Some y
   pub writable : (y : B) → given_first (from y) → has y → asks y
 
-narrowed_takes : {A B : Type 0} (to : A → Option B) (from : B → A) (has asks : B → Type 0) (f : Spelling A) → NarrowLaws to from has asks f.meaning.fits → Lawful f
+narrowed_takes : {A B : Type 0} (to : A → Option B) (from : B → A) (has asks : B → Type 0) (f : Spelling A) → NarrowLaws to from has asks f.meaning.fits
+    → Lawful f
     → (bytes : List ℕ) (y : B) (rest : List ℕ) → IsBytes bytes → (narrowed to from has asks f).read bytes ≡ Ok (y, rest)
     → SpellsFirst (narrowed to from has asks f).meaning bytes y rest
 narrowed_takes {A = A} {B = B} to from has asks f laws law bytes y rest is e =
@@ -187,7 +195,8 @@ narrowed_takes {A = A} {B = B} to from has asks f laws law bytes y rest is e =
     subst (λ (p : B × List ℕ). SpellsFirst (narrowed to from has asks f).meaning bytes p.0 p.1) (ok_is (b.0, a.0.1) (y, rest) b.2) whole
 
 narrowed_faults : {A B : Type 0} (to : A → Option B) (from : B → A) (has asks : B → Type 0) (f : Spelling A) → Lawful f
-    → (bytes : List ℕ) (left : ℕ) → IsBytes bytes → (narrowed to from has asks f).read bytes ≡ Err left → (narrowed to from has asks f).meaning.faulty bytes left
+    → (bytes : List ℕ) (left : ℕ) → IsBytes bytes → (narrowed to from has asks f).read bytes ≡ Err left
+    → (narrowed to from has asks f).meaning.faulty bytes left
 narrowed_faults to from has asks f law bytes left is e =
     elim (bind_err (f.read bytes) (λ x. found_or (length bytes) (to x.0) >>= λ y. Ok (y, x.1)) left e) [
       | inl h ↦ inl (law.faults bytes left is h)
@@ -201,7 +210,8 @@ narrowed_faults to from has asks f law bytes left is e =
     ]
 
 narrowed_ends : {A B : Type 0} (to : A → Option B) (from : B → A) (has asks : B → Type 0) (f : Spelling A) → Lawful f
-    → (bytes : List ℕ) (left : ℕ) → IsBytes bytes → (narrowed to from has asks f).meaning.faulty bytes left → (narrowed to from has asks f).read bytes ≡ Err left
+    → (bytes : List ℕ) (left : ℕ) → IsBytes bytes → (narrowed to from has asks f).meaning.faulty bytes left
+    → (narrowed to from has asks f).read bytes ≡ Err left
 narrowed_ends to from has asks f law bytes left is (inl h) = rw (law.ends bytes left is h) refl
 narrowed_ends to from has asks f law bytes left is (inr b) = rw (read_behind f law bytes b.value b.rest b.begins, b.keeps.0, b.keeps.1) refl
 
@@ -210,7 +220,8 @@ narrowed_within : {A B : Type 0} (to : A → Option B) (from : B → A) (has ask
 narrowed_within to from has asks f law bytes left is (inl h) = law.within bytes left is h
 narrowed_within to from has asks f law bytes left is (inr b) = omega (arith, b.keeps.1)
 
-pub narrowed_lawful : {A B : Type 0} (to : A → Option B) (from : B → A) (has asks : B → Type 0) (f : Spelling A) → NarrowLaws to from has asks f.meaning.fits → Lawful f
+pub narrowed_lawful : {A B : Type 0} (to : A → Option B) (from : B → A) (has asks : B → Type 0) (f : Spelling A) → NarrowLaws to from has asks f.meaning.fits
+    → Lawful f
     → Lawful (narrowed to from has asks f)
 narrowed_lawful to from has asks f laws law = record {
   takes = narrowed_takes to from has asks f laws law;

@@ -64,7 +64,8 @@ IsBytes-rest : (b : ℕ) (bytes : List ℕ) → IsBytes (b ∷ bytes) → IsByte
 IsBytes-rest b bytes is i = is (suc i)
 
 either_takes : {A B : Type 0} (kind : ℕ) (f : Spelling A) (g : Spelling B) → Lawful f → Lawful g
-    → (bytes : List ℕ) (x : A ⊎ B) (rest : List ℕ) → IsBytes bytes → (either kind f g).read bytes ≡ Ok (x, rest) → SpellsFirst (either kind f g).meaning bytes x rest
+    → (bytes : List ℕ) (x : A ⊎ B) (rest : List ℕ) → IsBytes bytes → (either kind f g).read bytes ≡ Ok (x, rest)
+    → SpellsFirst (either kind f g).meaning bytes x rest
 either_takes {A = A} {B = B} kind f g law other bytes x rest is e =
     elim (kind_or_not kind bytes) [
       | inl h ↦
@@ -137,7 +138,8 @@ either_from : {A B : Type 0} (kind low : ℕ) (f : Spelling A) (g : Spelling B) 
 either_from kind low f g lt from (inl x) fits = (kind, f.meaning.spell x, refl, omega arith)
 either_from kind low f g lt from (inr y) fits = let o = from y fits in (o.0, o.1, o.2, omega (arith, o.3))
 
-either_writable : {A B : Type 0} (f : Spelling A) (g : Spelling B) → Lawful f → Lawful g → (x : A ⊎ B) → OfKind f.meaning.fits g.meaning.fits x → OfKind f.asks g.asks x
+either_writable : {A B : Type 0} (f : Spelling A) (g : Spelling B) → Lawful f → Lawful g → (x : A ⊎ B) → OfKind f.meaning.fits g.meaning.fits x
+    → OfKind f.asks g.asks x
 either_writable f g law other (inl x) h = law.writable x h
 either_writable f g law other (inr y) h = other.writable y h
 

@@ -11,7 +11,8 @@ use Rattle.field_codec.proofs.Lawful.{IsBytes-behind, bind_ok, bind_err, ok_is}
 -- the first item, and then others
 cons_parts : {A : Type 0} (f : Spelling A) (x : A) (xs : List A) (rest : List ℕ)
     → flat_map f.meaning.spell (x ∷ xs) ++ rest ≡ f.meaning.spell x ++ (flat_map f.meaning.spell xs ++ rest)
-cons_parts f x xs rest = ap (λ (t : List ℕ). t ++ rest) (flat_map-cons f.meaning.spell x xs) ∙ append_assoc (f.meaning.spell x) (flat_map f.meaning.spell xs) rest
+cons_parts f x xs rest = ap (λ (t : List ℕ). t ++ rest) (flat_map-cons f.meaning.spell x xs) ∙ append_assoc (f.meaning.spell x) (flat_map f.meaning.spell xs)
+    rest
 
 items_takes : {A : Type 0} (f : Spelling A) → Lawful f → (count : ℕ) (bytes : List ℕ) (xs : List A) (rest : List ℕ) → IsBytes bytes
     → items_at f.read count bytes ≡ Ok (xs, rest) → SpellsFirst (items f count).meaning bytes xs rest
@@ -32,7 +33,10 @@ items_again : {A : Type 0} (f : Spelling A) → Lawful f → (xs : List A) (rest
     → items_at f.read (length xs) (flat_map f.meaning.spell xs ++ rest) ≡ Ok (xs, rest)
 items_again f law [] rest fits = refl
 items_again f law (x ∷ xs) rest fits =
-    ap (items_at f.read (suc (length xs))) (cons_parts f x xs rest) ∙ rw (law.again x (flat_map f.meaning.spell xs ++ rest) fits.0, items_again f law xs rest fits.1)
+    ap (items_at f.read (suc (length xs))) (cons_parts f x xs rest) ∙ rw (
+      law.again x (flat_map f.meaning.spell xs ++ rest) fits.0,
+      items_again f law xs rest fits.1,
+    )
     refl
 
 items_adds : {A : Type 0} (f : Spelling A) → Lawful f → (front : List ℕ) (xs : List A) → items_onto f.onto front xs ≡ front ++ flat_map f.meaning.spell xs
@@ -65,7 +69,8 @@ items_faults {A = A} f law (suc n) bytes left is e =
           ]
     ]
 
-items_end : {A : Type 0} (f : Spelling A) → Lawful f → (count : ℕ) (xs : List A) (rest : List ℕ) (left : ℕ) → length xs < count → AllByRecursion f.meaning.fits xs
+items_end : {A : Type 0} (f : Spelling A) → Lawful f → (count : ℕ) (xs : List A) (rest : List ℕ) (left : ℕ) → length xs < count
+    → AllByRecursion f.meaning.fits xs
     → f.read rest ≡ Err left → items_at f.read count (flat_map f.meaning.spell xs ++ rest) ≡ Err left
 items_end f law zero xs rest left lt fits e = absurd (let impossible : ⊥ = omega arith in impossible)
 items_end f law (suc n) [] rest left lt fits e = rw e refl

@@ -133,7 +133,8 @@ high_point-high_end (Some p) = high_by p (int_eq (instant (half p)) p) refl
 abbrev span : Option ℤ → Option ℤ → Span
 span low high = record { low = low; high = high }
 
-range_is : (o : Option (End × End)) (r : Option Span) → (optional (pair end_spelling end_spelling)).meaning.fits o → span_of o ≡ Some r → (ends_of r ≡ o) × IsRange r
+range_is : (o : Option (End × End)) (r : Option Span) → (optional (pair end_spelling end_spelling)).meaning.fits o → span_of o ≡ Some r
+    → (ends_of r ≡ o) × IsRange r
 range_is None None fits e = (refl, tt)
 range_is None (Some s) fits e = absurd cc
 range_is (Some ends) r fits e =

@@ -25,12 +25,14 @@ pub one_value : {A : Type 0} (f : Spelling A) → Lawful f → (bytes : List ℕ
 one_value f law bytes x y a b = (one_front f law bytes x y [] [] (whole_begins f bytes x a) (whole_begins f bytes y b)).0
 
 -- bytes that begin with a spelling have no faulty field
-pub not_faulty : {A : Type 0} (f : Spelling A) → Lawful f → (bytes : List ℕ) (x : A) (rest : List ℕ) (left : ℕ) → IsBytes bytes → SpellsFirst f.meaning bytes x rest
+pub not_faulty : {A : Type 0} (f : Spelling A) → Lawful f → (bytes : List ℕ) (x : A) (rest : List ℕ) (left : ℕ) → IsBytes bytes
+    → SpellsFirst f.meaning bytes x rest
     → f.meaning.faulty bytes left → ⊥
 not_faulty f law bytes x rest left is b h = not_both (f.read bytes) (x, rest) left (read_behind f law bytes x rest b) (law.ends bytes left is h)
 
 -- a fault has one place
-pub one_place : {A : Type 0} (f : Spelling A) → Lawful f → (bytes : List ℕ) (left other : ℕ) → IsBytes bytes → f.meaning.faulty bytes left → f.meaning.faulty bytes other
+pub one_place : {A : Type 0} (f : Spelling A) → Lawful f → (bytes : List ℕ) (left other : ℕ) → IsBytes bytes → f.meaning.faulty bytes left
+    → f.meaning.faulty bytes other
     → left ≡ other
 one_place f law bytes left other is a b =
     let e = sym (law.ends bytes left is a) ∙ law.ends bytes other is b in cc
@@ -51,7 +53,8 @@ one_whole_place f law bytes left other is (inr a) (inr b) =
     a.keeps.1 ∙ ap length (one_front f law bytes a.value b.value a.rest b.rest a.begins b.begins).1 ∙ sym b.keeps.1
 
 -- the place of the fault of the whole is in the bytes
-pub whole_within : {A : Type 0} (f : Spelling A) → Lawful f → (bytes : List ℕ) (left : ℕ) → IsBytes bytes → WholeFault f.meaning bytes left → left ≤ length bytes
+pub whole_within : {A : Type 0} (f : Spelling A) → Lawful f → (bytes : List ℕ) (left : ℕ) → IsBytes bytes → WholeFault f.meaning bytes left
+    → left ≤ length bytes
 whole_within f law bytes left is (inl h) = law.within bytes left is h
 whole_within f law bytes left is (inr b) = omega (arith, b.keeps.1, ap length b.begins.parts, length-append (f.meaning.spell b.value) b.rest)
 

@@ -14,7 +14,8 @@ pub record Lawful {A : Type 0} (f : Spelling A) : Type 0 where
   pub takes : (bytes : List ℕ) (x : A) (rest : List ℕ) → IsBytes bytes
       → f.read bytes ≡ Ok (x, rest) → SpellsFirst f.meaning bytes x rest
   -- what is spelled so is read
-  pub again : (x : A) (rest : List ℕ) → f.meaning.fits x → f.read (f.meaning.spell x ++ rest) ≡ Ok (x, rest)
+  pub again : (x : A) (rest : List ℕ) → f.meaning.fits x
+      → f.read (f.meaning.spell x ++ rest) ≡ Ok (x, rest)
   -- what is written stands behind what was there
   pub adds : (front : List ℕ) (x : A) → f.onto front x ≡ front ++ f.meaning.spell x
   -- reading ends exactly at the fault

@@ -1,6 +1,6 @@
--- How the values of a type are spelled in bytes, and where bytes that begin with no value's spelling
--- are faulty: what is to be believed of a spelling. One is put together from smaller ones. A place
--- in bytes is said by the number of bytes that are left there. Our own words.
+-- How the values of a type are spelled in bytes, and where bytes that begin with no value's
+-- spelling are faulty: what is to be believed of a spelling. One is put together from smaller
+-- ones. A place in bytes is said by the number of bytes that are left there. Our own words.
 use Rattle.std.proofs.Common.{inl, inr}
 use Rattle.std.specs.Prelude.{◌≡◌, ◌<◌, ◌⊎◌, ℕ, List, [], ◌∷◌, ◌++◌, length, Option, None}
 use Rattle.std.specs.List.{flat_map, AllByRecursion}

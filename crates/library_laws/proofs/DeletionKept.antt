@@ -36,7 +36,8 @@ asked_good : (flows : List FlowRow) (segments : List SegmentRow) (flow : ℕ) (r
 asked_good flows segments flow range false serial moment kept whole after = and_from (is_kept flows flow) true kept refl
 asked_good flows segments flow range true serial moment kept whole after = and_from (is_kept flows flow)
     (is_eternity range && is_after_segments segments (asked_row (record { flow = flow; range = range; delete_flow = true }) serial moment)) kept
-    (and_from (is_eternity range) (is_after_segments segments (asked_row (record { flow = flow; range = range; delete_flow = true }) serial moment)) whole after)
+    (and_from (is_eternity range) (is_after_segments segments (asked_row (record { flow = flow; range = range; delete_flow = true }) serial moment)) whole
+    after)
 
 count-asked_step : (b : Bool) (first : DeleteRow) (all later : List DeleteRow) → length all ≡ length later → length (cond b (first ∷ all) all)
     ≡ length (cond b (first ∷ later) later)
@@ -50,7 +51,8 @@ count-asked (first ∷ later) row e = count-asked_step (is_done first.status) fi
 
 pub asking_keeps_good : (library : Library) (moment flow : ℕ) (range : Option Span) (delete_flow : Bool) → Good library → is_moment moment ≡ true
     → is_kept library.catalog.flows flow ≡ true
-    → (not delete_flow || is_eternity range) ≡ true → library.next_serial + 1 ≤ last_serial → Good (after_ask moment (record { flow = flow; range = range; delete_flow = delete_flow }) library)
+    → (not delete_flow || is_eternity range) ≡ true → library.next_serial + 1 ≤ last_serial
+    → Good (after_ask moment (record { flow = flow; range = range; delete_flow = delete_flow }) library)
 asking_keeps_good library moment flow range delete_flow good at kept whole most =
     let names = Names-from library good.names in
     let texts = Texts-from library good.texts in

@@ -120,7 +120,8 @@ state_step true id start size moment row old is e same = ap (λ (r : ObjectRow).
 state_step false id start size moment row old is e same =
     absurd (false≢true (sym is ∙ ap (λ t. bytes_eq t id) (sym (ap (λ (r : ObjectRow). r.id) e) ∙ same) ∙ text_same id))
 
-stored_state : (objects : List ObjectRow) (id : List ℕ) (start size moment : ℕ) (row : ObjectRow) → In row (with_object id (stored_row start size moment) objects) → row.id
+stored_state : (objects : List ObjectRow) (id : List ℕ) (start size moment : ℕ) (row : ObjectRow)
+    → In row (with_object id (stored_row start size moment) objects) → row.id
     ≡ id → row.state ≡ Stored start size
 stored_state objects id start size moment row here same =
     let old = In-map (λ row. cond (bytes_eq row.id id) (stored_row start size moment row) row) objects row here in

@@ -1,5 +1,5 @@
--- A library together with the bytes of its objects: what may be asked of both, and the bytes after a change.
--- Our own rules.
+-- A library together with the bytes of its objects: what may be asked of both, and the bytes
+-- after a change. Our own rules.
 use Rattle.std.specs.Prelude.{ℕ, ◌==◌, List, Bool, true, if◌then◌else◌, map, length, bytes_eq}
 use Rattle.media_rows.specs.declared.change.Change.{Change}
 use Rattle.media_rows.specs.declared.change.Change.TheVariants as changes

@@ -1,5 +1,5 @@
--- What the calls of an index say of its segments, which stand by rising first point. Our own profile of the
--- Time-addressable Media Store.
+-- What the calls of an index say of its segments, which stand by rising first point. Our own
+-- profile of the Time-addressable Media Store.
 use Rattle.std.specs.Prelude.{◌≡◌, ℕ, ℤ, Bool, not, List, Option, Some, None, Result, Ok, Err, filter}
 use Rattle.std.proofs.Common.{int_eq}
 use Rattle.time_range.specs.declared.ranges.Span.{Span}
@@ -24,8 +24,9 @@ met rows range = filter (is_met range) rows
 abbrev pub first_met : List SegmentRow → Option Span → Option (Option Span)
 first_met rows range = first (ranges_of (met rows range))
 
--- What adding a segment answers: the segments with it at its place, where it overlaps none, and otherwise the
--- range of the first one that it overlaps. Want of memory may stand in place of the first.
+-- What adding a segment answers: the segments with it at its place, where it overlaps none, and
+-- otherwise the range of the first one that it overlaps. Want of memory may stand in place of the
+-- first.
 abbrev pub Adds : List SegmentRow → SegmentRow → Result (List SegmentRow) AddFault → Type 0
 Adds rows row (Ok index) = (first_met rows row.segment.range ≡ None) ×
     (index ≡ placed starts_before row rows)

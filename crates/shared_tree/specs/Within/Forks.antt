@@ -19,7 +19,8 @@ seen_root (Some fork) = (pairs_of fork.value, fork.value.height)
 abbrev pub seen : {V : Type 0} → Inside V → List (ℤ × V) × ℕ
 seen tree = seen_root tree.root
 
--- A node's height is right, its sides differ by at most one, and it has as many pairs as its height asks for.
+-- A node's height is right, its sides differ by at most one, and it has as many pairs as its
+-- height asks for.
 pub record IsLevel {V : Type 0} (fork : Fork V) : Type 0 where
   pub height : fork.height ≡ max fork.left.1 fork.right.1 + 1
   pub level : DifferByAtMost 1 fork.left.1 fork.right.1
@@ -34,8 +35,8 @@ IsBalancedRoot (Some fork) = IsLevel fork.value
 abbrev pub IsBalanced : {V : Type 0} → Inside V → Type 0
 IsBalanced tree = IsBalancedRoot tree.root
 
--- What was taken from the front of a tree: nothing of an empty one, and otherwise its first pair, where
--- the rest is as high, or one lower.
+-- What was taken from the front of a tree: nothing of an empty one, and otherwise its first pair,
+-- where the rest is as high, or one lower.
 abbrev pub IsTakenFrom : {V : Type 0} → List (ℤ × V) × ℕ → Option (Taken V) → Type 0
 IsTakenFrom tree None = tree ≡ ([], 0)
 IsTakenFrom tree (Some taken) =

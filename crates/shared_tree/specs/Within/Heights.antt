@@ -11,8 +11,8 @@ least zero = 1
 least (suc zero) = 2
 least (suc (suc h)) = 2 * least h
 
--- The height h of what sides of heights l and r are joined to: no lower, at most one higher, and exact
--- where they differ by at most one.
+-- The height h of what sides of heights l and r are joined to: no lower, at most one higher, and
+-- exact where they differ by at most one.
 pub record SettlesTo (l r h : ℕ) : Type 0 where
   pub not_lower : max l r ≤ h
   pub at_most_one_higher : h ≤ max l r + 1
