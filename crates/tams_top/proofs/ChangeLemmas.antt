@@ -14,8 +14,9 @@ use Rattle.tams_top.specs.declared.change.PutChange.{PutChange}
 use Rattle.tams_top.specs.Change.{IsPutChange, change_text, media_change, plain_flow}
 
 -- numbers of their types have a spelling, and so does what is absent or empty
-has_spelling : (c : PutChange) → c.moment < 2 ^ 64 → c.flow < 2 ^ 128 → c.source < 2 ^ 128 → change_spelling.fits (media_change c)
-unfolding change_spelling flow_spelling flow_head_spelling flow_texts_spelling flow_rest_spelling u8_spelling u32_spelling u64_spelling u128_spelling kind_spelling bool_spelling tags_spelling
+has_spelling : (c : PutChange) → c.moment < 2 ^ 64 → c.flow < 2 ^ 128 → c.source < 2 ^ 128 → change_spelling.meaning.fits (media_change c)
+unfolding change_spelling flow_spelling flow_head_spelling flow_texts_spelling flow_rest_spelling u8_spelling u32_spelling u64_spelling u128_spelling
+    kind_spelling bool_spelling tags_spelling
 has_spelling c moment flow source = (
   moment,
   (
@@ -31,7 +32,8 @@ pub can_write : (c : PutChange) → c.moment < 2 ^ 64 → c.flow < 2 ^ 128 → c
 can_write c moment flow source = change_lawful.writable (media_change c) (has_spelling c moment flow source)
 
 pub length-change_text : (c : PutChange) → length (change_text c) ≡ 58
-unfolding change_text change_spelling flow_spelling flow_head_spelling flow_texts_spelling flow_rest_spelling u8_spelling u32_spelling u64_spelling u128_spelling kind_spelling bool_spelling tags_spelling
+unfolding change_text change_spelling flow_spelling flow_head_spelling flow_texts_spelling flow_rest_spelling u8_spelling u32_spelling u64_spelling
+    u128_spelling kind_spelling bool_spelling tags_spelling
 length-change_text c =
     simp (length-append, length-u32_bytes, length-u64_bytes, length-u128_bytes) refl
 

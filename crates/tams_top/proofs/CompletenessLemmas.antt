@@ -23,7 +23,8 @@ module _ (old new : Device) (o : Outcome) (counts : FaultCounts old new o) (none
   no_link is = none.link ((subst (λ (p : Outcome). LinkFaults p old.link.faults new.link.faults) is counts.link).1)
 
   -- a connection by how it ended
-  answered : (from : State) (c : Connection) (h : Session) (ending : Ending) → (status_of o ≡ 4 → ⊥) → IsServed from c h ending → OutcomeIs from h ending o → IsAnswered from c (moments_of (taken_of h)) (status_of o)
+  answered : (from : State) (c : Connection) (h : Session) (ending : Ending) → (status_of o ≡ 4 → ⊥) → IsServed from c h ending → OutcomeIs from h ending o
+      → IsAnswered from c (moments_of (taken_of h)) (status_of o)
   answered from c h ending fed served is = record {
     session = h;
     rest = served.rest;
@@ -50,7 +51,8 @@ module _ (old new : Device) (o : Outcome) (counts : FaultCounts old new o) (none
       ends endings.Unlinked s is = absurd (no_link is)
 
 -- no connection began, and nothing failed: no peer came
-no_peer_came : (old new : Device) (o : Outcome) → FaultCounts old new o → NoneRose old new → (status_of o ≡ 4 → ⊥) → EndsWithoutPeer new o → (new.link.closed ≡ true) × (status_of o ≡ 0)
+no_peer_came : (old new : Device) (o : Outcome) → FaultCounts old new o → NoneRose old new → (status_of o ≡ 4 → ⊥) → EndsWithoutPeer new o
+    → (new.link.closed ≡ true) × (status_of o ≡ 0)
 no_peer_came old new (Served requests changes) counts none fed ends = (ends.2, refl)
 no_peer_came old new LinkFault counts none fed ends = absurd (no_link old new LinkFault counts none refl)
 no_peer_came old new DiskFault counts none fed ends = absurd (no_disk old new DiskFault counts none refl)
@@ -64,15 +66,24 @@ no_peer_came old new TooSmall counts none fed ends = absurd ends
 no_peer_came old new (Damaged at) counts none fed ends = absurd ends
 
 -- the run by its history
-pub served_whole : (from : State) (old new : Device) (begun given : List ℕ) (o : Outcome) → FaultCounts old new o → NoneRose old new → (status_of o ≡ 4 → ⊥) → Replayed (beginning from old begun) new given o → IsServedWhole from old new begun given (status_of o)
+pub served_whole : (from : State) (old new : Device) (begun given : List ℕ) (o : Outcome) → FaultCounts old new o → NoneRose old new → (status_of o ≡ 4 → ⊥)
+    → Replayed (beginning from old begun) new given o → IsServedWhole from old new begun given (status_of o)
 served_whole from old new begun given o counts none fed (inl p) =
-    inl (p.connection, moments_of (taken_of p.session), p.connections, p.given_is, answered old new o counts none from p.connection p.session p.ending fed p.served p.outcome)
+    inl (
+      p.connection,
+      moments_of (taken_of p.session),
+      p.connections,
+      p.given_is,
+      answered old new o counts none from p.connection p.session p.ending fed
+          p.served p.outcome,
+    )
 served_whole from old new begun given o counts none fed (inr p) =
     let came = no_peer_came old new o counts none fed p.ends in
     inr (p.connections, p.given_is, came.0, came.1)
 
 -- `format` where no call of the disk failed
-formatted : (old new : Device) (h : Header) (o : Outcome) → FormatRunEnds old new h o → (o ≡ DiskFault → ⊥) → (status_of o ≡ 0) ⊎ ((status_of o ≡ 2) ⊎ (status_of o ≡ 4))
+formatted : (old new : Device) (h : Header) (o : Outcome) → FormatRunEnds old new h o → (o ≡ DiskFault → ⊥)
+    → (status_of o ≡ 0) ⊎ ((status_of o ≡ 2) ⊎ (status_of o ≡ 4))
 formatted old new h (Formatted blocks half media) ends held = inl refl
 formatted old new h AlreadyStore ends held = inr (inl refl)
 formatted old new h TooSmall ends held = inr (inl refl)
@@ -85,7 +96,9 @@ formatted old new h NotStore ends held = absurd ends
 formatted old new h (Damaged at) ends held = absurd ends
 formatted old new h LinkFault ends held = absurd ends
 
-pub formatted_whole : (words : List (List ℕ)) (old new : Device) (clock : Bool) (begun given : List ℕ) (o : Outcome) → RunEnds words old new clock begun given o → (path : List ℕ) (blocks half id : ℕ) → IsCommand words (Format path blocks half id) → NoneRose old new → (status_of o ≡ 0) ⊎ ((status_of o ≡ 2) ⊎ (status_of o ≡ 4))
+pub formatted_whole : (words : List (List ℕ)) (old new : Device) (clock : Bool) (begun given : List ℕ) (o : Outcome) → RunEnds words old new clock begun given o
+    → (path : List ℕ) (blocks half id : ℕ) → IsCommand words (Format path blocks half id) → NoneRose old new
+    → (status_of o ≡ 0) ⊎ ((status_of o ≡ 2) ⊎ (status_of o ≡ 4))
 formatted_whole words old new clock begun given o run path blocks half id is none = elim run.cause [
   | inl starved ↦ inr (inr (ap status_of starved.0))
   | inr other ↦ elim other [

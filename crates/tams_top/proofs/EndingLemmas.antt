@@ -18,7 +18,8 @@ use Rattle.tams_top.proofs.RunningLemmas.{no_store, unopened}
 use Rattle.tams_top.proofs.WordTheorems.{one_command}
 
 module _ (old new : Device) (h : Header) where
-  format_refused : (o : Outcome) → FormatRunEnds old new h o → status_of o ≡ 2 → Untouched old new × (old.shows ≡ true → HasOpenHeader old.seen ⊎ ¬ (FitsStore h (length old.seen) empty_rows))
+  format_refused : (o : Outcome) → FormatRunEnds old new h o → status_of o ≡ 2
+      → Untouched old new × (old.shows ≡ true → HasOpenHeader old.seen ⊎ ¬ (FitsStore h (length old.seen) empty_rows))
   format_refused AlreadyStore ends s = (ends.1, λ shows. inl (ends.0 shows))
   format_refused TooSmall ends s = (ends.1, λ shows. inr ((ends.0 shows).1))
   format_refused NotStore ends s = absurd ends
@@ -30,7 +31,8 @@ module _ (old new : Device) (h : Header) where
   format_done (Served requests changes) ends s = absurd ends
   format_done _ ends s = absurd (omega (arith, s))
 
-  format_only : (o : Outcome) → FormatRunEnds old new h o → old.shows ≡ true → HasOpenHeader old.seen ⊎ ¬ (FitsStore h (length old.seen) empty_rows) → (status_of o ≡ 2) ⊎ ((status_of o ≡ 3) ⊎ (status_of o ≡ 4))
+  format_only : (o : Outcome) → FormatRunEnds old new h o → old.shows ≡ true → HasOpenHeader old.seen ⊎ ¬ (FitsStore h (length old.seen) empty_rows)
+      → (status_of o ≡ 2) ⊎ ((status_of o ≡ 3) ⊎ (status_of o ≡ 4))
   format_only (Formatted blocks half media) ends shows cause =
       absurd (elim cause [ inl header ↦ ends.none shows header | inr misfit ↦ misfit (ends.fits shows) ])
   format_only AlreadyStore ends shows cause = inl refl
@@ -71,7 +73,8 @@ other_status o p same n is = ap status_of same ∙ is
 
 module _ (words : List (List ℕ)) (old new : Device) (clock : Bool) (begun given : List ℕ) (o : Outcome) (run : RunEnds words old new clock begun given o) where
   -- a command that was refused
-  command_refused : (command : Command) → CommandEnds old new clock begun given o command → status_of o ≡ 2 → Untouched old new × (old.shows ≡ true → RefusedFor old.seen command)
+  command_refused : (command : Command) → CommandEnds old new clock begun given o command → status_of o ≡ 2
+      → Untouched old new × (old.shows ≡ true → RefusedFor old.seen command)
   command_refused (Format path blocks half id) ends s = format_refused old new _ o ends.0 s
   command_refused (Replay path base) ends s = replay_refused old new o ends.cause s
 
@@ -85,11 +88,13 @@ module _ (words : List (List ℕ)) (old new : Device) (clock : Bool) (begun give
   ]
 
   -- a command that the file refuses
-  command_only : (command : Command) → CommandEnds old new clock begun given o command → old.shows ≡ true → RefusedFor old.seen command → (status_of o ≡ 2) ⊎ ((status_of o ≡ 3) ⊎ (status_of o ≡ 4))
+  command_only : (command : Command) → CommandEnds old new clock begun given o command → old.shows ≡ true → RefusedFor old.seen command
+      → (status_of o ≡ 2) ⊎ ((status_of o ≡ 3) ⊎ (status_of o ≡ 4))
   command_only (Format path blocks half id) ends shows cause = format_only old new _ o ends.0 shows cause
   command_only (Replay path base) ends shows cause = replay_only old new o ends.cause shows cause
 
-  pub run_only : (command : Command) → IsCommand words command → old.shows ≡ true → RefusedFor old.seen command → (status_of o ≡ 2) ⊎ ((status_of o ≡ 3) ⊎ (status_of o ≡ 4))
+  pub run_only : (command : Command) → IsCommand words command → old.shows ≡ true → RefusedFor old.seen command
+      → (status_of o ≡ 2) ⊎ ((status_of o ≡ 3) ⊎ (status_of o ≡ 4))
   run_only command is shows cause = elim run.cause [
     | inl starved ↦ inr (inr (ap status_of starved.0))
     | inr other ↦ elim other [
@@ -99,7 +104,8 @@ module _ (words : List (List ℕ)) (old new : Device) (clock : Bool) (begun give
   ]
 
   -- a store that was made
-  pub run_formatted : status_of o ≡ 0 → old.shows ≡ true → (path : List ℕ) (blocks half id : ℕ) → IsCommand words (Format path blocks half id) → StandsFor new.seen (formatted_state (record { blocks = blocks; half = half; id = id }))
+  pub run_formatted : status_of o ≡ 0 → old.shows ≡ true → (path : List ℕ) (blocks half id : ℕ) → IsCommand words (Format path blocks half id)
+      → StandsFor new.seen (formatted_state (record { blocks = blocks; half = half; id = id }))
   run_formatted s shows path blocks half id is = elim run.cause [
     | inl starved ↦ absurd (omega (arith, s, ap status_of starved.0))
     | inr other ↦ elim other [
@@ -111,7 +117,9 @@ module _ (words : List (List ℕ)) (old new : Device) (clock : Bool) (begun give
   ]
 
   -- what a crash leaves of a run of `format`
-  pub run_formatting : (path : List ℕ) (blocks half id : ℕ) → IsCommand words (Format path blocks half id) → old.honest ≡ true → old.shows ≡ true → IsSettled old → ¬ (HasOpenHeader old.seen) → (p : Left) → new.left_since old.moment p → (¬ (HasOpenHeader p.image)) ⊎ StandsFor p.image (formatted_state (record { blocks = blocks; half = half; id = id }))
+  pub run_formatting : (path : List ℕ) (blocks half id : ℕ) → IsCommand words (Format path blocks half id) → old.honest ≡ true → old.shows ≡ true
+      → IsSettled old → ¬ (HasOpenHeader old.seen) → (p : Left) → new.left_since old.moment p
+      → (¬ (HasOpenHeader p.image)) ⊎ StandsFor p.image (formatted_state (record { blocks = blocks; half = half; id = id }))
   run_formatting path blocks half id is honest shows settled bare p left = elim run.cause [
     | inl starved ↦ inl (untouched_bare old new starved.2.time settled bare p left)
     | inr other ↦ elim other [

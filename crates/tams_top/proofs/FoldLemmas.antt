@@ -34,11 +34,13 @@ split_at : (rs : List Record) (i : ℕ) (r : Record) → i < length rs → r ≡
 split_at rs i r within is = rw (add-one, drop-cons rs i r) (ap (λ (x : Record). x ∷ drop (suc i) rs) (sym is))
 
 -- one turn of a fold keeps what the records left make
-pub turn_back : (rs : List Record) (i : ℕ) (r : Record) (empty from next to : Library) → i < length rs → r ≡ get_or rs i r → StepOf r from next → ((x : Library) → Folds (drop i rs) from x → Folds rs empty x) → Folds (drop (i + 1) rs) next to → Folds rs empty to
+pub turn_back : (rs : List Record) (i : ℕ) (r : Record) (empty from next to : Library) → i < length rs → r ≡ get_or rs i r → StepOf r from next
+    → ((x : Library) → Folds (drop i rs) from x → Folds rs empty x) → Folds (drop (i + 1) rs) next to → Folds rs empty to
 turn_back rs i r empty from next to within is s back more =
     back to (subst (λ (xs : List Record). Folds xs from to) (sym (split_at rs i r within is)) (fold_step r (drop (i + 1) rs) from next to s more))
 
-pub turn_on : (rs : List Record) (i : ℕ) (r : Record) (empty from next to : Library) → i < length rs → r ≡ get_or rs i r → StepOf r from next → ((x : Library) → Folds rs empty x → Folds (drop i rs) from x) → Folds rs empty to → Folds (drop (i + 1) rs) next to
+pub turn_on : (rs : List Record) (i : ℕ) (r : Record) (empty from next to : Library) → i < length rs → r ≡ get_or rs i r → StepOf r from next
+    → ((x : Library) → Folds rs empty x → Folds (drop i rs) from x) → Folds rs empty to → Folds (drop (i + 1) rs) next to
 turn_on rs i r empty from next to within is s on all =
     step_fold r (drop (i + 1) rs) from next to s (subst (λ (xs : List Record). Folds xs from to) (split_at rs i r within is) (on to all))
 
@@ -50,12 +52,14 @@ is_refused r c from valid is none other next valid_other is_other made =
     cc
 
 -- a record that is refused leaves no library
-no_fold : (rs : List Record) (i : ℕ) (r : Record) (empty from : Library) → i < length rs → r ≡ get_or rs i r → ((x : Library) → Folds rs empty x → Folds (drop i rs) from x) → IsRefused r from → (to : Library) → Folds rs empty to → ⊥
+no_fold : (rs : List Record) (i : ℕ) (r : Record) (empty from : Library) → i < length rs → r ≡ get_or rs i r
+    → ((x : Library) → Folds rs empty x → Folds (drop i rs) from x) → IsRefused r from → (to : Library) → Folds rs empty to → ⊥
 no_fold rs i r empty from within is on refused to all =
     let left : Folds (r ∷ drop (i + 1) rs) from to = subst (λ (xs : List Record). Folds xs from to) (split_at rs i r within is) (on to all) in
     refused left.0 left.3.0 left.1 left.2 left.3.1
 
-pub fold_refused : (rs : List Record) (i : ℕ) (r : Record) (empty from : Library) (fault : StoreFault) → i < length rs → r ≡ get_or rs i r → ((x : Library) → Folds rs empty x → Folds (drop i rs) from x) → IsStepRefused r from fault → IsFoldRefused rs empty fault
+pub fold_refused : (rs : List Record) (i : ℕ) (r : Record) (empty from : Library) (fault : StoreFault) → i < length rs → r ≡ get_or rs i r
+    → ((x : Library) → Folds rs empty x → Folds (drop i rs) from x) → IsStepRefused r from fault → IsFoldRefused rs empty fault
 fold_refused rs i r empty from (Damaged at) within is on refused = no_fold rs i r empty from within is on refused
 fold_refused rs i r empty from Memory within is on refused = tt
 

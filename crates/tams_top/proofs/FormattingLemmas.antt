@@ -28,14 +28,16 @@ new_stands image h new = record {
 }
 
 -- what was left since the beginning where nothing was called
-pub untouched_bare : (old new : Device) → Elapses Unchanged Unchanged old new → IsSettled old → ¬ (HasOpenHeader old.seen) → (p : Left) → new.left_since old.moment p → ¬ (HasOpenHeader p.image)
+pub untouched_bare : (old new : Device) → Elapses Unchanged Unchanged old new → IsSettled old → ¬ (HasOpenHeader old.seen) → (p : Left)
+    → new.left_since old.moment p → ¬ (HasOpenHeader p.image)
 untouched_bare old new time settled bare p left = elim (time.since old.moment p (omega arith) left) [
   | inl was ↦ subst (λ (image : List ℕ). ¬ (HasOpenHeader image)) (sym (settled p was)) bare
   | inr from ↦ subst (λ (image : List ℕ). ¬ (HasOpenHeader image)) (sym (ap (λ (l : Left). l.image) from.2 ∙ settled from.0 from.1)) bare
 ]
 
 -- no store, or the new one
-pub formatting_each : (old new : Device) (h : Header) (ended : Left → Left → Type 0) → Elapses (NoneOrNew h empty_rows) ended old new → IsSettled old → ¬ (HasOpenHeader old.seen) → (p : Left) → new.left_since old.moment p → (¬ (HasOpenHeader p.image)) ⊎ StandsFor p.image (formatted_state h)
+pub formatting_each : (old new : Device) (h : Header) (ended : Left → Left → Type 0) → Elapses (NoneOrNew h empty_rows) ended old new → IsSettled old
+    → ¬ (HasOpenHeader old.seen) → (p : Left) → new.left_since old.moment p → (¬ (HasOpenHeader p.image)) ⊎ StandsFor p.image (formatted_state h)
 formatting_each old new h ended time settled bare p left = elim (time.since old.moment p (omega arith) left) [
   | inl was ↦ inl (subst (λ (image : List ℕ). ¬ (HasOpenHeader image)) (sym (settled p was)) bare)
   | inr from ↦ elim from.2.image [ inl none ↦ inl none | inr made ↦ inr (new_stands p.image h made) ]

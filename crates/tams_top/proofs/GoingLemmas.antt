@@ -58,15 +58,21 @@ goes_first d tells given s = record {
 }
 
 -- a turn that goes on
-pub goes_more : (first now next : Device) (tells_first tells_now tells_next : Bool) (given_first given more : List ℕ) (store_first store later : Store) (unread left : List ℕ) (n m : Counts) (turns : ℕ) → GoesOn first now tells_first tells_now given_first given store_first store unread n turns → SiteCalls None now next → later.journal.blocks ≡ store.journal.blocks → (tells_next ≡ true → tells_now ≡ true) → m.requests < 1000000 → length unread ≤ 1130496 → 168 * n.requests + length unread < 168 * m.requests + length left → (TellsAll now tells_next → (b : Beginning) → Reached b now given unread store n → Reached b next more left later m) → GoesOn first next tells_first tells_next given_first more store_first later left m (turns + 1)
-goes_more first now next tells_first tells_now tells_next given_first given more store_first store later unread left n m turns g calls blocks clock few within moves goes = record {
-  calls = calls_more None first now next g.calls calls;
-  blocks = blocks ∙ g.blocks;
-  clock = λ yes_next. g.clock (clock yes_next);
-  few = few;
-  moved = omega (arith, g.moved, moves);
-  most = omega (arith, g.moved, g.few, within);
-  reached = λ all b r.
-      goes (tells_later first now tells_next g.calls.same all) b
-      (g.reached (record { honest = all.honest; shows = all.shows; tells = all.tells; clock_tells = clock all.clock_tells }) b r);
-}
+pub goes_more : (first now next : Device) (tells_first tells_now tells_next : Bool) (given_first given more : List ℕ) (store_first store later : Store)
+    (unread left : List ℕ) (n m : Counts) (turns : ℕ) → GoesOn first now tells_first tells_now given_first given store_first store unread n turns
+    → SiteCalls None now next → later.journal.blocks ≡ store.journal.blocks → (tells_next ≡ true → tells_now ≡ true) → m.requests < 1000000
+    → length unread ≤ 1130496 → 168 * n.requests + length unread < 168 * m.requests + length left
+    → (TellsAll now tells_next → (b : Beginning) → Reached b now given unread store n → Reached b next more left later m)
+    → GoesOn first next tells_first tells_next given_first more store_first later left m (turns + 1)
+goes_more first now next tells_first tells_now tells_next given_first given more store_first store later unread left n m turns g calls blocks clock few within
+    moves goes = record {
+      calls = calls_more None first now next g.calls calls;
+      blocks = blocks ∙ g.blocks;
+      clock = λ yes_next. g.clock (clock yes_next);
+      few = few;
+      moved = omega (arith, g.moved, moves);
+      most = omega (arith, g.moved, g.few, within);
+      reached = λ all b r.
+          goes (tells_later first now tells_next g.calls.same all) b
+          (g.reached (record { honest = all.honest; shows = all.shows; tells = all.tells; clock_tells = clock all.clock_tells }) b r);
+    }

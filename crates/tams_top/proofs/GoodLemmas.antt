@@ -65,16 +65,19 @@ found_good : (m id : ℕ) (fs : List Flow) (f : Flow) → AreFlowsFrom m fs → 
 found_good m id [] f are e = absurd (let none : None ≡ Some f = e in cc)
 found_good m id (g ∷ fs) f are e = found (g.id == id) refl e (found_good (g.id + 1) id fs f are.2)
   where
-    found : (b : Bool) → b ≡ (g.id == id) → cond b (Some g) (kept_flow id fs) ≡ Some f → (kept_flow id fs ≡ Some f → IsGoodFlow f × (f.id ≡ id)) → IsGoodFlow f × (f.id ≡ id)
+    found : (b : Bool) → b ≡ (g.id == id) → cond b (Some g) (kept_flow id fs) ≡ Some f → (kept_flow id fs ≡ Some f → IsGoodFlow f × (f.id ≡ id))
+        → IsGoodFlow f × (f.id ≡ id)
     found true is some later =
         let same : g ≡ f = let e : Some g ≡ Some f = some in cc in
         (subst IsGoodFlow same are.1, subst (λ (x : Flow). x.id ≡ id) same (eqb-true g.id id (sym is)))
     found false is some later = later some
 
 -- the flow that a put leaves
-put_good : (c : PutChange) (kept : Option Flow) (x : Flow) → IsPutChange c → ((f : Flow) → kept ≡ Some f → IsGoodFlow f) → put_flow c kept ≡ Some x → IsGoodFlow x
+put_good : (c : PutChange) (kept : Option Flow) (x : Flow) → IsPutChange c → ((f : Flow) → kept ≡ Some f → IsGoodFlow f) → put_flow c kept ≡ Some x
+    → IsGoodFlow x
 put_good c None x is kept e =
-    let same : record { id = c.flow; source = c.source; created = c.moment; updated = c.moment } ≡ x = let some : Some record { id = c.flow; source = c.source; created = c.moment; updated = c.moment } ≡ Some x = e in cc in
+    let same : record { id = c.flow; source = c.source; created = c.moment; updated = c.moment } ≡ x =
+    let some : Some record { id = c.flow; source = c.source; created = c.moment; updated = c.moment } ≡ Some x = e in cc in
     subst IsGoodFlow same (record { id = is.flow; source = is.source; created = is.moment; updated = is.moment })
 put_good c (Some old) x is kept e = made (old.source == c.source) e
   where
@@ -85,10 +88,12 @@ put_good c (Some old) x is kept e = made (old.source == c.source) e
         subst IsGoodFlow same (record { id = good.id; source = good.source; created = good.created; updated = is.moment })
     made false none = absurd (let e : None ≡ Some x = none in cc)
 
-with_good : (library next : Library) (flow : Option Flow) → IsGood library → ((x : Flow) → flow ≡ Some x → IsGoodFlow x) → with_flow_put library flow ≡ Some next → IsGood next
+with_good : (library next : Library) (flow : Option Flow) → IsGood library → ((x : Flow) → flow ≡ Some x → IsGoodFlow x)
+    → with_flow_put library flow ≡ Some next → IsGood next
 with_good library next None good flow e = absurd (let none : None ≡ Some next = e in cc)
 with_good library next (Some x) good flow e =
-    let same : record library { flows = flow_placed x library.flows } ≡ next = let some : Some record library { flows = flow_placed x library.flows } ≡ Some next = e in cc in
+    let same : record library { flows = flow_placed x library.flows } ≡ next = let some : Some record library { flows = flow_placed x library.flows } ≡ Some
+    next = e in cc in
     subst IsGood same (placed_good 0 x library.flows good (omega arith) (flow x refl))
 
 -- a change that applies keeps a library good
@@ -134,7 +139,8 @@ first_valid t ts all = all 0 t (omega arith)
 valid_front : (ts more : List Taken) → AreValid (ts ++ more) → AreValid ts
 valid_front [] more all = λ k t le. absurd (omega (arith, le))
 valid_front (t ∷ ts) more all =
-    All-cons (λ x. IsPutChange (change_of x)) t ts (first_valid t (ts ++ more) all) (valid_front ts more (All-tail (λ x. IsPutChange (change_of x)) t (ts ++ more) all))
+    All-cons (λ x. IsPutChange (change_of x)) t ts (first_valid t (ts ++ more) all)
+    (valid_front ts more (All-tail (λ x. IsPutChange (change_of x)) t (ts ++ more) all))
 
 valid_behind : (ts more : List Taken) → AreValid (ts ++ more) → AreValid more
 valid_behind [] more all = all
@@ -154,7 +160,8 @@ last_good s (Some (history.Stopped t false)) all good = good
 
 pub all_good : (from : State) (h : Session) → IsGood from.library → AreValid (taken_of h) → AllGood from h
 all_good from h good valid g (inl same) =
-    rw same (last_good (state_after_all from h.taken) h.last (valid_behind h.taken (taken_last h.last) valid) (requests_good from h.taken (valid_front h.taken (taken_last h.last) valid) good))
+    rw same (last_good (state_after_all from h.taken) h.last (valid_behind h.taken (taken_last h.last) valid)
+    (requests_good from h.taken (valid_front h.taken (taken_last h.last) valid) good))
 all_good from h good valid g (inr part) =
     let front : AreValid g.taken = valid_front g.taken part.1.0 (subst AreValid part.1.1 (valid_front h.taken (taken_last h.last) valid)) in
     rw part.0 (requests_good from g.taken front good)

@@ -14,7 +14,9 @@ use Rattle.tams_top.specs.Serving.{HeardMore}
 use Rattle.tams_top.proofs.RequestLemmas.{length-head_text}
 
 -- a `hear` into the bytes behind the first ones
-pub heard_behind : {E : Type 0} (r : Result ℕ E) (old new : Device) (bytes front free out : List ℕ) (end : ℕ) → length front ≡ end → bytes ≡ front ++ free → length out ≡ length free → IfOk r (λ count. count ≤ length free) → new.link.connections ≡ change_last (after_hear r out) old.link.connections → IfOk r (λ count. HeardMore old new (take end bytes) (take (end + count) (front ++ out)) count)
+pub heard_behind : {E : Type 0} (r : Result ℕ E) (old new : Device) (bytes front free out : List ℕ) (end : ℕ) → length front ≡ end → bytes ≡ front ++ free
+    → length out ≡ length free → IfOk r (λ count. count ≤ length free) → new.link.connections ≡ change_last (after_hear r out) old.link.connections
+    → IfOk r (λ count. HeardMore old new (take end bytes) (take (end + count) (front ++ out)) count)
 heard_behind (Err e) old new bytes front free out end len is same within connections = tt
 heard_behind (Ok zero) old new bytes front free out end len is same within connections =
     let ends : end + 0 ≡ length front = omega (arith, len) in
@@ -22,7 +24,8 @@ heard_behind (Ok zero) old new bytes front free out end len is same within conne
     (ap (λ n. take n (front ++ out)) ends ∙ take-append_seam front out ∙ sym before, connections)
 heard_behind (Ok (suc n)) old new bytes front free out end len is same within connections =
     let before : take end bytes ≡ front = ap (take end) is ∙ ap (λ n. take n (front ++ free)) (sym len) ∙ take-append_seam front free in
-    let behind : take (end + suc n) (front ++ out) ≡ front ++ take (suc n) out = ap (λ m. take (m + suc n) (front ++ out)) (sym len) ∙ take-append-add front out (suc n) in
+    let behind : take (end + suc n) (front ++ out) ≡ front ++ take (suc n) out = ap (λ m. take (m + suc n) (front ++ out)) (sym len) ∙ take-append-add front out
+    (suc n) in
     (take (suc n) out, length-take-le (suc n) out (omega (arith, same, within)), behind ∙ ap (λ f. f ++ take (suc n) out) (sym before), connections)
 
 -- more is heard only where the unread bytes hold no whole request of any length

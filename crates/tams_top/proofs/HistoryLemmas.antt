@@ -26,11 +26,13 @@ changing_fits (Some f) source false e = kept (f.source == source) e
     kept false e = e
 
 -- and that the put of its flow isn't refused
-changing_put : (c : PutChange) (kept : Option Flow) (room : Bool) → is_changing (answer_by_kept kept c.source room) ≡ true → (f : Flow) × (put_flow c kept ≡ Some f)
+changing_put : (c : PutChange) (kept : Option Flow) (room : Bool) → is_changing (answer_by_kept kept c.source room) ≡ true
+    → (f : Flow) × (put_flow c kept ≡ Some f)
 changing_put c None room e = (_, refl)
 changing_put c (Some f) room e = kept (f.source == c.source) e
   where
-    kept : (same : Bool) → is_changing (if same then (if room then Replaced else JournalFull) else FlowChanged) ≡ true → (g : Flow) × ((if same then Some record f { updated = c.moment } else None) ≡ Some g)
+    kept : (same : Bool) → is_changing (if same then (if room then Replaced else JournalFull) else FlowChanged) ≡ true
+        → (g : Flow) × ((if same then Some record f { updated = c.moment } else None) ≡ Some g)
     kept true e = (_, refl)
     kept false e = absurd (false≢true e)
 
@@ -56,7 +58,8 @@ pub after-push : (s : State) (ts : List Taken) (t : Taken) → state_after_all s
 after-push s [] t = refl
 after-push s (u ∷ ts) t = after-push (state_after s (change_of u)) ts t
 
-pub answers-push : (n : ℕ) (s : State) (ts : List Taken) (t : Taken) → answers_of n s (ts ++ t ∷ []) ≡ answers_of n s ts ++ answer_text (n + length ts) (state_after_all s ts) t
+pub answers-push : (n : ℕ) (s : State) (ts : List Taken) (t : Taken) → answers_of n s (ts ++ t ∷ []) ≡ answers_of n s ts ++ answer_text (n + length ts)
+    (state_after_all s ts) t
 answers-push n s [] t =
     let same : n + 0 ≡ n = omega arith in
     append-nil (answer_text n s t) ∙ ap (λ (m : ℕ). answer_text m s t) (sym same)
@@ -67,7 +70,8 @@ answers-push n s (u ∷ ts) t =
     ∙ sym (append_assoc (answer_text n s u) (answers_of (suc n) next ts) (answer_text (suc n + length ts) (state_after_all next ts) t))
     ∙ ap (λ (m : ℕ). (answer_text n s u ++ answers_of (suc n) next ts) ++ answer_text m (state_after_all next ts) t) same
 
-pub changes-push : (s : State) (ts : List Taken) (t : Taken) → changes_of s (ts ++ t ∷ []) ≡ changes_of s ts + count_of (put_answer (state_after_all s ts) (change_of t))
+pub changes-push : (s : State) (ts : List Taken) (t : Taken)
+    → changes_of s (ts ++ t ∷ []) ≡ changes_of s ts + count_of (put_answer (state_after_all s ts) (change_of t))
 changes-push s [] t = omega arith
 changes-push s (u ∷ ts) t = omega (arith, changes-push (state_after s (change_of u)) ts t)
 
@@ -79,7 +83,8 @@ begun_bound n s (t ∷ ts) (x ∷ told) =
     omega (arith, begun_bound (suc n) (state_after s (change_of t)) ts (drop (length (answer_text n s t)) (x ∷ told)))
 
 -- what doesn't reach behind the answers so far has begun no answer of a later request
-pub begun-push : (n : ℕ) (s : State) (ts : List Taken) (t : Taken) (told : List ℕ) → length told ≤ length (answers_of n s ts) → begun_in n s (ts ++ t ∷ []) told ≡ begun_in n s ts told
+pub begun-push : (n : ℕ) (s : State) (ts : List Taken) (t : Taken) (told : List ℕ) → length told ≤ length (answers_of n s ts)
+    → begun_in n s (ts ++ t ∷ []) told ≡ begun_in n s ts told
 begun-push n s [] t [] le = refl
 begun-push n s [] t (x ∷ told) le = absurd (omega (arith, le))
 begun-push n s (u ∷ ts) t [] le = refl

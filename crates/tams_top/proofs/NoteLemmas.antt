@@ -12,7 +12,8 @@ sends_more ok first second sent s = record {
 }
 
 -- one part, whole, and another behind it
-pub takes_twice : (ok tells later : Bool) (first second : List ℕ) (a b c : ℕ) (old mid new : List ℕ) → later ≡ tells → TakesPart true tells first a b old mid → TakesPart ok later second b c mid new → TakesPart ok tells (first ++ second) a c old new
+pub takes_twice : (ok tells later : Bool) (first second : List ℕ) (a b c : ℕ) (old mid new : List ℕ) → later ≡ tells → TakesPart true tells first a b old mid
+    → TakesPart ok later second b c mid new → TakesPart ok tells (first ++ second) a c old new
 takes_twice ok tells later first second a b c old mid new same one two = record {
   counted = counted_twice ok a b c one.counted two.counted;
   puts = λ yes.
@@ -23,10 +24,18 @@ takes_twice ok tells later first second a b c old mid new same one two = record 
 }
 
 -- a part of a line that was taken in part
-pub takes_front : (tells : Bool) (first second : List ℕ) (a b : ℕ) (old new : List ℕ) → TakesPart false tells first a b old new → TakesPart false tells (first ++ second) a b old new
+pub takes_front : (tells : Bool) (first second : List ℕ) (a b : ℕ) (old new : List ℕ) → TakesPart false tells first a b old new
+    → TakesPart false tells (first ++ second) a b old new
 takes_front tells first second a b old new one = record {
   counted = one.counted;
   puts = λ yes.
-      let p = one.puts yes in
-      (p.0, record { prefix = (p.1.prefix.0 ++ second, ap (λ xs. xs ++ second) p.1.prefix.1 ∙ append_assoc p.0 p.1.prefix.0 second); whole = λ no. absurd (false≢true no) }, p.2);
+      let p = one.puts yes in (
+        p.0,
+        record {
+          prefix = (p.1.prefix.0 ++ second, ap (λ xs. xs ++ second) p.1.prefix.1 ∙ append_assoc p.0 p.1.prefix.0 second);
+          whole = λ no.
+              absurd (false≢true no);
+        },
+        p.2,
+      );
 }

@@ -44,14 +44,16 @@ no_state-rows image o whole is other s stands =
     other (sym same.2)
 
 -- records that fold to no library
-pub no_state-fold : (image : List ℕ) (o : Opened) → o.torn ≡ None → IsOpened image o → ((to : Library) → Folds o.found (formatted_library (header_of o)) to → ⊥) → StandsForNone image
+pub no_state-fold : (image : List ℕ) (o : Opened) → o.torn ≡ None → IsOpened image o → ((to : Library) → Folds o.found (formatted_library (header_of o)) to → ⊥)
+    → StandsForNone image
 no_state-fold image o whole is refused s stands =
     let gives = gives_of image o whole is in
     let same = one_reading image _ _ _ _ _ _ _ _ (gives_reads image o.journal (contents_of o) gives) stands.reads in
     let found = subst (λ (rs : List Record). Folds rs (formatted_library stands.header) s.library) same.3 stands.folds in
     refused s.library (subst (λ (h : Header). Folds o.found (formatted_library h) s.library) same.0 found)
 
-pub part_fault : (image : List ℕ) (o : Opened) (fault : StoreFault) → o.torn ≡ None → IsOpened image o → IsFoldRefused o.found (formatted_library (header_of o)) fault → PartAnswer image (Err fault)
+pub part_fault : (image : List ℕ) (o : Opened) (fault : StoreFault) → o.torn ≡ None → IsOpened image o
+    → IsFoldRefused o.found (formatted_library (header_of o)) fault → PartAnswer image (Err fault)
 part_fault image o (Damaged at) whole is refused = no_state-fold image o whole is refused
 part_fault image o Memory whole is refused = tt
 
@@ -62,7 +64,9 @@ state library room = record { library = library; room = room }
 pub one_state : (image : List ℕ) (s t : State) → StandsFor image s → StandsFor image t → t ≡ s
 one_state image s t first second =
     let same = one_reading image _ _ _ _ _ _ _ _ first.reads second.reads in
-    let folds = subst (λ (h : Header). Folds first.records (formatted_library h) t.library) same.0 (subst (λ (rs : List Record). Folds rs (formatted_library second.header) t.library) same.3 second.folds) in
+    let folds = subst (λ (h : Header). Folds first.records (formatted_library h) t.library) same.0
+    (subst (λ (rs : List Record). Folds rs (formatted_library second.header) t.library) same.3 second.folds) in
     let library : t.library ≡ s.library = one_fold first.records (formatted_library first.header) s.library t.library first.folds folds in
-    let room : t.room ≡ s.room = second.room ∙ ap₂ (λ (h : Header) (gate : ℕ). (active_start image h.half + 4096 * h.half) - gate) same.0 same.1 ∙ sym first.room in
+    let room : t.room ≡ s.room = second.room ∙ ap₂ (λ (h : Header) (gate : ℕ). (active_start image h.half + 4096 * h.half) - gate) same.0 same.1 ∙ sym
+    first.room in
     ap₂ state library room

@@ -87,7 +87,8 @@ pub record IsBetween (text before after : List ℕ) (id : ℕ) : Type 0 where
 
 pub IsBetween-text : (text before after : List ℕ) (id : ℕ) → IsBetween text before after id → text ≡ before ++ (id_text id ++ after)
 IsBetween-text text before after id is =
-    sym (take-append-drop (length before) text) ∙ ap₂ (λ (a b : List ℕ). a ++ b) is.front (sym (take-append-drop 36 (drop (length before) text)) ∙ ap₂ (λ (a b : List ℕ). a ++ b) is.middle is.behind)
+    sym (take-append-drop (length before) text) ∙ ap₂ (λ (a b : List ℕ). a ++ b) is.front
+    (sym (take-append-drop 36 (drop (length before) text)) ∙ ap₂ (λ (a b : List ℕ). a ++ b) is.middle is.behind)
 
 pub text-IsBetween : (text before after : List ℕ) (id : ℕ) → text ≡ before ++ (id_text id ++ after) → IsBetween text before after id
 text-IsBetween text before after id e =
@@ -127,7 +128,8 @@ length-line flow = length-between _ before_id behind_id flow refl
 pub HasParts-text : (text : List ℕ) (flow n : ℕ) → HasParts text flow n → text ≡ head_text flow n
 HasParts-text text flow n has =
     sym (take-append-drop 74 text)
-    ∙ ap₂ (λ (a b : List ℕ). a ++ b) has.line_is (sym (take-append-drop (length (drop 74 text) - 4) (drop 74 text)) ∙ ap₂ (λ (a b : List ℕ). a ++ b) has.digits_are has.end_is)
+    ∙ ap₂ (λ (a b : List ℕ). a ++ b) has.line_is (sym (take-append-drop (length (drop 74 text) - 4) (drop 74 text)) ∙ ap₂ (λ (a b : List ℕ). a ++ b)
+    has.digits_are has.end_is)
     ∙ sym (line_and_rest flow n)
 
 pub head_text-HasParts : (text : List ℕ) (flow n : ℕ) → text ≡ head_text flow n → HasParts text flow n
@@ -143,7 +145,13 @@ head_text-HasParts text flow n e =
 
 pub length-head_text : (flow n : ℕ) → length (head_text flow n) ≡ 78 + length (decimal n)
 length-head_text flow n =
-    omega (arith, ap length (line_and_rest flow n), length-append (before_id ++ (id_text flow ++ behind_id)) (decimal n ++ head_end), length-append (decimal n) head_end, length-line flow)
+    omega (
+      arith,
+      ap length (line_and_rest flow n),
+      length-append (before_id ++ (id_text flow ++ behind_id)) (decimal n ++ head_end),
+      length-append (decimal n) head_end,
+      length-line flow,
+    )
 
 pub length-body_text : (source : ℕ) → length (body_text source) ≡ 87
 unfolding body_text
@@ -179,10 +187,14 @@ shifted : (o : Option ℕ) (at : ℕ) → option_map (λ k. at + k) (option_map 
 shifted None at = refl
 shifted (Some k) at = ap Some (omega arith)
 
-pub seeks_more : (bytes : List ℕ) (at : ℕ) → SeeksFrom bytes at → at < length bytes → starts_with nat_eq (drop at bytes) head_end ≡ false → SeeksFrom bytes (at + 1)
+pub seeks_more : (bytes : List ℕ) (at : ℕ) → SeeksFrom bytes at → at < length bytes → starts_with nat_eq (drop at bytes) head_end ≡ false
+    → SeeksFrom bytes (at + 1)
 unfolding here_or_later
 seeks_more bytes at seeks h not_here =
-    record { same = seeks.same ∙ ap (option_map (λ k. at + k)) (head_len-at bytes at h ∙ ap (λ (b : Bool). here_or_later b (head_len (drop (at + 1) bytes))) not_here) ∙ shifted (head_len (drop (at + 1) bytes)) at }
+    record {
+      same = seeks.same ∙ ap (option_map (λ k. at + k)) (head_len-at bytes at h ∙ ap (λ (b : Bool). here_or_later b (head_len (drop (at + 1) bytes)))
+          not_here) ∙ shifted (head_len (drop (at + 1) bytes)) at;
+    }
 
 -- a whole request stands at the front of bytes that begin with its text
 begins : (bytes : List ℕ) (put : FlowPut) (front : HeadFront) → IsHeadFront bytes front → BehindHead bytes front (Whole put) → BeginsWith bytes put

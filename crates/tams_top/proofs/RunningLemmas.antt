@@ -47,7 +47,8 @@ opened_keeps old opened s settled keeps time = record {
 }
 
 -- and nothing has been done by then
-pub opened_right : (old opened : Device) (from : State) (begun : List ℕ) → IsDevice old → old.honest ≡ true → old.tells ≡ true → IsSettled old → StandsFor old.seen from → Elapses Unchanged Unchanged old opened → AllRight (beginning from old begun) (session_of []) opened
+pub opened_right : (old opened : Device) (from : State) (begun : List ℕ) → IsDevice old → old.honest ≡ true → old.tells ≡ true → IsSettled old
+    → StandsFor old.seen from → Elapses Unchanged Unchanged old opened → AllRight (beginning from old begun) (session_of []) opened
 opened_right old opened from begun sound honest tells settled stands time = record {
   begun = omega (arith, time.later);
   since = λ p left. elim (time.since old.moment p (omega arith) left) [
@@ -60,7 +61,9 @@ opened_right old opened from begun sound honest tells settled stands time = reco
     first p could = inl (sound.told honest tells p could, rw (settled p could) stands)
 
 -- a peer came: the connection has been told nothing
-pub peer_right : (b : Beginning) (old new : Device) (s : Store) → IsDevice old → old.honest ≡ true → old.tells ≡ true → b.state ≡ state_of s → b.before ≡ old.link.connections → EachKeeps old s → AllRight b (session_of []) old → Elapses AddsConnection AddsConnection old new → AllRight b (session_of []) new
+pub peer_right : (b : Beginning) (old new : Device) (s : Store) → IsDevice old → old.honest ≡ true → old.tells ≡ true → b.state ≡ state_of s
+    → b.before ≡ old.link.connections → EachKeeps old s → AllRight b (session_of []) old → Elapses AddsConnection AddsConnection old new
+    → AllRight b (session_of []) new
 peer_right b old new s sound honest tells state before keeps right time =
     all_over b (session_of []) AddsConnection AddsConnection old new right time (λ q p could adds.
     inr (
@@ -84,7 +87,8 @@ peer_keeps old new s keeps time = record {
 }
 
 -- the outcome by an ending's counts is that of its history
-outcome_is : (from : State) (h : Session) (n : Counts) (ending : Ending) (o : Outcome) → CountsAt from h n ending → OutcomeBy ending n o → OutcomeIs from h ending o
+outcome_is : (from : State) (h : Session) (n : Counts) (ending : Ending) (o : Outcome) → CountsAt from h n ending → OutcomeBy ending n o
+    → OutcomeIs from h ending o
 outcome_is from h n endings.Complete o counts by = rw (← counts.requests, ← counts.changes) by
 outcome_is from h n endings.Closed o counts by = rw (← counts.requests, ← counts.changes) by
 outcome_is from h n endings.Cut o counts by = by
@@ -93,7 +97,9 @@ outcome_is from h n endings.Stopped o counts by = by
 outcome_is from h n endings.Unlinked o counts by = by
 
 -- the connection was served to its end, and closed
-pub one_peer : (b : Beginning) (served new : Device) (given : List ℕ) (n : Counts) (ending : Ending) (o : Outcome) → IsGood b.state.library → IsDevice served → Ended b served given n ending → OutcomeBy ending n o → new.seen ≡ served.seen → new.link.connections ≡ served.link.connections → Elapses Unchanged Unchanged served new → OnePeer b new given o
+pub one_peer : (b : Beginning) (served new : Device) (given : List ℕ) (n : Counts) (ending : Ending) (o : Outcome) → IsGood b.state.library → IsDevice served
+    → Ended b served given n ending → OutcomeBy ending n o → new.seen ≡ served.seen → new.link.connections ≡ served.link.connections
+    → Elapses Unchanged Unchanged served new → OnePeer b new given o
 one_peer b served new given n ending o good sound e by seen connections time = record {
   session = e.session;
   connection = e.connection;
@@ -108,7 +114,9 @@ one_peer b served new given n ending o good sound e by seen connections time = r
 }
 
 -- no connection began
-pub no_peer : (b : Beginning) (old new : Device) (s : Store) (given : List ℕ) (o : Outcome) → IsDevice old → IsDevice new → new.honest ≡ true → new.shows ≡ true → new.tells ≡ true → b.state ≡ state_of s → EachKeeps old s → AllRight b (session_of []) old → Elapses Unchanged Unchanged old new → new.link.connections ≡ b.before → given ≡ b.given → EndsWithoutPeer new o → NoPeer b new given o
+pub no_peer : (b : Beginning) (old new : Device) (s : Store) (given : List ℕ) (o : Outcome) → IsDevice old → IsDevice new → new.honest ≡ true → new.shows ≡ true
+    → new.tells ≡ true → b.state ≡ state_of s → EachKeeps old s → AllRight b (session_of []) old → Elapses Unchanged Unchanged old new
+    → new.link.connections ≡ b.before → given ≡ b.given → EndsWithoutPeer new o → NoPeer b new given o
 no_peer b old new s given o sound new_sound honest shows tells state keeps right time connections given_is ends =
     let stands : StandsFor new.seen b.state = rw state (stands_read new s new_sound honest shows tells (keeps_quiet old new s keeps time)) in
     record {
@@ -130,7 +138,9 @@ of_opened n endings.Stopped o by = rw by tt
 of_opened n endings.Unlinked o by = rw by tt
 
 -- opening failed, for a fault of the disk or want of memory
-pub unopened : (old new : Device) (clock : Bool) (begun : List ℕ) (o : Outcome) → IsDevice old → new.seen ≡ old.seen → new.link ≡ old.link → Elapses Unchanged Unchanged old new → EndsWithoutPeer new o → TellsAll old clock → IsSettled old → (from : State) → StandsFor old.seen from → Replayed (beginning from old begun) new begun o
+pub unopened : (old new : Device) (clock : Bool) (begun : List ℕ) (o : Outcome) → IsDevice old → new.seen ≡ old.seen → new.link ≡ old.link
+    → Elapses Unchanged Unchanged old new → EndsWithoutPeer new o → TellsAll old clock → IsSettled old → (from : State) → StandsFor old.seen from
+    → Replayed (beginning from old begun) new begun o
 unopened old new clock begun o sound seen link time ends all settled from stands =
     inr record {
       connections = ap (λ (l : Link). l.connections) link;
@@ -148,11 +158,14 @@ no_store image none s stands =
     none (is_store image stands.header stands.reads.header (omega (arith, sizes.some_half, sizes.fits, sizes.within)))
 
 -- a file that is refused stands for none, so that no history begins there
-pub refused_none : (old new : Device) (clock : Bool) (begun : List ℕ) (o : Outcome) → (old.shows ≡ true → StandsForNone old.seen) → TellsAll old clock → IsSettled old → (from : State) → StandsFor old.seen from → Replayed (beginning from old begun) new begun o
+pub refused_none : (old new : Device) (clock : Bool) (begun : List ℕ) (o : Outcome) → (old.shows ≡ true → StandsForNone old.seen) → TellsAll old clock
+    → IsSettled old → (from : State) → StandsFor old.seen from → Replayed (beginning from old begun) new begun o
 refused_none old new clock begun o none all settled from stands = absurd (none all.shows from stands)
 
 -- the store was opened, and served a connection or none
-pub replayed : (old opened new : Device) (clock : Bool) (begun given : List ℕ) (s : Store) (o : Outcome) → IsDevice old → DiskReads true old opened → Keeps old.seen s → ConnectEnds s opened new clock begun given o → TellsAll old clock → IsSettled old → (from : State) → StandsFor old.seen from → Replayed (beginning from old begun) new given o
+pub replayed : (old opened new : Device) (clock : Bool) (begun given : List ℕ) (s : Store) (o : Outcome) → IsDevice old → DiskReads true old opened
+    → Keeps old.seen s → ConnectEnds s opened new clock begun given o → TellsAll old clock → IsSettled old → (from : State) → StandsFor old.seen from
+    → Replayed (beginning from old begun) new given o
 replayed old opened new clock begun given s o sound reads keeps connect all settled from stands =
     connect.history (tells_later old opened clock reads.calls.same all) (opened_keeps old opened s settled keeps reads.time) (beginning from old begun)
     (one_state old.seen (state_of s) from (stands_of old.seen s keeps) stands)

@@ -20,7 +20,8 @@ use Rattle.tams_top.proofs.HistoryLemmas.{begun_bound, prefix_itself, script-ses
 use Rattle.tams_top.proofs.RightLemmas.{all_over, all_quiet, change_last-push, keeps_quiet, stands_now}
 
 -- a connection before its first request
-pub reached_first : (b : Beginning) (d : Device) (s : Store) → state_of s ≡ b.state → EachKeeps d s → AllRight b (session_of []) d → d.link.connections ≡ b.before ++ fresh ∷ [] → Reached b d b.given [] s (record { requests = 0; changes = 0 })
+pub reached_first : (b : Beginning) (d : Device) (s : Store) → state_of s ≡ b.state → EachKeeps d s → AllRight b (session_of []) d
+    → d.link.connections ≡ b.before ++ fresh ∷ [] → Reached b d b.given [] s (record { requests = 0; changes = 0 })
 reached_first b d s state keeps right connections = record {
   taken = [];
   state = state;
@@ -45,7 +46,9 @@ pub record Told (b : Beginning) (d : Device) (heard script : List ℕ) (said : B
   pub whole : said ≡ true → told ≡ script
 
 -- one answer more was said
-pub told_more : (ok : Bool) (bytes : List ℕ) (b : Beginning) (mid new : Device) (heard answers : List ℕ) → mid.link.connections ≡ b.before ++ connection_of heard answers false false ∷ [] → mid.tells ≡ true → Said ok bytes mid new → Told b new heard (answers ++ bytes) ok
+pub told_more : (ok : Bool) (bytes : List ℕ) (b : Beginning) (mid new : Device) (heard answers : List ℕ)
+    → mid.link.connections ≡ b.before ++ connection_of heard answers false false ∷ [] → mid.tells ≡ true → Said ok bytes mid new
+    → Told b new heard (answers ++ bytes) ok
 told_more ok bytes b mid new heard answers connections tells said =
     let s = said.connections tells in
     record {
@@ -63,7 +66,8 @@ pub record StandsLast (from : State) (h : Session) (image : List ℕ) : Type 0 w
   pub all_made : changes_of from h.taken ≤ changes_in from earlier
 
 -- so it stays right while an answer is being said
-says_right : (b : Beginning) (h : Session) (answers bytes : List ℕ) (q p : Left) → q.told ≡ told_first b ++ answers ∷ [] → StandsLast b.state h q.image → script_of b.state h ≡ answers ++ bytes → Tells false bytes q p → IsRight b h p
+says_right : (b : Beginning) (h : Session) (answers bytes : List ℕ) (q p : Left) → q.told ≡ told_first b ++ answers ∷ [] → StandsLast b.state h q.image
+    → script_of b.state h ≡ answers ++ bytes → Tells false bytes q p → IsRight b h p
 says_right b h answers bytes q p told stands script says =
     let sent = says.told.0 in
     let prefix = says.told.1.prefix in
@@ -79,11 +83,15 @@ says_right b h answers bytes q p told stands script says =
       },
     )
 
-pub all_said : (ok : Bool) (b : Beginning) (h : Session) (answers bytes : List ℕ) (mid new : Device) → AllRight b h mid → ((q : Left) → may_leave mid q → q.told ≡ told_first b ++ answers ∷ []) → ((q : Left) → may_leave mid q → StandsLast b.state h q.image) → script_of b.state h ≡ answers ++ bytes → LinkCall (Tells false bytes) (Tells ok bytes) ok mid new → AllRight b h new
+pub all_said : (ok : Bool) (b : Beginning) (h : Session) (answers bytes : List ℕ) (mid new : Device) → AllRight b h mid
+    → ((q : Left) → may_leave mid q → q.told ≡ told_first b ++ answers ∷ []) → ((q : Left) → may_leave mid q → StandsLast b.state h q.image)
+    → script_of b.state h ≡ answers ++ bytes → LinkCall (Tells false bytes) (Tells ok bytes) ok mid new → AllRight b h new
 all_said ok b h answers bytes mid new right told stands script call =
-    all_over b h (Tells false bytes) (Tells ok bytes) mid new right call.time (λ q p could says. says_right b h answers bytes q p (told q could) (stands q could) script says)
+    all_over b h (Tells false bytes) (Tells ok bytes) mid new right call.time (λ q p could says. says_right b h answers bytes q p (told q could)
+    (stands q could) script says)
 
-pub keeps_said : (ok : Bool) (bytes : List ℕ) (mid new : Device) (s : Store) → EachKeeps mid s → LinkCall (Tells false bytes) (Tells ok bytes) ok mid new → EachKeeps new s
+pub keeps_said : (ok : Bool) (bytes : List ℕ) (mid new : Device) (s : Store) → EachKeeps mid s → LinkCall (Tells false bytes) (Tells ok bytes) ok mid new
+    → EachKeeps new s
 keeps_said ok bytes mid new s keeps call = record {
   header = keeps.header;
   records = keeps.records;
@@ -92,7 +100,11 @@ keeps_said ok bytes mid new s keeps call = record {
 }
 
 -- a connection that was served by a history and has ended
-pub ended_with : (b : Beginning) (d : Device) (given rest : List ℕ) (n : Counts) (ending : Ending) (h : Session) (c : Connection) → d.link.connections ≡ b.before ++ c ∷ [] → given ≡ b.given ++ moments_of (taken_of h) → c.heard ≡ texts_of (taken_of h) ++ rest → IsPrefix c.told (script_of b.state h) → (c.failed ≡ false → c.told ≡ script_of b.state h) → All (λ t. IsPutChange (change_of t)) (taken_of h) → length h.taken ≤ most_requests → EndsAs b.state c h rest ending → CountsAt b.state h n ending → StandsAt d.seen b.state h ending → AllRight b h d → Ended b d given n ending
+pub ended_with : (b : Beginning) (d : Device) (given rest : List ℕ) (n : Counts) (ending : Ending) (h : Session) (c : Connection)
+    → d.link.connections ≡ b.before ++ c ∷ [] → given ≡ b.given ++ moments_of (taken_of h) → c.heard ≡ texts_of (taken_of h) ++ rest
+    → IsPrefix c.told (script_of b.state h) → (c.failed ≡ false → c.told ≡ script_of b.state h) → All (λ t. IsPutChange (change_of t)) (taken_of h)
+    → length h.taken ≤ most_requests → EndsAs b.state c h rest ending → CountsAt b.state h n ending → StandsAt d.seen b.state h ending → AllRight b h d
+    → Ended b d given n ending
 ended_with b d given rest n ending h c connections given_is heard told whole valid few ends counts stands right = record {
   session = h;
   connection = c;
@@ -105,13 +117,17 @@ ended_with b d given rest n ending h c connections given_is heard told whole val
 }
 
 -- the end of the peer's bytes
-pub heard_end : (old new : Device) (before left : List ℕ) (count : ℕ) → count ≡ 0 → HeardMore old new before left count → (left ≡ before) × (new.link.connections ≡ change_last (λ c. record c { ended = true }) old.link.connections)
+pub heard_end : (old new : Device) (before left : List ℕ) (count : ℕ) → count ≡ 0 → HeardMore old new before left count
+    → (left ≡ before) × (new.link.connections ≡ change_last (λ c. record c { ended = true }) old.link.connections)
 heard_end old new before left count none heard = subst (HeardMore old new before left) none heard
 
 -- What hearing leaves of a connection that has come so far.
-module _ (b : Beginning) (old new : Device) (given unread : List ℕ) (store : Store) (n : Counts) (r : Reached b old given unread store n) (few : n.requests ≤ most_requests) (sound : IsDevice old) (after_sound : IsDevice new) (honest : new.honest ≡ true) (shows : new.shows ≡ true) (tells : new.tells ≡ true) (time : Elapses Unchanged Unchanged old new) where
+module _ (b : Beginning) (old new : Device) (given unread : List ℕ) (store : Store) (n : Counts) (r : Reached b old given unread store n)
+    (few : n.requests ≤ most_requests) (sound : IsDevice old) (after_sound : IsDevice new) (honest : new.honest ≡ true) (shows : new.shows ≡ true)
+    (tells : new.tells ≡ true) (time : Elapses Unchanged Unchanged old new) where
   -- more bytes
-  pub reached_more : (bytes left : List ℕ) → left ≡ unread ++ bytes → new.link.connections ≡ change_last (λ c. record c { heard = c.heard ++ bytes }) old.link.connections → Reached b new given left store n
+  pub reached_more : (bytes left : List ℕ) → left ≡ unread ++ bytes → new.link.connections ≡ change_last (λ c. record c { heard = c.heard ++ bytes })
+      old.link.connections → Reached b new given left store n
   reached_more bytes left is connections = record {
     taken = r.taken;
     state = r.state;
@@ -124,7 +140,8 @@ module _ (b : Beginning) (old new : Device) (given unread : List ℕ) (store : S
     connections =
         connections ∙ ap (change_last (λ (c : Connection). record c { heard = c.heard ++ bytes })) r.connections
         ∙ change_last-push (λ (c : Connection). record c { heard = c.heard ++ bytes }) b.before _
-        ∙ ap (λ (heard : List ℕ). b.before ++ connection_of heard (answers_of 0 b.state r.taken) false false ∷ []) (append_assoc (texts_of r.taken) unread bytes ∙ ap (λ xs. texts_of r.taken ++ xs) (sym is));
+        ∙ ap (λ (heard : List ℕ). b.before ++ connection_of heard (answers_of 0 b.state r.taken) false false ∷ [])
+        (append_assoc (texts_of r.taken) unread bytes ∙ ap (λ xs. texts_of r.taken ++ xs) (sym is));
   }
 
   pub reached_heard : (count : ℕ) (left : List ℕ) → 0 < count → HeardMore old new unread left count → Reached b new given left store n
@@ -132,12 +149,17 @@ module _ (b : Beginning) (old new : Device) (given unread : List ℕ) (store : S
   reached_heard (suc k) left some heard = reached_more heard.0 left heard.2 heard.3
 
   -- the end of the connection without another answer
-  ended_unanswered : (ending : Ending) (ended failed : Bool) → (AreCounts b.state (session_of r.taken) n → CountsAt b.state (session_of r.taken) n ending) → new.link.connections ≡ b.before ++ connection_of (texts_of r.taken ++ unread) (answers_of 0 b.state r.taken) ended failed ∷ [] → EndsAs b.state (connection_of (texts_of r.taken ++ unread) (answers_of 0 b.state r.taken) ended failed) (session_of r.taken) unread ending → (StandsFor new.seen (end_of b.state (session_of r.taken)) → StandsAt new.seen b.state (session_of r.taken) ending) → Ended b new given n ending
+  ended_unanswered : (ending : Ending) (ended failed : Bool) → (AreCounts b.state (session_of r.taken) n → CountsAt b.state (session_of r.taken) n ending)
+      → new.link.connections ≡ b.before ++ connection_of (texts_of r.taken ++ unread) (answers_of 0 b.state r.taken) ended failed ∷ []
+      → EndsAs b.state (connection_of (texts_of r.taken ++ unread) (answers_of 0 b.state r.taken) ended failed) (session_of r.taken) unread ending
+      → (StandsFor new.seen (end_of b.state (session_of r.taken)) → StandsAt new.seen b.state (session_of r.taken) ending) → Ended b new given n ending
   ended_unanswered ending ended failed count connections ends at =
       let whole = sym (script-session b.state r.taken) in
       let all : taken_of (session_of r.taken) ≡ r.taken = append-nil r.taken in
-      let stands : StandsFor new.seen (end_of b.state (session_of r.taken)) = subst (StandsFor new.seen) r.state (stands_read new store after_sound honest shows tells (keeps_quiet old new store r.keeps time)) in
-      ended_with b new given unread n ending (session_of r.taken) (connection_of (texts_of r.taken ++ unread) (answers_of 0 b.state r.taken) ended failed) connections
+      let stands : StandsFor new.seen (end_of b.state (session_of r.taken)) = subst (StandsFor new.seen) r.state
+      (stands_read new store after_sound honest shows tells (keeps_quiet old new store r.keeps time)) in
+      ended_with b new given unread n ending (session_of r.taken) (connection_of (texts_of r.taken ++ unread) (answers_of 0 b.state r.taken) ended failed)
+      connections
       (r.given_is ∙ ap (λ (ts : List Taken). b.given ++ moments_of ts) (sym all))
       (ap (λ (ts : List Taken). texts_of ts ++ unread) (sym all))
       (subst (IsPrefix (answers_of 0 b.state r.taken)) whole (prefix_itself (answers_of 0 b.state r.taken)))
@@ -149,7 +171,8 @@ module _ (b : Beginning) (old new : Device) (given unread : List ℕ) (store : S
       (at stands)
       (all_quiet b (session_of r.taken) old new sound r.right time)
 
-  ended_heard : new.link.connections ≡ change_last (λ c. record c { ended = true }) old.link.connections → new.link.connections ≡ b.before ++ connection_of (texts_of r.taken ++ unread) (answers_of 0 b.state r.taken) true false ∷ []
+  ended_heard : new.link.connections ≡ change_last (λ c. record c { ended = true }) old.link.connections
+      → new.link.connections ≡ b.before ++ connection_of (texts_of r.taken ++ unread) (answers_of 0 b.state r.taken) true false ∷ []
   ended_heard connections =
       connections ∙ ap (change_last (λ (c : Connection). record c { ended = true })) r.connections
       ∙ change_last-push (λ (c : Connection). record c { ended = true }) b.before _
@@ -158,12 +181,14 @@ module _ (b : Beginning) (old new : Device) (given unread : List ℕ) (store : S
   ended_complete none connections =
       ended_unanswered Complete true false (λ n. n) (ended_heard connections) (refl, refl, refl, none) (λ stands. stands)
 
-  pub ended_cut : unread ≢ [] → IsFront unread More → new.link.connections ≡ change_last (λ c. record c { ended = true }) old.link.connections → Ended b new given n Cut
+  pub ended_cut : unread ≢ [] → IsFront unread More → new.link.connections ≡ change_last (λ c. record c { ended = true }) old.link.connections
+      → Ended b new given n Cut
   ended_cut some front connections =
       ended_unanswered Cut true false (λ _. tt) (ended_heard connections) (refl, refl, refl, some, front) (λ stands. stands)
 
   pub ended_unheard : new.link.connections ≡ change_last (λ c. record c { failed = true }) old.link.connections → Ended b new given n Unlinked
   ended_unheard connections =
       ended_unanswered Unlinked false true (λ _. tt)
-      (connections ∙ ap (change_last (λ (c : Connection). record c { failed = true })) r.connections ∙ change_last-push (λ (c : Connection). record c { failed = true }) b.before _)
+      (connections ∙ ap (change_last (λ (c : Connection). record c { failed = true })) r.connections ∙ change_last-push
+      (λ (c : Connection). record c { failed = true }) b.before _)
       (refl, inl refl) (λ stands. stands)

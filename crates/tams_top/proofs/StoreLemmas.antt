@@ -20,17 +20,24 @@ use Rattle.tams_top.proofs.FoldLemmas.{fold_push}
 use Rattle.tams_top.proofs.RightLemmas.{stands_at, stands_now}
 
 -- the records with the one of a change fold to the library after it
-folds_more : (s : Store) (c : PutChange) (payload : List ℕ) (next : Library) (h : Header) (records : List Record) → IsPutChange c → payload ≡ change_text c → library_after c s.library ≡ Some next → Folds records (formatted_library h) s.library → Folds (with_payload s.journal payload (contents h records)).records (formatted_library h) next
+folds_more : (s : Store) (c : PutChange) (payload : List ℕ) (next : Library) (h : Header) (records : List Record) → IsPutChange c → payload ≡ change_text c
+    → library_after c s.library ≡ Some next → Folds records (formatted_library h) s.library
+    → Folds (with_payload s.journal payload (contents h records)).records (formatted_library h) next
 folds_more s c payload next h records valid is applies folds =
     fold_push records _ (formatted_library h) s.library next folds (c, valid, is, applies)
 
 -- an image with that record stands for the state after the change
-stands_more : (image : List ℕ) (s : Store) (c : PutChange) (payload : List ℕ) (next : Library) (h : Header) (records : List Record) → IsPutChange c → payload ≡ change_text c → library_after c s.library ≡ Some next → Folds records (formatted_library h) s.library → Gives image (after_append s.journal (length payload)) (with_payload s.journal payload (contents h records)) → StandsFor image (with_put (state_of s) c)
+stands_more : (image : List ℕ) (s : Store) (c : PutChange) (payload : List ℕ) (next : Library) (h : Header) (records : List Record) → IsPutChange c
+    → payload ≡ change_text c → library_after c s.library ≡ Some next → Folds records (formatted_library h) s.library
+    → Gives image (after_append s.journal (length payload)) (with_payload s.journal payload (contents h records)) → StandsFor image (with_put (state_of s) c)
 stands_more image s c payload next h records valid is applies folds gives =
-    let stands = stands_at image (after_append s.journal (length payload)) h (with_payload s.journal payload (contents h records)).records next gives (folds_more s c payload next h records valid is applies folds) in
+    let stands = stands_at image (after_append s.journal (length payload)) h (with_payload s.journal payload (contents h records)).records next gives
+    (folds_more s c payload next h records valid is applies folds) in
     rw (applies, ← is) stands
 
-pub keeps_more : (d : Device) (s : Store) (p : Position) (c : PutChange) (payload : List ℕ) (next : Library) (keeps : EachKeeps d s) → IsPutChange c → payload ≡ change_text c → library_after c s.library ≡ Some next → (new : Device) → EachGives new p (with_payload s.journal payload (contents keeps.header keeps.records)) → EachKeeps new (record { journal = p; library = next })
+pub keeps_more : (d : Device) (s : Store) (p : Position) (c : PutChange) (payload : List ℕ) (next : Library) (keeps : EachKeeps d s) → IsPutChange c
+    → payload ≡ change_text c → library_after c s.library ≡ Some next → (new : Device)
+    → EachGives new p (with_payload s.journal payload (contents keeps.header keeps.records)) → EachKeeps new (record { journal = p; library = next })
 keeps_more d s p c payload next keeps valid is applies new gives = record {
   header = keeps.header;
   records = (with_payload s.journal payload (contents keeps.header keeps.records)).records;
@@ -39,14 +46,18 @@ keeps_more d s p c payload next keeps valid is applies new gives = record {
 }
 
 -- an append's moments as those of the change
-pub handles_append : (ok : Bool) (old new : Device) (s : Store) (c : PutChange) (payload : List ℕ) (next : Library) (keeps : EachKeeps old s) → IsPutChange c → payload ≡ change_text c → library_after c s.library ≡ Some next → is_changing (put_answer (state_of s) c) ≡ true → Elapses (KeepsOrAdds s.journal payload (contents keeps.header keeps.records)) (AppendEnds ok s.journal payload (contents keeps.header keeps.records)) old new → Elapses (Handles (state_of s) c) (Handles (state_of s) c) old new
+pub handles_append : (ok : Bool) (old new : Device) (s : Store) (c : PutChange) (payload : List ℕ) (next : Library) (keeps : EachKeeps old s) → IsPutChange c
+    → payload ≡ change_text c → library_after c s.library ≡ Some next → is_changing (put_answer (state_of s) c) ≡ true
+    → Elapses (KeepsOrAdds s.journal payload (contents keeps.header keeps.records)) (AppendEnds ok s.journal payload (contents keeps.header keeps.records)) old
+    new → Elapses (Handles (state_of s) c) (Handles (state_of s) c) old new
 handles_append ok old new s c payload next keeps valid is applies accepted time =
     elapses_weaker _ _ _ _ old new time (λ q p could step. either q p step) (λ q p could left step. ends ok q p step)
   where
     before : (image : List ℕ) → Gives image s.journal (contents keeps.header keeps.records) → StandsFor image (state_of s)
     before image gives = stands_at image s.journal keeps.header keeps.records s.library gives keeps.folds
 
-    behind : (image : List ℕ) → Gives image (after_append s.journal (length payload)) (with_payload s.journal payload (contents keeps.header keeps.records)) → StandsFor image (with_put (state_of s) c)
+    behind : (image : List ℕ) → Gives image (after_append s.journal (length payload)) (with_payload s.journal payload (contents keeps.header keeps.records))
+        → StandsFor image (with_put (state_of s) c)
     behind image gives = stands_more image s c payload next keeps.header keeps.records valid is applies keeps.folds gives
 
     either : (q p : Left) → KeepsOrAdds s.journal payload (contents keeps.header keeps.records) q p → Handles (state_of s) c q p

@@ -25,13 +25,15 @@ returns-in-Some-clause-clock g c = λ tells. c.loop.invariant.clock (c.in-Some.e
 pub returns-in-Some-clause-served : goal.returns-in-Some-clause-served
 returns-in-Some-clause-served g c = λ all b r.
     let going = c.loop.invariant in
-    let before = going.reached (record { honest = all.honest; shows = all.shows; tells = all.tells; clock_tells = c.in-Some.ensures.clock all.clock_tells }) b r in
+    let before = going.reached (record { honest = all.honest; shows = all.shows; tells = all.tells; clock_tells = c.in-Some.ensures.clock all.clock_tells }) b r
+    in
     c.in-Some.ensures.goes (tells_later _ _ _ going.calls.same all) b before
 
 pub loop-preserved : goal.loop-preserved
 loop-preserved g c =
     let turn = c.in_default.ensures in
-    goes_more (g.X.Disk.device c.args.site.now) (g.X.Disk.device c.loop.site) (g.X.Disk.device c.take_turn.new.site) _ _ _ _ _ _ _ _ _ _ _ _ _ c.loop.counter c.loop.invariant turn.calls turn.blocks turn.clock (turn.few refl) turn.within (turn.moves refl) turn.goes
+    goes_more (g.X.Disk.device c.args.site.now) (g.X.Disk.device c.loop.site) (g.X.Disk.device c.take_turn.new.site) _ _ _ _ _ _ _ _ _ _ _ _ _ c.loop.counter
+    c.loop.invariant turn.calls turn.blocks turn.clock (turn.few refl) turn.within (turn.moves refl) turn.goes
 
 -- More turns than a connection has.
 pub unreachable-requires : goal.unreachable-requires

@@ -20,7 +20,8 @@ returns-then-not-same_bytes-clause-none c = λ _ id small e.
           let said : c.same_bytes.result ≡ true = c.same_bytes.ensures.1 (c.split_at.ensures.front ∙ parts.front) in
           cc
       | then-not-same_bytes-via-else-not-same_bytes+then-not-same_bytes-2 w ↦
-          let said : w.same_bytes-else-not-same_bytes.result ≡ true = w.same_bytes-else-not-same_bytes.ensures.1 (c.split_at-2.ensures.back ∙ ap (drop 36) c.split_at.ensures.back ∙ parts.behind) in
+          let said : w.same_bytes-else-not-same_bytes.result ≡ true = w.same_bytes-else-not-same_bytes.ensures.1
+          (c.split_at-2.ensures.back ∙ ap (drop 36) c.split_at.ensures.back ∙ parts.behind) in
           cc
     ]
 

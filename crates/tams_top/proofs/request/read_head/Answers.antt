@@ -11,7 +11,8 @@ returns-then-text-clause-none c = λ _ head is.
 pub returns-then-not-same_bytes-clause-none : goal.returns-then-not-same_bytes-clause-none
 returns-then-not-same_bytes-clause-none c = λ _ head is.
     let parts = head_text-HasParts c.args.text.now head.flow head.length is.text_is in
-    let end : c.split_at-2.result.1.now ≡ head_end = c.split_at-2.ensures.back ∙ ap (λ (l : List ℕ). drop (length l - 4) l) c.split_at.ensures.back ∙ parts.end_is in
+    let end : c.split_at-2.result.1.now ≡ head_end = c.split_at-2.ensures.back ∙ ap (λ (l : List ℕ). drop (length l - 4) l) c.split_at.ensures.back ∙
+    parts.end_is in
     let said : c.same_bytes.result ≡ true = c.same_bytes.ensures.1 end in
     cc
 

@@ -12,7 +12,8 @@ returns-in-Some-clause-answer c = λ image is. no_state-torn image c.args.opened
 -- The rows are other ones.
 pub returns-then-not-same_bytes-clause-answer : goal.returns-then-not-same_bytes-clause-answer
 returns-then-not-same_bytes-clause-answer c = λ image is.
-    let other : c.args.opened.rows ≢ empty_rows = λ same. false≢true (sym c.if-not-same_bytes.true ∙ c.same_bytes.ensures.1 (c.bytes.ensures ∙ same ∙ sym c.empty_rows.ensures)) in
+    let other : c.args.opened.rows ≢ empty_rows = λ same. false≢true
+    (sym c.if-not-same_bytes.true ∙ c.same_bytes.ensures.1 (c.bytes.ensures ∙ same ∙ sym c.empty_rows.ensures)) in
     no_state-rows image c.args.opened c.in_default.is is other
 
 -- The records fold to no library, or there was no memory.

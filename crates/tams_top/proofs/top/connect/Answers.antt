@@ -19,7 +19,9 @@ returns-in-Ok-true-clause-ends g c = record {
       let connections = next.connections all.tells ∙ ap (λ cs. cs ++ fresh ∷ []) (sym before) in
       let begins = reached_first b (g.X.Disk.device c.next_peer.new.self) c.args.store.now (sym state) kept right_now connections in
       let ended = c.serve-ending.ensures.served (tells_later _ _ _ came.same all) b (rw (sym given) begins) in
-      inl (one_peer b (g.X.Disk.device c.serve-ending.new.site) _ _ c.serve-ending.new.tally c.serve-ending.result _ (rw state (keeps_good _ c.args.store.now sound all.honest all.shows all.tells keeps)) (g.met.X.Disk.sound c.serve-ending.new.site) ended c.outcome_by.ensures c.close_peer.ensures.call.seen c.close_peer.ensures.closed.connections c.close_peer.ensures.call.time);
+      inl (one_peer b (g.X.Disk.device c.serve-ending.new.site) _ _ c.serve-ending.new.tally c.serve-ending.result _
+      (rw state (keeps_good _ c.args.store.now sound all.honest all.shows all.tells keeps)) (g.met.X.Disk.sound c.serve-ending.new.site) ended
+      c.outcome_by.ensures c.close_peer.ensures.call.seen c.close_peer.ensures.closed.connections c.close_peer.ensures.call.time);
 }
 
 -- No peer came.
@@ -29,7 +31,9 @@ returns-in-Ok-false-clause-ends g c = record {
   history = λ all keeps b state before given right.
       let call = rw c.in-Ok-false.field-0-test at c.in-Ok-false.ensures.call in
       let next = rw c.in-Ok-false.field-0-test at c.in-Ok-false.ensures.next in
-      inr (no_peer b _ _ c.args.store.now _ _ (g.met.X.Disk.sound c.args.site.now) (g.met.X.Disk.sound c.next_peer.new.self) (call.same.honest ∙ all.honest) (call.same.shows ∙ all.shows) (call.same.tells ∙ all.tells) state keeps right call.time (next.connections all.tells ∙ sym before) (sym given) (refl, refl, next.closed all.tells ∙ or_true _));
+      inr (no_peer b _ _ c.args.store.now _ _ (g.met.X.Disk.sound c.args.site.now) (g.met.X.Disk.sound c.next_peer.new.self) (call.same.honest ∙ all.honest)
+      (call.same.shows ∙ all.shows) (call.same.tells ∙ all.tells) state keeps right call.time (next.connections all.tells ∙ sym before) (sym given)
+      (refl, refl, next.closed all.tells ∙ or_true _));
 }
 
 -- Waiting for one failed.
@@ -38,5 +42,7 @@ returns-in-Err-clause-ends g c = record {
   outcome = tt;
   history = λ all keeps b state before given right.
       let call = c.in-Err.ensures.call in
-      inr (no_peer b _ _ c.args.store.now _ _ (g.met.X.Disk.sound c.args.site.now) (g.met.X.Disk.sound c.next_peer.new.self) (call.same.honest ∙ all.honest) (call.same.shows ∙ all.shows) (call.same.tells ∙ all.tells) state keeps right call.time (c.in-Err.ensures.next.connections all.tells ∙ sym before) (sym given) tt);
+      inr (no_peer b _ _ c.args.store.now _ _ (g.met.X.Disk.sound c.args.site.now) (g.met.X.Disk.sound c.next_peer.new.self) (call.same.honest ∙ all.honest)
+      (call.same.shows ∙ all.shows) (call.same.tells ∙ all.tells) state keeps right call.time (c.in-Err.ensures.next.connections all.tells ∙ sym before)
+      (sym given) tt);
 }

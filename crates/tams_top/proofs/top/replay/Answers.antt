@@ -36,7 +36,8 @@ returns-in-Err-Disk-clause-ends g c =
     let reads = c.in-Err-Disk.ensures.reads in
     record {
       cause = tt;
-      history = unopened (g.X.Disk.device c.args.site.now) (g.X.Disk.device c.open_store.new.disk) _ _ _ (g.met.X.Disk.sound c.args.site.now) reads.seen reads.calls.link reads.time tt;
+      history = unopened (g.X.Disk.device c.args.site.now) (g.X.Disk.device c.open_store.new.disk) _ _ _ (g.met.X.Disk.sound c.args.site.now) reads.seen
+          reads.calls.link reads.time tt;
     }
 
 pub returns-in-Err-Memory-clause-ends : goal.returns-in-Err-Memory-clause-ends
@@ -44,7 +45,8 @@ returns-in-Err-Memory-clause-ends g c =
     let reads = c.in-Err-Memory.ensures.reads in
     record {
       cause = tt;
-      history = unopened (g.X.Disk.device c.args.site.now) (g.X.Disk.device c.open_store.new.disk) _ _ _ (g.met.X.Disk.sound c.args.site.now) reads.seen reads.calls.link reads.time tt;
+      history = unopened (g.X.Disk.device c.args.site.now) (g.X.Disk.device c.open_store.new.disk) _ _ _ (g.met.X.Disk.sound c.args.site.now) reads.seen
+          reads.calls.link reads.time tt;
     }
 
 pub returns-clause-ends : goal.returns-clause-ends
@@ -52,7 +54,8 @@ returns-clause-ends g c =
     let reads = c.in-Ok.ensures.reads in
     record {
       cause = tt;
-      history = unopened (g.X.Disk.device c.args.site.now) (g.X.Disk.device c.open_store.new.disk) _ _ _ (g.met.X.Disk.sound c.args.site.now) reads.seen reads.calls.link reads.time tt;
+      history = unopened (g.X.Disk.device c.args.site.now) (g.X.Disk.device c.open_store.new.disk) _ _ _ (g.met.X.Disk.sound c.args.site.now) reads.seen
+          reads.calls.link reads.time tt;
     }
 
 -- The store was opened, and its connection served.
@@ -63,5 +66,7 @@ returns-in-Ok-new-clause-ends g c =
     record {
       cause = cause_opened old _ _ connect.outcome (λ shows. (state_of c.in-Ok.store, stands_of old.seen c.in-Ok.store (c.in-Ok.ensures.answer shows)));
       history = λ all settled from stands.
-          replayed old (g.X.Disk.device c.open_store.new.disk) (g.X.Disk.device c.connect.new.site) (g.C.Clock.tells c.connect.new.clock) (g.C.Clock.given c.args.clock.now) (g.C.Clock.given c.connect.new.clock) c.in-Ok.store _ (g.met.X.Disk.sound c.args.site.now) c.in-Ok.ensures.reads (c.in-Ok.ensures.answer all.shows) connect all settled from stands;
+          replayed old (g.X.Disk.device c.open_store.new.disk) (g.X.Disk.device c.connect.new.site) (g.C.Clock.tells c.connect.new.clock)
+          (g.C.Clock.given c.args.clock.now) (g.C.Clock.given c.connect.new.clock) c.in-Ok.store _ (g.met.X.Disk.sound c.args.site.now)
+          c.in-Ok.ensures.reads (c.in-Ok.ensures.answer all.shows) connect all settled from stands;
     }
