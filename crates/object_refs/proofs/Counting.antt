@@ -1,14 +1,14 @@
 -- What changes of counts make of the flows that they stand for.
-use Rattle.std.proofs.Common.{◌≡◌, ℕ, zero, suc, ℤ, ◌+◌, ◌-◌, ◌<◌, ◌≤◌, ◌<ℤ◌, nat_lt, int_lt, Bool, true, false, cond, List, [], ◌∷◌, ◌++◌, Some, None, length, replicate, refl, sym, ap, subst, ◌∙◌, arith, length-append}
+use Rattle.std.proofs.Common.{◌≡◌, ℕ, zero, suc, ℤ, ◌+◌, ◌-◌, ◌<◌, ◌≤◌, ◌<ℤ◌, nat_lt, int_lt, Bool, true, false, cond, List, [], ◌∷◌, ◌++◌, Some, None, length, replicate, refl, sym, ap, subst, ◌∙◌, arith, length-append, negsuc, ◌^◌, ◌≤ℤ◌, map}
 use Rattle.std.specs.List.{AllByRecursion}
 use Rattle.std.proofs.lemmas.Int.{ints}
-use Rattle.media_rows.specs.Lists.{inserted}
+use Rattle.media_rows.specs.Lists.{inserted, placed, placed_all}
 use Rattle.media_rows.specs.Views.{id_key}
-use Rattle.shared_tree.specs.Pairs.{IsRising, value_at, with_pair, without_key}
+use Rattle.shared_tree.specs.Pairs.{IsRising, value_at, with_pair, without_key, values}
 use Rattle.shared_tree.specs.Rows.{IsKeyedBy}
 use Rattle.shared_tree.proofs.Counted.{all_append}
 use Rattle.shared_tree.proofs.Rows.{keyed_with, keyed_without}
-use Rattle.shared_tree.proofs.Rising.{Around, all_map, cut_at, cut_right, put_at, put_left, put_right}
+use Rattle.shared_tree.proofs.Rising.{Around, all_map, cut_at, cut_right, put_at, put_left, put_right, filter_all, filter_none}
 use Rattle.object_refs.specs.References.{less_one}
 use Rattle.object_refs.specs.declared.flows.FlowCount.{FlowCount}
 use Rattle.object_refs.specs.Within.Counts.{AreCounts, flow_count, count_key, flows_counted, recounted, times_of}
@@ -237,3 +237,39 @@ less_follows flow total n ps next rising counts e is =
 
 pub none_left : (flow total n : ℕ) (ps : Pairs) → IsRising ps → AreCounts ps total → n ≡ times_of (value_at (id_key flow) ps) → n ≡ 0 → less_one flow (flows_counted ps) ≡ flows_counted ps
 none_left flow total n ps rising counts e none = no_less flow ps rising counts.keyed counts.filled (sym e ∙ none)
+
+-- ---- each flow once
+
+placed_front : (x : ℕ) (ys : List ℕ) → AllByRecursion (λ y. x < y) ys → placed nat_lt x ys ≡ x ∷ ys
+placed_front x ys h =
+    rw (filter_none (λ y. nat_lt y x) ys (all_map (λ y. x < y) (λ y. nat_lt y x ≡ false) (λ y lt. lt_false y x (omega (arith, lt))) ys h), filter_all (λ y. nat_lt x y) ys (all_map (λ y. x < y) (λ y. nat_lt x y ≡ true) (λ y lt. lt_true x y lt) ys h))
+    refl
+
+placed_again : (x : ℕ) (ys : List ℕ) → AllByRecursion (λ y. x < y) ys → placed nat_lt x (x ∷ ys) ≡ x ∷ ys
+placed_again x ys h = rw (lt_false x x (omega arith)) (placed_front x ys h)
+
+placed_many : (x n : ℕ) (ys zs : List ℕ) → placed_all nat_lt zs ≡ ys → AllByRecursion (λ y. x < y) ys → placed_all nat_lt (replicate (suc n) x ++ zs) ≡ x ∷ ys
+placed_many x zero ys zs e h = ap (placed nat_lt x) e ∙ placed_front x ys h
+placed_many x (suc n) ys zs e h = ap (placed nat_lt x) (placed_many x n ys zs e h) ∙ placed_again x ys h
+
+all_flows : (P : ℕ → Type 0) (ps : Pairs) → AllByRecursion (λ p. P p.1.flow) ps → AllByRecursion P (map (λ c. c.flow) (values ps))
+all_flows P [] h = tt
+all_flows P (p ∷ ps) h = (h.0, all_flows P ps h.1)
+
+each_once : (ps : Pairs) → IsRising ps → IsKeyedBy count_key ps → AllByRecursion (λ p. 1 ≤ p.1.count) ps → placed_all nat_lt (flows_counted ps) ≡ map (λ c. c.flow) (values ps)
+each_once [] rising keyed filled = refl
+each_once (p ∷ ps) rising keyed filled = by p.1.count refl filled.0 (each_once ps rising.1 keyed.1 filled.1)
+  where
+    by : (n : ℕ) → p.1.count ≡ n → 1 ≤ n → placed_all nat_lt (flows_counted ps) ≡ map (λ c. c.flow) (values ps) → placed_all nat_lt (replicate n p.1.flow ++ flows_counted ps) ≡ p.1.flow ∷ map (λ c. c.flow) (values ps)
+    by zero e some ih = absurd (omega (arith, some))
+    by (suc n) e some ih = placed_many p.1.flow n (map (λ c. c.flow) (values ps)) (flows_counted ps) ih (all_flows (λ f. p.1.flow < f) ps (later_flows p ps rising keyed))
+
+pub listed_once : (total : ℕ) (ps : Pairs) (seen : List FlowCount) (list : List ℕ) → IsRising ps → AreCounts ps total → seen ≡ values ps → list ≡ map (λ c. c.flow) seen → list ≡ placed_all nat_lt (flows_counted ps)
+listed_once total ps seen list rising counts es el = el ∙ ap (map (λ c. c.flow)) es ∙ sym (each_once ps rising counts.keyed counts.filled)
+
+-- the keys of flows are no less than the least key
+pub counts_least : (ps : Pairs) → IsKeyedBy count_key ps → AllByRecursion (λ p. negsuc (2 ^ 127 - 1) ≤ℤ p.0) ps
+counts_least ps keyed = all_map (λ p. p.0 ≡ count_key p.1) (λ p. negsuc (2 ^ 127 - 1) ≤ℤ p.0) (λ p e. rw e (least p.1.flow)) ps keyed
+  where
+    least : (flow : ℕ) → negsuc (2 ^ 127 - 1) ≤ℤ id_key flow
+    least flow = omega (arith, ints)

@@ -8,3 +8,5 @@ mod Found
 mod Moving
 mod Referring
 mod Coming
+mod Changing
+mod Refusing

@@ -16,18 +16,18 @@ use Rattle.object_refs.proofs.Looks.{above_differs, looked_here, looked_past, sa
 use Rattle.object_refs.proofs.Found.{found_seen, tests_at}
 use Rattle.object_refs.proofs.Naming.{same_bytes}
 
-refs_same : (own id : List ℕ) (flows : List ℕ) → bytes_eq own id ≡ true → references (map (reference_of own) flows) id ≡ map (reference_of own) flows
+pub refs_same : (own id : List ℕ) (flows : List ℕ) → bytes_eq own id ≡ true → references (map (reference_of own) flows) id ≡ map (reference_of own) flows
 refs_same own id [] e = refl
 refs_same own id (f ∷ flows) e = rw e (ap (λ l. reference_of own f ∷ l) (refs_same own id flows e))
 
-refs_other : (own id : List ℕ) (flows : List ℕ) → bytes_eq own id ≡ false → references (map (reference_of own) flows) id ≡ []
+pub refs_other : (own id : List ℕ) (flows : List ℕ) → bytes_eq own id ≡ false → references (map (reference_of own) flows) id ≡ []
 refs_other own id [] e = refl
 refs_other own id (f ∷ flows) e = rw e (refs_other own id flows e)
 
-refs_append : (l r : List SegmentRow) (id : List ℕ) → references (l ++ r) id ≡ references l id ++ references r id
+pub refs_append : (l r : List SegmentRow) (id : List ℕ) → references (l ++ r) id ≡ references l id ++ references r id
 refs_append l r id = filter-append (λ row. bytes_eq row.segment.object id) l r
 
-append_nothing : {X : Type 0} (l : List X) → l ++ [] ≡ l
+pub append_nothing : {X : Type 0} (l : List X) → l ++ [] ≡ l
 append_nothing [] = refl
 append_nothing (x ∷ l) = ap (λ r. x ∷ r) (append_nothing l)
 

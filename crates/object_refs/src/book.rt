@@ -1,20 +1,18 @@
 //! The book and its public calls.
-ghost use Rattle.std.specs.Prelude.{◌≡◌, ◌-◌, ◌^◌, ◌<◌, [], IfOk, IsFalse, IsTrue, None, Some, filter, is_some, length, min, not, option_copied, pos};
+ghost use Rattle.std.specs.Prelude.{◌≡◌, ◌-◌, ◌^◌, [], IfOk, IsTrue, is_some, length, min, not, option_copied, pos};
 ghost use Rattle.media_rows.specs.Answer.{keep_refusal};
-ghost use Rattle.media_rows.specs.Objects.{due_objects, flows_naming, idled, is_named, is_stored_object, object_of, reference_count};
+ghost use Rattle.media_rows.specs.Objects.{flows_naming, idled, is_stored_object, object_of, reference_count};
 ghost use Rattle.media_rows.specs.Refusals.{IsChange, when};
 ghost use Rattle.media_rows.specs.declared.refusal.Refusal.TheVariants.{IdTaken, NoObject};
-ghost use Rattle.shared_tree.specs.Pairs.{first};
-ghost use Rattle.object_refs.specs.References.{are_below, changed_at, flows_in, kept_of, objects_in, references_in, referred, refers, released, stored_at, with_new, without_id};
-ghost use Rattle.object_refs.specs.Within.Books.{idle_entered, idle_left};
-ghost use Rattle.object_refs.specs.declared.kept.Kept.{Kept};
+ghost use Rattle.object_refs.specs.References.{are_below, changed_at, flows_in, kept_of, objects_in, references_in, referred, refers, released, stored_at, with_new};
+ghost use Rattle.object_refs.specs.Within.Books.{stored_of};
 
-use crate::flows::FlowCounts;
+use crate::changes::{is_stored, referred_kept, released_kept, stored_kept};
 use crate::kept::Kept;
-use crate::keys::{value_at, with_value, without_value};
-use crate::names::{Bucket, Named, id_number, serial_named, with_name, without_name};
-use disk_trait::{Duplicate, Memory, Text};
-use media_rows::{BookFault, Extent, IdList, ObjectRow, ObjectState, Refusal};
+use crate::keys::value_at;
+use crate::names::{Bucket, id_number, serial_named};
+use disk_trait::{Memory, Text};
+use media_rows::{BookFault, Extent, IdList, ObjectRow, Refusal};
 use shared_tree::Version;
 use std::alloc::Global;
 use std::marker::Model;
@@ -25,11 +23,11 @@ use std::marker::Model;
 #[derive(Drop)]
 pub struct ObjectBook {
     /// The objects by their serials.
-    rows: Version<Kept>,
+    pub(crate) rows: Version<Kept>,
     /// Their serials by the numbers of their ids.
-    names: Version<Bucket>,
+    pub(crate) names: Version<Bucket>,
     /// The serials of the objects to which nothing refers, in the order in which they are swept.
-    idle: Version<u64>,
+    pub(crate) idle: Version<u64>,
 }
 
 impl Model for ObjectBook {
@@ -105,38 +103,87 @@ impl ObjectBook {
         Ok(self.with_new(alloc, id, serial, now)?)
     }
 
-    /// The book with a new object.
-    fn with_new(
+    /// Notes that an object has its bytes, at this place, and is idle since now. It is refused as
+    /// `UnknownObject` where there is no such object, and as `OtherBytes` where it has its bytes already.
+    pub fn mark_stored(
         &self,
         alloc: Global,
         id: &Text,
-        serial: u64,
+        extent: Extent,
+        now: u64,
+    ) -> Result<ObjectBook, BookFault>
+        ensures { IsChange (keep_refusal (object_of id.now (objects_in self.now)))
+            (changed_at id.now (stored_at extent now) self.now) result }
+    {
+        let Some(old) = self.kept(id) else {
+            return Err(BookFault::Refused(Refusal::UnknownObject));
+        };
+        if is_stored(old.row.state) {
+            return Err(BookFault::Refused(Refusal::OtherBytes));
+        }
+        let new = stored_kept(alloc, old, extent, now)?;
+        Ok(self.with_kept(alloc, old, new)?)
+    }
+
+    /// Adds one reference of a flow to an object. It is refused as `NoObject` where no object of this id has
+    /// its bytes.
+    pub fn refer(&self, alloc: Global, id: &Text, flow: u128) -> Result<ObjectBook, BookFault>
+        ensures { IsChange
+            (when (not (is_stored_object (objects_in self.now) id.now)) (NoObject id.now))
+            (changed_at id.now (referred flow) self.now) result }
+    {
+        match self.stored(id) {
+            Some(old) => {
+                let new = referred_kept(alloc, old, flow)?;
+                Ok(self.with_kept(alloc, old, new)?)
+            }
+            None => Err(BookFault::Refused(Refusal::NoObject(id.copy(alloc)?))),
+        }
+    }
+
+    /// Takes one reference of a flow from an object. An object that loses its last one is idle since now.
+    pub fn unrefer(
+        &self,
+        alloc: Global,
+        id: &Text,
+        flow: u128,
         now: u64,
     ) -> Result<ObjectBook, Memory>
-        requires above { IsTrue (are_below serial self.now) }
-        requires id { kept_of id.now self.now ≡ None }
-        ensures { IfOk result (λ next. next ≡ with_new id.now serial now self.now) }
+        requires there { IsTrue (refers (references_in self.now) id.now flow) }
+        ensures objects { IfOk result (λ next. objects_in next
+            ≡ idled (references_in self.now) (references_in next) now (objects_in self.now)) }
+        ensures flows { IfOk result
+            (λ next. flows_in next ≡ flows_in (changed_at id.now (released flow) self.now)) }
     {
         self.rows.keys_rise();
-        let kept = Kept {
-            row: ObjectRow {
-                id: id.copy(alloc)?,
-                serial,
-                state: ObjectState::Allocated,
-                idle_since: now,
-            },
-            flows: FlowCounts::empty(),
+        let Some(old) = self.kept(id) else {
+            unreachable!()
         };
-        let key = kept.idle_key();
-        let name = Named {
-            id: id.copy(alloc)?,
-            serial,
-        };
-        Ok(ObjectBook {
-            rows: with_value(alloc, &self.rows, &serial_key(serial), kept)?,
-            names: with_name(alloc, &self.names, id_number(id), name)?,
-            idle: idle_entered(alloc, &self.idle, &key, serial)?,
-        })
+        let new = released_kept(alloc, old, flow, now)?;
+        self.with_kept(alloc, old, new)
+    }
+
+    /// The flows that refer to the object of this id, by rising id, each once.
+    pub fn flows_of(&self, alloc: Global, id: &Text) -> Result<IdList, Memory>
+        ensures { IfOk result (λ list. list ≡ flows_naming (references_in self.now) id.now) }
+    {
+        self.rows.keys_rise();
+        match self.kept(id) {
+            Some(kept) => kept.flows.distinct(alloc),
+            None => Ok(IdList::new(alloc)),
+        }
+    }
+
+    /// The object of this id, where it has its bytes.
+    fn stored(&self, id: &Text) -> Option<&Kept>
+        ensures { option_copied result ≡ stored_of (kept_of id.now self.now) }
+    {
+        let kept = self.kept(id)?;
+        if is_stored(kept.row.state) {
+            Some(kept)
+        } else {
+            None
+        }
     }
 
     /// The object of this id, with the references to it.
@@ -152,33 +199,8 @@ impl ObjectBook {
 }
 
 /// The key of a serial in the order of objects.
-fn serial_key(serial: u64) -> i128
+pub(crate) fn serial_key(serial: u64) -> i128
     ensures { result ≡ pos serial }
 {
     serial as i128
-}
-
-/// The order of sweeps without the serial at a key, if there is a key.
-fn idle_left(alloc: Global, idle: &Version<u64>, key: &Option<i128>) -> Result<Version<u64>, Memory>
-    ensures { IfOk result (λ next. next ≡ idle_left key.now idle.now) }
-{
-    match key {
-        None => idle.share(),
-        Some(key) => without_value(alloc, idle, key),
-    }
-}
-
-/// The order of sweeps with a serial at a key, if there is a key.
-fn idle_entered(
-    alloc: Global,
-    idle: &Version<u64>,
-    key: &Option<i128>,
-    serial: u64,
-) -> Result<Version<u64>, Memory>
-    ensures { IfOk result (λ next. next ≡ idle_entered key.now serial idle.now) }
-{
-    match key {
-        None => idle.share(),
-        Some(key) => with_value(alloc, idle, key, serial),
-    }
 }

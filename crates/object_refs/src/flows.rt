@@ -1,12 +1,12 @@
 //! The flows that refer to one object, counted.
-ghost use Rattle.std.specs.Prelude.{◌≡◌, [], IfOk, length, nat_lt};
-ghost use Rattle.media_rows.specs.Lists.{inserted};
+ghost use Rattle.std.specs.Prelude.{◌≡◌, [], IfOk, length, map, nat_lt};
+ghost use Rattle.media_rows.specs.Lists.{inserted, placed_all};
 ghost use Rattle.media_rows.specs.Views.{id_key};
-ghost use Rattle.shared_tree.specs.Pairs.{value_at};
+ghost use Rattle.shared_tree.specs.Pairs.{value_at, values_of};
 ghost use Rattle.object_refs.specs.References.{less_one};
 ghost use Rattle.object_refs.specs.Within.Counts.{recounted, times_of};
 
-use crate::keys::{number_key, value_at, with_value, without_value};
+use crate::keys::{all_values, number_key, value_at, with_value, without_value};
 use disk_trait::Memory;
 use media_rows::IdList;
 use shared_tree::{Steps, Version};
@@ -68,6 +68,15 @@ impl FlowCounts {
         self.total
     }
 
+    /// The flows by rising id, each once.
+    pub(crate) fn distinct(&self, alloc: Global) -> Result<IdList, Memory>
+        ensures { IfOk result (λ list. list ≡ placed_all nat_lt self.now) }
+    {
+        self.counts.keys_rise();
+        let counts = all_values(alloc, &self.counts)?;
+        flow_list(alloc, &counts)
+    }
+
     /// One reference of a flow more. A count that is full is answered as want of memory.
     pub(crate) fn add(&self, alloc: Global, flow: u128) -> Result<FlowCounts, Memory>
         ensures { IfOk result (λ next. next ≡ inserted nat_lt flow self.now) }
@@ -113,6 +122,17 @@ fn recounted(
         return without_value(alloc, counts, &key);
     }
     with_value(alloc, counts, &key, FlowCount { flow, count })
+}
+
+/// The flows of counts, in their order.
+fn flow_list(alloc: Global, counts: &[&FlowCount]) -> Result<IdList, Memory>
+    ensures { IfOk result (λ list. list ≡ map (λ c. c.flow) (values_of counts.now)) }
+{
+    let mut list = IdList::new(alloc);
+    for counted in counts {
+        list.push(counted.flow)?;
+    }
+    Ok(list)
 }
 
 /// How often a flow refers to the object.

@@ -3,6 +3,7 @@
 #![tactic(auto)]
 
 mod book;
+mod changes;
 mod flows;
 mod kept;
 mod keys;

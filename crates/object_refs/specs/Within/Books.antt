@@ -1,12 +1,14 @@
 -- What a book keeps beside its objects: two indexes, and what holds of them.
-use Rattle.std.specs.Prelude.{◌≡◌, ℕ, ◌+◌, ◌*◌, ◌^◌, ◌<◌, ℤ, pos, List, [], ◌∷◌, Option, Some, None, option_and_then, option_map}
+use Rattle.std.specs.Prelude.{◌≡◌, ℕ, ◌+◌, ◌*◌, ◌^◌, ◌<◌, ℤ, pos, List, [], ◌∷◌, Option, Some, None, option_and_then, option_map, if◌then◌else◌}
 use Rattle.std.specs.List.{AllByRecursion}
 use Rattle.media_rows.specs.declared.object.ObjectRow.{ObjectRow}
+use Rattle.media_rows.specs.Objects.{is_stored}
 use Rattle.media_rows.specs.Views.{id_key}
 use Rattle.shared_tree.specs.Pairs.{value_at, with_pair, without_key}
 use Rattle.shared_tree.specs.Rows.{IsKeyedBy}
 use Rattle.object_refs.specs.declared.kept.Kept.{Kept}
 use Rattle.object_refs.specs.declared.names.Named.{Named}
+use Rattle.object_refs.specs.References.{less_one}
 use Rattle.object_refs.specs.Within.Names.{id_number, serial_named}
 
 -- objects stand by serial
@@ -59,6 +61,23 @@ idle_left (Some key) idle = without_key key idle
 abbrev pub idle_entered : Option ℤ → ℕ → List (ℤ × ℕ) → List (ℤ × ℕ)
 idle_entered None serial idle = idle
 idle_entered (Some key) serial idle = with_pair (key, serial) idle
+
+-- ---- objects
+
+-- the object, where it has its bytes
+abbrev pub stored_of : Option Kept → Option Kept
+stored_of None = None
+stored_of (Some k) = if is_stored k.row.state then Some k else None
+
+-- an object idle since this moment where nothing refers to it, and otherwise as it was
+abbrev pub idle_row : List ℕ → ℕ → ObjectRow → ObjectRow
+idle_row [] moment row = record row { idle_since = moment }
+idle_row (flow ∷ flows) moment row = row
+
+-- an object with one reference of a flow less, idle since this moment where it was the last one
+abbrev pub released_at : ℕ → ℕ → Kept → Kept
+released_at flow moment k =
+    record { row = idle_row (less_one flow k.flows) moment k.row; flows = less_one flow k.flows }
 
 -- ---- a book
 
