@@ -5,17 +5,18 @@ use Rattle.media_rows.specs.declared.object.ObjectRow.{ObjectRow}
 use Rattle.media_rows.specs.declared.segment.SegmentRow.{SegmentRow}
 use Rattle.media_rows.specs.Lists.{placed_all}
 use Rattle.media_rows.specs.Objects.{flows_naming, idled, idled_row, is_named, references}
-use Rattle.shared_tree.specs.Pairs.{IsRising, is_at, value_at, values, with_pair}
+use Rattle.shared_tree.specs.Pairs.{IsRising, is_at, value_at, values, with_pair, without_key}
 use Rattle.shared_tree.specs.Rows.{IsKeyedBy}
-use Rattle.shared_tree.proofs.Rows.{replaced_is}
+use Rattle.shared_tree.proofs.Rows.{left_out_is, replaced_is}
 use Rattle.object_refs.specs.declared.kept.Kept.{Kept}
 use Rattle.object_refs.specs.declared.names.Named.{Named}
-use Rattle.object_refs.specs.References.{changed_at, flows_in, kept_of, less_one, objects_in, reference_of, references_in, references_to, refers, released}
+use Rattle.object_refs.specs.References.{changed_at, flows_in, kept_of, less_one, objects_in, reference_of, references_in, references_to, refers, released, without_id}
+use Rattle.object_refs.specs.Within.Names.{Renames, id_number}
 use Rattle.object_refs.specs.Within.Books.{IsBook, idle_entered, idle_key_of, idle_left, idle_row, kept_key, released_at}
 use Rattle.object_refs.proofs.Found.{all_looked, found_seen, tests_at}
 use Rattle.object_refs.proofs.Inverse.{some_same}
 use Rattle.object_refs.proofs.Looks.{above_differs, looked_here, looked_past, same_is}
-use Rattle.object_refs.proofs.Moving.{book_changes}
+use Rattle.object_refs.proofs.Moving.{book_changes, book_loses}
 use Rattle.object_refs.proofs.Naming.{bytes_differ, same_bytes}
 use Rattle.object_refs.proofs.Referring.{append_nothing, refs_append, refs_found, refs_missing, refs_other, refs_same}
 
@@ -43,7 +44,7 @@ changed_values rows rows' names idle old new change book rising found made is =
 -- ---- one reference less
 
 -- whether a list has anything
-abbrev has_any : {X : Type 0} → List X → Bool
+abbrev pub has_any : {X : Type 0} → List X → Bool
 has_any [] = false
 has_any (x ∷ xs) = true
 
@@ -55,10 +56,10 @@ any_kept test (x ∷ xs) = by (test x) (any_kept test xs)
     by true ih = refl
     by false ih = ih
 
-named_is : (segments : List SegmentRow) (id : List ℕ) → is_named segments id ≡ has_any (references segments id)
+pub named_is : (segments : List SegmentRow) (id : List ℕ) → is_named segments id ≡ has_any (references segments id)
 named_is segments id = any_kept (λ row. bytes_eq row.segment.object id) segments
 
-any_map : {X Y : Type 0} (f : X → Y) (xs : List X) → has_any (map f xs) ≡ has_any xs
+pub any_map : {X Y : Type 0} (f : X → Y) (xs : List X) → has_any (map f xs) ≡ has_any xs
 any_map f [] = refl
 any_map f (x ∷ xs) = refl
 
@@ -220,3 +221,22 @@ naming_found id rows names idle old book rising found =
 
 pub naming_none : (id : List ℕ) (kept : List Kept) → kept_of id kept ≡ None → flows_naming (references_in kept) id ≡ []
 naming_none id kept none = ap (λ l. placed_all nat_lt (map (λ row. row.flow) l)) (refs_missing id kept none)
+
+-- ---- an object that goes
+
+pub left_book : (rows rows' : Rows) (names names' : List (ℤ × List Named)) (idle idle' : List (ℤ × ℕ)) (old : Kept) (number : ℕ) (old_key : Option ℤ) → IsBook rows names idle → IsRising rows → kept_of old.row.id (values rows) ≡ Some old → number ≡ id_number old.row.id → old_key ≡ idle_key_of old → rows' ≡ without_key (kept_key old) rows → Renames number old.row.id None names names' → idle' ≡ idle_left old_key idle → IsBook rows' names' idle'
+left_book rows rows' names names' idle idle' old number old_key book rising found en eo er renames ei =
+    book_loses rows rows' names names' idle idle' old book (row_seen rows old rising book.keyed found) er (subst (λ n. Renames n old.row.id None names names') en renames) (ei ∙ ap (λ k. idle_left k idle) eo)
+
+pub left_values : (rows rows' : Rows) (names : List (ℤ × List Named)) (idle : List (ℤ × ℕ)) (old : Kept) → IsBook rows names idle → IsRising rows → kept_of old.row.id (values rows) ≡ Some old → rows' ≡ without_key (kept_key old) rows → values rows' ≡ without_id old.row.id (values rows)
+left_values rows rows' names idle old book rising found is =
+    ap values is ∙ left_out_is (has_id old.row.id) (kept_key old) rows rising (tests_at old.row.id (kept_key old) old rows names rising book.named (row_seen rows old rising book.keyed found) refl)
+
+-- an object that isn't kept can't go
+pub none_left : (id : List ℕ) (kept : List Kept) → kept_of id kept ≡ None → kept ≡ without_id id kept
+none_left id [] e = refl
+none_left id (k ∷ kept) e = by (has_id id k) e (none_left id kept)
+  where
+    by : (t : Bool) → cond t (Some k) (kept_of id kept) ≡ None → (kept_of id kept ≡ None → kept ≡ without_id id kept) → k ∷ kept ≡ cond (not t) (k ∷ without_id id kept) (without_id id kept)
+    by true f ih = absurd (grind (arith, f))
+    by false f ih = ap (λ l. k ∷ l) (ih f)

@@ -10,3 +10,4 @@ mod Referring
 mod Coming
 mod Changing
 mod Refusing
+mod Sweeping

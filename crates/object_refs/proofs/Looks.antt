@@ -1,11 +1,11 @@
 -- Looks at rising pairs, and what changes of them leave to be seen.
-use Rattle.std.proofs.Common.{◌≡◌, ℕ, negsuc, ◌-◌, ◌^◌, ◌≤ℤ◌, length, take, ℤ, ◌<ℤ◌, int_lt, int_eq, Bool, true, false, cond, List, [], ◌∷◌, ◌++◌, Some, None, filter, option_map, refl, ap, arith}
+use Rattle.std.proofs.Common.{◌≡◌, ℕ, negsuc, ◌-◌, ◌^◌, ◌≤ℤ◌, length, take, ℤ, ◌<ℤ◌, int_lt, int_eq, Bool, true, false, cond, List, [], ◌∷◌, ◌++◌, Some, None, filter, option_map, refl, ap, arith, sym, ◌∙◌}
 use Rattle.std.specs.List.{AllByRecursion}
 use Rattle.std.specs.Cmp.{signed_Decides}
 use Rattle.std.proofs.lemmas.Int.{ints}
 use Rattle.std.proofs.lemmas.List.{length-map, take_all}
 use Rattle.std.proofs.lemmas.List.Elements.{filter-append}
-use Rattle.shared_tree.specs.Pairs.{is_above, is_at, is_below, is_from, first, value_at, values, with_pair, without_key}
+use Rattle.shared_tree.specs.Pairs.{IsRising, is_above, is_at, is_below, is_from, first, value_at, values, with_pair, without_key}
 use Rattle.shared_tree.proofs.Rising.{all_map, filter_all, filter_none}
 use Rattle.shared_tree.proofs.Counted.{all_append, all_kept}
 
@@ -124,3 +124,24 @@ module _ {V : Type 0} where
 
   pub walked_all : (n : ℕ) (ps : List (ℤ × V)) (before all : List V) → before ≡ [] → all ≡ before ++ take n (values (filter (is_from (negsuc (2 ^ 127 - 1))) ps)) → n ≡ length ps → AllByRecursion (λ p. negsuc (2 ^ 127 - 1) ≤ℤ p.0) ps → all ≡ values ps
   walked_all n ps before all none e size least = rw (e, none, all_from_least ps least, size) (take_all (length ps) (values ps) (omega (arith, length-map ps (λ p. p.1))))
+
+  -- the first value stands at the least number, or is the first above it
+  pub first_there : (ps : List (ℤ × V)) (value : V) → IsRising ps → AllByRecursion (λ p. negsuc (2 ^ 127 - 1) ≤ℤ p.0) ps → value_at (negsuc (2 ^ 127 - 1)) ps ≡ Some value → first (values ps) ≡ Some value
+  first_there [] value rising least e = absurd (grind (arith, e))
+  first_there (p ∷ rest) value rising least e = by (int_eq p.0 (negsuc (2 ^ 127 - 1))) refl
+    where
+      by : (t : Bool) → int_eq p.0 (negsuc (2 ^ 127 - 1)) ≡ t → Some p.1 ≡ Some value
+      by true et = sym (looked_here (negsuc (2 ^ 127 - 1)) p rest et) ∙ e
+      by false et =
+          let none = looked_below (negsuc (2 ^ 127 - 1)) rest (all_map (λ q. p.0 <ℤ q.0) (λ q. negsuc (2 ^ 127 - 1) <ℤ q.0) (λ q lt. let le = least.0 in omega (arith, ints, lt, le)) rest rising.0) in
+          let both = sym none ∙ sym (looked_past (negsuc (2 ^ 127 - 1)) p rest et) ∙ e in
+          absurd (grind (arith, both))
+
+  pub first_above : (ps : List (ℤ × V)) → AllByRecursion (λ p. negsuc (2 ^ 127 - 1) ≤ℤ p.0) ps → value_at (negsuc (2 ^ 127 - 1)) ps ≡ None → option_map (λ p. p.1) (first (filter (is_above (negsuc (2 ^ 127 - 1))) ps)) ≡ first (values ps)
+  first_above [] least e = refl
+  first_above (p ∷ rest) least e = by (int_eq p.0 (negsuc (2 ^ 127 - 1))) (int_lt (negsuc (2 ^ 127 - 1)) p.0) refl refl
+    where
+      by : (t a : Bool) → int_eq p.0 (negsuc (2 ^ 127 - 1)) ≡ t → int_lt (negsuc (2 ^ 127 - 1)) p.0 ≡ a → option_map (λ q. q.1) (first (cond a (p ∷ filter (is_above (negsuc (2 ^ 127 - 1))) rest) (filter (is_above (negsuc (2 ^ 127 - 1))) rest))) ≡ Some p.1
+      by true a et ea = absurd (let both = sym (looked_here (negsuc (2 ^ 127 - 1)) p rest et) ∙ e in grind (arith, both))
+      by false true et ea = refl
+      by false false et ea = absurd (let same : p.0 ≡ negsuc (2 ^ 127 - 1) = (let le = least.0 in omega (arith, ints, le, ea)) in let yes = is_same p.0 (negsuc (2 ^ 127 - 1)) same in grind (arith, yes, et))

@@ -45,17 +45,17 @@ not_gone None idle k e = refl
 not_gone (Some key) idle k e = ap (option_map (λ m. pos m)) (looked_without_other k key idle e)
 
 -- an idle key has one serial
-one_serial : (m s n t : ℕ) → s < 2 ^ 64 → t < 2 ^ 64 → idle_key m s ≡ idle_key n t → s ≡ t
+pub one_serial : (m s n t : ℕ) → s < 2 ^ 64 → t < 2 ^ 64 → idle_key m s ≡ idle_key n t → s ≡ t
 one_serial m s n t fs ft e = let same = same_number (m * 2 ^ 64 + s) (n * 2 ^ 64 + t) e in omega (arith, same, fs, ft)
 
-key_there : (k : Kept) (key : ℤ) → idle_key_of k ≡ Some key → key ≡ idle_key k.row.idle_since k.row.serial
+pub key_there : (k : Kept) (key : ℤ) → idle_key_of k ≡ Some key → key ≡ idle_key k.row.idle_since k.row.serial
 key_there k key e = by k.flows refl e
   where
     by : (flows : List ℕ) → k.flows ≡ flows → key_if_idle flows k.row ≡ Some key → key ≡ idle_key k.row.idle_since k.row.serial
     by [] ef f = sym (some_same f)
     by (x ∷ xs) ef f = absurd (grind (arith, f))
 
-and_then_some : {X Y : Type 0} (f : X → Option Y) (o : Option X) (y : Y) → option_and_then f o ≡ Some y → (x : X) × (o ≡ Some x) × (f x ≡ Some y)
+pub and_then_some : {X Y : Type 0} (f : X → Option Y) (o : Option X) (y : Y) → option_and_then f o ≡ Some y → (x : X) × (o ≡ Some x) × (f x ≡ Some y)
 and_then_some f None y e = absurd (grind (arith, e))
 and_then_some f (Some x) y e = (x, refl, e)
 

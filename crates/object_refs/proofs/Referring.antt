@@ -44,7 +44,7 @@ refs_none : (id : List ℕ) (rows : List (ℤ × Kept)) → AllByRecursion (λ p
 refs_none id [] h = refl
 refs_none id (p ∷ rows) h = refs_append (references_to p.1) (references_in (values rows)) id ∙ ap (λ l. l ++ references (references_in (values rows)) id) (refs_other p.1.row.id id p.1.flows h.0) ∙ refs_none id rows h.1
 
-refs_at : (id : List ℕ) (s : ℤ) (rows : List (ℤ × Kept)) (kept : Kept) → IsRising rows → AllByRecursion (λ p. bytes_eq p.1.row.id id ≡ is_at s p) rows → value_at s rows ≡ Some kept → references (references_in (values rows)) id ≡ references_to kept
+pub refs_at : (id : List ℕ) (s : ℤ) (rows : List (ℤ × Kept)) (kept : Kept) → IsRising rows → AllByRecursion (λ p. bytes_eq p.1.row.id id ≡ is_at s p) rows → value_at s rows ≡ Some kept → references (references_in (values rows)) id ≡ references_to kept
 refs_at id s [] kept rising tests e = absurd (grind (arith, e))
 refs_at id s (p ∷ rest) kept rising tests e = by (is_at s p) refl (λ e'. refs_at id s rest kept rising.1 tests.1 e')
   where

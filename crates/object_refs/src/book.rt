@@ -1,21 +1,25 @@
 //! The book and its public calls.
-ghost use Rattle.std.specs.Prelude.{◌≡◌, ◌-◌, ◌^◌, [], IfOk, IsTrue, is_some, length, min, not, option_copied, pos};
+ghost use Rattle.std.specs.Prelude.{◌≡◌, ◌+◌, ◌-◌, ◌^◌, [], IfOk, IsFalse, IsTrue, is_some, length, min, nat_le, not, option_copied, pos};
 ghost use Rattle.media_rows.specs.Answer.{keep_refusal};
-ghost use Rattle.media_rows.specs.Objects.{flows_naming, idled, is_stored_object, object_of, reference_count};
+ghost use Rattle.media_rows.specs.Objects.{due_objects, flows_naming, idle_time, idled, is_named, is_stored_object, object_of, reference_count};
 ghost use Rattle.media_rows.specs.Refusals.{IsChange, when};
 ghost use Rattle.media_rows.specs.declared.refusal.Refusal.TheVariants.{IdTaken, NoObject};
-ghost use Rattle.object_refs.specs.References.{are_below, changed_at, flows_in, kept_of, objects_in, references_in, referred, refers, released, stored_at, with_new};
+ghost use Rattle.shared_tree.specs.Pairs.{first, values_of};
+ghost use Rattle.object_refs.specs.References.{are_below, changed_at, flows_in, kept_of, objects_in, references_in, referred, refers, released, stored_at, with_new, without_id};
 ghost use Rattle.object_refs.specs.Within.Books.{stored_of};
 
 use crate::changes::{is_stored, referred_kept, released_kept, stored_kept};
 use crate::kept::Kept;
-use crate::keys::value_at;
+use crate::keys::{all_values, first_value, value_at};
 use crate::names::{Bucket, id_number, serial_named};
-use disk_trait::{Memory, Text};
-use media_rows::{BookFault, Extent, IdList, ObjectRow, Refusal};
+use disk_trait::{Duplicate, Memory, Text};
+use media_rows::{BookFault, Extent, IdList, ObjectList, ObjectRow, Refusal};
 use shared_tree::Version;
 use std::alloc::Global;
 use std::marker::Model;
+
+/// Seconds for which an object to which nothing refers is kept.
+const IDLE_TIME: u64 = 86400;
 
 /// Objects by rising serial, each with the references to it: the flows that name it, each as often as it
 /// does. A change gives a new book and leaves this one as it is; moments are seconds since
@@ -174,6 +178,57 @@ impl ObjectBook {
         }
     }
 
+    /// The object that is swept first, if one is due: of those to which nothing refers, the one that is idle
+    /// for the longest, once it is so for a day. Objects that are idle since one moment go by serial.
+    pub fn first_idle(&self, now: u64) -> Option<&ObjectRow>
+        ensures { option_copied result
+            ≡ first (due_objects (references_in self.now) (objects_in self.now) now) }
+    {
+        self.rows.keys_rise();
+        self.idle.keys_rise();
+        let Some(serial) = first_value(&self.idle) else {
+            return None;
+        };
+        let Some(kept) = value_at(&self.rows, &serial_key(*serial)) else {
+            unreachable!()
+        };
+        if is_over(kept.row.idle_since, now) {
+            Some(&kept.row)
+        } else {
+            None
+        }
+    }
+
+    /// Leaves out the object of this id, to which nothing refers.
+    pub fn sweep(&self, alloc: Global, id: &Text) -> Result<ObjectBook, Memory>
+        requires unnamed { IsFalse (is_named (references_in self.now) id.now) }
+        ensures { IfOk result (λ next. next ≡ without_id id.now self.now) }
+    {
+        match self.kept(id) {
+            Some(old) => self.without_kept(alloc, old),
+            None => self.share(),
+        }
+    }
+
+    /// All objects, by rising serial.
+    pub fn list(&self, alloc: Global) -> Result<ObjectList, Memory>
+        ensures { IfOk result (λ list. list ≡ objects_in self.now) }
+    {
+        let kept = all_values(alloc, &self.rows)?;
+        object_list(alloc, &kept)
+    }
+
+    /// The same book once more.
+    pub fn share(&self) -> Result<ObjectBook, Memory>
+        ensures { IfOk result (λ next. next ≡ self.now) }
+    {
+        Ok(ObjectBook {
+            rows: self.rows.share()?,
+            names: self.names.share()?,
+            idle: self.idle.share()?,
+        })
+    }
+
     /// The object of this id, where it has its bytes.
     fn stored(&self, id: &Text) -> Option<&Kept>
         ensures { option_copied result ≡ stored_of (kept_of id.now self.now) }
@@ -203,4 +258,21 @@ pub(crate) fn serial_key(serial: u64) -> i128
     ensures { result ≡ pos serial }
 {
     serial as i128
+}
+
+/// Whether an object that is idle since a moment, and to which nothing refers, may be swept now.
+fn is_over(idle_since: u64, now: u64) -> bool
+    ensures { result ≡ nat_le (idle_since + idle_time) now }
+{
+    IDLE_TIME <= now && idle_since <= now - IDLE_TIME
+}
+
+fn object_list(alloc: Global, kept: &[&Kept]) -> Result<ObjectList, Memory>
+    ensures { IfOk result (λ list. list ≡ objects_in (values_of kept.now)) }
+{
+    let mut list = ObjectList::new(alloc);
+    for object in kept {
+        list.push(object.row.duplicate(alloc)?)?;
+    }
+    Ok(list)
 }

@@ -1,7 +1,7 @@
 //! What makes a book of another one: an object that comes, is changed or goes.
 ghost use Rattle.std.specs.Prelude.{◌≡◌, IfOk, IsTrue, None, Some};
 ghost use Rattle.media_rows.specs.Objects.{is_stored};
-ghost use Rattle.object_refs.specs.References.{are_below, changed_at, kept_of, referred, stored_at, with_new};
+ghost use Rattle.object_refs.specs.References.{are_below, changed_at, kept_of, referred, stored_at, with_new, without_id};
 ghost use Rattle.object_refs.specs.Within.Books.{idle_entered, idle_left, released_at};
 ghost use Rattle.object_refs.specs.declared.kept.Kept.{Kept};
 
@@ -10,7 +10,7 @@ use crate::book::serial_key;
 use crate::flows::FlowCounts;
 use crate::kept::Kept;
 use crate::keys::{with_value, without_value};
-use crate::names::{Named, id_number, with_name};
+use crate::names::{Named, id_number, with_name, without_name};
 use disk_trait::{Duplicate, Memory, Text};
 use media_rows::{Extent, ObjectRow, ObjectState};
 use shared_tree::Version;
@@ -72,6 +72,20 @@ impl ObjectBook {
             rows: with_value(alloc, &self.rows, &serial_key(serial), new)?,
             names: self.names.share()?,
             idle: idle_entered(alloc, &left, &key, serial)?,
+        })
+    }
+
+    /// The book without an object.
+    pub(crate) fn without_kept(&self, alloc: Global, old: &Kept) -> Result<ObjectBook, Memory>
+        requires found { kept_of old.now.row.id self.now ≡ Some old.now }
+        ensures { IfOk result (λ next. next ≡ without_id old.now.row.id self.now) }
+    {
+        self.rows.keys_rise();
+        let id = &old.row.id;
+        Ok(ObjectBook {
+            rows: without_value(alloc, &self.rows, &serial_key(old.row.serial))?,
+            names: without_name(alloc, &self.names, id_number(id), id)?,
+            idle: idle_left(alloc, &self.idle, &old.idle_key())?,
         })
     }
 }

@@ -1,8 +1,8 @@
 //! Numbers of 128 bits as keys of versions, and looks by them.
-ghost use Rattle.std.specs.Prelude.{◌≡◌, ◌<◌, ◌-◌, ◌^◌, ◌≤ℤ◌, IfOk, negsuc, option_copied};
+ghost use Rattle.std.specs.Prelude.{◌≡◌, ◌<◌, ◌-◌, ◌^◌, ◌≤ℤ◌, IfOk, filter, negsuc, option_copied, option_map};
 ghost use Rattle.std.specs.List.{AllByRecursion};
 ghost use Rattle.media_rows.specs.Views.{id_key};
-ghost use Rattle.shared_tree.specs.Pairs.{value_at, values, values_of, with_pair, without_key};
+ghost use Rattle.shared_tree.specs.Pairs.{first, is_above, value_at, values, values_of, with_pair, without_key};
 
 use disk_trait::Memory;
 use shared_tree::{Steps, Version};
@@ -96,4 +96,31 @@ fn all_looked_up<V: Drop, L: Ledger>(
     let mut list = Vec::with_capacity(alloc, count as usize)?;
     rows.walk_from(i128::MIN, count as usize, false, &mut list, &mut steps);
     Ok(list)
+}
+
+/// The value at the least key.
+pub(crate) fn first_value<V: Drop>(rows: &Version<V>) -> Option<&V>
+    requires least { AllByRecursion (λ p. negsuc (2 ^ 127 - 1) ≤ℤ p.0) rows.now }
+    ensures { option_copied result ≡ first (values rows.now) }
+{
+    rows.keys_rise();
+    match value_at(rows, &i128::MIN) {
+        Some(value) => Some(value),
+        None => first_looked_up::<V, Brand>(rows, Blank::new(1)),
+    }
+}
+
+/// The value at the first key above the least number. The steps aren't anybody's.
+fn first_looked_up<V: Drop, L: Ledger>(rows: &Version<V>, blank: Blank) -> Option<&V>
+    requires name { blank.name ≡ L.name }
+    requires parts { blank.parts ≡ L.parts }
+    requires one { 0 < L.parts }
+    ensures { option_copied result
+        ≡ option_map (λ p. p.1) (first (filter (is_above (negsuc (2 ^ 127 - 1))) rows.now)) }
+{
+    let mut steps = Steps::<L>::new(blank);
+    match rows.after(i128::MIN, &mut steps) {
+        Some((_, value)) => Some(value),
+        None => None,
+    }
 }
