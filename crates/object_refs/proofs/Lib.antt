@@ -1,0 +1,13 @@
+mod Lists
+mod Looks
+mod Numbers
+mod Counting
+mod Naming
+mod Inverse
+mod Found
+mod Moving
+mod Referring
+mod Coming
+mod Changing
+mod Refusing
+mod Sweeping

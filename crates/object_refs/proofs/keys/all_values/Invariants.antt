@@ -1,0 +1,5 @@
+use Rattle.object_refs.proofs.keys.all_values.Given as goal
+
+-- the steps of the walk are counted from a ledger of its own
+abbrev pub ghosts-all_looked_up : goal.ghosts-all_looked_up
+ghosts-all_looked_up g a = record { name = a.blank.name; parts = a.blank.parts }

@@ -1,0 +1,91 @@
+-- What a book keeps beside its objects: two indexes, and what holds of them.
+use Rattle.std.specs.Prelude.{◌≡◌, ℕ, ◌+◌, ◌*◌, ◌^◌, ◌<◌, ℤ, pos, List, [], ◌∷◌, Option, Some, None, option_and_then, option_map, if◌then◌else◌}
+use Rattle.std.specs.List.{AllByRecursion}
+use Rattle.media_rows.specs.declared.object.ObjectRow.{ObjectRow}
+use Rattle.media_rows.specs.Objects.{is_stored}
+use Rattle.media_rows.specs.Views.{id_key}
+use Rattle.shared_tree.specs.Pairs.{value_at, with_pair, without_key}
+use Rattle.shared_tree.specs.Rows.{IsKeyedBy}
+use Rattle.object_refs.specs.declared.kept.Kept.{Kept}
+use Rattle.object_refs.specs.declared.names.Named.{Named}
+use Rattle.object_refs.specs.References.{less_one}
+use Rattle.object_refs.specs.Within.Names.{id_number, serial_named}
+
+-- objects stand by serial
+abbrev pub kept_key : Kept → ℤ
+kept_key k = pos k.row.serial
+
+-- two functions that lead back to one another, each where it leads at all
+pub record IsInverse {K : Type 0} (forth : ℤ → Option K) (back : K → Option ℤ) : Type 0 where
+  pub out : (s : ℤ) (k : K) → forth s ≡ Some k → back k ≡ Some s
+  pub home : (k : K) (s : ℤ) → back k ≡ Some s → forth s ≡ Some k
+
+-- ---- ids
+
+-- the id of the object of a serial
+abbrev pub id_at : List (ℤ × Kept) → ℤ → Option (List ℕ)
+id_at rows s = option_map (λ k. k.row.id) (value_at s rows)
+
+-- the serial that names give an id
+abbrev pub name_at : List (ℤ × List Named) → List ℕ → Option ℤ
+name_at names id = option_map (λ serial. pos serial) (serial_named (id_number id) id names)
+
+-- ---- the order in which objects are swept
+
+-- the key of an object to which nothing refers: its idle moment times 2^64, and its serial
+abbrev pub idle_key : ℕ → ℕ → ℤ
+idle_key moment serial = id_key (moment * 2 ^ 64 + serial)
+
+-- that key, where there is no reference
+abbrev pub key_if_idle : List ℕ → ObjectRow → Option ℤ
+key_if_idle [] row = Some (idle_key row.idle_since row.serial)
+key_if_idle (flow ∷ flows) row = None
+
+abbrev pub idle_key_of : Kept → Option ℤ
+idle_key_of k = key_if_idle k.flows k.row
+
+-- the key of the object of a serial, where it is idle
+abbrev pub idle_at : List (ℤ × Kept) → ℤ → Option ℤ
+idle_at rows s = option_and_then idle_key_of (value_at s rows)
+
+-- the serial at a key
+abbrev pub idle_serial : List (ℤ × ℕ) → ℤ → Option ℤ
+idle_serial idle key = option_map (λ serial. pos serial) (value_at key idle)
+
+-- the serials without the one at a key, if there is a key
+abbrev pub idle_left : Option ℤ → List (ℤ × ℕ) → List (ℤ × ℕ)
+idle_left None idle = idle
+idle_left (Some key) idle = without_key key idle
+
+-- the serials with one at a key, if there is a key
+abbrev pub idle_entered : Option ℤ → ℕ → List (ℤ × ℕ) → List (ℤ × ℕ)
+idle_entered None serial idle = idle
+idle_entered (Some key) serial idle = with_pair (key, serial) idle
+
+-- ---- objects
+
+-- the object, where it has its bytes
+abbrev pub stored_of : Option Kept → Option Kept
+stored_of None = None
+stored_of (Some k) = if is_stored k.row.state then Some k else None
+
+-- an object idle since this moment where nothing refers to it, and otherwise as it was
+abbrev pub idle_row : List ℕ → ℕ → ObjectRow → ObjectRow
+idle_row [] moment row = record row { idle_since = moment }
+idle_row (flow ∷ flows) moment row = row
+
+-- an object with one reference of a flow less, idle since this moment where it was the last one
+abbrev pub released_at : ℕ → ℕ → Kept → Kept
+released_at flow moment k =
+    record { row = idle_row (less_one flow k.flows) moment k.row; flows = less_one flow k.flows }
+
+-- ---- a book
+
+-- Objects stand by serial, which is a number of 64 bits. Each id leads to its object's serial and no
+-- other one, and each object without references stands in the order of sweeps, and no other one.
+pub record IsBook (rows : List (ℤ × Kept)) (names : List (ℤ × List Named))
+    (idle : List (ℤ × ℕ)) : Type 0 where
+  pub keyed : IsKeyedBy kept_key rows
+  pub small : AllByRecursion (λ p. p.1.row.serial < 2 ^ 64) rows
+  pub named : IsInverse (id_at rows) (name_at names)
+  pub swept : IsInverse (idle_at rows) (idle_serial idle)

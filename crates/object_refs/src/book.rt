@@ -1,0 +1,278 @@
+//! The book and its public calls.
+ghost use Rattle.std.specs.Prelude.{◌≡◌, ◌+◌, ◌-◌, ◌^◌, [], IfOk, IsFalse, IsTrue, is_some, length, min, nat_le, not, option_copied, pos};
+ghost use Rattle.media_rows.specs.Answer.{keep_refusal};
+ghost use Rattle.media_rows.specs.Objects.{due_objects, flows_naming, idle_time, idled, is_named, is_stored_object, object_of, reference_count};
+ghost use Rattle.media_rows.specs.Refusals.{IsChange, when};
+ghost use Rattle.media_rows.specs.declared.refusal.Refusal.TheVariants.{IdTaken, NoObject};
+ghost use Rattle.shared_tree.specs.Pairs.{first, values_of};
+ghost use Rattle.object_refs.specs.References.{are_below, changed_at, flows_in, kept_of, objects_in, references_in, referred, refers, released, stored_at, with_new, without_id};
+ghost use Rattle.object_refs.specs.Within.Books.{stored_of};
+
+use crate::changes::{is_stored, referred_kept, released_kept, stored_kept};
+use crate::kept::Kept;
+use crate::keys::{all_values, first_value, value_at};
+use crate::names::{Bucket, id_number, serial_named};
+use disk_trait::{Duplicate, Memory, Text};
+use media_rows::{BookFault, Extent, IdList, ObjectList, ObjectRow, Refusal};
+use shared_tree::Version;
+use std::alloc::Global;
+use std::marker::Model;
+
+/// Seconds for which an object to which nothing refers is kept.
+const IDLE_TIME: u64 = 86400;
+
+/// Objects by rising serial, each with the references to it: the flows that name it, each as often as it
+/// does. A change gives a new book and leaves this one as it is; moments are seconds since
+/// 1970-01-01T00:00:00Z.
+#[derive(Drop)]
+pub struct ObjectBook {
+    /// The objects by their serials.
+    pub(crate) rows: Version<Kept>,
+    /// Their serials by the numbers of their ids.
+    pub(crate) names: Version<Bucket>,
+    /// The serials of the objects to which nothing refers, in the order in which they are swept.
+    pub(crate) idle: Version<u64>,
+}
+
+impl Model for ObjectBook {
+    ghost use Rattle.std.specs.Prelude.{List};
+    ghost use Rattle.shared_tree.specs.Pairs.{values};
+    ghost use Rattle.object_refs.specs.declared.kept.Kept.{Kept};
+    ghost use Rattle.object_refs.specs.Within.Books.{IsBook};
+
+    ghost Value = { List Kept };
+
+    ghost view = { λ b. values b.rows };
+
+    ghost invariant = { λ b. IsBook b.rows b.names b.idle };
+}
+
+impl ObjectBook {
+    /// A book without objects. It takes no memory.
+    pub fn empty() -> ObjectBook
+        ensures { result ≡ [] }
+    {
+        ObjectBook {
+            rows: Version::empty(),
+            names: Version::empty(),
+            idle: Version::empty(),
+        }
+    }
+
+    /// The object of this id, if it is kept, be it allocated or stored.
+    pub fn find(&self, id: &Text) -> Option<&ObjectRow>
+        ensures { option_copied result ≡ object_of id.now (objects_in self.now) }
+    {
+        match self.kept(id) {
+            Some(kept) => Some(&kept.row),
+            None => None,
+        }
+    }
+
+    /// How many references there are to the object of this id.
+    pub fn count(&self, id: &Text) -> u64
+        ensures { result ≡ reference_count (references_in self.now) id.now }
+    {
+        self.rows.keys_rise();
+        match self.kept(id) {
+            Some(kept) => kept.flows.len(),
+            None => 0,
+        }
+    }
+
+    /// The number of objects, or the last value of a `u64` where there are more.
+    pub fn object_count(&self) -> u64
+        ensures { result ≡ min (length (objects_in self.now)) (2 ^ 64 - 1) }
+    {
+        self.rows.len()
+    }
+
+    /// Adds an object without bytes, idle since now, whose serial is above all others. It is refused as
+    /// `IdTaken` where an object has its id.
+    pub fn allocate(
+        &self,
+        alloc: Global,
+        id: &Text,
+        serial: u64,
+        now: u64,
+    ) -> Result<ObjectBook, BookFault>
+        requires above { IsTrue (are_below serial self.now) }
+        ensures { IsChange
+            (when (is_some (object_of id.now (objects_in self.now))) (IdTaken id.now))
+            (with_new id.now serial now self.now) result }
+    {
+        if self.find(id).is_some() {
+            return Err(BookFault::Refused(Refusal::IdTaken(id.copy(alloc)?)));
+        }
+        Ok(self.with_new(alloc, id, serial, now)?)
+    }
+
+    /// Notes that an object has its bytes, at this place, and is idle since now. It is refused as
+    /// `UnknownObject` where there is no such object, and as `OtherBytes` where it has its bytes already.
+    pub fn mark_stored(
+        &self,
+        alloc: Global,
+        id: &Text,
+        extent: Extent,
+        now: u64,
+    ) -> Result<ObjectBook, BookFault>
+        ensures { IsChange (keep_refusal (object_of id.now (objects_in self.now)))
+            (changed_at id.now (stored_at extent now) self.now) result }
+    {
+        let Some(old) = self.kept(id) else {
+            return Err(BookFault::Refused(Refusal::UnknownObject));
+        };
+        if is_stored(old.row.state) {
+            return Err(BookFault::Refused(Refusal::OtherBytes));
+        }
+        let new = stored_kept(alloc, old, extent, now)?;
+        Ok(self.with_kept(alloc, old, new)?)
+    }
+
+    /// Adds one reference of a flow to an object. It is refused as `NoObject` where no object of this id has
+    /// its bytes.
+    pub fn refer(&self, alloc: Global, id: &Text, flow: u128) -> Result<ObjectBook, BookFault>
+        ensures { IsChange
+            (when (not (is_stored_object (objects_in self.now) id.now)) (NoObject id.now))
+            (changed_at id.now (referred flow) self.now) result }
+    {
+        match self.stored(id) {
+            Some(old) => {
+                let new = referred_kept(alloc, old, flow)?;
+                Ok(self.with_kept(alloc, old, new)?)
+            }
+            None => Err(BookFault::Refused(Refusal::NoObject(id.copy(alloc)?))),
+        }
+    }
+
+    /// Takes one reference of a flow from an object. An object that loses its last one is idle since now.
+    pub fn unrefer(
+        &self,
+        alloc: Global,
+        id: &Text,
+        flow: u128,
+        now: u64,
+    ) -> Result<ObjectBook, Memory>
+        requires there { IsTrue (refers (references_in self.now) id.now flow) }
+        ensures objects { IfOk result (λ next. objects_in next
+            ≡ idled (references_in self.now) (references_in next) now (objects_in self.now)) }
+        ensures flows { IfOk result
+            (λ next. flows_in next ≡ flows_in (changed_at id.now (released flow) self.now)) }
+    {
+        self.rows.keys_rise();
+        let Some(old) = self.kept(id) else {
+            unreachable!()
+        };
+        let new = released_kept(alloc, old, flow, now)?;
+        self.with_kept(alloc, old, new)
+    }
+
+    /// The flows that refer to the object of this id, by rising id, each once.
+    pub fn flows_of(&self, alloc: Global, id: &Text) -> Result<IdList, Memory>
+        ensures { IfOk result (λ list. list ≡ flows_naming (references_in self.now) id.now) }
+    {
+        self.rows.keys_rise();
+        match self.kept(id) {
+            Some(kept) => kept.flows.distinct(alloc),
+            None => Ok(IdList::new(alloc)),
+        }
+    }
+
+    /// The object that is swept first, if one is due: of those to which nothing refers, the one that is idle
+    /// for the longest, once it is so for a day. Objects that are idle since one moment go by serial.
+    pub fn first_idle(&self, now: u64) -> Option<&ObjectRow>
+        ensures { option_copied result
+            ≡ first (due_objects (references_in self.now) (objects_in self.now) now) }
+    {
+        self.rows.keys_rise();
+        self.idle.keys_rise();
+        let Some(serial) = first_value(&self.idle) else {
+            return None;
+        };
+        let Some(kept) = value_at(&self.rows, &serial_key(*serial)) else {
+            unreachable!()
+        };
+        if is_over(kept.row.idle_since, now) {
+            Some(&kept.row)
+        } else {
+            None
+        }
+    }
+
+    /// Leaves out the object of this id, to which nothing refers.
+    pub fn sweep(&self, alloc: Global, id: &Text) -> Result<ObjectBook, Memory>
+        requires unnamed { IsFalse (is_named (references_in self.now) id.now) }
+        ensures { IfOk result (λ next. next ≡ without_id id.now self.now) }
+    {
+        match self.kept(id) {
+            Some(old) => self.without_kept(alloc, old),
+            None => self.share(),
+        }
+    }
+
+    /// All objects, by rising serial.
+    pub fn list(&self, alloc: Global) -> Result<ObjectList, Memory>
+        ensures { IfOk result (λ list. list ≡ objects_in self.now) }
+    {
+        let kept = all_values(alloc, &self.rows)?;
+        object_list(alloc, &kept)
+    }
+
+    /// The same book once more.
+    pub fn share(&self) -> Result<ObjectBook, Memory>
+        ensures { IfOk result (λ next. next ≡ self.now) }
+    {
+        Ok(ObjectBook {
+            rows: self.rows.share()?,
+            names: self.names.share()?,
+            idle: self.idle.share()?,
+        })
+    }
+
+    /// The object of this id, where it has its bytes.
+    fn stored(&self, id: &Text) -> Option<&Kept>
+        ensures { option_copied result ≡ stored_of (kept_of id.now self.now) }
+    {
+        let kept = self.kept(id)?;
+        if is_stored(kept.row.state) {
+            Some(kept)
+        } else {
+            None
+        }
+    }
+
+    /// The object of this id, with the references to it.
+    fn kept(&self, id: &Text) -> Option<&Kept>
+        ensures { option_copied result ≡ kept_of id.now self.now }
+    {
+        self.rows.keys_rise();
+        match serial_named(&self.names, id_number(id), id) {
+            Some(serial) => value_at(&self.rows, &serial_key(serial)),
+            None => None,
+        }
+    }
+}
+
+/// The key of a serial in the order of objects.
+pub(crate) fn serial_key(serial: u64) -> i128
+    ensures { result ≡ pos serial }
+{
+    serial as i128
+}
+
+/// Whether an object that is idle since a moment, and to which nothing refers, may be swept now.
+fn is_over(idle_since: u64, now: u64) -> bool
+    ensures { result ≡ nat_le (idle_since + idle_time) now }
+{
+    IDLE_TIME <= now && idle_since <= now - IDLE_TIME
+}
+
+fn object_list(alloc: Global, kept: &[&Kept]) -> Result<ObjectList, Memory>
+    ensures { IfOk result (λ list. list ≡ objects_in (values_of kept.now)) }
+{
+    let mut list = ObjectList::new(alloc);
+    for object in kept {
+        list.push(object.row.duplicate(alloc)?)?;
+    }
+    Ok(list)
+}

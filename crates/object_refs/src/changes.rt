@@ -1,0 +1,171 @@
+//! What makes a book of another one: an object that comes, is changed or goes.
+ghost use Rattle.std.specs.Prelude.{◌≡◌, IfOk, IsTrue, None, Some};
+ghost use Rattle.media_rows.specs.Objects.{is_stored};
+ghost use Rattle.object_refs.specs.References.{are_below, changed_at, kept_of, referred, stored_at, with_new, without_id};
+ghost use Rattle.object_refs.specs.Within.Books.{idle_entered, idle_left, released_at};
+ghost use Rattle.object_refs.specs.declared.kept.Kept.{Kept};
+
+use crate::ObjectBook;
+use crate::book::serial_key;
+use crate::flows::FlowCounts;
+use crate::kept::Kept;
+use crate::keys::{with_value, without_value};
+use crate::names::{Named, id_number, with_name, without_name};
+use disk_trait::{Duplicate, Memory, Text};
+use media_rows::{Extent, ObjectRow, ObjectState};
+use shared_tree::Version;
+use std::alloc::Global;
+
+impl ObjectBook {
+    /// The book with a new object.
+    pub(crate) fn with_new(
+        &self,
+        alloc: Global,
+        id: &Text,
+        serial: u64,
+        now: u64,
+    ) -> Result<ObjectBook, Memory>
+        requires above { IsTrue (are_below serial self.now) }
+        requires id { kept_of id.now self.now ≡ None }
+        ensures { IfOk result (λ next. next ≡ with_new id.now serial now self.now) }
+    {
+        self.rows.keys_rise();
+        let kept = Kept {
+            row: ObjectRow {
+                id: id.copy(alloc)?,
+                serial,
+                state: ObjectState::Allocated,
+                idle_since: now,
+            },
+            flows: FlowCounts::empty(),
+        };
+        let key = kept.idle_key();
+        let name = Named {
+            id: id.copy(alloc)?,
+            serial,
+        };
+        Ok(ObjectBook {
+            rows: with_value(alloc, &self.rows, &serial_key(serial), kept)?,
+            names: with_name(alloc, &self.names, id_number(id), name)?,
+            idle: idle_entered(alloc, &self.idle, &key, serial)?,
+        })
+    }
+
+    /// The book with an object in place of the one that has its id and serial.
+    pub(crate) fn with_kept(
+        &self,
+        alloc: Global,
+        old: &Kept,
+        new: Kept,
+    ) -> Result<ObjectBook, Memory>
+        requires found { kept_of old.now.row.id self.now ≡ Some old.now }
+        requires id { new.row.id ≡ old.now.row.id }
+        requires serial { new.row.serial ≡ old.now.row.serial }
+        ensures { (change : Kept → Kept) → new ≡ change old.now
+            → IfOk result (λ next. next ≡ changed_at old.now.row.id change self.now) }
+    {
+        self.rows.keys_rise();
+        let serial = old.row.serial;
+        let key = new.idle_key();
+        let left = idle_left(alloc, &self.idle, &old.idle_key())?;
+        Ok(ObjectBook {
+            rows: with_value(alloc, &self.rows, &serial_key(serial), new)?,
+            names: self.names.share()?,
+            idle: idle_entered(alloc, &left, &key, serial)?,
+        })
+    }
+
+    /// The book without an object.
+    pub(crate) fn without_kept(&self, alloc: Global, old: &Kept) -> Result<ObjectBook, Memory>
+        requires found { kept_of old.now.row.id self.now ≡ Some old.now }
+        ensures { IfOk result (λ next. next ≡ without_id old.now.row.id self.now) }
+    {
+        self.rows.keys_rise();
+        let id = &old.row.id;
+        Ok(ObjectBook {
+            rows: without_value(alloc, &self.rows, &serial_key(old.row.serial))?,
+            names: without_name(alloc, &self.names, id_number(id), id)?,
+            idle: idle_left(alloc, &self.idle, &old.idle_key())?,
+        })
+    }
+}
+
+/// Whether an object in this state has its bytes.
+pub(crate) fn is_stored(state: ObjectState) -> bool
+    ensures { result ≡ is_stored state }
+{
+    match state {
+        ObjectState::Allocated => false,
+        ObjectState::Stored { .. } => true,
+    }
+}
+
+/// An object with its bytes at a place.
+pub(crate) fn stored_kept(
+    alloc: Global,
+    old: &Kept,
+    extent: Extent,
+    now: u64,
+) -> Result<Kept, Memory>
+    ensures { IfOk result (λ kept. kept ≡ stored_at extent now old.now) }
+{
+    Ok(Kept {
+        row: ObjectRow {
+            id: old.row.id.duplicate(alloc)?,
+            serial: old.row.serial,
+            state: ObjectState::Stored {
+                start_block: extent.start,
+                length: extent.length,
+            },
+            idle_since: now,
+        },
+        flows: old.flows.share()?,
+    })
+}
+
+/// An object with one reference of a flow more.
+pub(crate) fn referred_kept(alloc: Global, old: &Kept, flow: u128) -> Result<Kept, Memory>
+    ensures { IfOk result (λ kept. kept ≡ referred flow old.now) }
+{
+    Ok(Kept {
+        row: old.row.duplicate(alloc)?,
+        flows: old.flows.add(alloc, flow)?,
+    })
+}
+
+/// An object with one reference of a flow less, idle since now where it was the last one.
+pub(crate) fn released_kept(alloc: Global, old: &Kept, flow: u128, now: u64) -> Result<Kept, Memory>
+    ensures { IfOk result (λ kept. kept ≡ released_at flow now old.now) }
+{
+    let flows = old.flows.remove(alloc, flow)?;
+    let mut row = old.row.duplicate(alloc)?;
+    if flows.len() == 0 {
+        row.idle_since = now;
+    }
+    Ok(Kept { row, flows })
+}
+
+/// The order of sweeps without the serial at a key, if there is a key.
+fn idle_left(alloc: Global, idle: &Version<u64>, key: &Option<i128>) -> Result<Version<u64>, Memory>
+    ensures { IfOk result (λ next. next ≡ idle_left key.now idle.now) }
+{
+    match key {
+        None => idle.share(),
+        Some(key) => without_value(alloc, idle, key),
+    }
+}
+
+/// The order of sweeps with a serial at a key, if there is a key.
+fn idle_entered(
+    alloc: Global,
+    idle: &Version<u64>,
+    key: &Option<i128>,
+    serial: u64,
+) -> Result<Version<u64>, Memory>
+    ensures { IfOk result (λ next. next ≡ idle_entered key.now serial idle.now) }
+{
+    match key {
+        None => idle.share(),
+        Some(key) => with_value(alloc, idle, key, serial),
+    }
+}

@@ -1,0 +1,12 @@
+//! The book of media objects and of the references to them: a value that each change makes anew, which
+//! shares with the old one what doesn't change.
+#![tactic(auto)]
+
+mod book;
+mod changes;
+mod flows;
+mod kept;
+mod keys;
+mod names;
+
+pub use crate::book::ObjectBook;
