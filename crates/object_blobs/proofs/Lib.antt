@@ -1,1 +1,11 @@
+mod Giving
+mod Holding
 mod PieceLemmas
+pub mod Places
+mod Placing
+mod Runs
+mod Seen
+mod Spaced
+mod Spread
+mod Taking
+mod Told

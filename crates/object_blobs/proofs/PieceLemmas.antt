@@ -1,5 +1,5 @@
 -- A piece of a part of an image.
-use Rattle.std.proofs.Common.{◌≡◌, ◌<◌, ◌≤◌, ◌+◌, ℕ, List, ◌++◌, length, get_or, sym, ◌∙◌, arith, rules}
+use Rattle.std.proofs.Common.{◌≡◌, ◌≤◌, ◌+◌, ℕ, List, length, arith, rules}
 use Rattle.std.proofs.lemmas.List.{places, same_lists}
 use Rattle.disk_trait.specs.Calls.{bytes_at, overwritten}
 

@@ -2,7 +2,7 @@
 -- the journal. Our own format, store format 1.
 use Rattle.std.specs.Prelude.{◌+◌, ◌*◌, ◌≤◌, ℕ, List}
 use Rattle.disk_trait.specs.Calls.{bytes_at}
-use Rattle.object_blobs.specs.declared.extent.Extent.{Extent}
+use Rattle.media_rows.specs.declared.object.Extent.{Extent}
 use Rattle.object_blobs.specs.declared.extent.TheConstants.{BLOCK}
 
 -- where an extent begins in a file whose media blocks begin here

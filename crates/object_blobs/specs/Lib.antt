@@ -1,1 +1,3 @@
 pub mod Extents
+pub mod Holes
+pub mod Within

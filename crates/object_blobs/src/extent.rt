@@ -1,20 +1,14 @@
-//! Extents, and pieces of their bytes.
+//! Pieces of the bytes of an extent. It takes so many media blocks as hold its bytes, and what lies behind them
+//! in its last block means nothing.
 ghost use Rattle.std.specs.Prelude.{◌≡◌, ◌≤◌, ◌+◌, true, length, is_ok, OnOk};
 ghost use Rattle.disk_trait.specs.Calls.{DiskCall, Torn, TornWrite, Unchanged, bytes_at, overwritten};
 ghost use Rattle.object_blobs.specs.Extents.{IsOnDevice, extent_bytes, extent_start};
 
 use disk_trait::{Disk, Failed};
+use media_rows::Extent;
 
 /// The bytes of a media block.
 pub const BLOCK: u64 = 4096;
-
-/// Where an object's bytes lie: the number of its first media block, and its length in bytes. It takes
-/// so many blocks as hold them, and the bytes behind them in its last block mean nothing.
-#[derive(Clone, Copy, Debug, PartialEq, Eq)]
-pub struct Extent {
-    pub start: u64,
-    pub length: u64,
-}
 
 /// Writes a piece of an extent's bytes, at this offset in them, where the media blocks begin at `area`.
 /// Until a sync succeeds, a crash may leave any bytes in the piece's range. It takes no memory.

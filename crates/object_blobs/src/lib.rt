@@ -1,9 +1,14 @@
-//! The bytes of objects at their extents: media blocks of the store's file. It knows nothing of what the
-//! bytes mean, nor of which blocks are free.
+//! The bytes of objects at their extents, which are media blocks of the store's file, and which of these
+//! blocks are free. It knows nothing of what the bytes mean, nor of the objects themselves.
 #![tactic(auto)]
 
+mod changes;
 mod extent;
+mod looks;
+mod space;
 #[cfg(test)]
 mod tests;
 
-pub use crate::extent::{BLOCK, Extent, read_piece, write_piece};
+pub use crate::extent::{BLOCK, read_piece, write_piece};
+pub use crate::space::{Hole, Space};
+pub use media_rows::Extent;
