@@ -1,5 +1,5 @@
 -- What a change of a version does to rows that stand at the keys of their ids.
-use Rattle.std.proofs.Common.{◌≡◌, ℕ, ℤ, ◌==◌, nat_lt, Bool, true, false, not, cond, if◌then◌else◌, List, [], ◌∷◌, Some, None, Result, Ok, Err, IfOk, filter, find, map, refl, sym, ap, subst, ◌∙◌, arith, int_eq, int_lt}
+use Rattle.std.proofs.Common.{◌≡◌, ℕ, ℤ, ◌==◌, nat_lt, Bool, true, false, not, cond, if◌then◌else◌, List, [], ◌∷◌, Some, None, filter, find, map, refl, sym, ap, subst, ◌∙◌, arith, int_eq, int_lt}
 use Rattle.std.specs.List.{AllByRecursion}
 use Rattle.std.proofs.lemmas.Bool.{eqb-true}
 use Rattle.media_rows.specs.Lists.{placed}
@@ -7,15 +7,7 @@ use Rattle.media_rows.specs.Views.{id_key}
 use Rattle.shared_tree.specs.Pairs.{IsRising, is_at, values, with_pair, without_key}
 use Rattle.shared_tree.specs.Rows.{IsKeyedBy}
 use Rattle.shared_tree.proofs.Rows.{found_is, keyed_with, keyed_without, left_out_is, placed_is, replaced_is, tests_are}
-use Rattle.flow_book.proofs.Keys.{below_key, same_key}
-
-pub if_ok : {T E : Type 0} {P Q : T → Type 0} (result : Result T E) → ((value : T) → P value → Q value) → IfOk result P → IfOk result Q
-if_ok (Ok value) f h = f value h
-if_ok (Err fault) f h = h
-
--- a pair by the same key and value
-pub same_pair : {V : Type 0} (key other : ℤ) (value row : V) (ps next : List (ℤ × V)) → key ≡ other → value ≡ row → next ≡ with_pair (key, value) ps → next ≡ with_pair (other, row) ps
-same_pair key other value row ps next ek ev is = rw (is, ek, ev) refl
+use Rattle.id_index.proofs.Ids.{below_key, same_key}
 
 module _ {V : Type 0} (id_of : V → ℕ) where
   abbrev own : V → ℤ

@@ -6,3 +6,5 @@ mod Kept
 mod Changes
 mod DropSteps
 mod Gathering
+mod Indexed
+mod Restored

@@ -1,3 +1,4 @@
 -- Words that the calls within this crate cite, and no other crate.
 pub mod Answers
+pub mod Gathering
 pub mod Order

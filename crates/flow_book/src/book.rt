@@ -7,15 +7,18 @@ ghost use Rattle.media_rows.specs.Refusals.{IsChange, Restores};
 ghost use Rattle.media_rows.specs.Restoring.{can_restore_catalog, catalog_of};
 ghost use Rattle.flow_book.specs.Listing.{cut_count, flows_listed, sources_listed};
 
-use crate::drops::{flows_after_drop, sources_with_flow};
+use crate::collections::{collectors_with, member_ids};
+use crate::drops::{flows_after_drop, sources_after_drop};
 use crate::lists::{flows_listed, sources_listed};
-use crate::looks::{all_flows, all_sources, find_flow, find_source};
-use crate::puts::{flows_after_put, put_refusal, sources_after_put};
+use crate::looks::{find_flow, find_source};
+use crate::puts::{by_source_after_put, flows_after_put, put_refusal, sources_after_put};
 use crate::restores::{can_restore, flow_references, flows_gathered, sources_gathered};
 use crate::sets::{
-    flows_after_set, flows_after_touch, set_refusal, source_refusal, sources_after_set,
+    collectors_after_set, flows_after_set, flows_after_touch, set_refusal, source_refusal,
+    sources_after_set,
 };
 use disk_trait::Memory;
+use id_index::{IdIndex, all_rows};
 use media_rows::{
     ApplyFault, BookFault, FlowBody, FlowFilter, FlowList, FlowRow, Part, Refusal, SourceFilter,
     SourceList, SourceRow,
@@ -30,6 +33,10 @@ use std::marker::Model;
 pub struct FlowBook {
     sources: Version<SourceRow>,
     flows: Version<FlowRow>,
+    /// The flows of each source.
+    by_source: IdIndex,
+    /// The flows that collect each flow.
+    collectors: IdIndex,
 }
 
 impl Model for FlowBook {
@@ -41,7 +48,7 @@ impl Model for FlowBook {
 
     ghost view = { λ b. record { sources = values b.sources; flows = values b.flows } };
 
-    ghost invariant = { λ b. IsKept b.sources b.flows };
+    ghost invariant = { λ b. IsKept b.sources b.flows b.by_source b.collectors };
 }
 
 impl FlowBook {
@@ -53,6 +60,8 @@ impl FlowBook {
         FlowBook {
             sources: Version::empty(),
             flows: Version::empty(),
+            by_source: IdIndex::empty(),
+            collectors: IdIndex::empty(),
         }
     }
 
@@ -71,10 +80,15 @@ impl FlowBook {
         if !can_restore(alloc, sources.items(), &rows)? {
             return Err(ApplyFault::Refused);
         }
-        Ok(FlowBook {
-            sources: sources_gathered(alloc, sources.items())?,
-            flows: flows_gathered(alloc, flows.items())?,
-        })
+        match flows_gathered(alloc, flows.items())? {
+            None => Err(ApplyFault::Refused),
+            Some(gathered) => Ok(FlowBook {
+                sources: sources_gathered(alloc, sources.items())?,
+                flows: gathered.flows,
+                by_source: gathered.by_source,
+                collectors: gathered.collectors,
+            }),
+        }
     }
 
     /// Puts a flow, and makes its source where that is new. It is refused as `ReadOnly`, `FlowChanged`,
@@ -87,9 +101,13 @@ impl FlowBook {
         if let Some(why) = refusal {
             return Err(BookFault::Refused(why));
         }
+        self.flows.keys_rise();
+        let members = body.members.items();
         Ok(FlowBook {
             sources: sources_after_put(alloc, &self.sources, body, now)?,
             flows: flows_after_put(alloc, &self.flows, body, now)?,
+            by_source: by_source_after_put(alloc, &self.flows, &self.by_source, body)?,
+            collectors: collectors_with(alloc, &self.flows, &self.collectors, body.id, members)?,
         })
     }
 
@@ -108,9 +126,12 @@ impl FlowBook {
         if let Some(why) = set_refusal(alloc, &self.flows, flow, part)? {
             return Err(BookFault::Refused(why));
         }
+        self.flows.keys_rise();
         Ok(FlowBook {
             sources: self.sources.share()?,
             flows: flows_after_set(alloc, &self.flows, flow, part, now)?,
+            by_source: self.by_source.share()?,
+            collectors: collectors_after_set(alloc, &self.flows, &self.collectors, flow, part)?,
         })
     }
 
@@ -132,6 +153,8 @@ impl FlowBook {
         Ok(FlowBook {
             sources: sources_after_set(alloc, &self.sources, source, part, now)?,
             flows: self.flows.share()?,
+            by_source: self.by_source.share()?,
+            collectors: self.collectors.share()?,
         })
     }
 
@@ -142,9 +165,12 @@ impl FlowBook {
         if self.flow(flow).is_none() {
             return Err(BookFault::Refused(Refusal::NoFlow));
         }
+        self.flows.keys_rise();
         Ok(FlowBook {
             sources: self.sources.share()?,
             flows: flows_after_touch(alloc, &self.flows, flow, now)?,
+            by_source: self.by_source.share()?,
+            collectors: self.collectors.share()?,
         })
     }
 
@@ -153,13 +179,19 @@ impl FlowBook {
     pub fn drop_flow(&self, alloc: Global, flow: u128) -> Result<FlowBook, BookFault>
         ensures { IsChange (no_flow_refusal self.now flow) (after_drop flow self.now) result }
     {
-        if self.flow(flow).is_none() {
+        let Some(row) = find_flow(&self.flows, flow) else {
             return Err(BookFault::Refused(Refusal::NoFlow));
-        }
-        let flows = flows_after_drop(alloc, &self.flows, flow)?;
+        };
+        self.flows.keys_rise();
+        self.sources.keys_rise();
+        let collected = member_ids(alloc, row.body.members.items())?;
+        let by_source = self.by_source.unlink(alloc, &[row.body.source], flow)?;
+        let collectors = self.collectors.unlink(alloc, &collected, flow)?;
         Ok(FlowBook {
-            sources: sources_with_flow(alloc, &self.sources, &flows)?,
-            flows,
+            sources: sources_after_drop(alloc, &self.sources, &by_source, row.body.source)?,
+            flows: flows_after_drop(alloc, &self.flows, &collectors, flow)?,
+            by_source,
+            collectors: collectors.forget(alloc, flow)?,
         })
     }
 
@@ -188,7 +220,7 @@ impl FlowBook {
         ensures rising { IfOk result (λ list. IsTrue (rises flow_before list)) }
     {
         self.flows.keys_rise();
-        let rows = all_flows(alloc, &self.flows)?;
+        let rows = all_rows(alloc, &self.flows)?;
         flows_listed(alloc, &rows, wanted, after)
     }
 
@@ -204,7 +236,7 @@ impl FlowBook {
         ensures rising { IfOk result (λ list. IsTrue (rises source_before list)) }
     {
         self.sources.keys_rise();
-        let rows = all_sources(alloc, &self.sources)?;
+        let rows = all_rows(alloc, &self.sources)?;
         sources_listed(alloc, &rows, wanted, after)
     }
 

@@ -5,13 +5,15 @@ ghost use Rattle.media_rows.specs.Catalog.{collection_refusals};
 ghost use Rattle.media_rows.specs.Collections.{collected_by, collects_itself, first_missing, is_kept, member_ids};
 ghost use Rattle.media_rows.specs.Lists.{has_number};
 ghost use Rattle.media_rows.specs.Refusals.{first_refusal};
-ghost use Rattle.media_rows.specs.Views.{flow_key};
-ghost use Rattle.shared_tree.specs.Pairs.{values, values_of};
+ghost use Rattle.media_rows.specs.Views.{flow_key, id_key};
+ghost use Rattle.shared_tree.specs.Pairs.{values, values_of, with_pair, without_key};
 ghost use Rattle.shared_tree.specs.Rows.{IsKeyedBy};
 ghost use Rattle.flow_book.specs.Within.Answers.{Computes};
+ghost use Rattle.flow_book.specs.Within.Order.{IsByCollected};
 
-use crate::looks::{all_flows, find_flow};
+use crate::looks::find_flow;
 use disk_trait::Memory;
+use id_index::{IdIndex, all_rows};
 use media_rows::{FlowRow, Member, Refusal};
 use shared_tree::Version;
 use std::alloc::Global;
@@ -33,7 +35,7 @@ pub(crate) fn collection_refusal(
     if let Some(missing) = first_missing(flows, id, members) {
         return Ok(Some(Refusal::CollectedMissing(missing)));
     }
-    let rows = all_flows(alloc, flows)?;
+    let rows = all_rows(alloc, flows)?;
     if collects_itself(alloc, &rows, id, members)? {
         return Ok(Some(Refusal::CollectsItself));
     }
@@ -92,7 +94,7 @@ pub(crate) fn collects_itself(
     Ok(has_number(id, &ids))
 }
 
-fn member_ids(alloc: Global, members: &[Member]) -> Result<Vec<u128>, Memory>
+pub(crate) fn member_ids(alloc: Global, members: &[Member]) -> Result<Vec<u128>, Memory>
     ensures { IfOk result (λ ids. ids.items ≡ member_ids members.now) }
 {
     let mut ids = Vec::new(alloc);
@@ -100,6 +102,46 @@ fn member_ids(alloc: Global, members: &[Member]) -> Result<Vec<u128>, Memory>
         ids.push(member.flow)?;
     }
     Ok(ids)
+}
+
+/// The flows that collect each flow, once one of them has these entries.
+pub(crate) fn collectors_with(
+    alloc: Global,
+    flows: &Version<FlowRow>,
+    collectors: &IdIndex,
+    id: u128,
+    members: &[Member],
+) -> Result<IdIndex, Memory>
+    requires keyed { IsKeyedBy flow_key flows.now }
+    requires index { IsByCollected flows.now collectors.now }
+    ensures { IfOk result (λ next. (row : FlowRow) → row.body.id ≡ id
+        → row.body.members ≡ members.now
+        → IsByCollected (with_pair (id_key id, row) flows.now) next) }
+{
+    let ids = member_ids(alloc, members)?;
+    let left = collectors_without(alloc, flows, collectors, id)?;
+    left.link(alloc, &ids, id)
+}
+
+/// The flows that collect each flow, without one of them.
+fn collectors_without(
+    alloc: Global,
+    flows: &Version<FlowRow>,
+    collectors: &IdIndex,
+    id: u128,
+) -> Result<IdIndex, Memory>
+    requires keyed { IsKeyedBy flow_key flows.now }
+    requires index { IsByCollected flows.now collectors.now }
+    ensures { IfOk result (IsByCollected (without_key (id_key id) flows.now)) }
+{
+    flows.keys_rise();
+    match find_flow(flows, id) {
+        None => collectors.share(),
+        Some(old) => {
+            let ids = member_ids(alloc, old.body.members.items())?;
+            collectors.unlink(alloc, &ids, id)
+        }
+    }
 }
 
 /// The flows that these collect, in the order of the rows.

@@ -1,47 +1,52 @@
 //! Flows that go, with their entries in collections, and sources that go with their last flow.
-ghost use Rattle.std.specs.Prelude.{◌≡◌, ◌==◌, IfOk, filter, not};
-ghost use Rattle.media_rows.specs.Catalog.{flows_after_drop, has_flow};
+ghost use Rattle.std.specs.Prelude.{◌≡◌, ◌==◌, IfOk, filter, if◌then◌else◌, not};
+ghost use Rattle.media_rows.specs.Catalog.{has_flow};
 ghost use Rattle.media_rows.specs.Collections.{without_entries};
-ghost use Rattle.media_rows.specs.Views.{flow_key, id_key, source_key};
+ghost use Rattle.media_rows.specs.Views.{flow_key, id_key};
 ghost use Rattle.shared_tree.specs.Pairs.{values, values_of, without_key};
 ghost use Rattle.shared_tree.specs.Rows.{IsKeyedBy};
+ghost use Rattle.id_index.specs.Index.{has_pairs, ids_at, naming};
 ghost use Rattle.flow_book.specs.Within.Answers.{Computes};
-ghost use Rattle.flow_book.specs.Within.Order.{cleared, collects, dropped};
+ghost use Rattle.flow_book.specs.Within.Order.{IsByCollected, all_cleared, cleared, collects, flow_id, flows_named};
 
-use crate::looks::{all_flows, all_sources, id_key, with_row};
+use crate::looks::flows_at;
 use disk_trait::{Duplicate, Memory};
+use id_index::{IdIndex, with_row, without_row};
 use media_rows::{FlowRow, Member, MemberList, SourceRow};
 use shared_tree::Version;
 use std::alloc::Global;
 
-/// The flows without one, and without its entries in collections.
+/// The flows without one, and without its entries in collections, which the index tells.
 pub(crate) fn flows_after_drop(
     alloc: Global,
     flows: &Version<FlowRow>,
+    collectors: &IdIndex,
     id: u128,
 ) -> Result<Version<FlowRow>, Memory>
     requires keyed { IsKeyedBy flow_key flows.now }
-    ensures rows { IfOk result (λ next. values next ≡ flows_after_drop id (values flows.now)) }
-    ensures keyed { IfOk result (IsKeyedBy flow_key) }
-{
-    let left = flow_left_out(alloc, flows, id)?;
-    left.keys_rise();
-    let rows = all_flows(alloc, &left)?;
-    entries_cleared(alloc, &left, &rows, id)
-}
-
-fn flow_left_out(
-    alloc: Global,
-    flows: &Version<FlowRow>,
-    id: u128,
-) -> Result<Version<FlowRow>, Memory>
-    requires keyed { IsKeyedBy flow_key flows.now }
-    ensures rows { IfOk result
-        (λ next. values next ≡ filter (λ row. not (row.body.id == id)) (values flows.now)) }
-    ensures keyed { IfOk result (IsKeyedBy flow_key) }
+    requires index { IsByCollected (without_key (id_key id) flows.now) collectors.now }
+    ensures { IfOk result (λ next. next ≡ all_cleared id (without_key (id_key id) flows.now)) }
 {
     flows.keys_rise();
-    flows.without(alloc, id_key(id))
+    let left = without_row(alloc, flows, id)?;
+    let ids = collectors.ids(alloc, id)?;
+    entries_left_out(alloc, &left, &ids, id)
+}
+
+/// The flows without the entries of one, where these are the flows that have such.
+fn entries_left_out(
+    alloc: Global,
+    flows: &Version<FlowRow>,
+    collecting: &[&u128],
+    id: u128,
+) -> Result<Version<FlowRow>, Memory>
+    requires keyed { IsKeyedBy flow_key flows.now }
+    requires ids { values_of collecting.now ≡ values (naming flow_id flows_named id flows.now) }
+    ensures { IfOk result (λ next. next ≡ all_cleared id flows.now) }
+{
+    flows.keys_rise();
+    let rows = flows_at(alloc, flows, collecting)?;
+    entries_cleared(alloc, flows, &rows, id)
 }
 
 /// The flows without the entries of one: only rows that have such are copied.
@@ -89,51 +94,21 @@ fn members_without(alloc: Global, members: &[Member], id: u128) -> Result<Member
     Ok(list)
 }
 
-/// The sources that have a flow among these.
-pub(crate) fn sources_with_flow(
+/// The sources without one that has no flow any more by the index. No row is copied.
+pub(crate) fn sources_after_drop(
     alloc: Global,
     sources: &Version<SourceRow>,
-    flows: &Version<FlowRow>,
+    by_source: &IdIndex,
+    source: u128,
 ) -> Result<Version<SourceRow>, Memory>
-    requires sources { IsKeyedBy source_key sources.now }
-    requires flows { IsKeyedBy flow_key flows.now }
-    ensures rows { IfOk result
-        (λ next. values next ≡ filter (has_flow (values flows.now)) (values sources.now)) }
-    ensures keyed { IfOk result (IsKeyedBy source_key) }
+    ensures { IfOk result (λ next. next ≡ (if has_pairs (ids_at source by_source.now)
+        then sources.now else without_key (id_key source) sources.now)) }
 {
-    sources.keys_rise();
-    let kept = all_flows(alloc, flows)?;
-    let rows = all_sources(alloc, sources)?;
-    sources_dropped(alloc, sources, &rows, &kept)
-}
-
-/// The sources without those of the rows that have no flow. No row is copied.
-fn sources_dropped(
-    alloc: Global,
-    sources: &Version<SourceRow>,
-    rows: &[&SourceRow],
-    flows: &[&FlowRow],
-) -> Result<Version<SourceRow>, Memory>
-    ensures { IfOk result
-        (λ next. next ≡ dropped (values_of flows.now) (values_of rows.now) sources.now) }
-{
-    let mut next = sources.share()?;
-    for source in rows {
-        if !has_flow(flows, source) {
-            next = source_left_out(alloc, &next, source.id)?;
-        }
+    if by_source.has_any(source) {
+        sources.share()
+    } else {
+        without_row(alloc, sources, source)
     }
-    Ok(next)
-}
-
-fn source_left_out(
-    alloc: Global,
-    sources: &Version<SourceRow>,
-    id: u128,
-) -> Result<Version<SourceRow>, Memory>
-    ensures { IfOk result (λ next. next ≡ without_key (id_key id) sources.now) }
-{
-    sources.without(alloc, id_key(id))
 }
 
 /// Whether a source has some flow.

@@ -3,14 +3,16 @@ ghost use Rattle.std.specs.Prelude.{◌≡◌, [], IfOk, Some, None, option_copi
 ghost use Rattle.media_rows.specs.Catalog.{Catalog, fits_format, fits_source, flow_before, flow_of, keeps_flow, new_source, put_refusal, put_refusals, put_row, same_format, source_before, source_of, sources_after_put};
 ghost use Rattle.media_rows.specs.Lists.{placed};
 ghost use Rattle.media_rows.specs.Refusals.{first_refusal};
-ghost use Rattle.media_rows.specs.Views.{flow_key, source_key};
-ghost use Rattle.shared_tree.specs.Pairs.{values};
+ghost use Rattle.media_rows.specs.Views.{flow_key, id_key, source_key};
+ghost use Rattle.shared_tree.specs.Pairs.{values, with_pair};
 ghost use Rattle.shared_tree.specs.Rows.{IsKeyedBy};
 ghost use Rattle.flow_book.specs.Within.Answers.{Computes, catalog_with};
+ghost use Rattle.flow_book.specs.Within.Order.{SourceLinked, source_put};
 
 use crate::collections::collection_refusal;
-use crate::looks::{find_flow, find_source, with_row};
+use crate::looks::{find_flow, find_source};
 use disk_trait::{Duplicate, Memory};
+use id_index::{IdIndex, with_row};
 use media_rows::{FlowBody, FlowRow, FormatKind, Refusal, SourceRow, TagList};
 use shared_tree::Version;
 use std::alloc::Global;
@@ -109,6 +111,10 @@ pub(crate) fn flows_after_put(
     ensures rows { IfOk result (λ next. values next ≡ placed flow_before
         (put_row (flow_of body.now.id (values flows.now)) body.now now) (values flows.now)) }
     ensures keyed { IfOk result (IsKeyedBy flow_key) }
+    ensures pairs { IfOk result (λ next. next ≡ with_pair (
+      id_key body.now.id,
+      put_row (flow_of body.now.id (values flows.now)) body.now now,
+    ) flows.now) }
 {
     let row = put_row(alloc, find_flow(flows, body.id), body, now)?;
     flow_placed(alloc, flows, row)
@@ -123,6 +129,7 @@ fn flow_placed(
     requires keyed { IsKeyedBy flow_key flows.now }
     ensures rows { IfOk result (λ next. values next ≡ placed flow_before row (values flows.now)) }
     ensures keyed { IfOk result (IsKeyedBy flow_key) }
+    ensures pairs { IfOk result (λ next. next ≡ with_pair (id_key row.body.id, row) flows.now) }
 {
     let id = row.body.id;
     with_row(alloc, flows, id, row)
@@ -164,6 +171,8 @@ pub(crate) fn sources_after_put(
     ensures rows { IfOk result (λ next. values next ≡ sources_after_put
         (source_of body.now.source (values sources.now)) (values sources.now) body.now now) }
     ensures keyed { IfOk result (IsKeyedBy source_key) }
+    ensures pairs { IfOk result (λ next. next ≡ source_put
+        (source_of body.now.source (values sources.now)) (new_source body.now now) sources.now) }
 {
     match find_source(sources, body.source) {
         None => source_placed(alloc, sources, new_source(alloc, body, now)),
@@ -181,6 +190,7 @@ fn source_placed(
     ensures rows { IfOk result
         (λ next. values next ≡ placed source_before row (values sources.now)) }
     ensures keyed { IfOk result (IsKeyedBy source_key) }
+    ensures pairs { IfOk result (λ next. next ≡ with_pair (id_key row.id, row) sources.now) }
 {
     let id = row.id;
     with_row(alloc, sources, id, row)
@@ -197,5 +207,22 @@ fn new_source(alloc: Global, body: &FlowBody, now: u64) -> SourceRow
         tags: TagList::new(alloc),
         created: now,
         updated: now,
+    }
+}
+
+/// The flows of each source, with a flow that is put. A kept one stays under its source.
+pub(crate) fn by_source_after_put(
+    alloc: Global,
+    flows: &Version<FlowRow>,
+    by_source: &IdIndex,
+    body: &FlowBody,
+) -> Result<IdIndex, Memory>
+    requires keyed { IsKeyedBy flow_key flows.now }
+    ensures { IfOk result (SourceLinked (flow_of body.now.id (values flows.now)) body.now
+        by_source.now) }
+{
+    match find_flow(flows, body.id) {
+        None => by_source.link(alloc, &[body.source], body.id),
+        Some(_) => by_source.share(),
     }
 }

@@ -1,6 +1,7 @@
 //! Rows from which a book is made: whether they are good.
-ghost use Rattle.std.specs.Prelude.{◌≡◌, ◌==◌, IfOk, map, not, option_copied};
+ghost use Rattle.std.specs.Prelude.{◌≡◌, ◌==◌, ◌∷◌, IfOk, List, map, not, option_copied};
 ghost use Rattle.std.specs.List.{list_all};
+ghost use Rattle.media_rows.specs.declared.flow.FlowRow.{FlowRow};
 ghost use Rattle.media_rows.specs.Catalog.{has_flow, source_of};
 ghost use Rattle.media_rows.specs.Collections.{is_kept, member_ids};
 ghost use Rattle.media_rows.specs.Good.{are_collections_good, fits_kept, is_collection_good};
@@ -8,13 +9,14 @@ ghost use Rattle.media_rows.specs.Lists.{are_distinct};
 ghost use Rattle.media_rows.specs.Restoring.{can_restore_catalog};
 ghost use Rattle.shared_tree.specs.Pairs.{values_of};
 ghost use Rattle.flow_book.specs.Within.Answers.{Computes};
-ghost use Rattle.flow_book.specs.Within.Order.{gathered};
+ghost use Rattle.flow_book.specs.Within.Gathering.{GathersFlows};
+ghost use Rattle.flow_book.specs.Within.Order.{AreGathered, gathered};
 
-use crate::collections::collects_itself;
+use crate::collections::{collects_itself, member_ids};
 use crate::drops::has_flow;
-use crate::looks::with_row;
 use crate::puts::fits_format;
 use disk_trait::{Duplicate, Memory};
+use id_index::{IdIndex, row_at, with_row};
 use media_rows::{FlowRow, Member, SourceRow};
 use shared_tree::Version;
 use std::alloc::Global;
@@ -167,16 +169,49 @@ pub(crate) fn flow_references(alloc: Global, flows: &[FlowRow]) -> Result<Vec<&F
     Ok(list)
 }
 
-/// Copies of flows at the keys of their ids. The last one is put first.
-pub(crate) fn flows_gathered(alloc: Global, rows: &[FlowRow]) -> Result<Version<FlowRow>, Memory>
-    ensures { IfOk result (λ next. next ≡ gathered (λ row. row.body.id) rows.now) }
+/// Copies of flows at the keys of their ids, with their indexes.
+#[derive(Drop)]
+pub(crate) struct Gathered {
+    pub(crate) flows: Version<FlowRow>,
+    pub(crate) by_source: IdIndex,
+    pub(crate) collectors: IdIndex,
+}
+
+/// Copies of flows with their indexes, or nothing where an id stands twice. The last one is put first.
+pub(crate) fn flows_gathered(alloc: Global, rows: &[FlowRow]) -> Result<Option<Gathered>, Memory>
+    ensures { IfOk result (GathersFlows rows.now) }
 {
-    let mut next = Version::empty();
+    let mut next = Gathered {
+        flows: Version::empty(),
+        by_source: IdIndex::empty(),
+        collectors: IdIndex::empty(),
+    };
     for placed in 0..rows.len() {
-        let row = &rows[rows.len() - 1 - placed];
-        next = with_row(alloc, &next, row.body.id, row.duplicate(alloc)?)?;
+        match gathered_with(alloc, &next, &rows[rows.len() - 1 - placed])? {
+            None => return Ok(None),
+            Some(more) => next = more,
+        }
     }
-    Ok(next)
+    Ok(Some(next))
+}
+
+/// One more flow, or nothing where its id is there already.
+fn gathered_with(alloc: Global, old: &Gathered, row: &FlowRow) -> Result<Option<Gathered>, Memory>
+    ensures { IfOk result (λ next. (rows : List FlowRow)
+        → AreGathered rows old.now.flows old.now.by_source old.now.collectors
+        → GathersFlows (row.now ∷ rows) next) }
+{
+    old.flows.keys_rise();
+    let id = row.body.id;
+    if row_at(&old.flows, id).is_some() {
+        return Ok(None);
+    }
+    let collected = member_ids(alloc, row.body.members.items())?;
+    Ok(Some(Gathered {
+        flows: with_row(alloc, &old.flows, id, row.duplicate(alloc)?)?,
+        by_source: old.by_source.link(alloc, &[row.body.source], id)?,
+        collectors: old.collectors.link(alloc, &collected, id)?,
+    }))
 }
 
 /// Copies of sources at the keys of their ids. The last one is put first.

@@ -1,17 +1,20 @@
 //! Parts of flows and sources that are set, and flows whose segments changed.
-ghost use Rattle.std.specs.Prelude.{◌≡◌, IfOk, Some};
+ghost use Rattle.std.specs.Prelude.{◌≡◌, ℕ, IfOk, Some, option_copied};
 ghost use Rattle.media_rows.specs.Catalog.{flow_of, part_refusals, set_refusals, set_row, set_source_row, source_of, source_refusals, touched, with_flow, with_source};
 ghost use Rattle.media_rows.specs.Refusals.{first_refusal};
-ghost use Rattle.media_rows.specs.Views.{flow_key, source_key};
-ghost use Rattle.shared_tree.specs.Pairs.{values};
+ghost use Rattle.media_rows.specs.Views.{flow_key, id_key, source_key};
+ghost use Rattle.shared_tree.specs.Pairs.{value_at, values};
 ghost use Rattle.shared_tree.specs.Rows.{IsKeyedBy};
+ghost use Rattle.id_index.specs.Index.{changed_row};
 ghost use Rattle.flow_book.specs.Within.Answers.{Computes};
+ghost use Rattle.flow_book.specs.Within.Order.{IsByCollected, collection_of};
 
-use crate::collections::collection_refusal;
-use crate::looks::{find_flow, find_source, with_row};
+use crate::collections::{collection_refusal, collectors_with};
+use crate::looks::{find_flow, find_source};
 use crate::parts::{body_with, flow_part_unset, sets_mark, source_part_unset, source_with};
 use disk_trait::{Duplicate, Memory};
-use media_rows::{FlowRow, Part, Refusal, SourceRow};
+use id_index::{IdIndex, with_row};
+use media_rows::{FlowRow, MemberList, Part, Refusal, SourceRow};
 use shared_tree::Version;
 use std::alloc::Global;
 
@@ -79,11 +82,46 @@ pub(crate) fn flows_after_set(
     ensures rows { IfOk result
         (λ next. values next ≡ with_flow id (set_row part.now now) (values flows.now)) }
     ensures keyed { IfOk result (IsKeyedBy flow_key) }
+    ensures pairs { IfOk result (λ next. next ≡ changed_row (id_key id) (set_row part.now now)
+        (value_at (id_key id) flows.now) flows.now) }
 {
     flows.keys_rise();
     match find_flow(flows, id) {
         None => flows.share(),
         Some(row) => with_row(alloc, flows, id, set_row(alloc, row, part, now)?),
+    }
+}
+
+/// The flows that collect each flow, once a part of a flow was set or cleared.
+pub(crate) fn collectors_after_set(
+    alloc: Global,
+    flows: &Version<FlowRow>,
+    collectors: &IdIndex,
+    id: u128,
+    part: &Part,
+) -> Result<IdIndex, Memory>
+    requires keyed { IsKeyedBy flow_key flows.now }
+    requires index { IsByCollected flows.now collectors.now }
+    ensures { IfOk result (λ next. (moment : ℕ) → IsByCollected (changed_row (id_key id)
+        (set_row part.now moment) (value_at (id_key id) flows.now) flows.now) next) }
+{
+    flows.keys_rise();
+    let Some(members) = collection_of(part) else {
+        return collectors.share();
+    };
+    match find_flow(flows, id) {
+        None => collectors.share(),
+        Some(_) => collectors_with(alloc, flows, collectors, id, members.items()),
+    }
+}
+
+/// The collection that a part sets.
+fn collection_of(part: &Part) -> Option<&MemberList>
+    ensures { option_copied result ≡ collection_of part.now }
+{
+    match part {
+        Part::Collection(members) => Some(members),
+        _ => None,
     }
 }
 
@@ -127,6 +165,8 @@ pub(crate) fn sources_after_set(
     ensures rows { IfOk result
         (λ next. values next ≡ with_source id (set_source_row part.now now) (values sources.now)) }
     ensures keyed { IfOk result (IsKeyedBy source_key) }
+    ensures pairs { IfOk result (λ next. next ≡ changed_row (id_key id) (set_source_row part.now now)
+        (value_at (id_key id) sources.now) sources.now) }
 {
     sources.keys_rise();
     match find_source(sources, id) {
@@ -159,6 +199,8 @@ pub(crate) fn flows_after_touch(
     ensures rows { IfOk result
         (λ next. values next ≡ with_flow id (touched now) (values flows.now)) }
     ensures keyed { IfOk result (IsKeyedBy flow_key) }
+    ensures pairs { IfOk result (λ next. next ≡ changed_row (id_key id) (touched now)
+        (value_at (id_key id) flows.now) flows.now) }
 {
     flows.keys_rise();
     match find_flow(flows, id) {

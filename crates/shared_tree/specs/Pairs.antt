@@ -1,5 +1,6 @@
 -- What a version is seen as: pairs of a key and a value, by rising key. Our own.
-use Rattle.std.specs.Prelude.{ℕ, ℤ, ◌<ℤ◌, int_lt, int_le, Bool, List, [], ◌∷◌, ◌++◌, Option, Some, None, map, filter, reverse, length, option_map, true, false, ⊤}
+use Rattle.std.specs.Prelude.{ℕ, ℤ, ◌<ℤ◌, int_lt, int_le, Bool, List, [], ◌∷◌, ◌++◌, Option, Some, None, map, filter, reverse, length, option_map, true, false, ⊤, FitsSigned}
+use mir.Syntax.{w128}
 use Rattle.std.proofs.Common.{int_eq}
 use Rattle.std.specs.List.{AllByRecursion, last_or}
 use Rattle.std.specs.Borrow.{Bor}
@@ -9,6 +10,10 @@ use Rattle.std.specs.Int.Digits.{digits_of}
 abbrev pub IsRising : {V : Type 0} → List (ℤ × V) → Type 0
 IsRising [] = ⊤
 IsRising (p ∷ ps) = AllByRecursion (λ q. p.0 <ℤ q.0) ps × IsRising ps
+
+-- each key is an `i128`
+abbrev pub AreKeys : {V : Type 0} → List (ℤ × V) → Type 0
+AreKeys ps = AllByRecursion (λ p. FitsSigned w128 p.0) ps
 
 -- a pair's key is below, above, up to, from or at this one
 abbrev pub is_below : {V : Type 0} → ℤ → ℤ × V → Bool

@@ -1,6 +1,6 @@
 //! A version of a sorted list of pairs, and its public calls.
 ghost use Rattle.std.specs.Prelude.{◌≡◌, ◌+◌, ◌-◌, ◌*◌, ◌^◌, ◌≤◌, ◌<◌, ◌++◌, [], IfOk, IsTrue, Bool, ◌↔◌, filter, is_some, length, min, option_copied, option_map, take, vec_capacity, vec_len};
-ghost use Rattle.shared_tree.specs.Pairs.{IsRising, digits, first, is_above, is_below, is_up_to, last, value_at, values, walk_of, with_pair, without_key};
+ghost use Rattle.shared_tree.specs.Pairs.{AreKeys, IsRising, digits, first, is_above, is_below, is_up_to, last, value_at, values, walk_of, with_pair, without_key};
 ghost use Rattle.shared_tree.specs.Pairs.{values_of};
 
 use crate::steps::Steps;
@@ -69,6 +69,13 @@ impl<V: Drop> Version<V> {
     /// Tells what holds of each version: its keys rise.
     pub fn keys_rise(&self)
         ensures { IsRising self.now }
+    {
+        let _more = self.more;
+    }
+
+    /// Tells what holds of each version: its keys are each an `i128`.
+    pub fn keys_fit(&self)
+        ensures { AreKeys self.now }
     {
         let _more = self.more;
     }

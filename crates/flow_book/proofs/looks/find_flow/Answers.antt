@@ -1,13 +1,7 @@
-use Rattle.std.proofs.Common.{rules, ◌≡◌, FitsSigned, option_copied, ap, ◌∙◌}
-use mir.Syntax.{w128}
-use Rattle.std.proofs.lemmas.Int.{to_z-of_z}
-use Rattle.shared_tree.specs.Pairs.{value_at}
+use Rattle.std.proofs.Common.{◌∙◌}
 use Rattle.flow_book.proofs.Keys.{flow_found}
 use Rattle.flow_book.proofs.looks.find_flow.Goals as goal
 
 -- the first row of that id stands at the id's key
 pub returns : goal.returns
-returns c =
-    let fit : FitsSigned w128 c.id_key.result = search rules in
-    let there : option_copied c.value_at.result ≡ value_at c.id_key.result c.args.flows.now = simp to_z-of_z at c.value_at.ensures in
-    there ∙ ap (λ k. value_at k c.args.flows.now) c.id_key.ensures ∙ flow_found c.args.id c.args.flows.now c.requires.keyed
+returns c = c.row_at.ensures ∙ flow_found c.args.id c.args.flows.now c.requires.keyed

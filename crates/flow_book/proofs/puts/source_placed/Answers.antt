@@ -1,5 +1,6 @@
 use Rattle.media_rows.specs.declared.source.SourceRow.{SourceRow}
-use Rattle.flow_book.proofs.Changes.{if_ok, placed_keyed, placed_values}
+use Rattle.id_index.proofs.Pairs.{if_ok}
+use Rattle.flow_book.proofs.Changes.{placed_keyed, placed_values}
 use Rattle.flow_book.proofs.puts.source_placed.Goals as goal
 
 -- the row stands at the key of its id

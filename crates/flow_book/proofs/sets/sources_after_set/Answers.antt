@@ -1,7 +1,13 @@
+use Rattle.std.proofs.Common.{sym, ap, ◌∙◌}
+use Rattle.media_rows.specs.Views.{id_key}
+use Rattle.shared_tree.specs.Pairs.{with_pair}
+use Rattle.id_index.specs.Index.{changed_row}
+use Rattle.flow_book.proofs.Keys.{source_found}
 use Rattle.media_rows.specs.declared.source.SourceRow.{SourceRow}
 use Rattle.media_rows.specs.Catalog.{set_source_row}
 use Rattle.flow_book.proofs.CatalogOrder.{set_source_stays}
-use Rattle.flow_book.proofs.Changes.{changed_keyed, changed_values, if_ok, unchanged_values}
+use Rattle.id_index.proofs.Pairs.{if_ok}
+use Rattle.flow_book.proofs.Changes.{changed_keyed, changed_values, unchanged_values}
 use Rattle.flow_book.proofs.sets.sources_after_set.Goals as goal
 
 -- no row has the id, and all stay
@@ -17,3 +23,11 @@ returns-in_ok-set_source_row-in-Some-clause-rows c =
 pub returns-in_ok-set_source_row-in-Some-clause-keyed : goal.returns-in_ok-set_source_row-in-Some-clause-keyed
 returns-in_ok-set_source_row-in-Some-clause-keyed c =
     if_ok c.with_row.result (λ next is. changed_keyed (λ (row : SourceRow). row.id) c.args.id (set_source_row c.args.part.now c.args.now) c.in-Some.row.now c.in_ok-set_source_row-in-Some.field-0 c.args.sources.now next (λ row. set_source_stays c.args.part.now row) c.requires.keyed c.in-Some.ensures c.in_ok-set_source_row-in-Some.ensures is) c.with_row.ensures
+
+pub returns-in-None-clause-pairs : goal.returns-in-None-clause-pairs
+returns-in-None-clause-pairs c =
+    if_ok c.share.result (λ next is. is ∙ ap (λ found. changed_row (id_key c.args.id) (set_source_row c.args.part.now c.args.now) found c.args.sources.now) (c.in-None.ensures ∙ sym (source_found c.args.id c.args.sources.now c.requires.keyed))) c.share.ensures
+
+pub returns-in_ok-set_source_row-in-Some-clause-pairs : goal.returns-in_ok-set_source_row-in-Some-clause-pairs
+returns-in_ok-set_source_row-in-Some-clause-pairs c =
+    if_ok c.with_row.result (λ next is. is ∙ ap (λ row. with_pair (id_key c.args.id, row) c.args.sources.now) c.in_ok-set_source_row-in-Some.ensures ∙ ap (λ found. changed_row (id_key c.args.id) (set_source_row c.args.part.now c.args.now) found c.args.sources.now) (c.in-Some.ensures ∙ sym (source_found c.args.id c.args.sources.now c.requires.keyed))) c.with_row.ensures

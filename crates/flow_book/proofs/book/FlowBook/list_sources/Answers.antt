@@ -5,7 +5,7 @@ use Rattle.media_rows.specs.Lists.{rises}
 use Rattle.shared_tree.specs.Pairs.{values, values_of}
 use Rattle.flow_book.specs.Listing.{is_source_listed}
 use Rattle.flow_book.proofs.CatalogOrder.{listed_rise}
-use Rattle.flow_book.proofs.Changes.{if_ok}
+use Rattle.id_index.proofs.Pairs.{if_ok}
 use Rattle.flow_book.proofs.Gathering.{values_rise}
 use Rattle.flow_book.proofs.book.FlowBook.list_sources.Goals as goal
 

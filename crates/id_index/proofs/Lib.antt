@@ -1,0 +1,4 @@
+pub mod Ids
+pub mod Pairs
+pub mod Named
+mod Linked
