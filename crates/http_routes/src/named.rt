@@ -1,8 +1,9 @@
 //! The ids and names in a path.
-ghost use Rattle.std.specs.Prelude.{◌≡◌, ◌++◌, ◌&&◌, IfOk, codes, length, nat_le, option_map};
+ghost use Rattle.std.specs.Prelude.{◌≡◌, ◌++◌, ◌&&◌, IfOk, IsTrue, codes, length, nat_le, option_map};
 ghost use Rattle.std.specs.Str.{is_utf8};
-ghost use Rattle.media_rows.specs.Ids.{id_text};
-ghost use Rattle.http_routes.specs.Named.{decoded_at, id_in, is_tag_name, object_in, request_in, request_of, serial_of, stripped, tag_in};
+ghost use Rattle.media_rows.specs.Good.{if_there};
+ghost use Rattle.media_rows.specs.Ids.{id_text, is_object_id};
+ghost use Rattle.http_routes.specs.Named.{decoded_at, id_in, object_in, request_in, request_of, serial_of, stripped, tag_in};
 
 use crate::path::piece_at;
 use disk_trait::{Memory, Text};
@@ -40,7 +41,8 @@ pub fn read_named_id(alloc: Global, path: &[u8]) -> Result<Option<u128>, Memory>
 
 /// The id of the object that a path names, where its text has the form of one.
 pub fn read_named_object(alloc: Global, path: &[u8]) -> Result<Option<Text>, Memory>
-    ensures { IfOk result (λ found. found ≡ object_in path.now) }
+    ensures found { IfOk result (λ found. found ≡ object_in path.now) }
+    ensures good { IfOk result (λ found. IsTrue (if_there is_object_id found)) }
 {
     let text = decoded_at(alloc, path, ID_PLACE)?;
     if is_object_id(text.bytes()) {
@@ -52,20 +54,15 @@ pub fn read_named_object(alloc: Global, path: &[u8]) -> Result<Option<Text>, Mem
 
 /// The name of the tag that a path names, where it is 1 to 128 bytes of UTF-8.
 pub fn read_named_tag(alloc: Global, path: &[u8]) -> Result<Option<Text>, Memory>
-    ensures { IfOk result (λ found. found ≡ tag_in path.now) }
+    ensures found { IfOk result (λ found. found ≡ tag_in path.now) }
+    ensures good { IfOk result (λ found. IsTrue (if_there is_utf8 found)) }
 {
     let name = decoded_at(alloc, path, NAME_PLACE)?;
-    if is_tag_name(name.bytes()) {
+    if has_tag_length(name.bytes()) && is_text(name.bytes()) {
         Ok(Some(name))
     } else {
         Ok(None)
     }
-}
-
-fn is_tag_name(name: &[u8]) -> bool
-    ensures { result ≡ is_tag_name name.now }
-{
-    has_tag_length(name) && is_text(name)
 }
 
 fn has_tag_length(name: &[u8]) -> bool
