@@ -75,7 +75,7 @@ pub(crate) fn has_other(bytes: &[u8], headers: &[HeaderSpan], name: &[u8], text:
 }
 
 /// The length that 1 to 19 digits write (RFC 9110, section 8.6).
-pub(crate) fn read_length(text: &[u8]) -> Option<u64>
+pub fn read_length(text: &[u8]) -> Option<u64>
     ensures { result ≡ read_length text.now }
 {
     if text.is_empty() || text.len() > MAX_DIGITS {

@@ -19,6 +19,7 @@ mod stage;
 mod tests;
 
 pub use crate::feed::Feed;
+pub use crate::fields::read_length;
 pub use crate::head::{MethodKind, Span};
 pub use crate::response::{Field, FieldList, write_response};
 pub use crate::stage::{Head, Step};

@@ -8,3 +8,4 @@ pub mod Hook
 pub mod Segments
 pub mod Flow
 pub mod Answers
+pub mod Refusals

@@ -197,16 +197,21 @@ impl Rule<u128> for SameIdRule {
 }
 
 /// The format of a name.
-fn format_of(name: &str) -> Option<FormatKind>
+pub fn read_format(name: &[u8]) -> Option<FormatKind>
     ensures { result ≡ spec.format_of name.now }
 {
-    match name {
-        "urn:x-nmos:format:video" => Some(FormatKind::Video),
-        "urn:x-nmos:format:audio" => Some(FormatKind::Audio),
-        "urn:x-nmos:format:data" => Some(FormatKind::DataEssence),
-        "urn:x-nmos:format:multi" => Some(FormatKind::Multi),
-        "urn:x-tam:format:image" => Some(FormatKind::Image),
-        _ => None,
+    if name == b"urn:x-nmos:format:video".as_slice() {
+        Some(FormatKind::Video)
+    } else if name == b"urn:x-nmos:format:audio".as_slice() {
+        Some(FormatKind::Audio)
+    } else if name == b"urn:x-nmos:format:data".as_slice() {
+        Some(FormatKind::DataEssence)
+    } else if name == b"urn:x-nmos:format:multi".as_slice() {
+        Some(FormatKind::Multi)
+    } else if name == b"urn:x-tam:format:image".as_slice() {
+        Some(FormatKind::Image)
+    } else {
+        None
     }
 }
 
@@ -222,7 +227,7 @@ impl Rule<FormatKind> for FormatRule {
     fn read(&self, _alloc: Global, value: &Value) -> Result<FormatKind, RuleFault> {
         value
             .as_str()
-            .and_then(|name| format_of(name))
+            .and_then(|name| read_format(name.as_bytes()))
             .ok_or(RuleFault::Breach(Breach::WrongKind))
     }
 }

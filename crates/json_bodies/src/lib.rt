@@ -7,6 +7,7 @@ mod fault;
 mod flow;
 mod hook;
 mod kinds;
+mod laws;
 mod members;
 mod part;
 mod rules;
@@ -18,8 +19,9 @@ mod tests;
 mod times;
 
 pub use crate::fault::BodyFault;
-pub use crate::flow::read_flow;
+pub use crate::flow::{read_flow, read_format};
 pub use crate::hook::read_hook;
+pub use crate::laws::refusals_are_of_bodies;
 pub use crate::part::read_part;
 pub use crate::segments::read_segments;
 pub use crate::storage::read_storage;

@@ -5,3 +5,4 @@ pub mod Rows
 pub mod Replies
 pub mod Order
 pub mod Kept
+pub mod Texts

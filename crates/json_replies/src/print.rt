@@ -1,9 +1,10 @@
 //! The body of an answer.
-ghost use Rattle.std.specs.Prelude.{◌≡◌, IfOk, OnOk};
-ghost use Rattle.std.specs.Str.{IsUtf8};
+ghost use Rattle.std.specs.Prelude.{◌≡◌, IfOk, IsTrue, OnOk};
+ghost use Rattle.std.specs.Str.{IsUtf8, is_utf8};
 ghost use Rattle.json.specs.Lex.{tokens};
 ghost use Rattle.json_replies.specs.Replies.{reply_text, reply_value};
 ghost use Rattle.json_replies.specs.Shapes.{Appends};
+ghost use Rattle.json_replies.specs.Texts.{has_reply_texts};
 
 use crate::json_text::JsonText;
 use crate::refusals::Refusals;
@@ -18,9 +19,26 @@ use std::alloc::Global;
 /// The body of an answer, as compact JSON (RFC 8259) with keys in byte order. It is empty for
 /// `Created`, `Done` and `Media`. `store` is the store's id, `base` what its addresses begin with.
 ///
-/// The reply's texts and the base are UTF-8, its essence texts are JSON, and its moments lie in the
-/// years up to 9999: what is not is answered as want of memory.
+/// The reply is one of a good library: its texts and the base are UTF-8, the ids of its objects have
+/// their form, its essence texts are such, and its moments lie in the years up to 9999.
 pub fn print_reply(alloc: Global, reply: &Reply, store: u128, base: &Text) -> Result<Text, Memory>
+    requires texts { IsTrue (has_reply_texts reply.now) }
+    requires base { IsTrue (is_utf8 base.now) }
+    ensures text { IfOk result (λ text. text ≡ reply_text store base.now reply.now) }
+    ensures reads_back { IfOk result (λ text. tokens text ≡ reply_value store base.now reply.now) }
+    ensures utf8 { IfOk result IsUtf8 }
+{
+    print_any(alloc, reply, store, base)
+}
+
+/// The body of a reply. A text that isn't UTF-8, an essence text that isn't JSON and a moment past the
+/// last one would be answered as want of memory.
+pub(crate) fn print_any(
+    alloc: Global,
+    reply: &Reply,
+    store: u128,
+    base: &Text,
+) -> Result<Text, Memory>
     ensures text { IfOk result (λ text. text ≡ reply_text store base.now reply.now) }
     ensures reads_back { IfOk result (λ text. tokens text ≡ reply_value store base.now reply.now) }
     ensures utf8 { IfOk result IsUtf8 }

@@ -1,5 +1,6 @@
 //! Bodies as the profile's examples spell them, and escapes of RFC 8259, section 7. Each call that
 //! takes memory is made with ample memory.
+use crate::print::print_any;
 use crate::{print_reply, request_id};
 use disk_trait::{Listed, Memory, Text, same_bytes};
 use media_rows::{
@@ -227,7 +228,7 @@ fn source(alloc: Global) -> Result<Reply, Memory> {
 /// Whether a reply prints as this text, for the base `http://s`.
 fn prints(alloc: Global, reply: Result<Reply, Memory>, wanted: &str) -> Result<bool, Memory> {
     let base = text(alloc, "http://s")?;
-    let printed = print_reply(alloc, &reply?, STORE, &base)?;
+    let printed = print_any(alloc, &reply?, STORE, &base)?;
     Ok(same_bytes(printed.bytes(), wanted.as_bytes()))
 }
 
@@ -291,4 +292,6 @@ fn replies_have_their_bodies(rt: HostRuntime) {
     assert_eq!(rt; texts_print(alloc), Ok(true), "texts");
     assert_eq!(rt; refusals_print(alloc), Ok(true), "refusals");
     assert!(rt; request_id(alloc, STORE, 35).is_ok(), "id");
+    let printed = print_reply(alloc, &Reply::Created, STORE, &Text::new(alloc));
+    assert!(rt; printed.is_ok(), "nothing");
 }

@@ -1,0 +1,16 @@
+//! What a request's target names: the route of its path with the methods of that route, and the ids and
+//! names in the path. Queries and bodies are left to the callers.
+#![tactic(auto)]
+
+mod cut;
+mod methods;
+mod named;
+mod path;
+mod route;
+#[cfg(test)]
+mod tests;
+
+pub use crate::methods::Methods;
+pub use crate::named::{read_named_id, read_named_object, read_named_request, read_named_tag};
+pub use crate::path::{find_route, path_of, query_of};
+pub use crate::route::{FlowPart, Route, SourcePart};

@@ -1,0 +1,6 @@
+pub mod Named
+pub mod Parts
+pub mod Asked
+pub mod Answered
+pub mod Constants
+pub mod Good

@@ -1,0 +1,19 @@
+//! HTTP of the store: the command that a request's method, target and body ask for, and the bytes of the
+//! response to it. What a command answers is left to the library, and the wire to `http_wire`.
+#![tactic(auto)]
+
+mod ask;
+mod asked;
+mod constants;
+mod fields;
+mod lists;
+mod named;
+mod parts;
+mod response;
+mod routes;
+#[cfg(test)]
+mod tests;
+
+pub use crate::ask::{Ask, AskFault};
+pub use crate::constants::{server_error, unavailable};
+pub use crate::routes::Routes;

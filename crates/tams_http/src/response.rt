@@ -1,0 +1,77 @@
+//! The response to a reply.
+ghost use Rattle.std.specs.Prelude.{◌≡◌, ◌++◌, IfOk, option_map};
+ghost use Rattle.tams_http.specs.Answered as spec;
+ghost use Rattle.tams_http.specs.Answered.{fields_of};
+
+use crate::fields::{
+    allow, connection, content_length, content_type, location, next_key, next_link, push_field,
+};
+use disk_trait::{Listed, Memory, Text};
+use http_wire::FieldList;
+use media_rows::Reply;
+use std::alloc::Global;
+
+/// A request as it is answered.
+#[derive(Drop)]
+pub(crate) struct Context<'a> {
+    pub(crate) store: u128,
+    pub(crate) base: &'a Text,
+    pub(crate) target: &'a [u8],
+    pub(crate) ends: bool,
+    pub(crate) head_only: bool,
+}
+
+/// The link to the page behind a key, where there is one.
+fn link(
+    alloc: Global,
+    base: &Text,
+    target: &[u8],
+    key: &Option<Text>,
+) -> Result<Option<Text>, Memory>
+    ensures { IfOk result (λ value. value
+        ≡ option_map (spec.next_link base.now target.now) key.now) }
+{
+    match key {
+        Some(key) => Ok(Some(next_link(alloc, base, target, key)?)),
+        None => Ok(None),
+    }
+}
+
+/// The fields of the response to a reply with this body.
+pub(crate) fn fields_of(
+    alloc: Global,
+    context: &Context,
+    reply: &Reply,
+    body: &[u8],
+) -> Result<FieldList, Memory>
+    ensures { IfOk result (λ fields. fields ≡ fields_of (record {
+      store = context.now.store;
+      base = context.now.base.now;
+      target = context.now.target.now;
+      ends = context.now.ends;
+      head_only = context.now.head_only;
+    }) reply.now body.now) }
+{
+    let mut fields = Listed::new(alloc);
+    let to = &mut fields;
+    push_field(
+        alloc,
+        to,
+        "Content-Length",
+        content_length(alloc, reply, body)?,
+    )?;
+    push_field(alloc, to, "Content-Type", content_type(alloc, reply, body)?)?;
+    push_field(alloc, to, "Allow", allow(alloc, reply, context.target)?)?;
+    push_field(
+        alloc,
+        to,
+        "Location",
+        location(alloc, reply, context.store, context.base)?,
+    )?;
+    let key = next_key(alloc, reply)?;
+    let link = link(alloc, context.base, context.target, &key)?;
+    push_field(alloc, to, "Link", link)?;
+    push_field(alloc, to, "X-Paging-NextKey", key)?;
+    push_field(alloc, to, "Connection", connection(alloc, context.ends)?)?;
+    Ok(fields)
+}
