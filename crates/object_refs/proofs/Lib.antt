@@ -7,7 +7,9 @@ mod Inverse
 mod Found
 mod Moving
 mod Referring
-mod Coming
 mod Changing
 mod Refusing
 mod Sweeping
+mod Restoring
+mod Coming
+mod Gathered
