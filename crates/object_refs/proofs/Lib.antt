@@ -10,6 +10,8 @@ mod Referring
 mod Changing
 mod Refusing
 mod Sweeping
+mod Ordering
 mod Restoring
 mod Coming
 mod Gathered
+pub mod Theorems

@@ -34,7 +34,7 @@ all_inserted P before x (y ∷ ys) h hs = by (before y x) (all_inserted P before
     by true rest = (hs.0, rest)
     by false rest = (h, hs)
 
-all_ordered : {X : Type 0} (P : X → Type 0) (before : X → X → Bool) (xs : List X) → AllByRecursion P xs → AllByRecursion P (in_order before xs)
+pub all_ordered : {X : Type 0} (P : X → Type 0) (before : X → X → Bool) (xs : List X) → AllByRecursion P xs → AllByRecursion P (in_order before xs)
 all_ordered P before [] h = tt
 all_ordered P before (x ∷ xs) h = all_inserted P before x (in_order before xs) h.0 (all_ordered P before xs h.1)
 
@@ -69,7 +69,7 @@ least_first {X} before test m (x ∷ xs) h e = by (list_any test xs) (test x) re
     by false true es eo f ih = in_front (in_order before xs) (all_ordered (Follows before test m) before xs h.1) (h.0.tested eo)
     by false false es eo f ih = absurd (grind (arith, f))
 
-all_tested : {X : Type 0} (P : X → Type 0) (test : X → Bool) (xs : List X) → AllByRecursion (λ x. test x ≡ true → P x) xs → AllByRecursion P (filter test xs)
+pub all_tested : {X : Type 0} (P : X → Type 0) (test : X → Bool) (xs : List X) → AllByRecursion (λ x. test x ≡ true → P x) xs → AllByRecursion P (filter test xs)
 all_tested P test [] h = tt
 all_tested P test (x ∷ xs) h = by (test x) refl (all_tested P test xs h.1)
   where

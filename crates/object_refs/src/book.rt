@@ -1,6 +1,7 @@
 //! The book and its public calls.
 ghost use Rattle.std.specs.Prelude.{◌≡◌, ◌+◌, ◌-◌, ◌^◌, [], IfOk, IsFalse, IsTrue, is_some, length, min, nat_le, not, option_copied, pos};
 ghost use Rattle.media_rows.specs.Answer.{keep_refusal};
+ghost use Rattle.media_rows.specs.Good.{are_object_ids_distinct, rises_by};
 ghost use Rattle.media_rows.specs.Objects.{due_objects, flows_naming, idle_time, idled, is_named, is_stored_object, object_of, reference_count};
 ghost use Rattle.media_rows.specs.Refusals.{IsChange, Restores, when};
 ghost use Rattle.media_rows.specs.Restoring.{can_restore_objects};
@@ -236,6 +237,14 @@ impl ObjectBook {
     {
         let kept = all_values(alloc, &self.rows)?;
         object_list(alloc, &kept)
+    }
+
+    /// A law: objects stand by rising serial, and no two have one id.
+    pub fn is_in_order(&self)
+        ensures serials { IsTrue (rises_by (λ row. row.serial) (objects_in self.now)) }
+        ensures ids { IsTrue (are_object_ids_distinct (objects_in self.now)) }
+    {
+        self.rows.keys_rise();
     }
 
     /// The same book once more.
