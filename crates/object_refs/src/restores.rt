@@ -1,9 +1,9 @@
 //! Books that are made from rows.
-ghost use Rattle.std.specs.Prelude.{◌≡◌, ◌&&◌, is_none, not, option_copied};
+ghost use Rattle.std.specs.Prelude.{◌≡◌, ◌&&◌, is_none, not};
 ghost use Rattle.std.specs.List.{list_all};
 ghost use Rattle.media_rows.specs.Objects.{is_stored_object, object_of};
 ghost use Rattle.media_rows.specs.Refusals.{Restores};
-ghost use Rattle.object_refs.specs.References.{changed_at, kept_of, objects_in, referred};
+ghost use Rattle.object_refs.specs.References.{changed_at, objects_in, referred};
 ghost use Rattle.object_refs.specs.Within.Books.{are_names_distinct, bare_objects, has_serial, referring, with_row};
 
 use crate::ObjectBook;

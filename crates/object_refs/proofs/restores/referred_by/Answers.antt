@@ -12,14 +12,20 @@ returns-in-Err c =
     let all = c.args.segments.now in
     let start = c.args.bare.now in
     let s = c.index-segments-segments.result in
-    let shape : drop (length all - (c.loop-passed.passed + 1)) all ≡ s ∷ drop (length all - c.loop-passed.passed) all = one_more all c.loop-passed.passed s (omega (arith, c.loop-passed-test.true)) c.index-segments-segments.is in
-    handed_on c.in-Err.fault (is_stored_object (objects_in c.loop-passed.book) s.segment.object) (list_all (λ x. is_stored_object (objects_in start) x.segment.object) all) (changed_at s.segment.object (referred s.flow) c.loop-passed.book) (referring all start)
-    (λ stored. not_referred (length all - (c.loop-passed.passed + 1)) s (drop (length all - c.loop-passed.passed) all) all start c.loop-passed.book c.loop-passed.invariant stored shape) c.in-Err.ensures
+    let shape : drop (length all - (c.loop-passed.passed + 1)) all ≡ s ∷ drop (length all - c.loop-passed.passed) all =
+    one_more all c.loop-passed.passed s (omega (arith, c.loop-passed-test.true)) c.index-segments-segments.is in
+    handed_on c.in-Err.fault (is_stored_object (objects_in c.loop-passed.book) s.segment.object)
+    (list_all (λ x. is_stored_object (objects_in start) x.segment.object) all) (changed_at s.segment.object (referred s.flow) c.loop-passed.book)
+    (referring all start)
+    (λ stored. not_referred (length all - (c.loop-passed.passed + 1)) s (drop (length all - c.loop-passed.passed) all) all start c.loop-passed.book
+    c.loop-passed.invariant stored shape) c.in-Err.ensures
 
 -- one reference more
 pub loop-passed-preserved : goal.loop-passed-preserved
 loop-passed-preserved c =
     let all = c.args.segments.now in
     let s = c.index-segments-segments.result in
-    let shape : drop (length all - (c.loop-passed.passed + 1)) all ≡ s ∷ drop (length all - c.loop-passed.passed) all = one_more all c.loop-passed.passed s (omega (arith, c.loop-passed-test.true)) c.index-segments-segments.is in
-    referred_more s (drop (length all - c.loop-passed.passed) all) (drop (length all - (c.loop-passed.passed + 1)) all) c.args.bare.now c.loop-passed.book c.in-Ok.next c.loop-passed.invariant c.in-Ok.ensures.0 c.in-Ok.ensures.1 shape
+    let shape : drop (length all - (c.loop-passed.passed + 1)) all ≡ s ∷ drop (length all - c.loop-passed.passed) all =
+    one_more all c.loop-passed.passed s (omega (arith, c.loop-passed-test.true)) c.index-segments-segments.is in
+    referred_more s (drop (length all - c.loop-passed.passed) all) (drop (length all - (c.loop-passed.passed + 1)) all) c.args.bare.now c.loop-passed.book
+    c.in-Ok.next c.loop-passed.invariant c.in-Ok.ensures.0 c.in-Ok.ensures.1 shape

@@ -13,4 +13,5 @@ returns c =
     let rows = c.self.inside.rows in
     let fit : FitsSigned w128 c.serial_key.result = search rules in
     let there : option_copied c.value_at.result ≡ value_at c.serial_key.result rows = simp to_z-of_z at c.value_at.ensures in
-    c.is_some.ensures ∙ sym (copied_some c.value_at.result) ∙ ap is_some (there ∙ ap (λ k. value_at k rows) c.serial_key.ensures) ∙ serial_seen c.args.serial rows c.self.invariant.keyed ∙ ap (has_serial c.args.serial) c.self.view_is
+    c.is_some.ensures ∙ sym (copied_some c.value_at.result) ∙ ap is_some (there ∙ ap (λ k. value_at k rows) c.serial_key.ensures)
+    ∙ serial_seen c.args.serial rows c.self.invariant.keyed ∙ ap (has_serial c.args.serial) c.self.view_is

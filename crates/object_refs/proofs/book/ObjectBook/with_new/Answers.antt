@@ -14,4 +14,6 @@ with_row-requires-clause-serial c = below_fresh c.args.serial c.args.self.now c.
 
 -- the object stands at the end
 pub returns : goal.returns
-returns c = if_ok c.with_row.result (λ next is. new_at_end c.in_ok-copy.field-0 c.args.id.now c.args.serial c.args.now c.args.self.now next c.in_ok-copy.ensures c.requires.above is) c.with_row.ensures
+returns c = if_ok c.with_row.result
+    (λ next is. new_at_end c.in_ok-copy.field-0 c.args.id.now c.args.serial c.args.now c.args.self.now next c.in_ok-copy.ensures c.requires.above is)
+    c.with_row.ensures
