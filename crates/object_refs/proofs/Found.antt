@@ -21,12 +21,14 @@ module _ {V : Type 0} where
   all_looked [] rising = tt
   all_looked (p ∷ rest) rising = (looked_here p.0 p rest (is_same p.0 p.0 refl), both rest rising.0 (all_looked rest rising.1))
     where
-      both : (qs : List (ℤ × V)) → AllByRecursion (λ q. p.0 <ℤ q.0) qs → AllByRecursion (λ q. value_at q.0 rest ≡ Some q.1) qs → AllByRecursion (λ q. value_at q.0 (p ∷ rest) ≡ Some q.1) qs
+      both : (qs : List (ℤ × V)) → AllByRecursion (λ q. p.0 <ℤ q.0) qs → AllByRecursion (λ q. value_at q.0 rest ≡ Some q.1) qs
+          → AllByRecursion (λ q. value_at q.0 (p ∷ rest) ≡ Some q.1) qs
       both [] lt look = tt
       both (q ∷ qs) lt look = (looked_past q.0 p rest (below_differs p.0 q.0 lt.0) ∙ look.0, both qs lt.1 look.1)
 
   -- what holds of all values holds of one that is seen
-  pub seen_holds : (P : ℤ → V → Type 0) (ps : List (ℤ × V)) (key : ℤ) (value : V) → AllByRecursion (λ p. P p.0 p.1) ps → value_at key ps ≡ Some value → P key value
+  pub seen_holds : (P : ℤ → V → Type 0) (ps : List (ℤ × V)) (key : ℤ) (value : V) → AllByRecursion (λ p. P p.0 p.1) ps → value_at key ps ≡ Some value
+      → P key value
   seen_holds P [] key value h e = absurd (grind (arith, e))
   seen_holds P (p ∷ rest) key value h e = by (int_eq p.0 key) refl (λ e'. seen_holds P rest key value h.1 e')
     where
@@ -38,11 +40,14 @@ module _ {V : Type 0} where
       by false et ih = ih (sym (looked_past key p rest et) ∙ e)
 
   -- a value that is found is seen at its own key
-  pub found_seen : (own : V → ℤ) (test : V → Bool) (ps : List (ℤ × V)) (value : V) → IsRising ps → IsKeyedBy own ps → find test (values ps) ≡ Some value → (value_at (own value) ps ≡ Some value) × (test value ≡ true)
+  pub found_seen : (own : V → ℤ) (test : V → Bool) (ps : List (ℤ × V)) (value : V) → IsRising ps → IsKeyedBy own ps → find test (values ps) ≡ Some value
+      → (value_at (own value) ps ≡ Some value) × (test value ≡ true)
   found_seen own test [] value rising keyed e = absurd (grind (arith, e))
   found_seen own test (p ∷ rest) value rising keyed e = by (test p.1) refl e (λ e'. found_seen own test rest value rising.1 keyed.1 e')
     where
-      by : (t : Bool) → test p.1 ≡ t → cond t (Some p.1) (find test (values rest)) ≡ Some value → (find test (values rest) ≡ Some value → (value_at (own value) rest ≡ Some value) × (test value ≡ true)) → (value_at (own value) (p ∷ rest) ≡ Some value) × (test value ≡ true)
+      by : (t : Bool) → test p.1 ≡ t → cond t (Some p.1) (find test (values rest)) ≡ Some value
+          → (find test (values rest) ≡ Some value → (value_at (own value) rest ≡ Some value) × (test value ≡ true))
+          → (value_at (own value) (p ∷ rest) ≡ Some value) × (test value ≡ true)
       by true et f ih =
           let is : p.1 ≡ value = some_same f in
           (looked_here (own value) p rest (is_same p.0 (own value) (keyed.0 ∙ ap own is)) ∙ ap (λ v. Some v) is, ap test (sym is) ∙ et)
@@ -59,7 +64,8 @@ abbrev Rows : Type 0
 Rows = List (ℤ × Kept)
 
 -- whether a row has the id is whether it stands at the id's serial
-pub tests_at : (id : List ℕ) (s : ℤ) (kept : Kept) (rows : Rows) (names : List (ℤ × List Named)) → IsRising rows → IsInverse (id_at rows) (name_at names) → value_at s rows ≡ Some kept → kept.row.id ≡ id → AllByRecursion (λ p. bytes_eq p.1.row.id id ≡ is_at s p) rows
+pub tests_at : (id : List ℕ) (s : ℤ) (kept : Kept) (rows : Rows) (names : List (ℤ × List Named)) → IsRising rows → IsInverse (id_at rows) (name_at names)
+    → value_at s rows ≡ Some kept → kept.row.id ≡ id → AllByRecursion (λ p. bytes_eq p.1.row.id id ≡ is_at s p) rows
 tests_at id s kept rows names rising inverse here has =
     all_map (λ p. value_at p.0 rows ≡ Some p.1) (λ p. bytes_eq p.1.row.id id ≡ is_at s p) one rows (all_looked rows rising)
   where
@@ -80,7 +86,8 @@ tests_at id s kept rows names rising inverse here has =
             sym (clash (bytes_same p.1.row.id id (ap (λ k. k.row.id) same ∙ has)) eb)
 
 -- no row has an id without a serial
-pub no_tests : (id : List ℕ) (rows : Rows) (names : List (ℤ × List Named)) → IsRising rows → IsInverse (id_at rows) (name_at names) → name_at names id ≡ None → AllByRecursion (λ p. bytes_eq p.1.row.id id ≡ false) rows
+pub no_tests : (id : List ℕ) (rows : Rows) (names : List (ℤ × List Named)) → IsRising rows → IsInverse (id_at rows) (name_at names) → name_at names id ≡ None
+    → AllByRecursion (λ p. bytes_eq p.1.row.id id ≡ false) rows
 no_tests id rows names rising inverse none =
     all_map (λ p. value_at p.0 rows ≡ Some p.1) (λ p. bytes_eq p.1.row.id id ≡ false) one rows (all_looked rows rising)
   where
@@ -88,7 +95,9 @@ no_tests id rows names rising inverse none =
     one p look = by (bytes_eq p.1.row.id id) refl
       where
         by : (b : Bool) → bytes_eq p.1.row.id id ≡ b → bytes_eq p.1.row.id id ≡ false
-        by true eb = absurd (let found = inverse.out p.0 id (ap (option_map (λ k. k.row.id)) look ∙ ap (λ i. Some i) (same_bytes p.1.row.id id eb)) in let both = sym none ∙ found in grind (arith, both))
+        by true eb = absurd (let found =
+            inverse.out p.0 id (ap (option_map (λ k. k.row.id)) look ∙ ap (λ i. Some i) (same_bytes p.1.row.id id eb)) in let both =
+            sym none ∙ found in grind (arith, both))
         by false eb = eb
 
 -- the row at a serial that has the id
@@ -100,16 +109,19 @@ seen_at id s rows e = by (value_at s rows) refl e
     by (Some kept) eo f = (kept, eo, some_same f)
 
 -- an id's serial leads to the object that a search finds
-pub kept_found : (id : List ℕ) (serial : ℕ) (rows : Rows) (names : List (ℤ × List Named)) → IsRising rows → IsInverse (id_at rows) (name_at names) → serial_named (id_number id) id names ≡ Some serial → value_at (pos serial) rows ≡ kept_of id (values rows)
+pub kept_found : (id : List ℕ) (serial : ℕ) (rows : Rows) (names : List (ℤ × List Named)) → IsRising rows → IsInverse (id_at rows) (name_at names)
+    → serial_named (id_number id) id names ≡ Some serial → value_at (pos serial) rows ≡ kept_of id (values rows)
 kept_found id serial rows names rising inverse e =
     let at = seen_at id (pos serial) rows (inverse.home id (pos serial) (ap (option_map (λ n. pos n)) e)) in
     found_is (λ k. bytes_eq k.row.id id) (pos serial) rows (tests_at id (pos serial) at.0 rows names rising inverse at.1 at.2)
 
-pub kept_none : (id : List ℕ) (rows : Rows) (names : List (ℤ × List Named)) → IsRising rows → IsInverse (id_at rows) (name_at names) → serial_named (id_number id) id names ≡ None → kept_of id (values rows) ≡ None
+pub kept_none : (id : List ℕ) (rows : Rows) (names : List (ℤ × List Named)) → IsRising rows → IsInverse (id_at rows) (name_at names)
+    → serial_named (id_number id) id names ≡ None → kept_of id (values rows) ≡ None
 kept_none id rows names rising inverse e = none_found (λ k. bytes_eq k.row.id id) rows (no_tests id rows names rising inverse (ap (option_map (λ n. pos n)) e))
 
 -- an object that isn't found has no serial
-pub unnamed : (id : List ℕ) (rows : Rows) (names : List (ℤ × List Named)) → IsRising rows → IsInverse (id_at rows) (name_at names) → kept_of id (values rows) ≡ None → name_at names id ≡ None
+pub unnamed : (id : List ℕ) (rows : Rows) (names : List (ℤ × List Named)) → IsRising rows → IsInverse (id_at rows) (name_at names)
+    → kept_of id (values rows) ≡ None → name_at names id ≡ None
 unnamed id rows names rising inverse none = by (serial_named (id_number id) id names) refl
   where
     by : (o : Option ℕ) → serial_named (id_number id) id names ≡ o → option_map (λ n. pos n) o ≡ None
@@ -124,6 +136,7 @@ pub object_is : (id : List ℕ) (kept : List Kept) → object_of id (objects_in 
 object_is id [] = refl
 object_is id (k ∷ kept) = by (bytes_eq k.row.id id) (object_is id kept)
   where
-    by : (t : Bool) → object_of id (objects_in kept) ≡ option_map (λ x. x.row) (kept_of id kept) → cond t (Some k.row) (object_of id (objects_in kept)) ≡ option_map (λ x. x.row) (cond t (Some k) (kept_of id kept))
+    by : (t : Bool) → object_of id (objects_in kept) ≡ option_map (λ x. x.row) (kept_of id kept)
+        → cond t (Some k.row) (object_of id (objects_in kept)) ≡ option_map (λ x. x.row) (cond t (Some k) (kept_of id kept))
     by true ih = refl
     by false ih = ih

@@ -35,7 +35,8 @@ module _ {K : Type 0} (same : K → K → Bool) (sound : (a b : K) → same a b 
     pub others : (k : K) → is_it new k ≡ false → is_it (forth s) k ≡ false → back' k ≡ back k
     pub fresh : (k : K) (t : ℤ) → is_it new k ≡ true → back k ≡ Some t → t ≡ s
 
-  pub moved : (forth forth' : ℤ → Option K) (back back' : K → Option ℤ) (s : ℤ) (new : Option K) → IsInverse forth back → Moves forth forth' back back' s new → IsInverse forth' back'
+  pub moved : (forth forth' : ℤ → Option K) (back back' : K → Option ℤ) (s : ℤ) (new : Option K) → IsInverse forth back → Moves forth forth' back back' s new
+      → IsInverse forth' back'
   moved forth forth' back back' s new inverse moves = record { out = out; home = home }
     where
       out : (t : ℤ) (k : K) → forth' t ≡ Some k → back' k ≡ Some t

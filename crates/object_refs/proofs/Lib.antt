@@ -7,7 +7,11 @@ mod Inverse
 mod Found
 mod Moving
 mod Referring
-mod Coming
 mod Changing
 mod Refusing
 mod Sweeping
+mod Ordering
+mod Restoring
+mod Coming
+mod Gathered
+pub mod Theorems

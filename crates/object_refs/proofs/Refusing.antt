@@ -26,7 +26,8 @@ pub found_again : (id : List ℕ) (kept : List Kept) (k : Kept) → kept_of id k
 found_again id kept k e = subst (λ i. kept_of i kept ≡ Some k) (sym (found_id id kept k e)) e
 
 -- and is changed by it
-pub changed_by : (id : List ℕ) (kept next : List Kept) (k : Kept) (change : Kept → Kept) → kept_of id kept ≡ Some k → next ≡ changed_at k.row.id change kept → next ≡ changed_at id change kept
+pub changed_by : (id : List ℕ) (kept next : List Kept) (k : Kept) (change : Kept → Kept) → kept_of id kept ≡ Some k → next ≡ changed_at k.row.id change kept
+    → next ≡ changed_at id change kept
 changed_by id kept next k change e is = is ∙ ap (λ i. changed_at i change kept) (found_id id kept k e)
 
 -- ---- storing
@@ -34,14 +35,16 @@ changed_by id kept next k change e is = is ∙ ap (λ i. changed_at i change kep
 pub keep_none : (id : List ℕ) (kept : List Kept) → kept_of id kept ≡ None → keep_refusal (object_of id (objects_in kept)) ≡ Some UnknownObject
 keep_none id kept e = ap keep_refusal (object_is id kept ∙ ap (option_map (λ k. k.row)) e)
 
-pub keep_stored : (id : List ℕ) (kept : List Kept) (k : Kept) → kept_of id kept ≡ Some k → is_stored k.row.state ≡ true → keep_refusal (object_of id (objects_in kept)) ≡ Some OtherBytes
+pub keep_stored : (id : List ℕ) (kept : List Kept) (k : Kept) → kept_of id kept ≡ Some k → is_stored k.row.state ≡ true
+    → keep_refusal (object_of id (objects_in kept)) ≡ Some OtherBytes
 keep_stored id kept k e stored = ap keep_refusal (object_is id kept ∙ ap (option_map (λ x. x.row)) e) ∙ by k.row.state stored
   where
     by : (state : ObjectState) → is_stored state ≡ true → keep_state state ≡ Some OtherBytes
     by Allocated f = absurd (grind (arith, f))
     by (Stored start size) f = refl
 
-pub keep_allocated : (id : List ℕ) (kept : List Kept) (k : Kept) → kept_of id kept ≡ Some k → is_stored k.row.state ≡ false → keep_refusal (object_of id (objects_in kept)) ≡ None
+pub keep_allocated : (id : List ℕ) (kept : List Kept) (k : Kept) → kept_of id kept ≡ Some k → is_stored k.row.state ≡ false
+    → keep_refusal (object_of id (objects_in kept)) ≡ None
 keep_allocated id kept k e stored = ap keep_refusal (object_is id kept ∙ ap (option_map (λ x. x.row)) e) ∙ by k.row.state stored
   where
     by : (state : ObjectState) → is_stored state ≡ false → keep_state state ≡ None
@@ -69,8 +72,10 @@ stored_found (Some x) k e = by (is_stored x.row.state) e
     by true f = f
     by false f = absurd (grind (arith, f))
 
-pub refers_none : (id : List ℕ) (kept : List Kept) (copied : List ℕ) → stored_of (kept_of id kept) ≡ None → copied ≡ id → when (not (is_stored_object (objects_in kept) id)) (NoObject id) ≡ Some (NoObject copied)
+pub refers_none : (id : List ℕ) (kept : List Kept) (copied : List ℕ) → stored_of (kept_of id kept) ≡ None → copied ≡ id
+    → when (not (is_stored_object (objects_in kept) id)) (NoObject id) ≡ Some (NoObject copied)
 refers_none id kept copied e ec = ap (λ b. when (not b) (NoObject id)) (stored_is id kept ∙ ap is_some e) ∙ ap (λ i. Some (NoObject i)) (sym ec)
 
-pub refers_some : (id : List ℕ) (kept : List Kept) (k : Kept) → stored_of (kept_of id kept) ≡ Some k → when (not (is_stored_object (objects_in kept) id)) (NoObject id) ≡ None
+pub refers_some : (id : List ℕ) (kept : List Kept) (k : Kept) → stored_of (kept_of id kept) ≡ Some k
+    → when (not (is_stored_object (objects_in kept) id)) (NoObject id) ≡ None
 refers_some id kept k e = ap (λ b. when (not b) (NoObject id)) (stored_is id kept ∙ ap is_some e)

@@ -34,7 +34,7 @@ all_inserted P before x (y ∷ ys) h hs = by (before y x) (all_inserted P before
     by true rest = (hs.0, rest)
     by false rest = (h, hs)
 
-all_ordered : {X : Type 0} (P : X → Type 0) (before : X → X → Bool) (xs : List X) → AllByRecursion P xs → AllByRecursion P (in_order before xs)
+pub all_ordered : {X : Type 0} (P : X → Type 0) (before : X → X → Bool) (xs : List X) → AllByRecursion P xs → AllByRecursion P (in_order before xs)
 all_ordered P before [] h = tt
 all_ordered P before (x ∷ xs) h = all_inserted P before x (in_order before xs) h.0 (all_ordered P before xs h.1)
 
@@ -44,7 +44,8 @@ pub record Follows {X : Type 0} (before : X → X → Bool) (test : X → Bool) 
   pub behind : before m x ≡ false → x ≡ m
   pub tested : test x ≡ true → x ≡ m
 
-pub least_first : {X : Type 0} (before : X → X → Bool) (test : X → Bool) (m : X) (xs : List X) → AllByRecursion (Follows before test m) xs → list_any test xs ≡ true → first (in_order before xs) ≡ Some m
+pub least_first : {X : Type 0} (before : X → X → Bool) (test : X → Bool) (m : X) (xs : List X) → AllByRecursion (Follows before test m) xs
+    → list_any test xs ≡ true → first (in_order before xs) ≡ Some m
 least_first before test m [] h e = absurd (grind (arith, e))
 least_first {X} before test m (x ∷ xs) h e = by (list_any test xs) (test x) refl refl e (λ e'. least_first before test m xs h.1 e')
   where
@@ -64,12 +65,14 @@ least_first {X} before test m (x ∷ xs) h e = by (list_any test xs) (test x) re
         by' true g = f
         by' false g = ap (λ z. Some z) (h.0.behind (subst (λ z. before z x ≡ false) (some_same f) g))
 
-    by : (some one : Bool) → list_any test xs ≡ some → test x ≡ one → (one || some) ≡ true → (list_any test xs ≡ true → first (in_order before xs) ≡ Some m) → first (inserted before x (in_order before xs)) ≡ Some m
+    by : (some one : Bool) → list_any test xs ≡ some → test x ≡ one → (one || some) ≡ true → (list_any test xs ≡ true → first (in_order before xs) ≡ Some m)
+        → first (inserted before x (in_order before xs)) ≡ Some m
     by true one es eo f ih = stays (in_order before xs) (ih es)
     by false true es eo f ih = in_front (in_order before xs) (all_ordered (Follows before test m) before xs h.1) (h.0.tested eo)
     by false false es eo f ih = absurd (grind (arith, f))
 
-all_tested : {X : Type 0} (P : X → Type 0) (test : X → Bool) (xs : List X) → AllByRecursion (λ x. test x ≡ true → P x) xs → AllByRecursion P (filter test xs)
+pub all_tested : {X : Type 0} (P : X → Type 0) (test : X → Bool) (xs : List X) → AllByRecursion (λ x. test x ≡ true → P x) xs
+    → AllByRecursion P (filter test xs)
 all_tested P test [] h = tt
 all_tested P test (x ∷ xs) h = by (test x) refl (all_tested P test xs h.1)
   where
@@ -84,8 +87,10 @@ all_rows P (p ∷ rows) h = (h.0, all_rows P rows h.1)
 -- ---- which objects are due
 
 -- an object is named where it has references
-pub all_named : (rows : Rows) (names : List (ℤ × List Named)) (idle : List (ℤ × ℕ)) → IsBook rows names idle → IsRising rows → AllByRecursion (λ p. is_named (references_in (values rows)) p.1.row.id ≡ has_any p.1.flows) rows
-all_named rows names idle book rising = all_map (λ p. value_at p.0 rows ≡ Some p.1) (λ p. is_named (references_in (values rows)) p.1.row.id ≡ has_any p.1.flows) one rows (all_looked rows rising)
+pub all_named : (rows : Rows) (names : List (ℤ × List Named)) (idle : List (ℤ × ℕ)) → IsBook rows names idle → IsRising rows
+    → AllByRecursion (λ p. is_named (references_in (values rows)) p.1.row.id ≡ has_any p.1.flows) rows
+all_named rows names idle book rising =
+    all_map (λ p. value_at p.0 rows ≡ Some p.1) (λ p. is_named (references_in (values rows)) p.1.row.id ≡ has_any p.1.flows) one rows (all_looked rows rising)
   where
     one : (p : ℤ × Kept) → value_at p.0 rows ≡ Some p.1 → is_named (references_in (values rows)) p.1.row.id ≡ has_any p.1.flows
     one p look =
@@ -109,11 +114,17 @@ no_flows [] e = refl
 no_flows (x ∷ l) e = absurd (grind (arith, e))
 
 -- none is due where each that has no references is idle for too short a time
-pub none_due : (rows : Rows) (names : List (ℤ × List Named)) (idle : List (ℤ × ℕ)) (moment : ℕ) → IsBook rows names idle → IsRising rows → AllByRecursion (λ p. p.1.flows ≡ [] → nat_le (p.1.row.idle_since + idle_time) moment ≡ false) rows → first (due_objects (references_in (values rows)) (objects_in (values rows)) moment) ≡ None
+pub none_due : (rows : Rows) (names : List (ℤ × List Named)) (idle : List (ℤ × ℕ)) (moment : ℕ) → IsBook rows names idle → IsRising rows
+    → AllByRecursion (λ p. p.1.flows ≡ [] → nat_le (p.1.row.idle_since + idle_time) moment ≡ false) rows
+    → first (due_objects (references_in (values rows)) (objects_in (values rows)) moment) ≡ None
 none_due rows names idle moment book rising short =
-    ap (λ l. first (in_order idles_before l)) (filter_none (due rows moment) (objects_in (values rows)) (all_rows (λ row. due rows moment row ≡ false) rows (both rows short (all_named rows names idle book rising))))
+    ap (λ l. first (in_order idles_before l))
+    (filter_none (due rows moment) (objects_in (values rows))
+    (all_rows (λ row. due rows moment row ≡ false) rows (both rows short (all_named rows names idle book rising))))
   where
-    both : (qs : Rows) → AllByRecursion (λ p. p.1.flows ≡ [] → nat_le (p.1.row.idle_since + idle_time) moment ≡ false) qs → AllByRecursion (λ p. is_named (references_in (values rows)) p.1.row.id ≡ has_any p.1.flows) qs → AllByRecursion (λ p. due rows moment p.1.row ≡ false) qs
+    both : (qs : Rows) → AllByRecursion (λ p. p.1.flows ≡ [] → nat_le (p.1.row.idle_since + idle_time) moment ≡ false) qs
+        → AllByRecursion (λ p. is_named (references_in (values rows)) p.1.row.id ≡ has_any p.1.flows) qs
+        → AllByRecursion (λ p. due rows moment p.1.row ≡ false) qs
     both [] s n = tt
     both (q ∷ qs) s n = (by (has_any q.1.flows) refl, both qs s.1 n.1)
       where
@@ -143,11 +154,13 @@ serial_some None s e = absurd (grind (arith, e))
 serial_some (Some n) s e = (n, refl)
 
 -- the object at the first serial of the order
-pub first_is : (rows : Rows) (names : List (ℤ × List Named)) (idle : List (ℤ × ℕ)) (serial : ℕ) → IsBook rows names idle → IsRising rows → IsRising idle → first (values idle) ≡ Some serial → (k : Kept) × (value_at (pos serial) rows ≡ Some k) × IsFirst rows k
+pub first_is : (rows : Rows) (names : List (ℤ × List Named)) (idle : List (ℤ × ℕ)) (serial : ℕ) → IsBook rows names idle → IsRising rows → IsRising idle
+    → first (values idle) ≡ Some serial → (k : Kept) × (value_at (pos serial) rows ≡ Some k) × IsFirst rows k
 first_is rows names [] serial book rising rising' e = absurd (grind (arith, e))
 first_is rows names (i ∷ idle) serial book rising rising' e =
     let at : i.1 ≡ serial = some_same e in
-    let here : idle_serial (i ∷ idle) i.0 ≡ Some (pos serial) = ap (option_map (λ n. pos n)) (looked_here i.0 i idle (is_same i.0 i.0 refl)) ∙ ap (λ n. Some (pos n)) at in
+    let here : idle_serial (i ∷ idle) i.0 ≡ Some (pos serial) = ap (option_map (λ n. pos n)) (looked_here i.0 i idle (is_same i.0 i.0 refl))
+    ∙ ap (λ n. Some (pos n)) at in
     let found = and_then_some idle_key_of (value_at (pos serial) rows) i.0 (book.swept.home i.0 (pos serial) here) in
     let key : i.0 ≡ idle_key found.0.row.idle_since found.0.row.serial = key_there found.0 i.0 found.2 in
     let own : pos serial ≡ kept_key found.0 = seen_holds (λ z v. z ≡ kept_key v) rows (pos serial) found.0 book.keyed found.1 in (
@@ -156,7 +169,9 @@ first_is rows names (i ∷ idle) serial book rising rising' e =
       record {
         seen = subst (λ z. value_at z rows ≡ Some found.0) own found.1;
         bare = bare_of_key found.0 i.0 found.2;
-        least = all_map (λ p. value_at p.0 rows ≡ Some p.1) (λ p. p.1.flows ≡ [] → idle_key found.0.row.idle_since found.0.row.serial ≤ℤ idle_key p.1.row.idle_since p.1.row.serial) (λ p look bare. subst (λ z. z ≤ℤ idle_key p.1.row.idle_since p.1.row.serial) key (low p look bare)) rows (all_looked rows rising);
+        least = all_map (λ p. value_at p.0 rows ≡ Some p.1)
+            (λ p. p.1.flows ≡ [] → idle_key found.0.row.idle_since found.0.row.serial ≤ℤ idle_key p.1.row.idle_since p.1.row.serial)
+            (λ p look bare. subst (λ z. z ≤ℤ idle_key p.1.row.idle_since p.1.row.serial) key (low p look bare)) rows (all_looked rows rising);
       },
     )
   where
@@ -170,14 +185,17 @@ first_is rows names (i ∷ idle) serial book rising rising' e =
         seen_holds (λ z v. i.0 ≤ℤ z) (i ∷ idle) (idle_key p.1.row.idle_since p.1.row.serial) value.0 from value.1
 
 -- nothing stands in an empty order
-pub none_is : (rows : Rows) (names : List (ℤ × List Named)) (idle : List (ℤ × ℕ)) (moment : ℕ) → IsBook rows names idle → IsRising rows → first (values idle) ≡ None → first (due_objects (references_in (values rows)) (objects_in (values rows)) moment) ≡ None
+pub none_is : (rows : Rows) (names : List (ℤ × List Named)) (idle : List (ℤ × ℕ)) (moment : ℕ) → IsBook rows names idle → IsRising rows
+    → first (values idle) ≡ None → first (due_objects (references_in (values rows)) (objects_in (values rows)) moment) ≡ None
 none_is rows names (i ∷ idle) moment book rising e = absurd (grind (arith, e))
 none_is rows names [] moment book rising e =
     none_due rows names [] moment book rising
-    (all_map (λ p. value_at p.0 rows ≡ Some p.1) (λ p. p.1.flows ≡ [] → nat_le (p.1.row.idle_since + idle_time) moment ≡ false) (λ p look bare. absurd (let f = none p look bare in grind (arith, f))) rows (all_looked rows rising))
+    (all_map (λ p. value_at p.0 rows ≡ Some p.1) (λ p. p.1.flows ≡ [] → nat_le (p.1.row.idle_since + idle_time) moment ≡ false)
+    (λ p look bare. absurd (let f = none p look bare in grind (arith, f))) rows (all_looked rows rising))
   where
     none : (p : ℤ × Kept) → value_at p.0 rows ≡ Some p.1 → p.1.flows ≡ [] → true ≡ false
-    none p look bare = none_some (book.swept.out p.0 (idle_key p.1.row.idle_since p.1.row.serial) (ap (option_and_then idle_key_of) look ∙ key_of_bare p.1 bare))
+    none p look bare = none_some
+        (book.swept.out p.0 (idle_key p.1.row.idle_since p.1.row.serial) (ap (option_and_then idle_key_of) look ∙ key_of_bare p.1 bare))
 
 -- by moment and then by serial is by key
 later : (m s n t : ℕ) → s < 2 ^ 64 → t < 2 ^ 64 → idle_key m s ≤ℤ idle_key n t → m * 2 ^ 64 + s ≤ n * 2 ^ 64 + t
@@ -203,24 +221,32 @@ or_right true b e = refl
 or_right false b e = e
 
 -- where the first isn't due, none is
-pub not_over : (rows : Rows) (names : List (ℤ × List Named)) (idle : List (ℤ × ℕ)) (moment : ℕ) (k : Kept) → IsBook rows names idle → IsRising rows → IsFirst rows k → nat_le (k.row.idle_since + idle_time) moment ≡ false → first (due_objects (references_in (values rows)) (objects_in (values rows)) moment) ≡ None
+pub not_over : (rows : Rows) (names : List (ℤ × List Named)) (idle : List (ℤ × ℕ)) (moment : ℕ) (k : Kept) → IsBook rows names idle → IsRising rows
+    → IsFirst rows k → nat_le (k.row.idle_since + idle_time) moment ≡ false
+    → first (due_objects (references_in (values rows)) (objects_in (values rows)) moment) ≡ None
 not_over rows names idle moment k book rising is e = none_due rows names idle moment book rising (both rows is.least book.small)
   where
     low : k.row.serial < 2 ^ 64
     low = seen_holds (λ z v. v.row.serial < 2 ^ 64) rows (kept_key k) k book.small is.seen
 
-    both : (qs : Rows) → AllByRecursion (λ p. p.1.flows ≡ [] → idle_key k.row.idle_since k.row.serial ≤ℤ idle_key p.1.row.idle_since p.1.row.serial) qs → AllByRecursion (λ p. p.1.row.serial < 2 ^ 64) qs → AllByRecursion (λ p. p.1.flows ≡ [] → nat_le (p.1.row.idle_since + idle_time) moment ≡ false) qs
+    both : (qs : Rows) → AllByRecursion (λ p. p.1.flows ≡ [] → idle_key k.row.idle_since k.row.serial ≤ℤ idle_key p.1.row.idle_since p.1.row.serial) qs
+        → AllByRecursion (λ p. p.1.row.serial < 2 ^ 64) qs → AllByRecursion (λ p. p.1.flows ≡ [] → nat_le (p.1.row.idle_since + idle_time) moment ≡ false) qs
     both [] l s = tt
     both (q ∷ qs) l s = ((λ bare. short (later k.row.idle_since k.row.serial q.1.row.idle_since q.1.row.serial low s.0 (l.0 bare)) s.0), both qs l.1 s.1)
       where
-        short : k.row.idle_since * 2 ^ 64 + k.row.serial ≤ q.1.row.idle_since * 2 ^ 64 + q.1.row.serial → q.1.row.serial < 2 ^ 64 → nat_le (q.1.row.idle_since + idle_time) moment ≡ false
+        short : k.row.idle_since * 2 ^ 64 + k.row.serial ≤ q.1.row.idle_since * 2 ^ 64 + q.1.row.serial → q.1.row.serial < 2 ^ 64
+            → nat_le (q.1.row.idle_since + idle_time) moment ≡ false
         short le fits = too_short k.row.idle_since q.1.row.idle_since moment (omega (arith, le, fits)) e
 
 -- where it is due, it is the first that is
-pub is_first_due : (rows : Rows) (names : List (ℤ × List Named)) (idle : List (ℤ × ℕ)) (moment : ℕ) (k : Kept) → IsBook rows names idle → IsRising rows → IsFirst rows k → nat_le (k.row.idle_since + idle_time) moment ≡ true → first (due_objects (references_in (values rows)) (objects_in (values rows)) moment) ≡ Some k.row
+pub is_first_due : (rows : Rows) (names : List (ℤ × List Named)) (idle : List (ℤ × ℕ)) (moment : ℕ) (k : Kept) → IsBook rows names idle → IsRising rows
+    → IsFirst rows k → nat_le (k.row.idle_since + idle_time) moment ≡ true
+    → first (due_objects (references_in (values rows)) (objects_in (values rows)) moment) ≡ Some k.row
 is_first_due rows names idle moment k book rising is over =
     least_first idles_before same k.row (filter (due rows moment) (objects_in (values rows)))
-    (all_tested (Follows idles_before same k.row) (due rows moment) (objects_in (values rows)) (all_rows (λ row. due rows moment row ≡ true → Follows idles_before same k.row row) rows (each one rows is.least book.small (all_named rows names idle book rising) (all_looked rows rising) book.keyed)))
+    (all_tested (Follows idles_before same k.row) (due rows moment) (objects_in (values rows))
+    (all_rows (λ row. due rows moment row ≡ true → Follows idles_before same k.row row) rows
+    (each one rows is.least book.small (all_named rows names idle book rising) (all_looked rows rising) book.keyed)))
     (among rows is.seen)
   where
     same : ObjectRow → Bool
@@ -229,7 +255,9 @@ is_first_due rows names idle moment k book rising is over =
     low : k.row.serial < 2 ^ 64
     low = seen_holds (λ z v. v.row.serial < 2 ^ 64) rows (kept_key k) k book.small is.seen
 
-    one : (p : ℤ × Kept) → (p.1.flows ≡ [] → idle_key k.row.idle_since k.row.serial ≤ℤ idle_key p.1.row.idle_since p.1.row.serial) → p.1.row.serial < 2 ^ 64 → is_named (references_in (values rows)) p.1.row.id ≡ has_any p.1.flows → value_at p.0 rows ≡ Some p.1 → p.0 ≡ kept_key p.1 → due rows moment p.1.row ≡ true → Follows idles_before (λ row. row.serial == k.row.serial) k.row p.1.row
+    one : (p : ℤ × Kept) → (p.1.flows ≡ [] → idle_key k.row.idle_since k.row.serial ≤ℤ idle_key p.1.row.idle_since p.1.row.serial) → p.1.row.serial < 2 ^ 64
+        → is_named (references_in (values rows)) p.1.row.id ≡ has_any p.1.flows → value_at p.0 rows ≡ Some p.1 → p.0 ≡ kept_key p.1
+        → due rows moment p.1.row ≡ true → Follows idles_before (λ row. row.serial == k.row.serial) k.row p.1.row
     one p least fits named look key d = record {
       not_ahead = ordered p.1.row.idle_since p.1.row.serial k.row.idle_since k.row.serial fits le;
       behind = λ e. equal (tied p.1.row.idle_since p.1.row.serial k.row.idle_since k.row.serial fits low le e);
@@ -237,7 +265,9 @@ is_first_due rows names idle moment k book rising is over =
     }
       where
         bare : p.1.flows ≡ []
-        bare = no_flows p.1.flows (sym named ∙ not_true (is_named (references_in (values rows)) p.1.row.id) (and_both (not (is_named (references_in (values rows)) p.1.row.id)) (nat_le (p.1.row.idle_since + idle_time) moment) d).0)
+        bare = no_flows p.1.flows
+            (sym named ∙ not_true (is_named (references_in (values rows)) p.1.row.id)
+            (and_both (not (is_named (references_in (values rows)) p.1.row.id)) (nat_le (p.1.row.idle_since + idle_time) moment) d).0)
 
         le : k.row.idle_since * 2 ^ 64 + k.row.serial ≤ p.1.row.idle_since * 2 ^ 64 + p.1.row.serial
         le = later k.row.idle_since k.row.serial p.1.row.idle_since p.1.row.serial low fits (least bare)
@@ -245,21 +275,37 @@ is_first_due rows names idle moment k book rising is over =
         equal : p.1.row.serial ≡ k.row.serial → p.1.row ≡ k.row
         equal e = ap (λ x. x.row) (some_same (sym look ∙ ap (λ z. value_at z rows) (key ∙ ap (λ n. pos n) e) ∙ is.seen))
 
-    each : ((p : ℤ × Kept) → (p.1.flows ≡ [] → idle_key k.row.idle_since k.row.serial ≤ℤ idle_key p.1.row.idle_since p.1.row.serial) → p.1.row.serial < 2 ^ 64 → is_named (references_in (values rows)) p.1.row.id ≡ has_any p.1.flows → value_at p.0 rows ≡ Some p.1 → p.0 ≡ kept_key p.1 → due rows moment p.1.row ≡ true → Follows idles_before (λ row. row.serial == k.row.serial) k.row p.1.row) → (qs : Rows) → AllByRecursion (λ p. p.1.flows ≡ [] → idle_key k.row.idle_since k.row.serial ≤ℤ idle_key p.1.row.idle_since p.1.row.serial) qs → AllByRecursion (λ p. p.1.row.serial < 2 ^ 64) qs → AllByRecursion (λ p. is_named (references_in (values rows)) p.1.row.id ≡ has_any p.1.flows) qs → AllByRecursion (λ p. value_at p.0 rows ≡ Some p.1) qs → IsKeyedBy kept_key qs → AllByRecursion (λ p. due rows moment p.1.row ≡ true → Follows idles_before (λ row. row.serial == k.row.serial) k.row p.1.row) qs
+    each : ((p : ℤ × Kept) → (p.1.flows ≡ [] → idle_key k.row.idle_since k.row.serial ≤ℤ idle_key p.1.row.idle_since p.1.row.serial) → p.1.row.serial < 2 ^ 64
+        → is_named (references_in (values rows)) p.1.row.id ≡ has_any p.1.flows → value_at p.0 rows ≡ Some p.1 → p.0 ≡ kept_key p.1
+        → due rows moment p.1.row ≡ true → Follows idles_before (λ row. row.serial == k.row.serial) k.row p.1.row) → (qs : Rows)
+        → AllByRecursion (λ p. p.1.flows ≡ [] → idle_key k.row.idle_since k.row.serial ≤ℤ idle_key p.1.row.idle_since p.1.row.serial) qs
+        → AllByRecursion (λ p. p.1.row.serial < 2 ^ 64) qs → AllByRecursion (λ p. is_named (references_in (values rows)) p.1.row.id ≡ has_any p.1.flows) qs
+        → AllByRecursion (λ p. value_at p.0 rows ≡ Some p.1) qs → IsKeyedBy kept_key qs
+        → AllByRecursion (λ p. due rows moment p.1.row ≡ true → Follows idles_before (λ row. row.serial == k.row.serial) k.row p.1.row) qs
     each f [] a b c d g = tt
     each f (q ∷ qs) a b c d g = (f q a.0 b.0 c.0 d.0 g.0, each f qs a.1 b.1 c.1 d.1 g.1)
 
     is_due_too : due rows moment k.row ≡ true
-    is_due_too = rw (seen_holds (λ z v. is_named (references_in (values rows)) v.row.id ≡ has_any v.flows) rows (kept_key k) k (all_named rows names idle book rising) is.seen ∙ ap has_any is.bare) over
+    is_due_too = rw (seen_holds (λ z v. is_named (references_in (values rows)) v.row.id ≡ has_any v.flows) rows (kept_key k) k
+        (all_named rows names idle book rising) is.seen ∙ ap has_any is.bare) over
 
-    among : (qs : Rows) → value_at (kept_key k) qs ≡ Some k → list_any (λ row. row.serial == k.row.serial) (filter (due rows moment) (objects_in (values qs))) ≡ true
+    among : (qs : Rows) → value_at (kept_key k) qs ≡ Some k
+        → list_any (λ row. row.serial == k.row.serial) (filter (due rows moment) (objects_in (values qs))) ≡ true
     among [] e = absurd (grind (arith, e))
     among (q ∷ qs) e = by (int_eq q.0 (kept_key k)) refl (due rows moment q.1.row) refl (λ e'. among qs e')
       where
-        by : (t : Bool) → int_eq q.0 (kept_key k) ≡ t → (d : Bool) → due rows moment q.1.row ≡ d → (value_at (kept_key k) qs ≡ Some k → list_any (λ row. row.serial == k.row.serial) (filter (due rows moment) (objects_in (values qs))) ≡ true) → list_any (λ row. row.serial == k.row.serial) (cond d (q.1.row ∷ filter (due rows moment) (objects_in (values qs))) (filter (due rows moment) (objects_in (values qs)))) ≡ true
-        by true et true ed ih = let same_kept : q.1 ≡ k = some_same (sym (looked_here (kept_key k) q qs et) ∙ e) in rw (has_serial q.1.row.serial k.row.serial (ap (λ x. x.row.serial) same_kept)) refl
-        by true et false ed ih = absurd (let same_kept : q.1 ≡ k = some_same (sym (looked_here (kept_key k) q qs et) ∙ e) in let f = sym ed ∙ ap (λ x. due rows moment x.row) same_kept ∙ is_due_too in grind (arith, f))
-        by false et true ed ih = or_right (q.1.row.serial == k.row.serial) (list_any (λ row. row.serial == k.row.serial) (filter (due rows moment) (objects_in (values qs)))) (ih (sym (looked_past (kept_key k) q qs et) ∙ e))
+        by : (t : Bool) → int_eq q.0 (kept_key k) ≡ t → (d : Bool) → due rows moment q.1.row ≡ d
+            → (value_at (kept_key k) qs ≡ Some k → list_any (λ row. row.serial == k.row.serial) (filter (due rows moment) (objects_in (values qs))) ≡ true)
+            → list_any (λ row. row.serial == k.row.serial)
+            (cond d (q.1.row ∷ filter (due rows moment) (objects_in (values qs))) (filter (due rows moment) (objects_in (values qs)))) ≡ true
+        by true et true ed ih = let same_kept : q.1 ≡ k =
+            some_same (sym (looked_here (kept_key k) q qs et) ∙ e) in rw (has_serial q.1.row.serial k.row.serial (ap (λ x. x.row.serial) same_kept)) refl
+        by true et false ed ih =
+            absurd (let same_kept : q.1 ≡ k = some_same (sym (looked_here (kept_key k) q qs et) ∙ e) in let f =
+            sym ed ∙ ap (λ x. due rows moment x.row) same_kept ∙ is_due_too in grind (arith, f))
+        by false et true ed ih =
+            or_right (q.1.row.serial == k.row.serial) (list_any (λ row. row.serial == k.row.serial) (filter (due rows moment) (objects_in (values qs))))
+            (ih (sym (looked_past (kept_key k) q qs et) ∙ e))
         by false et false ed ih = ih (sym (looked_past (kept_key k) q qs et) ∙ e)
 
 -- ---- the order's keys
@@ -270,7 +316,8 @@ least_key = negsuc (2 ^ 127 - 1)
 key_least : (n : ℕ) → least_key ≤ℤ id_key n
 key_least n = omega (arith, ints)
 
-pub idle_least : (rows : Rows) (names : List (ℤ × List Named)) (idle : List (ℤ × ℕ)) → IsBook rows names idle → IsRising idle → AllByRecursion (λ p. negsuc (2 ^ 127 - 1) ≤ℤ p.0) idle
+pub idle_least : (rows : Rows) (names : List (ℤ × List Named)) (idle : List (ℤ × ℕ)) → IsBook rows names idle → IsRising idle
+    → AllByRecursion (λ p. negsuc (2 ^ 127 - 1) ≤ℤ p.0) idle
 idle_least rows names idle book rising = all_map (λ p. value_at p.0 idle ≡ Some p.1) (λ p. negsuc (2 ^ 127 - 1) ≤ℤ p.0) one idle (all_looked idle rising)
   where
     one : (p : ℤ × ℕ) → value_at p.0 idle ≡ Some p.1 → negsuc (2 ^ 127 - 1) ≤ℤ p.0
@@ -282,9 +329,13 @@ pub rows_least : (rows : Rows) → IsKeyedBy kept_key rows → AllByRecursion (�
 rows_least rows keyed = all_map (λ p. p.0 ≡ kept_key p.1) (λ p. negsuc (2 ^ 127 - 1) ≤ℤ p.0) (λ p e. rw e (omega (arith, ints))) rows keyed
 
 -- a look at the first serial finds an object
-pub first_seen : (rows : Rows) (names : List (ℤ × List Named)) (idle : List (ℤ × ℕ)) (serial : ℕ) → IsBook rows names idle → IsRising rows → IsRising idle → first (values idle) ≡ Some serial → value_at (pos serial) rows ≡ None → true ≡ false
-first_seen rows names idle serial book rising rising' e none = let found = first_is rows names idle serial book rising rising' e in none_some (sym none ∙ found.1)
+pub first_seen : (rows : Rows) (names : List (ℤ × List Named)) (idle : List (ℤ × ℕ)) (serial : ℕ) → IsBook rows names idle → IsRising rows → IsRising idle
+    → first (values idle) ≡ Some serial → value_at (pos serial) rows ≡ None → true ≡ false
+first_seen rows names idle serial book rising rising' e none = let found =
+    first_is rows names idle serial book rising rising' e in none_some (sym none ∙ found.1)
 
 -- and it is that object
-pub first_found : (rows : Rows) (names : List (ℤ × List Named)) (idle : List (ℤ × ℕ)) (serial : ℕ) (k : Kept) → IsBook rows names idle → IsRising rows → IsRising idle → first (values idle) ≡ Some serial → value_at (pos serial) rows ≡ Some k → IsFirst rows k
-first_found rows names idle serial k book rising rising' e look = let found = first_is rows names idle serial book rising rising' e in subst (IsFirst rows) (some_same (sym found.1 ∙ look)) found.2
+pub first_found : (rows : Rows) (names : List (ℤ × List Named)) (idle : List (ℤ × ℕ)) (serial : ℕ) (k : Kept) → IsBook rows names idle → IsRising rows
+    → IsRising idle → first (values idle) ≡ Some serial → value_at (pos serial) rows ≡ Some k → IsFirst rows k
+first_found rows names idle serial k book rising rising' e look = let found =
+    first_is rows names idle serial book rising rising' e in subst (IsFirst rows) (some_same (sym found.1 ∙ look)) found.2

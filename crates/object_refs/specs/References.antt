@@ -1,4 +1,5 @@
--- Objects with the references to them, as a book is seen: which object each call changes, and how. Our own rules.
+-- Objects with the references to them, as a book is seen: which object each call changes, and how.
+-- Our own rules.
 use Rattle.std.specs.Prelude.{ℕ, ◌==◌, pos, nat_lt, List, [], ◌∷◌, ◌++◌, Bool, Option, None, if◌then◌else◌, bytes_eq, filter, find, map, not}
 use Rattle.std.specs.List.{list_all, list_any}
 use Rattle.media_rows.specs.declared.object.Extent.{Extent}

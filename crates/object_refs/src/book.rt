@@ -1,19 +1,24 @@
 //! The book and its public calls.
 ghost use Rattle.std.specs.Prelude.{◌≡◌, ◌+◌, ◌-◌, ◌^◌, [], IfOk, IsFalse, IsTrue, is_some, length, min, nat_le, not, option_copied, pos};
 ghost use Rattle.media_rows.specs.Answer.{keep_refusal};
+ghost use Rattle.media_rows.specs.Good.{are_object_ids_distinct, rises_by};
 ghost use Rattle.media_rows.specs.Objects.{due_objects, flows_naming, idle_time, idled, is_named, is_stored_object, object_of, reference_count};
-ghost use Rattle.media_rows.specs.Refusals.{IsChange, when};
+ghost use Rattle.media_rows.specs.Refusals.{IsChange, Restores, when};
+ghost use Rattle.media_rows.specs.Restoring.{can_restore_objects};
 ghost use Rattle.media_rows.specs.declared.refusal.Refusal.TheVariants.{IdTaken, NoObject};
 ghost use Rattle.shared_tree.specs.Pairs.{first, values_of};
-ghost use Rattle.object_refs.specs.References.{are_below, changed_at, flows_in, kept_of, objects_in, references_in, referred, refers, released, stored_at, with_new, without_id};
-ghost use Rattle.object_refs.specs.Within.Books.{stored_of};
+ghost use Rattle.object_refs.specs.References.{are_below, book_of, changed_at, flows_in, kept_of, objects_in, references_in, referred, refers, released, stored_at, with_new, without_id};
+ghost use Rattle.object_refs.specs.Within.Books.{has_serial, stored_of};
 
 use crate::changes::{is_stored, referred_kept, released_kept, stored_kept};
 use crate::kept::Kept;
 use crate::keys::{all_values, first_value, value_at};
 use crate::names::{Bucket, id_number, serial_named};
+use crate::restores::{gathered, referred_by};
 use disk_trait::{Duplicate, Memory, Text};
-use media_rows::{BookFault, Extent, IdList, ObjectList, ObjectRow, Refusal};
+use media_rows::{
+    ApplyFault, BookFault, Extent, IdList, ObjectList, ObjectRow, Refusal, SegmentList,
+};
 use shared_tree::Version;
 use std::alloc::Global;
 use std::marker::Model;
@@ -56,6 +61,22 @@ impl ObjectBook {
             rows: Version::empty(),
             names: Version::empty(),
             idle: Version::empty(),
+        }
+    }
+
+    /// The book of these objects and of the references of these segments, each in any order. It is refused
+    /// exactly where ids or serials repeat, or a segment names an object that isn't kept or has no bytes.
+    pub fn from_rows(
+        alloc: Global,
+        objects: &ObjectList,
+        segments: &SegmentList,
+    ) -> Result<ObjectBook, ApplyFault>
+        ensures { Restores (can_restore_objects objects.now segments.now)
+            (book_of objects.now segments.now) result }
+    {
+        match gathered(alloc, objects.items()) {
+            Ok(bare) => referred_by(alloc, &bare, segments.items()),
+            Err(fault) => Err(fault),
         }
     }
 
@@ -218,6 +239,14 @@ impl ObjectBook {
         object_list(alloc, &kept)
     }
 
+    /// A law: objects stand by rising serial, and no two have one id.
+    pub fn is_in_order(&self)
+        ensures serials { IsTrue (rises_by (λ row. row.serial) (objects_in self.now)) }
+        ensures ids { IsTrue (are_object_ids_distinct (objects_in self.now)) }
+    {
+        self.rows.keys_rise();
+    }
+
     /// The same book once more.
     pub fn share(&self) -> Result<ObjectBook, Memory>
         ensures { IfOk result (λ next. next ≡ self.now) }
@@ -227,6 +256,13 @@ impl ObjectBook {
             names: self.names.share()?,
             idle: self.idle.share()?,
         })
+    }
+
+    /// Whether an object has this serial.
+    pub(crate) fn has_serial(&self, serial: u64) -> bool
+        ensures { result ≡ has_serial serial self.now }
+    {
+        value_at(&self.rows, &serial_key(serial)).is_some()
     }
 
     /// The object of this id, where it has its bytes.

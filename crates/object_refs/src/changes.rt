@@ -1,8 +1,8 @@
 //! What makes a book of another one: an object that comes, is changed or goes.
-ghost use Rattle.std.specs.Prelude.{◌≡◌, IfOk, IsTrue, None, Some};
+ghost use Rattle.std.specs.Prelude.{◌≡◌, ◌<◌, ◌^◌, IfOk, IsFalse, IsTrue, None, Some};
 ghost use Rattle.media_rows.specs.Objects.{is_stored};
 ghost use Rattle.object_refs.specs.References.{are_below, changed_at, kept_of, referred, stored_at, with_new, without_id};
-ghost use Rattle.object_refs.specs.Within.Books.{idle_entered, idle_left, released_at};
+ghost use Rattle.object_refs.specs.Within.Books.{has_serial, idle_entered, idle_left, released_at, with_row};
 ghost use Rattle.object_refs.specs.declared.kept.Kept.{Kept};
 
 use crate::ObjectBook;
@@ -29,24 +29,37 @@ impl ObjectBook {
         requires id { kept_of id.now self.now ≡ None }
         ensures { IfOk result (λ next. next ≡ with_new id.now serial now self.now) }
     {
+        let row = ObjectRow {
+            id: id.copy(alloc)?,
+            serial,
+            state: ObjectState::Allocated,
+            idle_since: now,
+        };
+        self.with_row(alloc, row)
+    }
+
+    /// The book with a new object at its place, to which nothing refers.
+    pub(crate) fn with_row(&self, alloc: Global, row: ObjectRow) -> Result<ObjectBook, Memory>
+        requires id { kept_of row.id self.now ≡ None }
+        requires serial { IsFalse (has_serial row.serial self.now) }
+        ensures { IfOk result (λ next. next ≡ with_row row self.now) }
+    {
         self.rows.keys_rise();
+        let serial = row.serial;
+        tell_small(serial);
         let kept = Kept {
-            row: ObjectRow {
-                id: id.copy(alloc)?,
-                serial,
-                state: ObjectState::Allocated,
-                idle_since: now,
-            },
+            row,
             flows: FlowCounts::empty(),
         };
         let key = kept.idle_key();
+        let number = id_number(&kept.row.id);
         let name = Named {
-            id: id.copy(alloc)?,
+            id: kept.row.id.copy(alloc)?,
             serial,
         };
         Ok(ObjectBook {
             rows: with_value(alloc, &self.rows, &serial_key(serial), kept)?,
-            names: with_name(alloc, &self.names, id_number(id), name)?,
+            names: with_name(alloc, &self.names, number, name)?,
             idle: idle_entered(alloc, &self.idle, &key, serial)?,
         })
     }
@@ -88,6 +101,13 @@ impl ObjectBook {
             idle: idle_left(alloc, &self.idle, &old.idle_key())?,
         })
     }
+}
+
+/// Does nothing. It tells what follows: a serial is a number of 64 bits.
+fn tell_small(serial: u64)
+    ensures { serial < 2 ^ 64 }
+{
+    let _serial = serial;
 }
 
 /// Whether an object in this state has its bytes.

@@ -9,10 +9,9 @@ ghost use Rattle.object_refs.specs.Within.Counts.{recounted, times_of};
 use crate::keys::{all_values, number_key, value_at, with_value, without_value};
 use disk_trait::Memory;
 use media_rows::IdList;
-use shared_tree::{Steps, Version};
+use shared_tree::Version;
 use std::alloc::Global;
-use std::marker::{Brand, Model};
-use std::sync::ledger::{Blank, Ledger};
+use std::marker::Model;
 
 /// How often a flow refers to an object.
 #[derive(Drop)]

@@ -8,5 +8,6 @@ mod flows;
 mod kept;
 mod keys;
 mod names;
+mod restores;
 
 pub use crate::book::ObjectBook;

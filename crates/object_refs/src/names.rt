@@ -1,8 +1,6 @@
 //! Objects by their ids: each id is found by a number, in a list of the ids that have that number.
-ghost use Rattle.std.specs.Prelude.{◌≡◌, ◌∷◌, ◌++◌, IfOk, None, Some, bytes_eq, filter, length, not, take, ◌≤◌};
+ghost use Rattle.std.specs.Prelude.{◌≡◌, ◌∷◌, ◌≤◌, IfOk, None, Some, filter, length, not, take};
 ghost use Rattle.std.specs.Int.{from_be_bytes, w128};
-ghost use Rattle.media_rows.specs.Views.{id_key};
-ghost use Rattle.shared_tree.specs.Pairs.{with_pair};
 ghost use Rattle.object_refs.specs.Within.Names.{Renames, bucket_at, id_number, is_named_so, serial_in, serial_named};
 
 use crate::keys::{number_key, value_at, with_value, without_value};

@@ -1,14 +1,18 @@
 -- What a book keeps beside its objects: two indexes, and what holds of them.
-use Rattle.std.specs.Prelude.{◌≡◌, ℕ, ◌+◌, ◌*◌, ◌^◌, ◌<◌, ℤ, pos, List, [], ◌∷◌, Option, Some, None, option_and_then, option_map, if◌then◌else◌}
-use Rattle.std.specs.List.{AllByRecursion}
+use Rattle.std.specs.Prelude.{◌≡◌, ℕ, ◌+◌, ◌*◌, ◌^◌, ◌<◌, ℤ, pos, List, [], ◌∷◌, Option, Some, None, option_and_then, option_map, if◌then◌else◌, Bool, true, ◌&&◌, ◌==◌, nat_lt, map}
+use Rattle.std.specs.List.{AllByRecursion, list_all, list_any}
 use Rattle.media_rows.specs.declared.object.ObjectRow.{ObjectRow}
-use Rattle.media_rows.specs.Objects.{is_stored}
+use Rattle.media_rows.specs.Objects.{is_stored, is_stored_object}
+use Rattle.media_rows.specs.declared.segment.SegmentRow.{SegmentRow}
+use Rattle.media_rows.specs.Good.{are_object_ids_distinct}
+use Rattle.media_rows.specs.Lists.{are_distinct, inserted}
+use Rattle.media_rows.specs.Restoring.{objects_of}
 use Rattle.media_rows.specs.Views.{id_key}
 use Rattle.shared_tree.specs.Pairs.{value_at, with_pair, without_key}
 use Rattle.shared_tree.specs.Rows.{IsKeyedBy}
 use Rattle.object_refs.specs.declared.kept.Kept.{Kept}
 use Rattle.object_refs.specs.declared.names.Named.{Named}
-use Rattle.object_refs.specs.References.{less_one}
+use Rattle.object_refs.specs.References.{changed_at, less_one, objects_in, referred}
 use Rattle.object_refs.specs.Within.Names.{id_number, serial_named}
 
 -- objects stand by serial
@@ -79,10 +83,51 @@ abbrev pub released_at : ℕ → ℕ → Kept → Kept
 released_at flow moment k =
     record { row = idle_row (less_one flow k.flows) moment k.row; flows = less_one flow k.flows }
 
+-- some object has this serial
+abbrev pub has_serial : ℕ → List Kept → Bool
+has_serial serial kept = list_any (λ k. k.row.serial == serial) kept
+
+-- by serial
+abbrev pub kept_before : Kept → Kept → Bool
+kept_before a b = nat_lt a.row.serial b.row.serial
+
+-- an object without references
+abbrev pub bare : ObjectRow → Kept
+bare row = record { row = row; flows = [] }
+
+-- the objects with a new one at its place, to which nothing refers
+abbrev pub with_row : ObjectRow → List Kept → List Kept
+with_row row kept = inserted kept_before (bare row) kept
+
+-- one reference more for each of these segments, of which the last one comes first
+abbrev pub referring : List SegmentRow → List Kept → List Kept
+referring [] kept = kept
+referring (s ∷ segments) kept =
+    changed_at s.segment.object (referred s.flow) (referring segments kept)
+
+-- ids and serials are distinct
+abbrev pub are_names_distinct : List ObjectRow → Bool
+are_names_distinct objects =
+    are_object_ids_distinct objects && are_distinct (map (λ row. row.serial) objects)
+
+-- the objects of rows in any order, by rising serial, to which nothing refers
+abbrev pub bare_objects : List ObjectRow → List Kept
+bare_objects objects = map bare (objects_of objects)
+
+-- a book of some rows, whose ids and serials are distinct
+pub record IsGathered (rows : List ObjectRow) (kept : List Kept) : Type 0 where
+  pub distinct : are_names_distinct rows ≡ true
+  pub is : kept ≡ bare_objects rows
+
+-- a book that some segments refer to, each of which names an object that has its bytes
+pub record AreReferred (segments : List SegmentRow) (start kept : List Kept) : Type 0 where
+  pub stored : list_all (λ s. is_stored_object (objects_in start) s.segment.object) segments ≡ true
+  pub is : kept ≡ referring segments start
+
 -- ---- a book
 
--- Objects stand by serial, which is a number of 64 bits. Each id leads to its object's serial and no
--- other one, and each object without references stands in the order of sweeps, and no other one.
+-- Objects stand by serial, which is a number of 64 bits. Each id leads to its object's serial and to
+-- no other one. Each object without references stands in the order of sweeps, and no other one.
 pub record IsBook (rows : List (ℤ × Kept)) (names : List (ℤ × List Named))
     (idle : List (ℤ × ℕ)) : Type 0 where
   pub keyed : IsKeyedBy kept_key rows

@@ -14,5 +14,6 @@ returns c =
     let names = c.args.names.now in
     let fit : FitsSigned w128 c.number_key.result = search rules in
     if_ok c.with_value.result
-    (λ next is. named_with c.args.number c.args.entry bucket names next (c.in_ok-bucket.ensures ∙ ap (λ l. c.args.entry ∷ l) c.bucket_at.ensures) (is ∙ ap (λ k. with_pair (k, bucket) names) c.number_key.ensures))
+    (λ next is. named_with c.args.number c.args.entry bucket names next (c.in_ok-bucket.ensures ∙ ap (λ l. c.args.entry ∷ l) c.bucket_at.ensures)
+    (is ∙ ap (λ k. with_pair (k, bucket) names) c.number_key.ensures))
     (simp to_z-of_z at c.with_value.ensures)

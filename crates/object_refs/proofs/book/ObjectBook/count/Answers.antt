@@ -8,7 +8,8 @@ use Rattle.object_refs.proofs.book.ObjectBook.count.Goals as goal
 pub returns-in-Some : goal.returns-in-Some
 returns-in-Some c =
     c.len.ensures
-    ∙ sym (count_found c.args.id.now c.self.inside.rows c.self.inside.names c.in-Some.kept.now c.keys_rise.ensures c.self.invariant.keyed c.self.invariant.named (ap (kept_of c.args.id.now) c.self.view_is ∙ sym c.in-Some.ensures))
+    ∙ sym (count_found c.args.id.now c.self.inside.rows c.self.inside.names c.in-Some.kept.now c.keys_rise.ensures c.self.invariant.keyed
+    c.self.invariant.named (ap (kept_of c.args.id.now) c.self.view_is ∙ sym c.in-Some.ensures))
     ∙ ap (λ kept. reference_count (references_in kept) c.args.id.now) c.self.view_is
 
 pub returns-in-None : goal.returns-in-None

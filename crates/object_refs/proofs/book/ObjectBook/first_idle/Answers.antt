@@ -23,7 +23,8 @@ unreachable-requires c =
     let rows = c.self.inside.rows in
     let fit : FitsSigned w128 c.serial_key.result = search rules in
     let none : None ≡ value_at c.serial_key.result rows = simp to_z-of_z at c.in_default-value_at.ensures in
-    let f = first_seen rows c.self.inside.names c.self.inside.idle c.in-Some.serial.now c.self.invariant c.keys_rise.ensures c.keys_rise-2.ensures (sym c.in-Some.ensures) (sym (none ∙ ap (λ k. value_at k rows) c.serial_key.ensures)) in
+    let f = first_seen rows c.self.inside.names c.self.inside.idle c.in-Some.serial.now c.self.invariant c.keys_rise.ensures c.keys_rise-2.ensures
+    (sym c.in-Some.ensures) (sym (none ∙ ap (λ k. value_at k rows) c.serial_key.ensures)) in
     absurd (grind (arith, f))
 
 -- it is due, and the first that is
@@ -33,8 +34,10 @@ returns-then-is_over c =
     let kept = c.in-Some-value_at.kept.now in
     let fit : FitsSigned w128 c.serial_key.result = search rules in
     let there : Some kept ≡ value_at c.serial_key.result rows = simp to_z-of_z at c.in-Some-value_at.ensures in
-    let is_first = first_found rows c.self.inside.names c.self.inside.idle c.in-Some.serial.now kept c.self.invariant c.keys_rise.ensures c.keys_rise-2.ensures (sym c.in-Some.ensures) (sym (there ∙ ap (λ k. value_at k rows) c.serial_key.ensures)) in
-    sym (is_first_due rows c.self.inside.names c.self.inside.idle c.args.now kept c.self.invariant c.keys_rise.ensures is_first (sym c.is_over.ensures ∙ c.if-is_over.true))
+    let is_first = first_found rows c.self.inside.names c.self.inside.idle c.in-Some.serial.now kept c.self.invariant c.keys_rise.ensures
+    c.keys_rise-2.ensures (sym c.in-Some.ensures) (sym (there ∙ ap (λ k. value_at k rows) c.serial_key.ensures)) in
+    sym (is_first_due rows c.self.inside.names c.self.inside.idle c.args.now kept c.self.invariant c.keys_rise.ensures is_first
+    (sym c.is_over.ensures ∙ c.if-is_over.true))
     ∙ ap (λ all. first (due_objects (references_in all) (objects_in all) c.args.now)) c.self.view_is
 
 -- where it isn't due, none is
@@ -44,6 +47,8 @@ returns-else-is_over c =
     let kept = c.in-Some-value_at.kept.now in
     let fit : FitsSigned w128 c.serial_key.result = search rules in
     let there : Some kept ≡ value_at c.serial_key.result rows = simp to_z-of_z at c.in-Some-value_at.ensures in
-    let is_first = first_found rows c.self.inside.names c.self.inside.idle c.in-Some.serial.now kept c.self.invariant c.keys_rise.ensures c.keys_rise-2.ensures (sym c.in-Some.ensures) (sym (there ∙ ap (λ k. value_at k rows) c.serial_key.ensures)) in
-    sym (not_over rows c.self.inside.names c.self.inside.idle c.args.now kept c.self.invariant c.keys_rise.ensures is_first (sym c.is_over.ensures ∙ c.if-is_over.false))
+    let is_first = first_found rows c.self.inside.names c.self.inside.idle c.in-Some.serial.now kept c.self.invariant c.keys_rise.ensures
+    c.keys_rise-2.ensures (sym c.in-Some.ensures) (sym (there ∙ ap (λ k. value_at k rows) c.serial_key.ensures)) in
+    sym (not_over rows c.self.inside.names c.self.inside.idle c.args.now kept c.self.invariant c.keys_rise.ensures is_first
+    (sym c.is_over.ensures ∙ c.if-is_over.false))
     ∙ ap (λ all. first (due_objects (references_in all) (objects_in all) c.args.now)) c.self.view_is

@@ -10,7 +10,8 @@ pub returns-in-Some : goal.returns-in-Some
 returns-in-Some c =
     if_ok c.distinct.result
     (λ list is. is
-    ∙ sym (naming_found c.args.id.now c.self.inside.rows c.self.inside.names c.self.inside.idle c.in-Some.kept.now c.self.invariant c.keys_rise.ensures (ap (kept_of c.args.id.now) c.self.view_is ∙ sym c.in-Some.ensures))
+    ∙ sym (naming_found c.args.id.now c.self.inside.rows c.self.inside.names c.self.inside.idle c.in-Some.kept.now c.self.invariant c.keys_rise.ensures
+    (ap (kept_of c.args.id.now) c.self.view_is ∙ sym c.in-Some.ensures))
     ∙ ap (λ kept. flows_naming (references_in kept) c.args.id.now) c.self.view_is)
     c.distinct.ensures
 

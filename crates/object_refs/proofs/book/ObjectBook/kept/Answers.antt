@@ -14,11 +14,13 @@ returns-in-Some c =
     let fit : FitsSigned w128 c.serial_key.result = search rules in
     let there : option_copied c.value_at.result ≡ value_at c.serial_key.result rows = simp to_z-of_z at c.value_at.ensures in
     there ∙ ap (λ k. value_at k rows) c.serial_key.ensures
-    ∙ kept_found c.args.id.now c.in-Some.serial rows c.self.inside.names c.keys_rise.ensures c.self.invariant.named (sym (c.in-Some.ensures ∙ ap (λ n. serial_named n c.args.id.now c.self.inside.names) c.id_number.ensures))
+    ∙ kept_found c.args.id.now c.in-Some.serial rows c.self.inside.names c.keys_rise.ensures c.self.invariant.named
+    (sym (c.in-Some.ensures ∙ ap (λ n. serial_named n c.args.id.now c.self.inside.names) c.id_number.ensures))
     ∙ ap (kept_of c.args.id.now) c.self.view_is
 
 -- an id without a serial is no object's
 pub returns-in-None : goal.returns-in-None
 returns-in-None c =
-    sym (kept_none c.args.id.now c.self.inside.rows c.self.inside.names c.keys_rise.ensures c.self.invariant.named (sym (c.in-None.ensures ∙ ap (λ n. serial_named n c.args.id.now c.self.inside.names) c.id_number.ensures)))
+    sym (kept_none c.args.id.now c.self.inside.rows c.self.inside.names c.keys_rise.ensures c.self.invariant.named
+    (sym (c.in-None.ensures ∙ ap (λ n. serial_named n c.args.id.now c.self.inside.names) c.id_number.ensures)))
     ∙ ap (kept_of c.args.id.now) c.self.view_is

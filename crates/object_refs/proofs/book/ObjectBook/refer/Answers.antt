@@ -5,14 +5,17 @@ use Rattle.object_refs.proofs.book.ObjectBook.refer.Goals as goal
 
 -- the object is the one of its own id
 pub with_kept-requires-clause-found : goal.with_kept-requires-clause-found
-with_kept-requires-clause-found c = found_again c.args.id.now c.args.self.now c.in-Some.old.now (stored_found (kept_of c.args.id.now c.args.self.now) c.in-Some.old.now (sym c.in-Some.ensures))
+with_kept-requires-clause-found c =
+    found_again c.args.id.now c.args.self.now c.in-Some.old.now
+    (stored_found (kept_of c.args.id.now c.args.self.now) c.in-Some.old.now (sym c.in-Some.ensures))
 
 pub returns-in_ok-with_kept-in-Some : goal.returns-in_ok-with_kept-in-Some
 returns-in_ok-with_kept-in-Some c =
     let stored = sym c.in-Some.ensures in
     let found = stored_found (kept_of c.args.id.now c.args.self.now) c.in-Some.old.now stored in (
       refers_some c.args.id.now c.args.self.now c.in-Some.old.now stored,
-      changed_by c.args.id.now c.args.self.now c.in_ok-with_kept-in-Some.field-0 c.in-Some.old.now (referred c.args.flow) found (c.in_ok-with_kept-in-Some.ensures (referred c.args.flow) c.in_ok-new-in-Some.ensures),
+      changed_by c.args.id.now c.args.self.now c.in_ok-with_kept-in-Some.field-0 c.in-Some.old.now (referred c.args.flow) found
+          (c.in_ok-with_kept-in-Some.ensures (referred c.args.flow) c.in_ok-new-in-Some.ensures),
     )
 
 pub returns-in_ok-copy-in-None : goal.returns-in_ok-copy-in-None

@@ -11,7 +11,9 @@ without_kept-requires c = record { found = found_again c.args.id.now c.args.self
 
 pub returns-in-Some : goal.returns-in-Some
 returns-in-Some c =
-    if_ok c.without_kept.result (λ next is. is ∙ ap (λ id. without_id id c.args.self.now) (found_id c.args.id.now c.args.self.now c.in-Some.old.now (sym c.in-Some.ensures))) c.without_kept.ensures
+    if_ok c.without_kept.result
+    (λ next is. is ∙ ap (λ id. without_id id c.args.self.now) (found_id c.args.id.now c.args.self.now c.in-Some.old.now (sym c.in-Some.ensures)))
+    c.without_kept.ensures
 
 pub returns-in-None : goal.returns-in-None
 returns-in-None c = if_ok c.share.result (λ next is. is ∙ none_left c.args.id.now c.args.self.now (sym c.in-None.ensures)) c.share.ensures

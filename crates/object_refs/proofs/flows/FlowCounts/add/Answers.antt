@@ -11,7 +11,8 @@ invariant_of-result c =
     let ps = c.self.inside.counts in
     let times = c.times-times.result in
     let one : times + 1 ≡ suc times = omega arith in
-    more_follows c.args.flow c.self.inside.total times ps c.in_ok-recounted.field-0 c.keys_rise.ensures c.self.invariant c.times-times.ensures (c.in_ok-recounted.ensures ∙ ap (λ k. recounted c.args.flow k ps) one)
+    more_follows c.args.flow c.self.inside.total times ps c.in_ok-recounted.field-0 c.keys_rise.ensures c.self.invariant c.times-times.ensures
+    (c.in_ok-recounted.ensures ∙ ap (λ k. recounted c.args.flow k ps) one)
 
 -- the counts stand for one reference more
 pub returns : goal.returns
@@ -19,5 +20,6 @@ returns c =
     let ps = c.self.inside.counts in
     let times = c.times-times.result in
     let one : times + 1 ≡ suc times = omega arith in
-    more_flows c.args.flow c.self.inside.total times ps c.in_ok-recounted.field-0 c.keys_rise.ensures c.self.invariant c.times-times.ensures (c.in_ok-recounted.ensures ∙ ap (λ k. recounted c.args.flow k ps) one)
+    more_flows c.args.flow c.self.inside.total times ps c.in_ok-recounted.field-0 c.keys_rise.ensures c.self.invariant c.times-times.ensures
+    (c.in_ok-recounted.ensures ∙ ap (λ k. recounted c.args.flow k ps) one)
     ∙ ap (inserted nat_lt c.args.flow) c.self.view_is

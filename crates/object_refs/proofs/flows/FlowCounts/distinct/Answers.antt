@@ -13,5 +13,6 @@ all_values-requires c = record { least = counts_least c.self.inside.counts c.sel
 pub returns : goal.returns
 returns c =
     if_ok c.flow_list.result
-    (λ list is. listed_once c.self.inside.total c.self.inside.counts (values_of c.deref.result.now) list c.keys_rise.ensures c.self.invariant (ap values_of c.deref.ensures.value ∙ c.in_ok-counts.ensures) is ∙ ap (placed_all nat_lt) c.self.view_is)
+    (λ list is. listed_once c.self.inside.total c.self.inside.counts (values_of c.deref.result.now) list c.keys_rise.ensures c.self.invariant
+    (ap values_of c.deref.ensures.value ∙ c.in_ok-counts.ensures) is ∙ ap (placed_all nat_lt) c.self.view_is)
     c.flow_list.ensures

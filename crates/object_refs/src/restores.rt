@@ -1,0 +1,75 @@
+//! Books that are made from rows.
+ghost use Rattle.std.specs.Prelude.{◌≡◌, ◌&&◌, is_none, not};
+ghost use Rattle.std.specs.List.{list_all};
+ghost use Rattle.media_rows.specs.Objects.{is_stored_object, object_of};
+ghost use Rattle.media_rows.specs.Refusals.{Restores};
+ghost use Rattle.object_refs.specs.References.{changed_at, objects_in, referred};
+ghost use Rattle.object_refs.specs.Within.Books.{are_names_distinct, bare_objects, has_serial, referring, with_row};
+
+use crate::ObjectBook;
+use disk_trait::Duplicate;
+use media_rows::{ApplyFault, BookFault, ObjectRow, SegmentRow};
+use std::alloc::Global;
+
+/// The book of these objects, to which nothing refers. The last one is put first.
+pub(crate) fn gathered(alloc: Global, objects: &[ObjectRow]) -> Result<ObjectBook, ApplyFault>
+    ensures { Restores (are_names_distinct objects.now) (bare_objects objects.now) result }
+{
+    let mut book = ObjectBook::empty();
+    for placed in 0..objects.len() {
+        match with_object(alloc, &book, &objects[objects.len() - 1 - placed]) {
+            Ok(next) => book = next,
+            Err(fault) => return Err(fault),
+        }
+    }
+    Ok(book)
+}
+
+/// The book with an object more, whose id and serial are new.
+fn with_object(alloc: Global, book: &ObjectBook, row: &ObjectRow) -> Result<ObjectBook, ApplyFault>
+    ensures { Restores
+        (is_none (object_of row.now.id (objects_in book.now))
+        && not (has_serial row.now.serial book.now))
+        (with_row row.now book.now) result }
+{
+    if book.find(&row.id).is_some() || book.has_serial(row.serial) {
+        return Err(ApplyFault::Refused);
+    }
+    Ok(book.with_row(alloc, row.duplicate(alloc)?)?)
+}
+
+/// The book with the references of these segments. The last one comes first.
+pub(crate) fn referred_by(
+    alloc: Global,
+    bare: &ObjectBook,
+    segments: &[SegmentRow],
+) -> Result<ObjectBook, ApplyFault>
+    ensures { Restores
+        (list_all (λ s. is_stored_object (objects_in bare.now) s.segment.object) segments.now)
+        (referring segments.now bare.now) result }
+{
+    let mut book = bare.share()?;
+    for passed in 0..segments.len() {
+        match with_segment(alloc, &book, &segments[segments.len() - 1 - passed]) {
+            Ok(next) => book = next,
+            Err(fault) => return Err(fault),
+        }
+    }
+    Ok(book)
+}
+
+/// The book with the reference of one segment more.
+fn with_segment(
+    alloc: Global,
+    book: &ObjectBook,
+    row: &SegmentRow,
+) -> Result<ObjectBook, ApplyFault>
+    ensures { Restores (is_stored_object (objects_in book.now) row.now.segment.object)
+        (changed_at row.now.segment.object (referred row.now.flow) book.now) result }
+{
+    match book.refer(alloc, &row.segment.object, row.flow) {
+        Ok(next) => Ok(next),
+        Err(BookFault::Refused(_)) => Err(ApplyFault::Refused),
+        Err(BookFault::Memory) => Err(ApplyFault::Memory),
+    }
+}
