@@ -1,0 +1,3 @@
+pub mod Delivered
+pub mod Within
+pub use Rattle.media_rows.specs.Outbox

@@ -1,0 +1,53 @@
+-- Hooks with the events that wait for them, and all events, at the keys of their serials.
+use Rattle.std.specs.Prelude.{◌≡◌, ℕ, ◌==◌, nat_le, ℤ, pos, List, Bool, ◌||◌, IsTrue, filter, length, map}
+use Rattle.std.specs.List.{AllByRecursion, list_any}
+use Rattle.media_rows.specs.declared.event.EventRow.{EventRow}
+use Rattle.media_rows.specs.declared.hook.HookRow.{HookRow}
+use Rattle.media_rows.specs.Outbox.{Outbox, most_waiting}
+use Rattle.shared_tree.specs.Pairs.{values}
+use Rattle.shared_tree.specs.Rows.{IsKeyedBy}
+use Rattle.webhook_outbox.specs.declared.outbox.Slot.{Slot}
+
+-- the serial of a hook
+abbrev pub hook_serial : Slot → ℕ
+hook_serial slot = slot.row.value.serial
+
+-- the keys of hooks and events
+abbrev pub slot_key : Slot → ℤ
+slot_key slot = pos (hook_serial slot)
+
+abbrev pub event_key : EventRow → ℤ
+event_key row = pos row.serial
+
+-- the hooks
+abbrev pub hooks_of : List (ℤ × Slot) → List HookRow
+hooks_of slots = map (λ slot. slot.row.value) (values slots)
+
+-- the outbox of these hooks and events
+abbrev pub outbox_of : List (ℤ × Slot) → List (ℤ × EventRow) → Outbox
+outbox_of slots events = record { hooks = hooks_of slots; events = values events }
+
+-- an event waits for the hook of a serial
+abbrev pub is_for : ℕ → ℤ × EventRow → Bool
+is_for hook pair = pair.1.hook == hook
+
+-- the hook of an event is kept
+abbrev pub has_slot : List (ℤ × Slot) → ℤ × EventRow → Bool
+has_slot slots pair = list_any (λ p. hook_serial p.1 == pair.1.hook) slots
+
+-- a hook for which so many events wait, once it is marked where they are too many
+abbrev pub marked_by : ℕ → HookRow → HookRow
+marked_by count row = record row { failed = row.failed || nat_le most_waiting count }
+
+-- a hook for which the most events wait has failed
+abbrev pub HasFailedWhenFull : Slot → Type 0
+HasFailedWhenFull slot =
+    IsTrue (nat_le most_waiting (length slot.waiting)) → IsTrue slot.row.value.failed
+
+-- each hook has just the events that wait for it, and each event waits for a hook
+pub record AreSlots (slots : List (ℤ × Slot)) (events : List (ℤ × EventRow)) : Type 0 where
+  pub slots_keyed : IsKeyedBy slot_key slots
+  pub events_keyed : IsKeyedBy event_key events
+  pub waiting : AllByRecursion (λ p. p.1.waiting ≡ filter (is_for (hook_serial p.1)) events) slots
+  pub hooked : AllByRecursion (λ p. IsTrue (has_slot slots p)) events
+  pub full : AllByRecursion (λ p. HasFailedWhenFull p.1) slots

@@ -1,0 +1,10 @@
+//! The outbox as a value that each change makes anew: webhooks, and the events that wait for them. What
+//! makes events, and how they are delivered, is left to the callers.
+#![tactic(auto)]
+
+mod changes;
+mod outbox;
+#[cfg(test)]
+mod tests;
+
+pub use crate::outbox::Outbox;
