@@ -69,7 +69,7 @@ clear_keyed id (p ∷ ps) h = (h.0, clear_keyed id ps h.1)
 
 -- ---- the flows that have entries
 
-eq_sym : (a b : ℕ) → (a == b) ≡ (b == a)
+pub eq_sym : (a b : ℕ) → (a == b) ≡ (b == a)
 eq_sym a b = by (a == b) (b == a) refl refl
   where
     by : (s t : Bool) → (a == b) ≡ s → (b == a) ≡ t → (a == b) ≡ (b == a)

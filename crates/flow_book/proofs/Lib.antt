@@ -7,4 +7,5 @@ mod Changes
 mod DropSteps
 mod Gathering
 mod Indexed
+mod Closed
 mod Restored

@@ -2,3 +2,4 @@
 pub mod Answers
 pub mod Gathering
 pub mod Order
+pub mod Ranks

@@ -12,7 +12,7 @@ use crate::drops::{flows_after_drop, sources_after_drop};
 use crate::lists::{flows_listed, sources_listed};
 use crate::looks::{find_flow, find_source};
 use crate::puts::{by_source_after_put, flows_after_put, put_refusal, sources_after_put};
-use crate::restores::{can_restore, flow_references, flows_gathered, sources_gathered};
+use crate::restores::{are_good, flows_gathered, sources_gathered};
 use crate::sets::{
     collectors_after_set, flows_after_set, flows_after_touch, set_refusal, source_refusal,
     sources_after_set,
@@ -76,19 +76,22 @@ impl FlowBook {
         ensures { Restores (can_restore_catalog sources.now flows.now)
             (catalog_of sources.now flows.now) result }
     {
-        let rows = flow_references(alloc, flows.items())?;
-        if !can_restore(alloc, sources.items(), &rows)? {
+        let (sources, flows) = (sources.items(), flows.items());
+        let Some(kept_sources) = sources_gathered(alloc, sources)? else {
+            return Err(ApplyFault::Refused);
+        };
+        let Some(kept) = flows_gathered(alloc, flows)? else {
+            return Err(ApplyFault::Refused);
+        };
+        if !are_good(alloc, sources, &kept_sources, flows, &kept)? {
             return Err(ApplyFault::Refused);
         }
-        match flows_gathered(alloc, flows.items())? {
-            None => Err(ApplyFault::Refused),
-            Some(gathered) => Ok(FlowBook {
-                sources: sources_gathered(alloc, sources.items())?,
-                flows: gathered.flows,
-                by_source: gathered.by_source,
-                collectors: gathered.collectors,
-            }),
-        }
+        Ok(FlowBook {
+            sources: kept_sources,
+            flows: kept.flows,
+            by_source: kept.by_source,
+            collectors: kept.collectors,
+        })
     }
 
     /// Puts a flow, and makes its source where that is new. It is refused as `ReadOnly`, `FlowChanged`,

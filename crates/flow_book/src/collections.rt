@@ -63,7 +63,7 @@ fn is_kept_or(flows: &Version<FlowRow>, id: u128, to: u128) -> bool
 }
 
 /// Whether a flow of this id is kept.
-fn is_kept(flows: &Version<FlowRow>, id: u128) -> bool
+pub(crate) fn is_kept(flows: &Version<FlowRow>, id: u128) -> bool
     requires keyed { IsKeyedBy flow_key flows.now }
     ensures { result ≡ is_kept (values flows.now) id }
 {

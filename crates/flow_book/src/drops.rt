@@ -1,6 +1,5 @@
 //! Flows that go, with their entries in collections, and sources that go with their last flow.
 ghost use Rattle.std.specs.Prelude.{◌≡◌, ◌==◌, IfOk, filter, if◌then◌else◌, not};
-ghost use Rattle.media_rows.specs.Catalog.{has_flow};
 ghost use Rattle.media_rows.specs.Collections.{without_entries};
 ghost use Rattle.media_rows.specs.Views.{flow_key, id_key};
 ghost use Rattle.shared_tree.specs.Pairs.{values, values_of, without_key};
@@ -109,16 +108,4 @@ pub(crate) fn sources_after_drop(
     } else {
         without_row(alloc, sources, source)
     }
-}
-
-/// Whether a source has some flow.
-pub(crate) fn has_flow(flows: &[&FlowRow], source: &SourceRow) -> bool
-    ensures { result ≡ has_flow (values_of flows.now) source.now }
-{
-    for row in flows {
-        if row.body.source == source.id {
-            return true;
-        }
-    }
-    false
 }

@@ -11,6 +11,7 @@ mod lists;
 mod looks;
 mod parts;
 mod puts;
+mod ranks;
 mod restores;
 mod sets;
 mod tags;

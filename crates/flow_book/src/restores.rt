@@ -1,102 +1,78 @@
 //! Rows from which a book is made: whether they are good.
-ghost use Rattle.std.specs.Prelude.{◌≡◌, ◌==◌, ◌∷◌, IfOk, List, map, not, option_copied};
+ghost use Rattle.std.specs.Prelude.{◌≡◌, ◌∷◌, IfOk, List, Some, option_copied};
 ghost use Rattle.std.specs.List.{list_all};
 ghost use Rattle.media_rows.specs.declared.flow.FlowRow.{FlowRow};
-ghost use Rattle.media_rows.specs.Catalog.{has_flow, source_of};
+ghost use Rattle.media_rows.specs.Catalog.{source_of};
 ghost use Rattle.media_rows.specs.Collections.{is_kept, member_ids};
-ghost use Rattle.media_rows.specs.Good.{are_collections_good, fits_kept, is_collection_good};
-ghost use Rattle.media_rows.specs.Lists.{are_distinct};
+ghost use Rattle.media_rows.specs.Good.{fits_kept};
 ghost use Rattle.media_rows.specs.Restoring.{can_restore_catalog};
-ghost use Rattle.shared_tree.specs.Pairs.{values_of};
+ghost use Rattle.media_rows.specs.Views.{flow_key, source_key};
+ghost use Rattle.shared_tree.specs.Pairs.{values, values_of};
+ghost use Rattle.shared_tree.specs.Rows.{IsKeyedBy};
+ghost use Rattle.id_index.specs.Index.{has_pairs, ids_at};
 ghost use Rattle.flow_book.specs.Within.Answers.{Computes};
-ghost use Rattle.flow_book.specs.Within.Gathering.{GathersFlows};
-ghost use Rattle.flow_book.specs.Within.Order.{AreGathered, gathered};
+ghost use Rattle.flow_book.specs.Within.Gathering.{GathersFlows, GathersSources, are_placed, is_acyclic};
+ghost use Rattle.flow_book.specs.Within.Order.{AreGathered};
 
-use crate::collections::{collects_itself, member_ids};
-use crate::drops::has_flow;
+use crate::collections::{collects_itself, is_kept, member_ids};
+use crate::looks::find_source;
 use crate::puts::fits_format;
+use crate::ranks::{are_ranked, ranks_of};
 use disk_trait::{Duplicate, Memory};
 use id_index::{IdIndex, row_at, with_row};
 use media_rows::{FlowRow, Member, SourceRow};
 use shared_tree::Version;
 use std::alloc::Global;
 
-/// Whether ids are distinct, each flow has its source and each source a flow, and collections are good.
-pub(crate) fn can_restore(
+/// Whether each flow has its source and each source a flow, and collections are good, of rows with distinct
+/// ids and what was gathered from them.
+pub(crate) fn are_good(
     alloc: Global,
     sources: &[SourceRow],
-    flows: &[&FlowRow],
+    kept_sources: &Version<SourceRow>,
+    flows: &[FlowRow],
+    kept: &Gathered,
 ) -> Result<bool, Memory>
-    ensures { Computes result (can_restore_catalog sources.now (values_of flows.now)) }
+    requires sources { GathersSources sources.now (Some kept_sources.now) }
+    requires flows { GathersFlows flows.now (Some kept.now) }
+    ensures { Computes result (can_restore_catalog sources.now flows.now) }
 {
-    if !are_distinct(&source_ids(alloc, sources)?) {
+    if !are_placed(sources, kept_sources, flows, kept) {
         return Ok(false);
     }
-    if !are_distinct(&flow_ids(alloc, flows)?) {
-        return Ok(false);
-    }
-    if !are_flows_under_sources(sources, flows) || !have_flows(sources, flows) {
-        return Ok(false);
-    }
-    are_collections_good(alloc, flows)
+    let rows = flow_references(alloc, flows)?;
+    are_acyclic(alloc, &rows, &kept.collectors)
 }
 
-fn source_ids(alloc: Global, sources: &[SourceRow]) -> Result<Vec<u128>, Memory>
-    ensures { IfOk result (λ ids. ids.items ≡ map (λ row. row.id) sources.now) }
+/// Whether each flow has its source and each source a flow, and each collected flow is there.
+fn are_placed(
+    sources: &[SourceRow],
+    kept_sources: &Version<SourceRow>,
+    flows: &[FlowRow],
+    kept: &Gathered,
+) -> bool
+    requires sources { IsKeyedBy source_key kept_sources.now }
+    requires flows { IsKeyedBy flow_key kept.now.flows }
+    ensures { result ≡ are_placed sources.now kept_sources.now flows.now kept.now.flows
+        kept.now.by_source }
 {
-    let mut ids = Vec::new(alloc);
-    for row in sources {
-        ids.push(row.id)?;
-    }
-    Ok(ids)
+    are_flows_under_sources(kept_sources, flows)
+        && are_used(&kept.by_source, sources)
+        && are_all_kept(&kept.flows, flows)
 }
 
-fn flow_ids(alloc: Global, flows: &[&FlowRow]) -> Result<Vec<u128>, Memory>
-    ensures { IfOk result (λ ids. ids.items ≡ map (λ row. row.body.id) (values_of flows.now)) }
-{
-    let mut ids = Vec::new(alloc);
-    for row in flows {
-        ids.push(row.body.id)?;
-    }
-    Ok(ids)
-}
-
-fn are_distinct(numbers: &[u128]) -> bool
-    ensures { result ≡ are_distinct numbers.now }
-{
-    for (i, number) in numbers.iter().enumerate() {
-        let (_, later) = numbers.split_at(i + 1);
-        if !differs(*number, later) {
-            return false;
-        }
-    }
-    true
-}
-
-fn differs(number: u128, others: &[u128]) -> bool
-    ensures { result ≡ list_all (λ other. not (number == other)) others.now }
-{
-    others.iter().all(|other| number != *other)
-}
-
-fn are_flows_under_sources(sources: &[SourceRow], flows: &[&FlowRow]) -> bool
+fn are_flows_under_sources(sources: &Version<SourceRow>, flows: &[FlowRow]) -> bool
+    requires keyed { IsKeyedBy source_key sources.now }
     ensures { result
-        ≡ list_all (λ row. fits_kept (source_of row.body.source sources.now) row)
-        (values_of flows.now) }
+        ≡ list_all (λ row. fits_kept (source_of row.body.source (values sources.now)) row)
+        flows.now }
 {
     for row in flows {
-        if !fits_kept(source_among(sources, row.body.source), row) {
+        if !fits_kept(find_source(sources, row.body.source), row) {
             return false;
         }
     }
     true
-}
-
-/// The source of an id among rows.
-fn source_among(sources: &[SourceRow], id: u128) -> Option<&SourceRow>
-    ensures { option_copied result ≡ source_of id sources.now }
-{
-    sources.iter().find(|row| row.id == id)
 }
 
 fn fits_kept(source: Option<&SourceRow>, row: &FlowRow) -> bool
@@ -108,54 +84,55 @@ fn fits_kept(source: Option<&SourceRow>, row: &FlowRow) -> bool
     }
 }
 
-fn have_flows(sources: &[SourceRow], flows: &[&FlowRow]) -> bool
-    ensures { result ≡ list_all (has_flow (values_of flows.now)) sources.now }
+/// Whether each source has a flow by the index.
+fn are_used(by_source: &IdIndex, sources: &[SourceRow]) -> bool
+    ensures { result
+        ≡ list_all (λ source. has_pairs (ids_at source.id by_source.now)) sources.now }
 {
-    sources.iter().all(|source| has_flow(flows, source))
+    sources.iter().all(|source| by_source.has_any(source.id))
 }
 
-fn are_collections_good(alloc: Global, flows: &[&FlowRow]) -> Result<bool, Memory>
-    ensures { Computes result (are_collections_good (values_of flows.now)) }
+fn are_all_kept(flows: &Version<FlowRow>, rows: &[FlowRow]) -> bool
+    requires keyed { IsKeyedBy flow_key flows.now }
+    ensures { result ≡ list_all
+        (λ row. list_all (is_kept (values flows.now)) (member_ids row.body.members))
+        rows.now }
 {
-    for row in flows {
-        if !is_collection_good(alloc, flows, row)? {
-            return Ok(false);
-        }
-    }
-    Ok(true)
-}
-
-fn is_collection_good(alloc: Global, flows: &[&FlowRow], row: &FlowRow) -> Result<bool, Memory>
-    ensures { Computes result (is_collection_good (values_of flows.now) row.now) }
-{
-    let members = row.body.members.items();
-    if !are_kept(flows, members) {
-        return Ok(false);
-    }
-    Ok(!collects_itself(alloc, flows, row.body.id, members)?)
-}
-
-fn are_kept(flows: &[&FlowRow], members: &[Member]) -> bool
-    ensures { result ≡ list_all (is_kept (values_of flows.now)) (member_ids members.now) }
-{
-    for member in members {
-        if !is_among(flows, member.flow) {
+    for row in rows {
+        if !are_kept(flows, row.body.members.items()) {
             return false;
         }
     }
     true
 }
 
-/// Whether a flow of this id is among rows.
-fn is_among(flows: &[&FlowRow], id: u128) -> bool
-    ensures { result ≡ is_kept (values_of flows.now) id }
+fn are_kept(flows: &Version<FlowRow>, members: &[Member]) -> bool
+    requires keyed { IsKeyedBy flow_key flows.now }
+    ensures { result ≡ list_all (is_kept (values flows.now)) (member_ids members.now) }
 {
-    for row in flows {
-        if row.body.id == id {
-            return true;
+    for member in members {
+        if !is_kept(flows, member.flow) {
+            return false;
         }
     }
-    false
+    true
+}
+
+/// Whether no flow reaches itself. Where ranks show it, that is found without looking at ways; else each flow's
+/// ways are looked at.
+fn are_acyclic(alloc: Global, rows: &[&FlowRow], collectors: &IdIndex) -> Result<bool, Memory>
+    ensures { Computes result (list_all (is_acyclic (values_of rows.now)) (values_of rows.now)) }
+{
+    let ranks = ranks_of(alloc, rows, collectors)?;
+    if are_ranked(&ranks, rows) {
+        return Ok(true);
+    }
+    for row in rows {
+        if collects_itself(alloc, rows, row.body.id, row.body.members.items())? {
+            return Ok(false);
+        }
+    }
+    Ok(true)
 }
 
 /// References to rows.
@@ -214,17 +191,20 @@ fn gathered_with(alloc: Global, old: &Gathered, row: &FlowRow) -> Result<Option<
     }))
 }
 
-/// Copies of sources at the keys of their ids. The last one is put first.
+/// Copies of sources at the keys of their ids, or nothing where an id stands twice. The last one is put first.
 pub(crate) fn sources_gathered(
     alloc: Global,
     rows: &[SourceRow],
-) -> Result<Version<SourceRow>, Memory>
-    ensures { IfOk result (λ next. next ≡ gathered (λ row. row.id) rows.now) }
+) -> Result<Option<Version<SourceRow>>, Memory>
+    ensures { IfOk result (GathersSources rows.now) }
 {
     let mut next = Version::empty();
     for placed in 0..rows.len() {
         let row = &rows[rows.len() - 1 - placed];
+        if row_at(&next, row.id).is_some() {
+            return Ok(None);
+        }
         next = with_row(alloc, &next, row.id, row.duplicate(alloc)?)?;
     }
-    Ok(next)
+    Ok(Some(next))
 }

@@ -1,5 +1,6 @@
 use Rattle.std.proofs.Common.{is_some, sym, ap, ◌∙◌}
-use Rattle.flow_book.proofs.Restored.{copied_there, gathered_once, gathered_twice}
+use Rattle.flow_book.proofs.Restored.{copied_there, gathered_once, stands_twice}
+use Rattle.flow_book.specs.Within.Order.{flow_id}
 use Rattle.media_rows.specs.Collections.{member_ids}
 use Rattle.id_index.specs.Index.{Links}
 use Rattle.std.proofs.Common.{subst}
@@ -8,8 +9,8 @@ use Rattle.flow_book.proofs.restores.gathered_with.Goals as goal
 -- the id is there already
 pub returns-then-is_some : goal.returns-then-is_some
 returns-then-is_some c rows h =
-    gathered_twice c.args.row.now rows c.args.old.now.flows c.args.old.now.by_source c.args.old.now.collectors
-    (sym (ap is_some c.row_at.ensures) ∙ copied_there c.row_at.result ∙ sym c.is_some.ensures ∙ c.if-is_some.true) h
+    stands_twice flow_id c.args.row.now rows c.args.old.now.flows
+    (sym (ap is_some c.row_at.ensures) ∙ copied_there c.row_at.result ∙ sym c.is_some.ensures ∙ c.if-is_some.true) h.placed
 
 -- the flow is linked to its source and to all that it collects
 pub returns : goal.returns

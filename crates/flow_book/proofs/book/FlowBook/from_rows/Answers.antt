@@ -1,10 +1,6 @@
-use Rattle.std.proofs.Common.{◌≡◌, true, ap, subst, sym, ◌∙◌, arith}
-use Rattle.std.proofs.lemmas.Grind.{common_steps}
-use Rattle.media_rows.specs.declared.source.SourceRow.{SourceRow}
+use Rattle.std.proofs.Common.{◌≡◌, true, Some, subst, sym, ◌∙◌}
 use Rattle.media_rows.specs.Restoring.{can_restore_catalog}
-use Rattle.shared_tree.specs.Pairs.{values_of}
-use Rattle.flow_book.specs.Within.Gathering.{GathersFlows}
-use Rattle.flow_book.specs.Within.Order.{AreGathered, gathered}
+use Rattle.flow_book.specs.Within.Gathering.{GathersFlows, GathersSources}
 use Rattle.flow_book.proofs.Gathering.{catalog_gathered}
 use Rattle.flow_book.proofs.Restored.{restored_kept}
 use Rattle.flow_book.proofs.book.FlowBook.from_rows.Goals as goal
@@ -12,24 +8,17 @@ use Rattle.flow_book.proofs.book.FlowBook.from_rows.Goals as goal
 -- each row stands at the key of its id, and the indexes are theirs
 pub invariant_of-result : goal.invariant_of-result
 invariant_of-result c =
-    let seen = ap values_of c.deref.ensures.value ∙ c.in_ok-rows.ensures ∙ c.items.ensures in
-    let yes : c.in_ok-can_restore.field-0 ≡ true = grind (arith, common_steps) in
-    let given : can_restore_catalog c.args.sources.now (values_of c.deref.result.now) ≡ true = rw (← c.items-2.ensures) (sym c.in_ok-can_restore.ensures ∙ yes) in
-    let can : can_restore_catalog c.args.sources.now c.args.flows.now ≡ true = subst (λ l. can_restore_catalog c.args.sources.now l ≡ true) seen given in
-    let all : AreGathered c.args.flows.now c.in-Some.gathered.flows c.in-Some.gathered.by_source c.in-Some.gathered.collectors = subst (λ l. AreGathered l c.in-Some.gathered.flows c.in-Some.gathered.by_source c.in-Some.gathered.collectors) c.items-3.ensures (subst (GathersFlows c.items-3.result.now) c.in-Some.is c.in_ok-flows_gathered.ensures) in
-    restored_kept c.args.sources.now c.args.flows.now c.in_ok-sources_gathered-in-Some.field-0 c.in-Some.gathered.flows c.in-Some.gathered.by_source c.in-Some.gathered.collectors can
-    (c.in_ok-sources_gathered-in-Some.ensures ∙ ap (gathered (λ (row : SourceRow). row.id)) c.items-in-Some.ensures) all
+    let can : can_restore_catalog c.args.sources.now c.args.flows.now ≡ true = rw (← c.items-sources.ensures, ← c.items-flows.ensures) (sym c.in_ok-are_good.ensures ∙ c.if-not-branch.false) in
+    let of_sources : GathersSources c.args.sources.now (Some c.in-Some.kept_sources) = subst (λ l. GathersSources l (Some c.in-Some.kept_sources)) c.items-sources.ensures (subst (GathersSources c.items-sources.result.now) c.in-Some.is c.in_ok-kept_sources.ensures) in
+    let of_flows : GathersFlows c.args.flows.now (Some c.in-Some-2.kept) = subst (λ l. GathersFlows l (Some c.in-Some-2.kept)) c.items-flows.ensures (subst (GathersFlows c.items-flows.result.now) c.in-Some-2.is c.in_ok-kept.ensures) in
+    restored_kept c.args.sources.now c.args.flows.now c.in-Some.kept_sources c.in-Some-2.kept.flows c.in-Some-2.kept.by_source c.in-Some-2.kept.collectors can of_sources.1 of_flows
 
 -- rows with distinct ids stand in order
 pub returns : goal.returns
 returns c =
-    let seen = ap values_of c.deref.ensures.value ∙ c.in_ok-rows.ensures ∙ c.items.ensures in
-    let yes : c.in_ok-can_restore.field-0 ≡ true = grind (arith, common_steps) in
-    let given : can_restore_catalog c.args.sources.now (values_of c.deref.result.now) ≡ true = rw (← c.items-2.ensures) (sym c.in_ok-can_restore.ensures ∙ yes) in
-    let can : can_restore_catalog c.args.sources.now c.args.flows.now ≡ true = subst (λ l. can_restore_catalog c.args.sources.now l ≡ true) seen given in
-    let all : AreGathered c.args.flows.now c.in-Some.gathered.flows c.in-Some.gathered.by_source c.in-Some.gathered.collectors = subst (λ l. AreGathered l c.in-Some.gathered.flows c.in-Some.gathered.by_source c.in-Some.gathered.collectors) c.items-3.ensures (subst (GathersFlows c.items-3.result.now) c.in-Some.is c.in_ok-flows_gathered.ensures) in (
+    let can : can_restore_catalog c.args.sources.now c.args.flows.now ≡ true = rw (← c.items-sources.ensures, ← c.items-flows.ensures) (sym c.in_ok-are_good.ensures ∙ c.if-not-branch.false) in
+    let of_sources : GathersSources c.args.sources.now (Some c.in-Some.kept_sources) = subst (λ l. GathersSources l (Some c.in-Some.kept_sources)) c.items-sources.ensures (subst (GathersSources c.items-sources.result.now) c.in-Some.is c.in_ok-kept_sources.ensures) in
+    let of_flows : GathersFlows c.args.flows.now (Some c.in-Some-2.kept) = subst (λ l. GathersFlows l (Some c.in-Some-2.kept)) c.items-flows.ensures (subst (GathersFlows c.items-flows.result.now) c.in-Some-2.is c.in_ok-kept.ensures) in (
       can,
-      catalog_gathered c.args.sources.now c.args.flows.now c.in_ok-sources_gathered-in-Some.field-0 c.in-Some.gathered.flows can
-          (c.in_ok-sources_gathered-in-Some.ensures ∙ ap (gathered (λ (row : SourceRow). row.id)) c.items-in-Some.ensures)
-          all.placed,
+      catalog_gathered c.args.sources.now c.args.flows.now c.in-Some.kept_sources c.in-Some-2.kept.flows can of_sources.1 of_flows.placed,
     )

@@ -1,0 +1,141 @@
+//! An index of segments: pages of it, and a segment that is added and removed.
+ghost use Rattle.std.specs.Prelude.{◌≡◌, ◌<◌};
+ghost use Rattle.media_rows.specs.Ranges.{has_both_ends};
+
+use crate::places::Places;
+use disk_trait::{Memory, Text};
+use media_rows::{Segment, SegmentRow};
+use segment_index::SegmentIndex;
+use shared_tree::Steps;
+use std::alloc::Global;
+use std::rc::Rc;
+use std::sync::ledger::{Blank, Ledger};
+use time_range::{End, TimeRange, Ts};
+
+/// How many segments a page has at most.
+const PAGE: usize = 100;
+
+/// The nanoseconds from one segment to the next, of which each takes the first half.
+const STEP: i128 = 2_000_000_000;
+
+/// An instant, where it is within the limit.
+fn instant(nanos: i128) -> Option<Ts> {
+    Ts::from_nanos(nanos)
+}
+
+/// The range from an instant to another without it, and never where one passes the limit.
+fn range(low: i128, high: i128) -> TimeRange {
+    match (instant(low), instant(high)) {
+        (Some(low), Some(high)) => TimeRange::between(End::Including(low), End::Excluding(high)),
+        _ => TimeRange::never(),
+    }
+}
+
+/// A segment over a range.
+fn segment(alloc: Global, range: TimeRange, start: Ts) -> Result<Rc<SegmentRow>, Memory> {
+    let row = SegmentRow {
+        flow: 1,
+        serial: 1,
+        segment: Segment {
+            object: Text::from_bytes(alloc, b"o")?,
+            range,
+            ts_offset: start,
+            last_duration: None,
+            sample_offset: 0,
+            sample_count: None,
+            key_frames: None,
+        },
+    };
+    Ok(Rc::new(alloc, row)?)
+}
+
+/// Whether a range isn't never and is open at neither end.
+fn has_both_ends(range: &TimeRange) -> bool
+    ensures { result ≡ has_both_ends range.now }
+{
+    range.low().is_some() && range.high().is_some()
+}
+
+/// The index with a segment; one that overlaps another, or is open, finds no memory.
+fn with_segment<L: Ledger>(
+    alloc: Global,
+    index: &SegmentIndex,
+    low: i128,
+    high: i128,
+    steps: &mut Steps<L>,
+) -> Result<SegmentIndex, Memory> {
+    let Some(start) = instant(0) else {
+        return Err(Memory);
+    };
+    let row = segment(alloc, range(low, high), start)?;
+    if !has_both_ends(&row.as_ref().segment.range) {
+        return Err(Memory);
+    }
+    match index.add(alloc, row, steps) {
+        Ok(next) => Ok(next),
+        Err(_) => Err(Memory),
+    }
+}
+
+/// An index of so many segments.
+fn index_of<L: Ledger>(
+    alloc: Global,
+    size: u64,
+    steps: &mut Steps<L>,
+) -> Result<SegmentIndex, Memory> {
+    let mut index = SegmentIndex::empty();
+    for place in 0..size {
+        let low = i128::from(place) * STEP;
+        index = with_segment(alloc, &index, low, low + STEP / 2, steps)?;
+    }
+    Ok(index)
+}
+
+/// How many segments stand on pages at random places.
+pub(crate) fn pages<L: Ledger>(
+    alloc: Global,
+    size: u64,
+    times: u64,
+    blank: Blank,
+) -> Result<u64, Memory>
+    requires name { blank.name ≡ L.name }
+    requires parts { blank.parts ≡ L.parts }
+    requires one { 0 < L.parts }
+{
+    let mut steps = Steps::<L>::new(blank);
+    let index = index_of(alloc, size, &mut steps)?;
+    let mut places = Places::new(size);
+    let mut sum = 0_u64;
+    for _time in 0..times {
+        let low = i128::from(places.next()) * STEP;
+        let wanted = range(low, low + STEP * 1_000_000_000);
+        let mut rows: Vec<&SegmentRow> = Vec::with_capacity(alloc, PAGE)?;
+        index.range(&wanted, None, PAGE, false, &mut rows, &mut steps);
+        sum = sum.wrapping_add(rows.len() as u64);
+    }
+    Ok(sum)
+}
+
+/// How many segments an index has once one was added and removed, at random places.
+pub(crate) fn adds<L: Ledger>(
+    alloc: Global,
+    size: u64,
+    times: u64,
+    blank: Blank,
+) -> Result<u64, Memory>
+    requires name { blank.name ≡ L.name }
+    requires parts { blank.parts ≡ L.parts }
+    requires one { 0 < L.parts }
+{
+    let mut steps = Steps::<L>::new(blank);
+    let mut index = index_of(alloc, size, &mut steps)?;
+    let mut places = Places::new(size);
+    let mut sum = 0_u64;
+    for _time in 0..times {
+        let low = i128::from(places.next()) * STEP + STEP / 2;
+        let more = with_segment(alloc, &index, low, low + STEP / 4, &mut steps)?;
+        sum = sum.wrapping_add(more.len());
+        index = more.remove(alloc, low * 2)?;
+    }
+    Ok(sum)
+}
