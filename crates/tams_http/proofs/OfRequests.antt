@@ -3,7 +3,7 @@ use Rattle.std.proofs.Common.{◌≡◌, refl, List, ℕ, Option, Some, None, Re
 use Rattle.std.specs.Prelude.{IsTrue, IfErr, codes, nat_le, ◌&&◌, if◌then◌else◌}
 use Rattle.std.proofs.Common.{arith}
 use Rattle.std.proofs.lemmas.Bool.Decides.{nat_tests}
-use Rattle.http_queries.specs.Pairs.{pairs_of}
+use Rattle.http_queries.specs.Pairs.{query_pairs}
 use Rattle.http_queries.specs.Rules.{query_fault}
 use Rattle.http_queries.specs.declared.pairs.Pair.{Pair}
 use Rattle.http_queries.specs.declared.rules.QueryKind.{QueryKind}
@@ -31,9 +31,9 @@ use Rattle.media_rows.specs.declared.part.PartName.{PartName}
 use Rattle.media_rows.specs.declared.part.PartName.TheVariants as names
 use Rattle.media_rows.specs.declared.refusal.Refusal.{Refusal}
 use Rattle.media_rows.specs.declared.refusal.Refusal.TheVariants as refusals
-use Rattle.tams_http.specs.Asked.{without_fault, pairs_in, shown, put, posted, deleted, Sent, asked_by, asked_at, ask_of}
-use Rattle.tams_http.specs.Named.{found_or, source_in, flow_in, object_in, request_in, tag_in}
-use Rattle.tams_http.specs.Parts.{source_part, flow_part, set_part, cleared_part}
+use Rattle.tams_http.specs.Asked.{without_fault, pairs_in, get_asked, put_asked, post_asked, delete_asked, Sent, asked_by, asked_at, ask_of}
+use Rattle.tams_http.specs.Named.{named_or, source_at, flow_at, object_at, request_at, tag_at}
+use Rattle.tams_http.specs.Parts.{source_part_name, flow_part_name, set_part, cleared_part}
 use Rattle.tams_http.specs.Refusals.{is_request_refusal}
 use Rattle.tams_http.specs.declared.ask.Ask.{Ask}
 
@@ -65,36 +65,36 @@ from_body (Err why) h = record { is = within (refusal_number why) h.is }
 
 -- ---- ids and names
 
-found : {X : Type 0} (refusal : Refusal) (x : Option X) → is_request_refusal refusal ≡ true → IsOfRequests (found_or refusal x)
+found : {X : Type 0} (refusal : Refusal) (x : Option X) → is_request_refusal refusal ≡ true → IsOfRequests (named_or refusal x)
 found refusal None h = record { is = h }
 found refusal (Some x) h = fine
 
-source : (path : List ℕ) → IsOfRequests (source_in path)
-source path = found refusals.NoSource (paths.id_in path) refl
+source : (path : List ℕ) → IsOfRequests (source_at path)
+source path = found refusals.NoSource (paths.named_id path) refl
 
-flow : (path : List ℕ) → IsOfRequests (flow_in path)
-flow path = found refusals.NoFlow (paths.id_in path) refl
+flow : (path : List ℕ) → IsOfRequests (flow_at path)
+flow path = found refusals.NoFlow (paths.named_id path) refl
 
-object_ : (path : List ℕ) → IsOfRequests (object_in path)
-object_ path = found refusals.UnknownObject (paths.object_in path) refl
+object_ : (path : List ℕ) → IsOfRequests (object_at path)
+object_ path = found refusals.UnknownObject (paths.named_object path) refl
 
-request : (store : ℕ) (path : List ℕ) → IsOfRequests (request_in store path)
-request store path = found refusals.NoRequest (paths.request_in store path) refl
+request : (store : ℕ) (path : List ℕ) → IsOfRequests (request_at store path)
+request store path = found refusals.NoRequest (paths.named_request store path) refl
 
-tag : (path : List ℕ) → IsOfRequests (tag_in path)
-tag path = found (refusals.NotSet (codes "tags")) (paths.tag_in path) refl
+tag : (path : List ℕ) → IsOfRequests (tag_at path)
+tag path = found (refusals.NotSet (codes "tags")) (paths.named_tag path) refl
 
 -- ---- parts
 
-source_name : (part : SourcePart) (path : List ℕ) → IsOfRequests (source_part part path)
+source_name : (part : SourcePart) (path : List ℕ) → IsOfRequests (source_part_name part path)
 source_name of_source.Tags path = fine
-source_name of_source.Tag path = chain (tag_in path) _ (tag path) (λ name. fine)
+source_name of_source.Tag path = chain (tag_at path) _ (tag path) (λ name. fine)
 source_name of_source.Label path = fine
 source_name of_source.Description path = fine
 
-flow_name : (part : FlowPart) (path : List ℕ) → IsOfRequests (flow_part part path)
+flow_name : (part : FlowPart) (path : List ℕ) → IsOfRequests (flow_part_name part path)
 flow_name of_flow.Tags path = fine
-flow_name of_flow.Tag path = chain (tag_in path) _ (tag path) (λ name. fine)
+flow_name of_flow.Tag path = chain (tag_at path) _ (tag path) (λ name. fine)
 flow_name of_flow.Label path = fine
 flow_name of_flow.Description path = fine
 flow_name of_flow.ReadOnly path = fine
@@ -126,47 +126,47 @@ pairs_by pairs None = fine
 pairs_by pairs (Some name) = record { is = refl }
 
 pairs : (kind : QueryKind) (query : List ℕ) → IsOfRequests (pairs_in kind query)
-pairs kind query = pairs_by (pairs_of query) (query_fault kind (pairs_of query))
+pairs kind query = pairs_by (query_pairs query) (query_fault kind (query_pairs query))
 
 -- ---- methods
 
-of_get : (route : Route) (store : ℕ) (path query : List ℕ) → IsOfRequests (shown store route path query)
+of_get : (route : Route) (store : ℕ) (path query : List ℕ) → IsOfRequests (get_asked store route path query)
 of_get routes.Root store path query = fine
 of_get routes.Service store path query = fine
 of_get routes.Hooks store path query = fine
 of_get routes.Sources store path query = chain (pairs_in kinds.Sources query) _ (pairs kinds.Sources query) (λ found. fine)
-of_get routes.Source store path query = chain (source_in path) _ (source path) (λ id. fine)
-of_get (routes.SourcePart part) store path query = chain (source_in path) _ (source path) (λ id. chain (source_part part path) _ (source_name part path) (λ name. fine))
+of_get routes.Source store path query = chain (source_at path) _ (source path) (λ id. fine)
+of_get (routes.SourcePart part) store path query = chain (source_at path) _ (source path) (λ id. chain (source_part_name part path) _ (source_name part path) (λ name. fine))
 of_get routes.Flows store path query = chain (pairs_in kinds.Flows query) _ (pairs kinds.Flows query) (λ found. fine)
-of_get routes.Flow store path query = chain (flow_in path) _ (flow path) (λ id. fine)
-of_get (routes.FlowPart part) store path query = chain (flow_in path) _ (flow path) (λ id. chain (flow_part part path) _ (flow_name part path) (λ name. fine))
-of_get routes.Segments store path query = chain (flow_in path) _ (flow path) (λ id. chain (pairs_in kinds.Segments query) _ (pairs kinds.Segments query) (λ found. fine))
+of_get routes.Flow store path query = chain (flow_at path) _ (flow path) (λ id. fine)
+of_get (routes.FlowPart part) store path query = chain (flow_at path) _ (flow path) (λ id. chain (flow_part_name part path) _ (flow_name part path) (λ name. fine))
+of_get routes.Segments store path query = chain (flow_at path) _ (flow path) (λ id. chain (pairs_in kinds.Segments query) _ (pairs kinds.Segments query) (λ found. fine))
 of_get routes.Storage store path query = of_method
-of_get routes.Object store path query = chain (object_in path) _ (object_ path) (λ id. fine)
+of_get routes.Object store path query = chain (object_at path) _ (object_ path) (λ id. fine)
 of_get routes.Requests store path query = fine
-of_get routes.Request store path query = chain (request_in store path) _ (request store path) (λ serial. fine)
-of_get routes.Media store path query = chain (object_in path) _ (object_ path) (λ id. fine)
+of_get routes.Request store path query = chain (request_at store path) _ (request store path) (λ serial. fine)
+of_get routes.Media store path query = chain (object_at path) _ (object_ path) (λ id. fine)
 
-of_put : (route : Route) (path body : List ℕ) → IsOfRequests (put route path body)
+of_put : (route : Route) (path body : List ℕ) → IsOfRequests (put_asked route path body)
 of_put routes.Root path body = of_method
 of_put routes.Service path body = of_method
 of_put routes.Hooks path body = of_method
 of_put routes.Sources path body = of_method
 of_put routes.Source path body = of_method
-of_put (routes.SourcePart part) path body = chain (source_in path) _ (source path) (λ id. chain (source_part part path) _ (source_name part path)
+of_put (routes.SourcePart part) path body = chain (source_at path) _ (source path) (λ id. chain (source_part_name part path) _ (source_name part path)
     (λ name. chain (set_part name body) _ (set name body) (λ value. fine)))
 of_put routes.Flows path body = of_method
-of_put routes.Flow path body = chain (flow_in path) _ (flow path) (λ id. chain (bodies.flow_in id body) _ (from_body (bodies.flow_in id body) (flow_body id body)) (λ value. fine))
-of_put (routes.FlowPart part) path body = chain (flow_in path) _ (flow path) (λ id. chain (flow_part part path) _ (flow_name part path)
+of_put routes.Flow path body = chain (flow_at path) _ (flow path) (λ id. chain (bodies.flow_in id body) _ (from_body (bodies.flow_in id body) (flow_body id body)) (λ value. fine))
+of_put (routes.FlowPart part) path body = chain (flow_at path) _ (flow path) (λ id. chain (flow_part_name part path) _ (flow_name part path)
     (λ name. chain (set_part name body) _ (set name body) (λ value. fine)))
 of_put routes.Segments path body = of_method
 of_put routes.Storage path body = of_method
 of_put routes.Object path body = of_method
 of_put routes.Requests path body = of_method
 of_put routes.Request path body = of_method
-of_put routes.Media path body = chain (object_in path) _ (object_ path) (λ id. fine)
+of_put routes.Media path body = chain (object_at path) _ (object_ path) (λ id. fine)
 
-of_post : (route : Route) (path body : List ℕ) → IsOfRequests (posted route path body)
+of_post : (route : Route) (path body : List ℕ) → IsOfRequests (post_asked route path body)
 of_post routes.Root path body = of_method
 of_post routes.Service path body = of_method
 of_post routes.Hooks path body = chain (hook_in body) _ (from_body (hook_in body) (of_hook body)) (λ hook. fine)
@@ -176,26 +176,26 @@ of_post (routes.SourcePart part) path body = of_method
 of_post routes.Flows path body = of_method
 of_post routes.Flow path body = of_method
 of_post (routes.FlowPart part) path body = of_method
-of_post routes.Segments path body = chain (flow_in path) _ (flow path) (λ id. chain (segments_in body) _ (from_body (segments_in body) (of_segments body)) (λ value. fine))
-of_post routes.Storage path body = chain (flow_in path) _ (flow path) (λ id. chain (want_in body) _ (from_body (want_in body) (of_storage body)) (λ value. fine))
+of_post routes.Segments path body = chain (flow_at path) _ (flow path) (λ id. chain (segments_in body) _ (from_body (segments_in body) (of_segments body)) (λ value. fine))
+of_post routes.Storage path body = chain (flow_at path) _ (flow path) (λ id. chain (want_in body) _ (from_body (want_in body) (of_storage body)) (λ value. fine))
 of_post routes.Object path body = of_method
 of_post routes.Requests path body = of_method
 of_post routes.Request path body = of_method
 of_post routes.Media path body = of_method
 
-of_delete : (route : Route) (path query : List ℕ) → IsOfRequests (deleted route path query)
+of_delete : (route : Route) (path query : List ℕ) → IsOfRequests (delete_asked route path query)
 of_delete routes.Root path query = of_method
 of_delete routes.Service path query = of_method
 of_delete routes.Hooks path query = of_method
 of_delete routes.Sources path query = of_method
 of_delete routes.Source path query = of_method
-of_delete (routes.SourcePart part) path query = chain (source_in path) _ (source path) (λ id. chain (source_part part path) _ (source_name part path)
+of_delete (routes.SourcePart part) path query = chain (source_at path) _ (source path) (λ id. chain (source_part_name part path) _ (source_name part path)
     (λ name. chain (cleared_part name) _ (cleared name) (λ value. fine)))
 of_delete routes.Flows path query = of_method
-of_delete routes.Flow path query = chain (flow_in path) _ (flow path) (λ id. fine)
-of_delete (routes.FlowPart part) path query = chain (flow_in path) _ (flow path) (λ id. chain (flow_part part path) _ (flow_name part path)
+of_delete routes.Flow path query = chain (flow_at path) _ (flow path) (λ id. fine)
+of_delete (routes.FlowPart part) path query = chain (flow_at path) _ (flow path) (λ id. chain (flow_part_name part path) _ (flow_name part path)
     (λ name. chain (cleared_part name) _ (cleared name) (λ value. fine)))
-of_delete routes.Segments path query = chain (flow_in path) _ (flow path) (λ id. chain (pairs_in kinds.Cut query) _ (pairs kinds.Cut query) (λ found. fine))
+of_delete routes.Segments path query = chain (flow_at path) _ (flow path) (λ id. chain (pairs_in kinds.Cut query) _ (pairs kinds.Cut query) (λ found. fine))
 of_delete routes.Storage path query = of_method
 of_delete routes.Object path query = of_method
 of_delete routes.Requests path query = of_method
