@@ -32,8 +32,8 @@ abbrev pub limit_of : List Pair → ℕ
 limit_of pairs = unwrap_or (option_and_then limit_in (value_of (codes "limit") pairs)) usual_items
 
 -- a page of flows or sources
-abbrev pub list_page : List Pair → Page
-list_page pairs = record {
+abbrev pub asked_list_page : List Pair → Page
+asked_list_page pairs = record {
   after = option_and_then id_key_in (value_of (codes "page") pairs);
   limit = limit_of pairs;
   reverse = false;
@@ -44,8 +44,8 @@ abbrev pub is_reverse : List Pair → Bool
 is_reverse pairs = unwrap_or (option_and_then truth_in (value_of (codes "reverse_order") pairs)) false
 
 -- a page of segments
-abbrev pub segment_page : List Pair → Page
-segment_page pairs = record {
+abbrev pub asked_segment_page : List Pair → Page
+asked_segment_page pairs = record {
   after = option_and_then point_in (value_of (codes "page") pairs);
   limit = limit_of pairs;
   reverse = is_reverse pairs;

@@ -2,7 +2,7 @@
 -- the last key of this page, as the URL Standard writes a form (section 5.2).
 use Rattle.std.specs.Prelude.{ℕ, List, [], Bool, not, filter, fold, codes}
 use Rattle.form_urlencoded.specs.Form.{append_pair}
-use Rattle.http_queries.specs.Pairs.{has_name}
+use Rattle.http_queries.specs.Pairs.{is_named}
 use Rattle.http_queries.specs.declared.pairs.Pair.{Pair}
 
 -- the name of the key
@@ -10,16 +10,16 @@ abbrev pub page_name : List ℕ
 page_name = codes "page"
 
 -- a pair isn't the key
-abbrev pub stays : Pair → Bool
-stays pair = not (has_name page_name pair)
+abbrev pub stays_in_link : Pair → Bool
+stays_in_link pair = not (is_named page_name pair)
 
 -- a form with a pair more
-abbrev pub with_pair : List ℕ → Pair → List ℕ
-with_pair form pair = append_pair form pair.name pair.value
+abbrev pub form_with : List ℕ → Pair → List ℕ
+form_with form pair = append_pair form pair.name pair.value
 
 -- the form of the pairs but for the key
 abbrev pub form_of : List Pair → List ℕ
-form_of pairs = fold with_pair [] (filter stays pairs)
+form_of pairs = fold form_with [] (filter stays_in_link pairs)
 
 -- the query of the page behind a key
 abbrev pub next_query : List Pair → List ℕ → List ℕ

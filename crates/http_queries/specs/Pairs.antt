@@ -10,13 +10,13 @@ abbrev pub pair_of : List ℕ × List ℕ → Pair
 pair_of raw = record { name = utf8_lossy (decode raw.0); value = utf8_lossy (decode raw.1) }
 
 -- the pairs of a query, in its order
-unfoldable pub pairs_of : List ℕ → List Pair
-pairs_of query = map pair_of (raw_pairs query)
+unfoldable pub query_pairs : List ℕ → List Pair
+query_pairs query = map pair_of (raw_pairs query)
 
 -- a pair has this name
-abbrev pub has_name : List ℕ → Pair → Bool
-has_name name pair = bytes_eq pair.name name
+abbrev pub is_named : List ℕ → Pair → Bool
+is_named name pair = bytes_eq pair.name name
 
 -- the value of the first pair of a name, where there is one
 abbrev pub value_of : List ℕ → List Pair → Option (List ℕ)
-value_of name pairs = option_map (λ pair. pair.value) (find (has_name name) pairs)
+value_of name pairs = option_map (λ pair. pair.value) (find (is_named name) pairs)

@@ -6,7 +6,7 @@ use Rattle.json_bodies.specs.Flow.{format_of}
 use Rattle.media_rows.specs.Ids.{id_of}
 use Rattle.time_range.specs.Spelled.{range_in}
 use Rattle.http_queries.specs.Numbers.{limit_in, point_in, truth_in}
-use Rattle.http_queries.specs.Pairs.{has_name}
+use Rattle.http_queries.specs.Pairs.{is_named}
 use Rattle.http_queries.specs.declared.pairs.Pair.{Pair}
 use Rattle.http_queries.specs.declared.rules.QueryKind.{QueryKind}
 use Rattle.http_queries.specs.declared.rules.QueryKind.TheVariants.{Sources, Flows, Segments, Cut}
@@ -16,8 +16,8 @@ use Rattle.http_queries.specs.declared.rules.Rule.TheVariants as rules
 -- ---- names
 
 -- tests on tags, `tag.NAME` and `tag_exists.NAME`; no other name is listed
-abbrev pub tag_rule : List ℕ → Option Rule
-tag_rule name =
+abbrev pub tag_name_rule : List ℕ → Option Rule
+tag_name_rule name =
     if starts_with nat_eq name (codes "tag.") then Some rules.Any
     else if starts_with nat_eq name (codes "tag_exists.") then Some rules.Truth
     else None
@@ -29,7 +29,7 @@ source_rule name =
     else if bytes_eq name (codes "format") then Some rules.Format
     else if bytes_eq name (codes "limit") then Some rules.Limit
     else if bytes_eq name (codes "page") then Some rules.Id
-    else tag_rule name
+    else tag_name_rule name
 
 -- a list of flows, with these names besides
 abbrev pub flow_rule : List ℕ → Option Rule
@@ -81,7 +81,7 @@ is_read rules.Never value = false
 abbrev pub breaks : List Pair → Pair → Option Rule → Bool
 breaks earlier pair None = false
 breaks earlier pair (Some rule) =
-    list_any (has_name pair.name) earlier || not (is_read rule pair.value)
+    list_any (is_named pair.name) earlier || not (is_read rule pair.value)
 
 -- a pair is at fault behind earlier ones
 abbrev pub is_faulty : QueryKind → List Pair → Pair → Bool

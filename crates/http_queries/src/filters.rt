@@ -3,7 +3,7 @@
 ghost use Rattle.std.specs.Prelude.{◌≡◌, ◌≤◌, IfOk, codes, option_and_then};
 ghost use Rattle.json_bodies.specs.Flow.{format_of};
 ghost use Rattle.http_queries.specs.Filters as spec;
-ghost use Rattle.http_queries.specs.Filters.{flow_filter, limit_of, list_page, segment_filter, segment_page, source_filter};
+ghost use Rattle.http_queries.specs.Filters.{flow_filter, limit_of, asked_list_page, segment_filter, asked_segment_page, source_filter};
 ghost use Rattle.http_queries.specs.Pairs.{value_of};
 
 use crate::numbers::{USUAL_ITEMS, read_id_key, read_limit, read_point, read_truth};
@@ -42,7 +42,7 @@ fn read_limit_of(pairs: &[Pair]) -> u64
 
 /// The page of a list of flows or sources, by rising id.
 pub fn read_list_page(pairs: &PairList) -> Page
-    ensures page { result ≡ list_page pairs.now }
+    ensures page { result ≡ asked_list_page pairs.now }
     ensures least { 1 ≤ result.limit }
 {
     let pairs = pairs.items();
@@ -55,7 +55,7 @@ pub fn read_list_page(pairs: &PairList) -> Page
 
 /// The page of a list of segments.
 pub fn read_segment_page(pairs: &PairList) -> Page
-    ensures page { result ≡ segment_page pairs.now }
+    ensures page { result ≡ asked_segment_page pairs.now }
     ensures least { 1 ≤ result.limit }
 {
     let pairs = pairs.items();

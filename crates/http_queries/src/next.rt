@@ -4,7 +4,7 @@ ghost use Rattle.media_rows.specs.Views.{key_id};
 ghost use Rattle.http_queries.specs.Next as spec;
 ghost use Rattle.http_queries.specs.Next.{form_of};
 
-use crate::pairs::{Pair, PairList, has_name};
+use crate::pairs::{Pair, PairList, is_named};
 use disk_trait::{Memory, Text};
 use form_urlencoded::Serializer;
 use std::alloc::Global;
@@ -30,7 +30,7 @@ fn form_of(alloc: Global, pairs: &[Pair]) -> Result<Serializer, Memory>
 {
     let mut form = Serializer::new(String::new(alloc));
     for pair in pairs {
-        if !has_name(pair, b"page") {
+        if !is_named(pair, b"page") {
             append(&mut form, pair)?;
         }
     }
@@ -39,7 +39,7 @@ fn form_of(alloc: Global, pairs: &[Pair]) -> Result<Serializer, Memory>
 
 /// Adds a pair to a form.
 fn append(form: &mut Serializer, pair: &Pair) -> Result<(), Memory>
-    ensures { OnOk result (form.new ≡ record form.old { form = spec.with_pair form.old.form pair.now }) }
+    ensures { OnOk result (form.new ≡ record form.old { form = spec.form_with form.old.form pair.now }) }
 {
     let Ok(name) = str::from_utf8(pair.name.bytes()) else {
         return Err(Memory);

@@ -1,6 +1,6 @@
 //! The pairs of a query, as the URL Standard reads a form.
 ghost use Rattle.std.specs.Prelude.{◌≡◌, IfOk, option_map};
-ghost use Rattle.http_queries.specs.Pairs.{has_name, pairs_of, value_of};
+ghost use Rattle.http_queries.specs.Pairs.{is_named, query_pairs, value_of};
 
 use disk_trait::{Listed, Memory, Text, same_bytes};
 use form_urlencoded::parse;
@@ -17,9 +17,9 @@ pub struct Pair {
 pub type PairList = Listed<Pair>;
 
 /// The pairs of a query (URL Standard, section 5.1). What isn't UTF-8 in them becomes U+FFFD.
-#[tactic(auto, unfolding(crate::specs::Pairs::pairs_of))]
+#[tactic(auto, unfolding(crate::specs::Pairs::query_pairs))]
 pub fn read_pairs(alloc: Global, query: &[u8]) -> Result<PairList, Memory>
-    ensures { IfOk result (λ pairs. pairs ≡ pairs_of query.now) }
+    ensures { IfOk result (λ pairs. pairs ≡ query_pairs query.now) }
 {
     let mut pairs = Listed::new(alloc);
     for item in parse(alloc, query) {
@@ -33,8 +33,8 @@ pub fn read_pairs(alloc: Global, query: &[u8]) -> Result<PairList, Memory>
 }
 
 /// Whether a pair has this name.
-pub(crate) fn has_name(pair: &Pair, name: &[u8]) -> bool
-    ensures { result ≡ has_name name.now pair.now }
+pub(crate) fn is_named(pair: &Pair, name: &[u8]) -> bool
+    ensures { result ≡ is_named name.now pair.now }
 {
     same_bytes(pair.name.bytes(), name)
 }
@@ -44,7 +44,7 @@ pub(crate) fn value_of<'p>(pairs: &'p [Pair], name: &[u8]) -> Option<&'p [u8]>
     ensures { option_map (λ value. value.now) result ≡ value_of name.now pairs.now }
 {
     for pair in pairs {
-        if has_name(pair, name) {
+        if is_named(pair, name) {
             return Some(pair.value.bytes());
         }
     }

@@ -58,7 +58,7 @@ fn source_rule(name: &[u8]) -> Option<Rule>
     } else if is_word(name, "page") {
         Some(Rule::Id)
     } else {
-        tag_rule(name)
+        tag_name_rule(name)
     }
 }
 
@@ -106,8 +106,8 @@ fn cut_rule(name: &[u8]) -> Rule
     }
 }
 
-fn tag_rule(name: &[u8]) -> Option<Rule>
-    ensures { result ≡ spec.tag_rule name.now }
+fn tag_name_rule(name: &[u8]) -> Option<Rule>
+    ensures { result ≡ spec.tag_name_rule name.now }
 {
     if name.starts_with(b"tag.") {
         Some(Rule::Any)

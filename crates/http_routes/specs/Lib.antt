@@ -1,3 +1,4 @@
 pub mod Table
 pub mod Paths
 pub mod Named
+pub mod Apart

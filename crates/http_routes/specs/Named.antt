@@ -25,20 +25,20 @@ abbrev pub passing : (List ℕ → Bool) → List ℕ → Option (List ℕ)
 passing test text = if test text then Some text else None
 
 -- the id of a source or a flow
-abbrev pub id_in : List ℕ → Option ℕ
-id_in path = id_of (decoded_at id_place path)
+abbrev pub named_id : List ℕ → Option ℕ
+named_id path = id_of (decoded_at id_place path)
 
 -- the id of an object
-abbrev pub object_in : List ℕ → Option (List ℕ)
-object_in path = passing is_object_id (decoded_at id_place path)
+abbrev pub named_object : List ℕ → Option (List ℕ)
+named_object path = passing is_object_id (decoded_at id_place path)
 
 -- a tag's name: 1 to 128 bytes of UTF-8
 abbrev pub is_tag_name : List ℕ → Bool
 is_tag_name name = (nat_le 1 (length name) && nat_le (length name) 128) && is_utf8 name
 
 -- the name of a tag
-abbrev pub tag_in : List ℕ → Option (List ℕ)
-tag_in path = passing is_tag_name (decoded_at name_place path)
+abbrev pub named_tag : List ℕ → Option (List ℕ)
+named_tag path = passing is_tag_name (decoded_at name_place path)
 
 -- a serial: 1 to 19 digits, of which the first isn't 0
 abbrev pub serial_of : List ℕ → Option ℕ
@@ -50,9 +50,9 @@ stripped prefix text =
     if starts_with nat_eq text prefix then Some (drop (length prefix) text) else None
 
 -- the serial of a delete request of a store, whose id is the store's, `-` and the serial
-abbrev pub request_of : ℕ → List ℕ → Option ℕ
-request_of store text = option_and_then serial_of (stripped (id_text store ++ codes "-") text)
+abbrev pub request_serial : ℕ → List ℕ → Option ℕ
+request_serial store text = option_and_then serial_of (stripped (id_text store ++ codes "-") text)
 
 -- the same of a path
-abbrev pub request_in : ℕ → List ℕ → Option ℕ
-request_in store path = request_of store (decoded_at id_place path)
+abbrev pub named_request : ℕ → List ℕ → Option ℕ
+named_request store path = request_serial store (decoded_at id_place path)

@@ -8,14 +8,14 @@ use Rattle.http_routes.specs.declared.route.Route.{Route}
 -- ---- cutting
 
 -- the bytes before the first one of this value, or all
-abbrev pub before : ℕ → List ℕ → List ℕ
-before mark [] = []
-before mark (b ∷ bytes) = if b == mark then [] else b ∷ before mark bytes
+abbrev pub bytes_before : ℕ → List ℕ → List ℕ
+bytes_before mark [] = []
+bytes_before mark (b ∷ bytes) = if b == mark then [] else b ∷ bytes_before mark bytes
 
 -- the bytes behind the first one of this value, where there is one
-abbrev pub behind : ℕ → List ℕ → Option (List ℕ)
-behind mark [] = None
-behind mark (b ∷ bytes) = if b == mark then Some bytes else behind mark bytes
+abbrev pub bytes_behind : ℕ → List ℕ → Option (List ℕ)
+bytes_behind mark [] = None
+bytes_behind mark (b ∷ bytes) = if b == mark then Some bytes else bytes_behind mark bytes
 
 -- `?`, behind which the query stands
 abbrev pub question_mark : ℕ
@@ -27,27 +27,27 @@ slash = 47
 
 -- the path of a target, as it was sent
 abbrev pub path_of : List ℕ → List ℕ
-path_of target = before question_mark target
+path_of target = bytes_before question_mark target
 
 -- the query of a target, which is empty where there is none
 abbrev pub query_of : List ℕ → List ℕ
-query_of target = unwrap_or (behind question_mark target) []
+query_of target = unwrap_or (bytes_behind question_mark target) []
 
 -- ---- pieces
 
 -- a byte more at the front of the first piece
 abbrev pub onto_first : ℕ → List (List ℕ) → List (List ℕ)
 onto_first b [] = (b ∷ []) ∷ []
-onto_first b (piece ∷ pieces) = (b ∷ piece) ∷ pieces
+onto_first b (piece ∷ path_pieces) = (b ∷ piece) ∷ path_pieces
 
 -- the pieces of a text between its slashes
-unfoldable pub pieces : List ℕ → List (List ℕ)
-pieces [] = [] ∷ []
-pieces (b ∷ bytes) = if b == slash then [] ∷ pieces bytes else onto_first b (pieces bytes)
+unfoldable pub path_pieces : List ℕ → List (List ℕ)
+path_pieces [] = [] ∷ []
+path_pieces (b ∷ bytes) = if b == slash then [] ∷ path_pieces bytes else onto_first b (path_pieces bytes)
 
 -- the piece behind so many slashes, which is empty where there is none
 abbrev pub piece_at : ℕ → List ℕ → List ℕ
-piece_at place path = get_or (pieces path) place []
+piece_at place path = get_or (path_pieces path) place []
 
 -- ---- routes
 
@@ -69,12 +69,12 @@ piece_fits piece part = if is_in_braces piece then has_byte part else bytes_eq p
 abbrev pub pieces_fit : List (List ℕ) → List (List ℕ) → Bool
 pieces_fit [] [] = true
 pieces_fit [] (part ∷ parts) = false
-pieces_fit (piece ∷ pieces) [] = false
-pieces_fit (piece ∷ pieces) (part ∷ parts) = piece_fits piece part && pieces_fit pieces parts
+pieces_fit (piece ∷ path_pieces) [] = false
+pieces_fit (piece ∷ path_pieces) (part ∷ parts) = piece_fits piece part && pieces_fit path_pieces parts
 
 -- a path is one of a route
 abbrev pub is_path_of : List ℕ → Route → Bool
-is_path_of path route = pieces_fit (pieces (route_text route)) (pieces path)
+is_path_of path route = pieces_fit (path_pieces (route_text route)) (path_pieces path)
 
 -- a byte of ASCII
 abbrev pub is_ascii_byte : ℕ → Bool

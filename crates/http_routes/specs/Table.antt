@@ -68,55 +68,55 @@ all_routes =
 -- ---- methods
 
 -- the methods of what is only shown
-abbrev pub shown : List MethodKind
-shown = Get ∷ Head ∷ []
+abbrev pub only_shown : List MethodKind
+only_shown = Get ∷ Head ∷ []
 
 -- those of what is shown, set and cleared
-abbrev pub kept : List MethodKind
-kept = Get ∷ Head ∷ Put ∷ Delete ∷ []
+abbrev pub set_and_cleared : List MethodKind
+set_and_cleared = Get ∷ Head ∷ Put ∷ Delete ∷ []
 
 -- the methods of a part of a source
 abbrev pub source_part_methods : SourcePart → List MethodKind
-source_part_methods of_source.Tags = shown
-source_part_methods of_source.Tag = kept
-source_part_methods of_source.Label = kept
-source_part_methods of_source.Description = kept
+source_part_methods of_source.Tags = only_shown
+source_part_methods of_source.Tag = set_and_cleared
+source_part_methods of_source.Label = set_and_cleared
+source_part_methods of_source.Description = set_and_cleared
 
 -- the methods of a part of a flow
 abbrev pub flow_part_methods : FlowPart → List MethodKind
-flow_part_methods of_flow.Tags = shown
-flow_part_methods of_flow.Tag = kept
-flow_part_methods of_flow.Label = kept
-flow_part_methods of_flow.Description = kept
+flow_part_methods of_flow.Tags = only_shown
+flow_part_methods of_flow.Tag = set_and_cleared
+flow_part_methods of_flow.Label = set_and_cleared
+flow_part_methods of_flow.Description = set_and_cleared
 flow_part_methods of_flow.ReadOnly = Get ∷ Head ∷ Put ∷ []
-flow_part_methods of_flow.Collection = kept
-flow_part_methods of_flow.MaxBitRate = kept
-flow_part_methods of_flow.AvgBitRate = kept
+flow_part_methods of_flow.Collection = set_and_cleared
+flow_part_methods of_flow.MaxBitRate = set_and_cleared
+flow_part_methods of_flow.AvgBitRate = set_and_cleared
 
 -- the methods of a route, in the order in which they are named
 abbrev pub methods_of : Route → List MethodKind
-methods_of routes.Root = shown
-methods_of routes.Service = shown
+methods_of routes.Root = only_shown
+methods_of routes.Service = only_shown
 methods_of routes.Hooks = Get ∷ Head ∷ Post ∷ []
-methods_of routes.Sources = shown
-methods_of routes.Source = shown
+methods_of routes.Sources = only_shown
+methods_of routes.Source = only_shown
 methods_of (routes.SourcePart part) = source_part_methods part
-methods_of routes.Flows = shown
-methods_of routes.Flow = kept
+methods_of routes.Flows = only_shown
+methods_of routes.Flow = set_and_cleared
 methods_of (routes.FlowPart part) = flow_part_methods part
 methods_of routes.Segments = Get ∷ Head ∷ Post ∷ Delete ∷ []
 methods_of routes.Storage = Post ∷ []
-methods_of routes.Object = shown
-methods_of routes.Requests = shown
-methods_of routes.Request = shown
+methods_of routes.Object = only_shown
+methods_of routes.Requests = only_shown
+methods_of routes.Request = only_shown
 methods_of routes.Media = Get ∷ Head ∷ Put ∷ []
 
 -- the methods of a set, in the same order
 abbrev pub method_list : Methods → List MethodKind
-method_list sets.GetHead = shown
+method_list sets.GetHead = only_shown
 method_list sets.GetHeadPost = Get ∷ Head ∷ Post ∷ []
 method_list sets.GetHeadPut = Get ∷ Head ∷ Put ∷ []
-method_list sets.GetHeadPutDelete = kept
+method_list sets.GetHeadPutDelete = set_and_cleared
 method_list sets.GetHeadPostDelete = Get ∷ Head ∷ Post ∷ Delete ∷ []
 method_list sets.Post = Post ∷ []
 
@@ -134,11 +134,11 @@ abbrev pub has_method : List MethodKind → MethodKind → Bool
 has_method methods method = list_any (λ m. bytes_eq (method_name m) (method_name method)) methods
 
 -- texts one behind another, with a comma and a blank between
-abbrev pub listed : List (List ℕ) → List ℕ
-listed [] = []
-listed (text ∷ []) = text
-listed (text ∷ next ∷ more) = text ++ codes ", " ++ listed (next ∷ more)
+abbrev pub comma_joined : List (List ℕ) → List ℕ
+comma_joined [] = []
+comma_joined (text ∷ []) = text
+comma_joined (text ∷ next ∷ more) = text ++ codes ", " ++ comma_joined (next ∷ more)
 
 -- the names of methods, as the field `Allow` has them (RFC 9110, section 10.2.1)
 abbrev pub allow_text : List MethodKind → List ℕ
-allow_text methods = listed (map method_name methods)
+allow_text methods = comma_joined (map method_name methods)

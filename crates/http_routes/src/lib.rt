@@ -3,6 +3,7 @@
 #![tactic(auto)]
 
 mod cut;
+mod laws;
 mod methods;
 mod named;
 mod path;
@@ -10,6 +11,7 @@ mod route;
 #[cfg(test)]
 mod tests;
 
+pub use crate::laws::routes_are_apart;
 pub use crate::methods::Methods;
 pub use crate::named::{read_named_id, read_named_object, read_named_request, read_named_tag};
 pub use crate::path::{find_route, path_of, query_of};

@@ -3,7 +3,7 @@ ghost use Rattle.std.specs.Prelude.{◌≡◌, ◌++◌, ◌&&◌, IfOk, IsTrue,
 ghost use Rattle.std.specs.Str.{is_utf8};
 ghost use Rattle.media_rows.specs.Good.{if_there};
 ghost use Rattle.media_rows.specs.Ids.{id_text, is_object_id};
-ghost use Rattle.http_routes.specs.Named.{decoded_at, id_in, object_in, request_in, request_of, serial_of, stripped, tag_in};
+ghost use Rattle.http_routes.specs.Named.{decoded_at, named_id, named_object, named_request, request_serial, serial_of, stripped, named_tag};
 
 use crate::path::piece_at;
 use disk_trait::{Memory, Text};
@@ -33,7 +33,7 @@ fn decoded_at(alloc: Global, path: &[u8], place: usize) -> Result<Text, Memory>
 
 /// The id of a source or a flow that a path names, where its text spells one.
 pub fn read_named_id(alloc: Global, path: &[u8]) -> Result<Option<u128>, Memory>
-    ensures { IfOk result (λ found. found ≡ id_in path.now) }
+    ensures { IfOk result (λ found. found ≡ named_id path.now) }
 {
     let text = decoded_at(alloc, path, ID_PLACE)?;
     Ok(read_id(text.bytes()))
@@ -41,7 +41,7 @@ pub fn read_named_id(alloc: Global, path: &[u8]) -> Result<Option<u128>, Memory>
 
 /// The id of the object that a path names, where its text has the form of one.
 pub fn read_named_object(alloc: Global, path: &[u8]) -> Result<Option<Text>, Memory>
-    ensures found { IfOk result (λ found. found ≡ object_in path.now) }
+    ensures found { IfOk result (λ found. found ≡ named_object path.now) }
     ensures good { IfOk result (λ found. IsTrue (if_there is_object_id found)) }
 {
     let text = decoded_at(alloc, path, ID_PLACE)?;
@@ -54,7 +54,7 @@ pub fn read_named_object(alloc: Global, path: &[u8]) -> Result<Option<Text>, Mem
 
 /// The name of the tag that a path names, where it is 1 to 128 bytes of UTF-8.
 pub fn read_named_tag(alloc: Global, path: &[u8]) -> Result<Option<Text>, Memory>
-    ensures found { IfOk result (λ found. found ≡ tag_in path.now) }
+    ensures found { IfOk result (λ found. found ≡ named_tag path.now) }
     ensures good { IfOk result (λ found. IsTrue (if_there is_utf8 found)) }
 {
     let name = decoded_at(alloc, path, NAME_PLACE)?;
@@ -84,7 +84,7 @@ fn is_text(bytes: &[u8]) -> bool
 
 /// The serial of the delete request that a path names, where its id is one of this store.
 pub fn read_named_request(alloc: Global, store: u128, path: &[u8]) -> Result<Option<u64>, Memory>
-    ensures { IfOk result (λ found. found ≡ request_in store path.now) }
+    ensures { IfOk result (λ found. found ≡ named_request store path.now) }
 {
     let text = decoded_at(alloc, path, ID_PLACE)?;
     let prefix = request_prefix(alloc, store)?;

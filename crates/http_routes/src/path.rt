@@ -2,7 +2,7 @@
 ghost use Rattle.std.specs.Prelude.{◌≡◌, find};
 ghost use Rattle.std.specs.List.{list_all};
 ghost use Rattle.http_routes.specs.Paths as spec;
-ghost use Rattle.http_routes.specs.Paths.{is_ascii_byte, is_path_of, piece_fits, pieces, pieces_fit};
+ghost use Rattle.http_routes.specs.Paths.{is_ascii_byte, is_path_of, piece_fits, path_pieces, pieces_fit};
 ghost use Rattle.http_routes.specs.Table.{all_routes};
 
 use crate::cut::cut;
@@ -105,7 +105,7 @@ fn is_path_of(path: &[u8], route: Route) -> bool
 /// Whether each piece of a path is what the piece of a route says.
 #[tactic(auto, using(crate::proofs::Pieces::pieces_cut))]
 fn pieces_fit(text: &[u8], path: &[u8]) -> bool
-    ensures { result ≡ pieces_fit (pieces text.now) (pieces path.now) }
+    ensures { result ≡ pieces_fit (path_pieces text.now) (path_pieces path.now) }
 {
     let mut route_rest = text;
     let mut path_rest = path;

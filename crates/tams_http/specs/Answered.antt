@@ -3,7 +3,7 @@
 use Rattle.std.specs.Prelude.{ℕ, ◌==◌, ℤ, List, [], ◌∷◌, ◌++◌, Bool, Option, Some, None, option_map, length, if◌then◌else◌, codes, decimal}
 use Rattle.std.specs.Fmt.{signed_decimal}
 use Rattle.http_queries.specs.Next.{next_query}
-use Rattle.http_queries.specs.Pairs.{pairs_of}
+use Rattle.http_queries.specs.Pairs.{query_pairs}
 use Rattle.http_routes.specs.Paths.{path_of, query_of, route_of}
 use Rattle.http_routes.specs.Table.{allow_text, methods_of}
 use Rattle.http_wire.specs.Response.{response}
@@ -128,46 +128,46 @@ next_key_of (views.OnePart part) = None
 next_key_of (views.AllTags tags) = None
 
 -- the same of a reply
-abbrev pub next_key : Reply → Option (List ℕ)
-next_key replies.Created = None
-next_key (replies.CreatedObjects ids) = None
-next_key (replies.Accepted row) = None
-next_key replies.Done = None
-next_key (replies.Shown view) = next_key_of view
-next_key (replies.Media size) = None
-next_key (replies.Refused refusal) = None
+abbrev pub next_key_text : Reply → Option (List ℕ)
+next_key_text replies.Created = None
+next_key_text (replies.CreatedObjects ids) = None
+next_key_text (replies.Accepted row) = None
+next_key_text replies.Done = None
+next_key_text (replies.Shown view) = next_key_of view
+next_key_text (replies.Media size) = None
+next_key_text (replies.Refused refusal) = None
 
 -- the address of the page behind a key, as a link to the next one (RFC 8288, section 3)
 abbrev pub next_link : List ℕ → List ℕ → List ℕ → List ℕ
 next_link base target key =
-    codes "<" ++ base ++ path_of target ++ codes "?" ++ next_query (pairs_of (query_of target)) key
+    codes "<" ++ base ++ path_of target ++ codes "?" ++ next_query (query_pairs (query_of target)) key
     ++ codes ">; rel=\"next\""
 
 -- the link to the page behind a key, where there is one
-abbrev pub link : Context → Option (List ℕ) → Option (List ℕ)
-link context key = option_map (next_link context.base context.target) key
+abbrev pub page_link : Context → Option (List ℕ) → Option (List ℕ)
+page_link context key = option_map (next_link context.base context.target) key
 
 -- the word with which a connection ends
-abbrev pub connection : Bool → Option (List ℕ)
-connection ends = if ends then Some (codes "close") else None
+abbrev pub connection_word : Bool → Option (List ℕ)
+connection_word ends = if ends then Some (codes "close") else None
 
 -- the fields of the response to a reply with this body, in their order
-abbrev pub fields_of : Context → Reply → List ℕ → List Field
-fields_of context reply body =
+abbrev pub response_fields : Context → Reply → List ℕ → List Field
+response_fields context reply body =
     field_if (codes "Content-Length") (content_length reply body)
     ++ field_if (codes "Content-Type") (content_type reply body)
     ++ field_if (codes "Allow") (allow reply context.target)
     ++ field_if (codes "Location") (location reply context.store context.base)
-    ++ field_if (codes "Link") (link context (next_key reply))
-    ++ field_if (codes "X-Paging-NextKey") (next_key reply)
-    ++ field_if (codes "Connection") (connection context.ends)
+    ++ field_if (codes "Link") (page_link context (next_key_text reply))
+    ++ field_if (codes "X-Paging-NextKey") (next_key_text reply)
+    ++ field_if (codes "Connection") (connection_word context.ends)
 
 -- ---- the response
 
 -- the response with this body
 abbrev pub response_with : Context → Reply → List ℕ → List ℕ
 response_with context reply body =
-    response (reply_status reply) (fields_of context reply body) body context.head_only
+    response (reply_status reply) (response_fields context reply body) body context.head_only
 
 -- The response to a reply. For `Media` it is the head alone, and the object's bytes follow.
 unfoldable pub response_to : Context → Reply → List ℕ

@@ -2,8 +2,8 @@
 -- its method, the ids in the path, the body, and then the query. Our own profile of the
 -- Time-addressable Media Store.
 use Rattle.std.specs.Prelude.{ℕ, List, [], ◌∷◌, Option, Some, None, Result, Ok, Err, if◌then◌else◌}
-use Rattle.http_queries.specs.Filters.{flow_filter, list_page, range_of, range_or_all, segment_filter, segment_page, source_filter}
-use Rattle.http_queries.specs.Pairs.{pairs_of}
+use Rattle.http_queries.specs.Filters.{flow_filter, asked_list_page, range_of, range_or_all, segment_filter, asked_segment_page, source_filter}
+use Rattle.http_queries.specs.Pairs.{query_pairs}
 use Rattle.http_queries.specs.Rules.{query_fault}
 use Rattle.http_queries.specs.declared.pairs.Pair.{Pair}
 use Rattle.http_queries.specs.declared.rules.QueryKind.{QueryKind}
@@ -25,14 +25,14 @@ use Rattle.media_rows.specs.declared.event.EventKind.{EventKind}
 use Rattle.media_rows.specs.declared.hook.Hook.{Hook}
 use Rattle.media_rows.specs.declared.refusal.Refusal.{Refusal}
 use Rattle.media_rows.specs.declared.refusal.Refusal.TheVariants.{NoRoute, NoMethod, BadQuery}
-use Rattle.tams_http.specs.Named.{flow_in, object_in, request_in, source_in}
-use Rattle.tams_http.specs.Parts.{cleared_part, flow_part, set_part, source_part}
+use Rattle.tams_http.specs.Named.{flow_at, object_at, request_at, source_at}
+use Rattle.tams_http.specs.Parts.{cleared_part, flow_part_name, set_part, source_part_name}
 use Rattle.tams_http.specs.declared.ask.Ask.{Ask}
 use Rattle.tams_http.specs.declared.ask.Ask.TheVariants.{Run, PutMedia, GetMedia}
 
 -- a command of the library
-abbrev pub run : Command → Result Ask Refusal
-run command = Ok (Run command)
+abbrev pub runs : Command → Result Ask Refusal
+runs command = Ok (Run command)
 
 -- ---- queries
 
@@ -43,7 +43,7 @@ without_fault pairs (Some name) = Err (BadQuery name)
 
 -- the pairs of a query, or the name of the first one at fault
 abbrev pub pairs_in : QueryKind → List ℕ → Result (List Pair) Refusal
-pairs_in kind query = without_fault (pairs_of query) (query_fault kind (pairs_of query))
+pairs_in kind query = without_fault (query_pairs query) (query_fault kind (query_pairs query))
 
 -- ---- GET and HEAD
 
@@ -51,74 +51,74 @@ pairs_in kind query = without_fault (pairs_of query) (query_fault kind (pairs_of
 abbrev pub sources_asked : List ℕ → Result Ask Refusal
 sources_asked query =
     pairs_in kinds.Sources query
-    >>= λ pairs. run (commands.Sources (source_filter pairs) (list_page pairs))
+    >>= λ pairs. runs (commands.Sources (source_filter pairs) (asked_list_page pairs))
 
 -- a list of flows
 abbrev pub flows_asked : List ℕ → Result Ask Refusal
 flows_asked query =
     pairs_in kinds.Flows query
-    >>= λ pairs. run (commands.Flows (flow_filter pairs) (range_of pairs) (list_page pairs))
+    >>= λ pairs. runs (commands.Flows (flow_filter pairs) (range_of pairs) (asked_list_page pairs))
 
 -- a list of the segments of a flow
 abbrev pub segments_asked : List ℕ → List ℕ → Result Ask Refusal
 segments_asked path query =
-    flow_in path >>= λ flow.
+    flow_at path >>= λ flow.
     pairs_in kinds.Segments query >>= λ pairs.
-    run (commands.Segments flow (segment_filter pairs) (segment_page pairs))
+    runs (commands.Segments flow (segment_filter pairs) (asked_segment_page pairs))
 
 -- what is shown
-abbrev pub shown : ℕ → Route → List ℕ → List ℕ → Result Ask Refusal
-shown store routes.Root path query = run commands.Root
-shown store routes.Service path query = run commands.Service
-shown store routes.Hooks path query = run commands.Hooks
-shown store routes.Sources path query = sources_asked query
-shown store routes.Source path query = source_in path >>= λ source. run (commands.Source source)
-shown store (routes.SourcePart part) path query =
-    source_in path >>= λ source.
-    source_part part path >>= λ name.
-    run (commands.SourcePart source name)
-shown store routes.Flows path query = flows_asked query
-shown store routes.Flow path query = flow_in path >>= λ flow. run (commands.Flow flow)
-shown store (routes.FlowPart part) path query =
-    flow_in path >>= λ flow.
-    flow_part part path >>= λ name.
-    run (commands.FlowPart flow name)
-shown store routes.Segments path query = segments_asked path query
-shown store routes.Storage path query = Err NoMethod
-shown store routes.Object path query = object_in path >>= λ object. run (commands.Object object)
-shown store routes.Requests path query = run commands.Requests
-shown store routes.Request path query =
-    request_in store path >>= λ serial. run (commands.Request serial)
-shown store routes.Media path query = object_in path >>= λ object. Ok (GetMedia object)
+abbrev pub get_asked : ℕ → Route → List ℕ → List ℕ → Result Ask Refusal
+get_asked store routes.Root path query = runs commands.Root
+get_asked store routes.Service path query = runs commands.Service
+get_asked store routes.Hooks path query = runs commands.Hooks
+get_asked store routes.Sources path query = sources_asked query
+get_asked store routes.Source path query = source_at path >>= λ source. runs (commands.Source source)
+get_asked store (routes.SourcePart part) path query =
+    source_at path >>= λ source.
+    source_part_name part path >>= λ name.
+    runs (commands.SourcePart source name)
+get_asked store routes.Flows path query = flows_asked query
+get_asked store routes.Flow path query = flow_at path >>= λ flow. runs (commands.Flow flow)
+get_asked store (routes.FlowPart part) path query =
+    flow_at path >>= λ flow.
+    flow_part_name part path >>= λ name.
+    runs (commands.FlowPart flow name)
+get_asked store routes.Segments path query = segments_asked path query
+get_asked store routes.Storage path query = Err NoMethod
+get_asked store routes.Object path query = object_at path >>= λ object. runs (commands.Object object)
+get_asked store routes.Requests path query = runs commands.Requests
+get_asked store routes.Request path query =
+    request_at store path >>= λ serial. runs (commands.Request serial)
+get_asked store routes.Media path query = object_at path >>= λ object. Ok (GetMedia object)
 
 -- ---- PUT
 
 -- what is set by a body
-abbrev pub put : Route → List ℕ → List ℕ → Result Ask Refusal
-put routes.Root path body = Err NoMethod
-put routes.Service path body = Err NoMethod
-put routes.Hooks path body = Err NoMethod
-put routes.Sources path body = Err NoMethod
-put routes.Source path body = Err NoMethod
-put (routes.SourcePart part) path body =
-    source_in path >>= λ source.
-    source_part part path >>= λ name.
+abbrev pub put_asked : Route → List ℕ → List ℕ → Result Ask Refusal
+put_asked routes.Root path body = Err NoMethod
+put_asked routes.Service path body = Err NoMethod
+put_asked routes.Hooks path body = Err NoMethod
+put_asked routes.Sources path body = Err NoMethod
+put_asked routes.Source path body = Err NoMethod
+put_asked (routes.SourcePart part) path body =
+    source_at path >>= λ source.
+    source_part_name part path >>= λ name.
     set_part name body >>= λ value.
-    run (commands.SetSource source value)
-put routes.Flows path body = Err NoMethod
-put routes.Flow path body =
-    flow_in path >>= λ id. bodies.flow_in id body >>= λ flow. run (commands.PutFlow flow)
-put (routes.FlowPart part) path body =
-    flow_in path >>= λ flow.
-    flow_part part path >>= λ name.
+    runs (commands.SetSource source value)
+put_asked routes.Flows path body = Err NoMethod
+put_asked routes.Flow path body =
+    flow_at path >>= λ id. bodies.flow_in id body >>= λ flow. runs (commands.PutFlow flow)
+put_asked (routes.FlowPart part) path body =
+    flow_at path >>= λ flow.
+    flow_part_name part path >>= λ name.
     set_part name body >>= λ value.
-    run (commands.SetFlow flow value)
-put routes.Segments path body = Err NoMethod
-put routes.Storage path body = Err NoMethod
-put routes.Object path body = Err NoMethod
-put routes.Requests path body = Err NoMethod
-put routes.Request path body = Err NoMethod
-put routes.Media path body = object_in path >>= λ object. Ok (PutMedia object)
+    runs (commands.SetFlow flow value)
+put_asked routes.Segments path body = Err NoMethod
+put_asked routes.Storage path body = Err NoMethod
+put_asked routes.Object path body = Err NoMethod
+put_asked routes.Requests path body = Err NoMethod
+put_asked routes.Request path body = Err NoMethod
+put_asked routes.Media path body = object_at path >>= λ object. Ok (PutMedia object)
 
 -- ---- POST
 
@@ -128,57 +128,57 @@ hook_command hook [] = commands.DropHook hook.url
 hook_command hook (event ∷ events) = commands.PutHook hook
 
 -- what is added by a body
-abbrev pub posted : Route → List ℕ → List ℕ → Result Ask Refusal
-posted routes.Root path body = Err NoMethod
-posted routes.Service path body = Err NoMethod
-posted routes.Hooks path body = hook_in body >>= λ hook. run (hook_command hook hook.events)
-posted routes.Sources path body = Err NoMethod
-posted routes.Source path body = Err NoMethod
-posted (routes.SourcePart part) path body = Err NoMethod
-posted routes.Flows path body = Err NoMethod
-posted routes.Flow path body = Err NoMethod
-posted (routes.FlowPart part) path body = Err NoMethod
-posted routes.Segments path body =
-    flow_in path >>= λ flow.
+abbrev pub post_asked : Route → List ℕ → List ℕ → Result Ask Refusal
+post_asked routes.Root path body = Err NoMethod
+post_asked routes.Service path body = Err NoMethod
+post_asked routes.Hooks path body = hook_in body >>= λ hook. runs (hook_command hook hook.events)
+post_asked routes.Sources path body = Err NoMethod
+post_asked routes.Source path body = Err NoMethod
+post_asked (routes.SourcePart part) path body = Err NoMethod
+post_asked routes.Flows path body = Err NoMethod
+post_asked routes.Flow path body = Err NoMethod
+post_asked (routes.FlowPart part) path body = Err NoMethod
+post_asked routes.Segments path body =
+    flow_at path >>= λ flow.
     segments_in body >>= λ segments.
-    run (commands.AddSegments flow segments)
-posted routes.Storage path body =
-    flow_in path >>= λ flow. want_in body >>= λ want. run (commands.Allocate flow want)
-posted routes.Object path body = Err NoMethod
-posted routes.Requests path body = Err NoMethod
-posted routes.Request path body = Err NoMethod
-posted routes.Media path body = Err NoMethod
+    runs (commands.AddSegments flow segments)
+post_asked routes.Storage path body =
+    flow_at path >>= λ flow. want_in body >>= λ want. runs (commands.Allocate flow want)
+post_asked routes.Object path body = Err NoMethod
+post_asked routes.Requests path body = Err NoMethod
+post_asked routes.Request path body = Err NoMethod
+post_asked routes.Media path body = Err NoMethod
 
 -- ---- DELETE
 
 -- what is deleted or cleared
-abbrev pub deleted : Route → List ℕ → List ℕ → Result Ask Refusal
-deleted routes.Root path query = Err NoMethod
-deleted routes.Service path query = Err NoMethod
-deleted routes.Hooks path query = Err NoMethod
-deleted routes.Sources path query = Err NoMethod
-deleted routes.Source path query = Err NoMethod
-deleted (routes.SourcePart part) path query =
-    source_in path >>= λ source.
-    source_part part path >>= λ name.
+abbrev pub delete_asked : Route → List ℕ → List ℕ → Result Ask Refusal
+delete_asked routes.Root path query = Err NoMethod
+delete_asked routes.Service path query = Err NoMethod
+delete_asked routes.Hooks path query = Err NoMethod
+delete_asked routes.Sources path query = Err NoMethod
+delete_asked routes.Source path query = Err NoMethod
+delete_asked (routes.SourcePart part) path query =
+    source_at path >>= λ source.
+    source_part_name part path >>= λ name.
     cleared_part name >>= λ value.
-    run (commands.SetSource source value)
-deleted routes.Flows path query = Err NoMethod
-deleted routes.Flow path query = flow_in path >>= λ flow. run (commands.DropFlow flow)
-deleted (routes.FlowPart part) path query =
-    flow_in path >>= λ flow.
-    flow_part part path >>= λ name.
+    runs (commands.SetSource source value)
+delete_asked routes.Flows path query = Err NoMethod
+delete_asked routes.Flow path query = flow_at path >>= λ flow. runs (commands.DropFlow flow)
+delete_asked (routes.FlowPart part) path query =
+    flow_at path >>= λ flow.
+    flow_part_name part path >>= λ name.
     cleared_part name >>= λ value.
-    run (commands.SetFlow flow value)
-deleted routes.Segments path query =
-    flow_in path >>= λ flow.
+    runs (commands.SetFlow flow value)
+delete_asked routes.Segments path query =
+    flow_at path >>= λ flow.
     pairs_in kinds.Cut query >>= λ pairs.
-    run (commands.CutSegments flow (range_or_all pairs))
-deleted routes.Storage path query = Err NoMethod
-deleted routes.Object path query = Err NoMethod
-deleted routes.Requests path query = Err NoMethod
-deleted routes.Request path query = Err NoMethod
-deleted routes.Media path query = Err NoMethod
+    runs (commands.CutSegments flow (range_or_all pairs))
+delete_asked routes.Storage path query = Err NoMethod
+delete_asked routes.Object path query = Err NoMethod
+delete_asked routes.Requests path query = Err NoMethod
+delete_asked routes.Request path query = Err NoMethod
+delete_asked routes.Media path query = Err NoMethod
 
 -- ---- requests
 
@@ -189,11 +189,11 @@ pub record Sent : Type 0 where
 
 -- what a request to a route asks for, by its method
 abbrev pub asked_by : ℕ → MethodKind → Route → Sent → Result Ask Refusal
-asked_by store Get route sent = shown store route (path_of sent.target) (query_of sent.target)
-asked_by store Head route sent = shown store route (path_of sent.target) (query_of sent.target)
-asked_by store Post route sent = posted route (path_of sent.target) sent.body
-asked_by store Put route sent = put route (path_of sent.target) sent.body
-asked_by store Delete route sent = deleted route (path_of sent.target) (query_of sent.target)
+asked_by store Get route sent = get_asked store route (path_of sent.target) (query_of sent.target)
+asked_by store Head route sent = get_asked store route (path_of sent.target) (query_of sent.target)
+asked_by store Post route sent = post_asked route (path_of sent.target) sent.body
+asked_by store Put route sent = put_asked route (path_of sent.target) sent.body
+asked_by store Delete route sent = delete_asked route (path_of sent.target) (query_of sent.target)
 asked_by store Other route sent = Err NoMethod
 
 -- the same, where the path may name no route

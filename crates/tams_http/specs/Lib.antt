@@ -4,3 +4,4 @@ pub mod Asked
 pub mod Answered
 pub mod Constants
 pub mod Good
+pub mod Refusals

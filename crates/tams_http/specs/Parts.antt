@@ -13,25 +13,25 @@ use Rattle.media_rows.specs.declared.part.PartName.{PartName}
 use Rattle.media_rows.specs.declared.part.PartName.TheVariants as names
 use Rattle.media_rows.specs.declared.refusal.Refusal.{Refusal}
 use Rattle.media_rows.specs.declared.refusal.Refusal.TheVariants.{NoMethod}
-use Rattle.tams_http.specs.Named.{tag_in}
+use Rattle.tams_http.specs.Named.{tag_at}
 
 -- the part of a source that a path names
-abbrev pub source_part : SourcePart → List ℕ → Result PartName Refusal
-source_part of_source.Tags path = Ok names.Tags
-source_part of_source.Tag path = tag_in path >>= λ name. Ok (names.Tag name)
-source_part of_source.Label path = Ok names.Label
-source_part of_source.Description path = Ok names.Description
+abbrev pub source_part_name : SourcePart → List ℕ → Result PartName Refusal
+source_part_name of_source.Tags path = Ok names.Tags
+source_part_name of_source.Tag path = tag_at path >>= λ name. Ok (names.Tag name)
+source_part_name of_source.Label path = Ok names.Label
+source_part_name of_source.Description path = Ok names.Description
 
 -- the part of a flow that a path names
-abbrev pub flow_part : FlowPart → List ℕ → Result PartName Refusal
-flow_part of_flow.Tags path = Ok names.Tags
-flow_part of_flow.Tag path = tag_in path >>= λ name. Ok (names.Tag name)
-flow_part of_flow.Label path = Ok names.Label
-flow_part of_flow.Description path = Ok names.Description
-flow_part of_flow.ReadOnly path = Ok names.ReadOnly
-flow_part of_flow.Collection path = Ok names.Collection
-flow_part of_flow.MaxBitRate path = Ok names.MaxBitRate
-flow_part of_flow.AvgBitRate path = Ok names.AvgBitRate
+abbrev pub flow_part_name : FlowPart → List ℕ → Result PartName Refusal
+flow_part_name of_flow.Tags path = Ok names.Tags
+flow_part_name of_flow.Tag path = tag_at path >>= λ name. Ok (names.Tag name)
+flow_part_name of_flow.Label path = Ok names.Label
+flow_part_name of_flow.Description path = Ok names.Description
+flow_part_name of_flow.ReadOnly path = Ok names.ReadOnly
+flow_part_name of_flow.Collection path = Ok names.Collection
+flow_part_name of_flow.MaxBitRate path = Ok names.MaxBitRate
+flow_part_name of_flow.AvgBitRate path = Ok names.AvgBitRate
 
 -- a part as a body sets it; all tags are never set at once
 abbrev pub set_part : PartName → List ℕ → Result Part Refusal

@@ -217,8 +217,8 @@ fn next_key_of(alloc: Global, view: &View) -> Result<Option<Text>, Memory>
 }
 
 /// The key of the next page of a reply.
-pub(crate) fn next_key(alloc: Global, reply: &Reply) -> Result<Option<Text>, Memory>
-    ensures { IfOk result (λ key. key ≡ spec.next_key reply.now) }
+pub(crate) fn next_key_text(alloc: Global, reply: &Reply) -> Result<Option<Text>, Memory>
+    ensures { IfOk result (λ key. key ≡ spec.next_key_text reply.now) }
 {
     match reply {
         Reply::Shown(view) => next_key_of(alloc, view),
@@ -242,18 +242,18 @@ pub(crate) fn next_link(
 {
     let pairs = read_pairs(alloc, query_of(target))?;
     let query = next_query(alloc, &pairs, key)?;
-    let mut link = Text::from_bytes(alloc, b"<")?;
-    link.append(base.bytes())?;
-    link.append(path_of(target))?;
-    link.append(b"?")?;
-    link.append(query.bytes())?;
-    link.append(b">; rel=\"next\"")?;
-    Ok(link)
+    let mut page_link = Text::from_bytes(alloc, b"<")?;
+    page_link.append(base.bytes())?;
+    page_link.append(path_of(target))?;
+    page_link.append(b"?")?;
+    page_link.append(query.bytes())?;
+    page_link.append(b">; rel=\"next\"")?;
+    Ok(page_link)
 }
 
 /// The word with which a connection ends.
-pub(crate) fn connection(alloc: Global, ends: bool) -> Result<Option<Text>, Memory>
-    ensures { IfOk result (λ value. value ≡ spec.connection ends) }
+pub(crate) fn connection_word(alloc: Global, ends: bool) -> Result<Option<Text>, Memory>
+    ensures { IfOk result (λ value. value ≡ spec.connection_word ends) }
 {
     if ends {
         Ok(Some(Text::from_bytes(alloc, b"close")?))

@@ -6,6 +6,7 @@ mod ask;
 mod asked;
 mod constants;
 mod fields;
+mod laws;
 mod lists;
 mod named;
 mod parts;
@@ -16,4 +17,5 @@ mod tests;
 
 pub use crate::ask::{Ask, AskFault};
 pub use crate::constants::{server_error, unavailable};
+pub use crate::laws::refusals_are_of_requests;
 pub use crate::routes::Routes;

@@ -5,7 +5,7 @@ ghost use Rattle.tams_http.specs.Good.{is_ask_good};
 ghost use Rattle.tams_http.specs.Asked.{flows_asked, pairs_in, segments_asked, sources_asked};
 
 use crate::ask::{Ask, AskFault};
-use crate::named::flow_in;
+use crate::named::flow_at;
 use http_queries::{
     PairList, QueryKind, query_fault, read_flow_filter, read_list_page, read_pairs, read_range,
     read_segment_filter, read_segment_page, read_source_filter,
@@ -47,7 +47,7 @@ pub(crate) fn segments_asked(alloc: Global, path: &[u8], query: &[u8]) -> Result
     ensures answer { Answers (segments_asked path.now query.now) result }
     ensures good { IfOk result (λ ask. IsTrue (is_ask_good ask)) }
 {
-    let flow = flow_in(alloc, path)?;
+    let flow = flow_at(alloc, path)?;
     let pairs = pairs_in(alloc, QueryKind::Segments, query)?;
     let filter = read_segment_filter(alloc, &pairs)?;
     Ok(Ask::Run(Command::Segments(flow, filter, read_segment_page(&pairs))))

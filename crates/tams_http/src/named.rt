@@ -3,7 +3,7 @@ ghost use Rattle.std.specs.Prelude.{◌≡◌, IfOk, IsTrue};
 ghost use Rattle.std.specs.Str.{is_utf8};
 ghost use Rattle.media_rows.specs.Ids.{is_object_id};
 ghost use Rattle.json_bodies.specs.Answers.{Answers};
-ghost use Rattle.tams_http.specs.Named.{flow_in, found_or, object_in, request_in, source_in, tag_in};
+ghost use Rattle.tams_http.specs.Named.{flow_at, named_or, object_at, request_at, source_at, tag_at};
 
 use crate::ask::AskFault;
 use disk_trait::Text;
@@ -12,8 +12,8 @@ use media_rows::Refusal;
 use std::alloc::Global;
 
 /// What was found, or the refusal.
-fn found_or<T: Drop>(found: Option<T>, refusal: Refusal) -> Result<T, AskFault>
-    ensures { Answers (found_or refusal found) result }
+fn named_or<T: Drop>(found: Option<T>, refusal: Refusal) -> Result<T, AskFault>
+    ensures { Answers (named_or refusal found) result }
 {
     match found {
         Some(value) => Ok(value),
@@ -21,20 +21,20 @@ fn found_or<T: Drop>(found: Option<T>, refusal: Refusal) -> Result<T, AskFault>
     }
 }
 
-pub(crate) fn source_in(alloc: Global, path: &[u8]) -> Result<u128, AskFault>
-    ensures { Answers (source_in path.now) result }
+pub(crate) fn source_at(alloc: Global, path: &[u8]) -> Result<u128, AskFault>
+    ensures { Answers (source_at path.now) result }
 {
-    found_or(read_named_id(alloc, path)?, Refusal::NoSource)
+    named_or(read_named_id(alloc, path)?, Refusal::NoSource)
 }
 
-pub(crate) fn flow_in(alloc: Global, path: &[u8]) -> Result<u128, AskFault>
-    ensures { Answers (flow_in path.now) result }
+pub(crate) fn flow_at(alloc: Global, path: &[u8]) -> Result<u128, AskFault>
+    ensures { Answers (flow_at path.now) result }
 {
-    found_or(read_named_id(alloc, path)?, Refusal::NoFlow)
+    named_or(read_named_id(alloc, path)?, Refusal::NoFlow)
 }
 
-pub(crate) fn object_in(alloc: Global, path: &[u8]) -> Result<Text, AskFault>
-    ensures answer { Answers (object_in path.now) result }
+pub(crate) fn object_at(alloc: Global, path: &[u8]) -> Result<Text, AskFault>
+    ensures answer { Answers (object_at path.now) result }
     ensures good { IfOk result (λ object. IsTrue (is_object_id object)) }
 {
     match read_named_object(alloc, path)? {
@@ -43,14 +43,14 @@ pub(crate) fn object_in(alloc: Global, path: &[u8]) -> Result<Text, AskFault>
     }
 }
 
-pub(crate) fn request_in(alloc: Global, store: u128, path: &[u8]) -> Result<u64, AskFault>
-    ensures { Answers (request_in store path.now) result }
+pub(crate) fn request_at(alloc: Global, store: u128, path: &[u8]) -> Result<u64, AskFault>
+    ensures { Answers (request_at store path.now) result }
 {
-    found_or(read_named_request(alloc, store, path)?, Refusal::NoRequest)
+    named_or(read_named_request(alloc, store, path)?, Refusal::NoRequest)
 }
 
-pub(crate) fn tag_in(alloc: Global, path: &[u8]) -> Result<Text, AskFault>
-    ensures answer { Answers (tag_in path.now) result }
+pub(crate) fn tag_at(alloc: Global, path: &[u8]) -> Result<Text, AskFault>
+    ensures answer { Answers (tag_at path.now) result }
     ensures good { IfOk result (λ name. IsTrue (is_utf8 name)) }
 {
     match read_named_tag(alloc, path)? {

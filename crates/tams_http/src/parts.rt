@@ -6,7 +6,7 @@ ghost use Rattle.tams_http.specs.Parts as spec;
 ghost use Rattle.tams_http.specs.Parts.{cleared_part, set_part};
 
 use crate::ask::AskFault;
-use crate::named::tag_in;
+use crate::named::tag_at;
 use disk_trait::Listed;
 use http_routes::{FlowPart, SourcePart};
 use media_rows::{Part, PartName, Refusal};
@@ -14,30 +14,34 @@ use std::alloc::Global;
 use tams_json::read_part;
 
 /// The part of a source that a path names.
-pub(crate) fn source_part(
+pub(crate) fn source_part_name(
     alloc: Global,
     part: SourcePart,
     path: &[u8],
 ) -> Result<PartName, AskFault>
-    ensures answer { Answers (spec.source_part part path.now) result }
+    ensures answer { Answers (spec.source_part_name part path.now) result }
     ensures good { IfOk result (λ name. IsTrue (is_name_text name)) }
 {
     match part {
         SourcePart::Tags => Ok(PartName::Tags),
-        SourcePart::Tag => Ok(PartName::Tag(tag_in(alloc, path)?)),
+        SourcePart::Tag => Ok(PartName::Tag(tag_at(alloc, path)?)),
         SourcePart::Label => Ok(PartName::Label),
         SourcePart::Description => Ok(PartName::Description),
     }
 }
 
 /// The part of a flow that a path names.
-pub(crate) fn flow_part(alloc: Global, part: FlowPart, path: &[u8]) -> Result<PartName, AskFault>
-    ensures answer { Answers (spec.flow_part part path.now) result }
+pub(crate) fn flow_part_name(
+    alloc: Global,
+    part: FlowPart,
+    path: &[u8],
+) -> Result<PartName, AskFault>
+    ensures answer { Answers (spec.flow_part_name part path.now) result }
     ensures good { IfOk result (λ name. IsTrue (is_name_text name)) }
 {
     match part {
         FlowPart::Tags => Ok(PartName::Tags),
-        FlowPart::Tag => Ok(PartName::Tag(tag_in(alloc, path)?)),
+        FlowPart::Tag => Ok(PartName::Tag(tag_at(alloc, path)?)),
         FlowPart::Label => Ok(PartName::Label),
         FlowPart::Description => Ok(PartName::Description),
         FlowPart::ReadOnly => Ok(PartName::ReadOnly),

@@ -1,10 +1,11 @@
 //! The response to a reply.
 ghost use Rattle.std.specs.Prelude.{◌≡◌, ◌++◌, IfOk, option_map};
 ghost use Rattle.tams_http.specs.Answered as spec;
-ghost use Rattle.tams_http.specs.Answered.{fields_of};
+ghost use Rattle.tams_http.specs.Answered.{response_fields};
 
 use crate::fields::{
-    allow, connection, content_length, content_type, location, next_key, next_link, push_field,
+    allow, connection_word, content_length, content_type, location, next_key_text, next_link,
+    push_field,
 };
 use disk_trait::{Listed, Memory, Text};
 use http_wire::FieldList;
@@ -22,7 +23,7 @@ pub(crate) struct Context<'a> {
 }
 
 /// The link to the page behind a key, where there is one.
-fn link(
+fn page_link(
     alloc: Global,
     base: &Text,
     target: &[u8],
@@ -38,13 +39,13 @@ fn link(
 }
 
 /// The fields of the response to a reply with this body.
-pub(crate) fn fields_of(
+pub(crate) fn response_fields(
     alloc: Global,
     context: &Context,
     reply: &Reply,
     body: &[u8],
 ) -> Result<FieldList, Memory>
-    ensures { IfOk result (λ fields. fields ≡ fields_of (record {
+    ensures { IfOk result (λ fields. fields ≡ response_fields (record {
       store = context.now.store;
       base = context.now.base.now;
       target = context.now.target.now;
@@ -68,10 +69,15 @@ pub(crate) fn fields_of(
         "Location",
         location(alloc, reply, context.store, context.base)?,
     )?;
-    let key = next_key(alloc, reply)?;
-    let link = link(alloc, context.base, context.target, &key)?;
-    push_field(alloc, to, "Link", link)?;
+    let key = next_key_text(alloc, reply)?;
+    let page_link = page_link(alloc, context.base, context.target, &key)?;
+    push_field(alloc, to, "Link", page_link)?;
     push_field(alloc, to, "X-Paging-NextKey", key)?;
-    push_field(alloc, to, "Connection", connection(alloc, context.ends)?)?;
+    push_field(
+        alloc,
+        to,
+        "Connection",
+        connection_word(alloc, context.ends)?,
+    )?;
     Ok(fields)
 }

@@ -10,7 +10,7 @@ ghost use Rattle.tams_http.specs.Good.{is_ask_good};
 use crate::ask::{Ask, AskFault};
 use crate::asked::asked_by;
 use crate::fields::reply_status;
-use crate::response::{Context, fields_of};
+use crate::response::{Context, response_fields};
 use disk_trait::{Memory, Text};
 use http_routes::{find_route, path_of};
 use http_wire::{MethodKind, write_response};
@@ -94,7 +94,7 @@ impl Routes {
             ends,
             head_only,
         };
-        let fields = fields_of(alloc, &context, reply, body.bytes())?;
+        let fields = response_fields(alloc, &context, reply, body.bytes())?;
         write_response(alloc, reply_status(reply), &fields, body.bytes(), head_only)
     }
 }

@@ -25,26 +25,26 @@ fn number(alloc: Global, method: MethodKind, target: &str, body: &str) -> Result
 
 #[test]
 fn requests_ask(rt: HostRuntime) {
-    let (get, put, post) = (MethodKind::Get, MethodKind::Put, MethodKind::Post);
+    let (get, put_asked, post) = (MethodKind::Get, MethodKind::Put, MethodKind::Post);
     let (head, delete) = (MethodKind::Head, MethodKind::Delete);
     let cases = [
         (get, "/", "", 0),
         (head, "/flows?limit=5", "", 0),
         (get, "/flow", "", 6),
         (delete, "/flow", "", 6),
-        (put, "/flows", "", 7),
+        (put_asked, "/flows", "", 7),
         (MethodKind::Other, "/flows", "", 7),
         (delete, "/flows/x/read_only", "", 7),
-        (put, "/flows/x", "x", 17),
-        (put, "/flows/000000000000400080000000000000f1", "x", 8),
+        (put_asked, "/flows/x", "x", 17),
+        (put_asked, "/flows/000000000000400080000000000000f1", "x", 8),
         (
-            put,
+            put_asked,
             "/flows/000000000000400080000000000000f1/label",
             "1.5",
             9,
         ),
         (
-            put,
+            put_asked,
             "/flows/000000000000400080000000000000f1/label",
             "1",
             11,
@@ -71,7 +71,7 @@ fn requests_ask(rt: HostRuntime) {
             20,
         ),
         (get, "/objects/%20", "", 18),
-        (put, "/media/%20", "", 18),
+        (put_asked, "/media/%20", "", 18),
         (get, "/media/a%2Fb", "", 0),
         (
             get,
@@ -176,10 +176,10 @@ fn replies_are_answered(rt: HostRuntime) {
         "allow"
     );
     let page = Reply::Shown(View::Segments(Listed::new(alloc), Some(2_000_000_000)));
-    let link =
+    let page_link =
         "HTTP/1.1 200 OK\r\nContent-Length: 2\r\nContent-Type: application/json\r\nLink: <http://s/flows/F1/segments?limit=2&page=2000000000>; rel=\"next\"\r\nX-Paging-NextKey: 2000000000\r\n\r\n[]";
     assert_eq!(rt;
-        answers(alloc, &page, "/flows/F1/segments?limit=2", link),
+        answers(alloc, &page, "/flows/F1/segments?limit=2", page_link),
         Ok(true),
         "link"
     );
