@@ -9,8 +9,6 @@ mod numbers;
 mod pairs;
 mod rules;
 mod tags;
-#[cfg(test)]
-mod tests;
 
 pub use crate::faults::query_fault;
 pub use crate::filters::{

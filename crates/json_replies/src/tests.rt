@@ -1,7 +1,7 @@
 //! Bodies as the profile's examples spell them, and escapes of RFC 8259, section 7. Each call that
 //! takes memory is made with ample memory.
 use crate::print::print_any;
-use crate::{print_reply, request_id};
+use crate::request_id;
 use disk_trait::{Listed, Memory, Text, same_bytes};
 use media_rows::{
     DeleteRow, DeleteStatus, EventKind, FlowBody, FlowRow, FlowShown, FormatKind, Hook, HookRow,
@@ -292,6 +292,4 @@ fn replies_have_their_bodies(rt: HostRuntime) {
     assert_eq!(rt; texts_print(alloc), Ok(true), "texts");
     assert_eq!(rt; refusals_print(alloc), Ok(true), "refusals");
     assert!(rt; request_id(alloc, STORE, 35).is_ok(), "id");
-    let printed = print_reply(alloc, &Reply::Created, STORE, &Text::new(alloc));
-    assert!(rt; printed.is_ok(), "nothing");
 }

@@ -12,8 +12,6 @@ mod named;
 mod parts;
 mod response;
 mod routes;
-#[cfg(test)]
-mod tests;
 
 pub use crate::ask::{Ask, AskFault};
 pub use crate::constants::{server_error, unavailable};
