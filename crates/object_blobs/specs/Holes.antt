@@ -1,5 +1,5 @@
--- Which media blocks are free, as the holes between the extents, and where so many of them lie in a row.
--- Our own rules.
+-- Which media blocks are free, as the holes between the extents, and where so many of them lie in a
+-- row. Our own rules.
 use Rattle.std.specs.Prelude.{◌≡◌, ℕ, ◌+◌, ◌==◌, nat_lt, nat_le, List, Bool, not, ◌&&◌, ◌||◌, IsTrue, Option, Some, if◌then◌else◌, find}
 use Rattle.std.specs.List.{list_all, list_any}
 use Rattle.media_rows.specs.declared.object.ObjectRow.{ObjectRow}
@@ -84,8 +84,8 @@ pub record IsGiven (start count : ℕ) (old new : Area) : Type 0 where
 
 -- ---- the library's places
 
--- An area's free blocks are those that the extents of the library's objects leave. Each extent lies in
--- the area, and one without bytes begins at block 0, as in each good library.
+-- An area's free blocks are those that the extents of the library's objects leave. Each extent lies
+-- in the area, and one without bytes begins at block 0, as in each good library.
 pub record LeavesFree (objects : List ObjectRow) (area : Area) : Type 0 where
   pub free : (block : ℕ) → is_free_block area.holes block ≡ is_free objects area.blocks 1 block
   pub extents : IsTrue (list_all (λ row. is_extent_good area.blocks row.state) objects)

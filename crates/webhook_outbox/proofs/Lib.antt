@@ -1,3 +1,4 @@
 mod Adding
 mod Found
+mod Listing
 mod Waiting

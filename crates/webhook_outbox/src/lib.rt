@@ -3,6 +3,7 @@
 #![tactic(auto)]
 
 mod changes;
+mod lists;
 mod outbox;
 #[cfg(test)]
 mod tests;

@@ -8,8 +8,9 @@ ghost use Rattle.webhook_outbox.specs.Delivered.{IsBehind, IsBehindHooks, IsFirs
 ghost use Rattle.webhook_outbox.specs.Within.Slots.{event_key};
 
 use crate::changes::{key_of, marked_row, with_row, with_slot, without_event};
+use crate::lists::{event_list, hook_list};
 use disk_trait::{Duplicate, Memory};
-use media_rows::{EventRow, Hook, HookRow};
+use media_rows::{EventRow, EventRowList, Hook, HookList, HookRow};
 use shared_tree::{Steps, Version};
 use std::alloc::Global;
 use std::marker::{Brand, Model};
@@ -77,6 +78,20 @@ impl Outbox {
         ensures { result ≡ counted self.now.events }
     {
         self.events.len()
+    }
+
+    /// All hooks by rising serial.
+    pub fn hooks(&self, alloc: Global) -> Result<HookList, Memory>
+        ensures { IfOk result (λ list. list ≡ self.now.hooks) }
+    {
+        hook_list(alloc, &self.slots)
+    }
+
+    /// All events by rising serial.
+    pub fn waiting(&self, alloc: Global) -> Result<EventRowList, Memory>
+        ensures { IfOk result (λ list. list ≡ self.now.events) }
+    {
+        event_list(alloc, &self.events)
     }
 
     /// The event of least serial that waits for the hook of this serial.

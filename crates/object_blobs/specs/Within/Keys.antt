@@ -29,8 +29,8 @@ pub record Holds (rows : List (ℤ × Hole)) (start count : ℕ) (hole : Hole) :
   pub last : hole.start + hole.blocks ≤ 2 ^ 64 - 1
   pub stands : rows ≡ with_pair (hole_key hole, hole) rows
 
--- the holes with this one instead of the one that begins where it does, which is left out where this one
--- is empty
+-- the holes with this one instead of the one that begins where it does, which is left out where
+-- this one is empty
 abbrev pub with_front : Hole → List (ℤ × Hole) → List (ℤ × Hole)
 with_front hole rows =
     if hole.blocks == 0 then without_key (hole_key hole) rows
@@ -50,7 +50,7 @@ abbrev pub joined_end : ℕ → Option (ℤ × Hole) → ℕ
 joined_end stop None = stop
 joined_end stop (Some p) = if p.1.start == stop then p.1.start + p.1.blocks else stop
 
--- the holes without the one that begins at a block, where the free blocks before it end with that one
+-- the holes without the one that begins at a block, where the free blocks before it end with it
 abbrev pub without_joined : ℕ → ℕ → List (ℤ × Hole) → List (ℤ × Hole)
 without_joined stop last rows = if last == stop then rows else without_key (pos stop) rows
 

@@ -1,5 +1,5 @@
 -- Hooks with the events that wait for them, and all events, at the keys of their serials.
-use Rattle.std.specs.Prelude.{◌≡◌, ℕ, ◌==◌, nat_le, ℤ, pos, List, Bool, ◌||◌, IsTrue, filter, length, map}
+use Rattle.std.specs.Prelude.{◌≡◌, ℕ, ◌==◌, nat_le, ℤ, ◌≤ℤ◌, pos, List, Bool, ◌||◌, IsTrue, filter, length, map}
 use Rattle.std.specs.List.{AllByRecursion, list_any}
 use Rattle.media_rows.specs.declared.event.EventRow.{EventRow}
 use Rattle.media_rows.specs.declared.hook.HookRow.{HookRow}
@@ -19,13 +19,21 @@ slot_key slot = pos (hook_serial slot)
 abbrev pub event_key : EventRow → ℤ
 event_key row = pos row.serial
 
+-- the rows of hooks
+abbrev pub hook_rows : List Slot → List HookRow
+hook_rows slots = map (λ slot. slot.row.value) slots
+
 -- the hooks
 abbrev pub hooks_of : List (ℤ × Slot) → List HookRow
-hooks_of slots = map (λ slot. slot.row.value) (values slots)
+hooks_of slots = hook_rows (values slots)
 
 -- the outbox of these hooks and events
 abbrev pub outbox_of : List (ℤ × Slot) → List (ℤ × EventRow) → Outbox
 outbox_of slots events = record { hooks = hooks_of slots; events = values events }
+
+-- no key is below that of serial 0
+abbrev pub HasSerials : {V : Type 0} → List (ℤ × V) → Type 0
+HasSerials ps = AllByRecursion (λ p. pos 0 ≤ℤ p.0) ps
 
 -- an event waits for the hook of a serial
 abbrev pub is_for : ℕ → ℤ × EventRow → Bool

@@ -1,0 +1,7 @@
+use Rattle.std.proofs.Common.{◌≡◌, ◌++◌, drop}
+use Rattle.shared_tree.specs.Pairs.{values_of}
+use Rattle.webhook_outbox.specs.Within.Slots.{hook_rows}
+use Rattle.webhook_outbox.proofs.lists.hooks_copied.Given as goal
+
+abbrev pub invariant-loop-slot : goal.invariant-loop-slot
+invariant-loop-slot l = l.list ++ hook_rows (values_of (drop l.slot-index l.slots)) ≡ hook_rows (values_of l.slots)
