@@ -17,7 +17,8 @@ module _ {V : Type 0} (id_of : V → ℕ) where
   tests id ps keyed = tests_are own (λ row. id_of row == id) (λ k. int_eq k (id_key id)) ps (λ row. same_key (id_of row) id) keyed
 
   -- a row put at its place
-  pub placed_values : (row : V) (ps next : List (ℤ × V)) → IsKeyedBy own ps → next ≡ with_pair (id_key (id_of row), row) ps → values next ≡ placed (λ a b. nat_lt (id_of a) (id_of b)) row (values ps)
+  pub placed_values : (row : V) (ps next : List (ℤ × V)) → IsKeyedBy own ps → next ≡ with_pair (id_key (id_of row), row) ps
+      → values next ≡ placed (λ a b. nat_lt (id_of a) (id_of b)) row (values ps)
   placed_values row ps next keyed is =
       ap values is
       ∙ placed_is (λ a b. nat_lt (id_of a) (id_of b)) (id_key (id_of row)) row ps
@@ -35,34 +36,44 @@ module _ {V : Type 0} (id_of : V → ℕ) where
       same : {x y : V} → Some x ≡ Some y → x ≡ y
       same e' = grind arith
 
-      by : (t : Bool) → (id_of row == id) ≡ t → Some old ≡ cond t (Some row) (find (λ r. id_of r == id) rows) → (Some old ≡ find (λ r. id_of r == id) rows → id_of old ≡ id) → id_of old ≡ id
+      by : (t : Bool) → (id_of row == id) ≡ t → Some old ≡ cond t (Some row) (find (λ r. id_of r == id) rows)
+          → (Some old ≡ find (λ r. id_of r == id) rows → id_of old ≡ id) → id_of old ≡ id
       by true h e' rest = ap id_of (same e') ∙ eqb-true (id_of row) id h
       by false h e' rest = rest e'
 
   -- a row of an id changed
-  pub changed_values : (id : ℕ) (change : V → V) (old new : V) (ps next : List (ℤ × V)) → IsRising ps → IsKeyedBy own ps → Some old ≡ find (λ row. id_of row == id) (values ps) → new ≡ change old → next ≡ with_pair (id_key id, new) ps → values next ≡ map (λ row. if id_of row == id then change row else row) (values ps)
+  pub changed_values : (id : ℕ) (change : V → V) (old new : V) (ps next : List (ℤ × V)) → IsRising ps → IsKeyedBy own ps
+      → Some old ≡ find (λ row. id_of row == id) (values ps) → new ≡ change old → next ≡ with_pair (id_key id, new) ps
+      → values next ≡ map (λ row. if id_of row == id then change row else row) (values ps)
   changed_values id change old new ps next rising keyed found made is =
       ap values (is ∙ ap (λ row. with_pair (id_key id, row) ps) made)
-      ∙ replaced_is (λ row. id_of row == id) change (id_key id) old ps rising (tests id ps keyed) (found_is (λ row. id_of row == id) (id_key id) ps (tests id ps keyed) ∙ sym found)
+      ∙ replaced_is (λ row. id_of row == id) change (id_key id) old ps rising (tests id ps keyed)
+      (found_is (λ row. id_of row == id) (id_key id) ps (tests id ps keyed) ∙ sym found)
 
-  pub changed_keyed : (id : ℕ) (change : V → V) (old new : V) (ps next : List (ℤ × V)) → ((row : V) → id_of (change row) ≡ id_of row) → IsKeyedBy own ps → Some old ≡ find (λ row. id_of row == id) (values ps) → new ≡ change old → next ≡ with_pair (id_key id, new) ps → IsKeyedBy own next
+  pub changed_keyed : (id : ℕ) (change : V → V) (old new : V) (ps next : List (ℤ × V)) → ((row : V) → id_of (change row) ≡ id_of row) → IsKeyedBy own ps
+      → Some old ≡ find (λ row. id_of row == id) (values ps) → new ≡ change old → next ≡ with_pair (id_key id, new) ps → IsKeyedBy own next
   changed_keyed id change old new ps next stays keyed found made is =
       subst (IsKeyedBy own) (sym is) (keyed_with own (id_key id) new ps (ap id_key (sym (ap id_of made ∙ stays old ∙ found_id id (values ps) old found))) keyed)
 
   -- no row of that id, so none is changed
-  none_changed : (id : ℕ) (change : V → V) (rows : List V) → None ≡ find (λ row. id_of row == id) rows → rows ≡ map (λ row. if id_of row == id then change row else row) rows
+  none_changed : (id : ℕ) (change : V → V) (rows : List V) → None ≡ find (λ row. id_of row == id) rows
+      → rows ≡ map (λ row. if id_of row == id then change row else row) rows
   none_changed id change [] e = refl
   none_changed id change (row ∷ rows) e = by (id_of row == id) e (none_changed id change rows)
     where
-      by : (t : Bool) → None ≡ cond t (Some row) (find (λ r. id_of r == id) rows) → (None ≡ find (λ r. id_of r == id) rows → rows ≡ map (λ r. if id_of r == id then change r else r) rows) → row ∷ rows ≡ (if t then change row else row) ∷ map (λ r. if id_of r == id then change r else r) rows
+      by : (t : Bool) → None ≡ cond t (Some row) (find (λ r. id_of r == id) rows)
+          → (None ≡ find (λ r. id_of r == id) rows → rows ≡ map (λ r. if id_of r == id then change r else r) rows)
+          → row ∷ rows ≡ (if t then change row else row) ∷ map (λ r. if id_of r == id then change r else r) rows
       by true e' rest = absurd (grind (arith, e'))
       by false e' rest = ap (λ l. row ∷ l) (rest e')
 
-  pub unchanged_values : (id : ℕ) (change : V → V) (ps next : List (ℤ × V)) → None ≡ find (λ row. id_of row == id) (values ps) → next ≡ ps → values next ≡ map (λ row. if id_of row == id then change row else row) (values ps)
+  pub unchanged_values : (id : ℕ) (change : V → V) (ps next : List (ℤ × V)) → None ≡ find (λ row. id_of row == id) (values ps) → next ≡ ps
+      → values next ≡ map (λ row. if id_of row == id then change row else row) (values ps)
   unchanged_values id change ps next none is = ap values is ∙ none_changed id change (values ps) none
 
   -- the row of an id left out
-  pub left_values : (id : ℕ) (ps next : List (ℤ × V)) → IsRising ps → IsKeyedBy own ps → next ≡ without_key (id_key id) ps → values next ≡ filter (λ row. not (id_of row == id)) (values ps)
+  pub left_values : (id : ℕ) (ps next : List (ℤ × V)) → IsRising ps → IsKeyedBy own ps → next ≡ without_key (id_key id) ps
+      → values next ≡ filter (λ row. not (id_of row == id)) (values ps)
   left_values id ps next rising keyed is = ap values is ∙ left_out_is (λ row. id_of row == id) (id_key id) ps rising (tests id ps keyed)
 
   pub left_keyed : (id : ℕ) (ps next : List (ℤ × V)) → IsKeyedBy own ps → next ≡ without_key (id_key id) ps → IsKeyedBy own next

@@ -31,14 +31,16 @@ no_entries : (id : ℕ) (members : List Member) → collects id members ≡ fals
 no_entries id [] e = refl
 no_entries id (m ∷ members) e = by (m.flow == id) e (no_entries id members)
   where
-    by : (t : Bool) → (t || collects id members) ≡ false → (collects id members ≡ false → filter (λ x. not (x.flow == id)) members ≡ members) → cond (not t) (m ∷ filter (λ x. not (x.flow == id)) members) (filter (λ x. not (x.flow == id)) members) ≡ m ∷ members
+    by : (t : Bool) → (t || collects id members) ≡ false → (collects id members ≡ false → filter (λ x. not (x.flow == id)) members ≡ members)
+        → cond (not t) (m ∷ filter (λ x. not (x.flow == id)) members) (filter (λ x. not (x.flow == id)) members) ≡ m ∷ members
     by true e' rest = absurd (grind (arith, e'))
     by false e' rest = ap (λ l. m ∷ l) (rest e')
 
 same_row : (id : ℕ) (row : FlowRow) → collects id row.body.members ≡ false → without_entries id row ≡ row
 same_row id row e = ap (λ l. record row { body = record row.body { members = l } }) (no_entries id row.body.members e)
 
-cleared_from : (id : ℕ) (done rest : List (ℤ × FlowRow)) → IsRising (done ++ rest) → IsKeyedBy flow_key rest → cleared id (values rest) (done ++ rest) ≡ done ++ map (clear id) rest
+cleared_from : (id : ℕ) (done rest : List (ℤ × FlowRow)) → IsRising (done ++ rest) → IsKeyedBy flow_key rest
+    → cleared id (values rest) (done ++ rest) ≡ done ++ map (clear id) rest
 cleared_from id done [] rising keyed = refl
 cleared_from id done (p ∷ rest) rising keyed =
     by (collects id p.1.body.members) refl (λ q rising'. cleared_from id (done ++ q ∷ []) rest rising' keyed.1)
@@ -46,12 +48,16 @@ cleared_from id done (p ∷ rest) rising keyed =
     key : ℤ
     key = id_key p.1.body.id
 
-    on : (q : ℤ × FlowRow) → (IsRising ((done ++ q ∷ []) ++ rest) → cleared id (values rest) ((done ++ q ∷ []) ++ rest) ≡ (done ++ q ∷ []) ++ map (clear id) rest) → IsRising (done ++ q ∷ rest) → cleared id (values rest) (done ++ q ∷ rest) ≡ done ++ q ∷ map (clear id) rest
+    on : (q : ℤ × FlowRow) → (IsRising ((done ++ q ∷ []) ++ rest) → cleared id (values rest) ((done ++ q ∷ []) ++ rest) ≡ (done ++ q ∷ []) ++ map (clear id)
+        rest) → IsRising (done ++ q ∷ rest) → cleared id (values rest) (done ++ q ∷ rest) ≡ done ++ q ∷ map (clear id) rest
     on q step rising' =
         let e = append_assoc done (q ∷ []) rest in
         ap (cleared id (values rest)) (sym e) ∙ step (subst IsRising (sym e) rising') ∙ append_assoc done (q ∷ []) (map (clear id) rest)
 
-    by : (t : Bool) → collects id p.1.body.members ≡ t → ((q : ℤ × FlowRow) → IsRising ((done ++ q ∷ []) ++ rest) → cleared id (values rest) ((done ++ q ∷ []) ++ rest) ≡ (done ++ q ∷ []) ++ map (clear id) rest) → cleared id (values rest) (cond t (with_pair (key, without_entries id p.1) (done ++ p ∷ rest)) (done ++ p ∷ rest)) ≡ done ++ clear id p ∷ map (clear id) rest
+    by : (t : Bool) → collects id p.1.body.members ≡ t → ((q : ℤ × FlowRow) → IsRising ((done ++ q ∷ []) ++ rest)
+        → cleared id (values rest) ((done ++ q ∷ []) ++ rest) ≡ (done ++ q ∷ []) ++ map (clear id) rest)
+        → cleared id (values rest) (cond t (with_pair (key, without_entries id p.1) (done ++ p ∷ rest)) (done ++ p ∷ rest)) ≡ done ++ clear id p ∷ map
+        (clear id) rest
     by true e step =
         let new : ℤ × FlowRow = (key, without_entries id p.1) in
         let put = put_at key (without_entries id p.1) done p rest (around done p rest rising) (sym keyed.0) in
@@ -80,12 +86,15 @@ eq_sym a b = by (a == b) (b == a) refl refl
 
 pub collects_named : (id : ℕ) (members : List Member) → has_number id (member_ids members) ≡ collects id members
 collects_named id [] = refl
-collects_named id (m ∷ members) = ap (λ b. b || has_number id (member_ids members)) (eq_sym id m.flow) ∙ ap (λ b. (m.flow == id) || b) (collects_named id members)
+collects_named id (m ∷ members) = ap (λ b. b || has_number id (member_ids members)) (eq_sym id m.flow) ∙ ap (λ b. (m.flow == id) || b)
+    (collects_named id members)
 
 -- only rows with entries are replaced
-cleared_named : (id : ℕ) (ps flows : List (ℤ × FlowRow)) → cleared id (values (filter (λ p. has_number id (flows_named p.1)) ps)) flows ≡ cleared id (values ps) flows
+cleared_named : (id : ℕ) (ps flows : List (ℤ × FlowRow)) → cleared id (values (filter (λ p. has_number id (flows_named p.1)) ps)) flows ≡ cleared id (values ps)
+    flows
 cleared_named id [] flows = refl
-cleared_named id (p ∷ ps) flows = by (has_number id (flows_named p.1)) (collects id p.1.body.members) (collects_named id p.1.body.members) refl (cleared_named id ps (with_pair (id_key p.1.body.id, without_entries id p.1) flows)) (cleared_named id ps flows)
+cleared_named id (p ∷ ps) flows = by (has_number id (flows_named p.1)) (collects id p.1.body.members) (collects_named id p.1.body.members) refl
+    (cleared_named id ps (with_pair (id_key p.1.body.id, without_entries id p.1) flows)) (cleared_named id ps flows)
   where
     test : ℤ × FlowRow → Bool
     test q = has_number id (flows_named q.1)
@@ -93,7 +102,9 @@ cleared_named id (p ∷ ps) flows = by (has_number id (flows_named p.1)) (collec
     put : List (ℤ × FlowRow)
     put = with_pair (id_key p.1.body.id, without_entries id p.1) flows
 
-    by : (s t : Bool) → s ≡ t → collects id p.1.body.members ≡ t → cleared id (values (filter test ps)) put ≡ cleared id (values ps) put → cleared id (values (filter test ps)) flows ≡ cleared id (values ps) flows → cleared id (values (cond s (p ∷ filter test ps) (filter test ps))) flows ≡ cleared id (values ps) (cond t put flows)
+    by : (s t : Bool) → s ≡ t → collects id p.1.body.members ≡ t → cleared id (values (filter test ps)) put ≡ cleared id (values ps) put
+        → cleared id (values (filter test ps)) flows ≡ cleared id (values ps) flows → cleared id (values (cond s (p ∷ filter test ps) (filter test ps))) flows
+        ≡ cleared id (values ps) (cond t put flows)
     by true true e h changed same = ap (λ b. cleared id (values (filter test ps)) (cond b put flows)) h ∙ changed
     by false false e h changed same = same
     by true false e h changed same = absurd (grind (arith, e))
@@ -104,34 +115,46 @@ found_each : (done rest : List (ℤ × FlowRow)) → IsRising (done ++ rest) →
 found_each done [] rising = tt
 found_each done (p ∷ rest) rising =
     let e = append_assoc done (p ∷ []) rest in
-    let round = around done p rest rising in
-    (value_first done p rest round.before, subst (λ l. AllByRecursion (λ q. value_at q.0 l ≡ Some q.1) rest) e (found_each (done ++ p ∷ []) rest (subst IsRising (sym e) rising)))
+    let round = around done p rest rising in (
+      value_first done p rest round.before,
+      subst (λ l. AllByRecursion (λ q. value_at q.0 l ≡ Some q.1) rest) e
+          (found_each (done ++ p ∷ []) rest (subst IsRising (sym e) rising)),
+    )
   where
-    value_first : (l : List (ℤ × FlowRow)) (q : ℤ × FlowRow) (r : List (ℤ × FlowRow)) → AllByRecursion (λ x. x.0 <ℤ q.0) l → value_at q.0 (l ++ q ∷ r) ≡ Some q.1
+    value_first : (l : List (ℤ × FlowRow)) (q : ℤ × FlowRow) (r : List (ℤ × FlowRow)) → AllByRecursion (λ x. x.0 <ℤ q.0) l
+        → value_at q.0 (l ++ q ∷ r) ≡ Some q.1
     value_first l q r before =
-        let none : filter (is_at q.0) l ≡ [] = filter_none (is_at q.0) l (all_map (λ x. x.0 <ℤ q.0) (λ x. is_at q.0 x ≡ false) (λ x lt. grind (arith, ints)) l before) in
+        let none : filter (is_at q.0) l ≡ [] = filter_none (is_at q.0) l (all_map (λ x. x.0 <ℤ q.0) (λ x. is_at q.0 x ≡ false) (λ x lt. grind (arith, ints)) l
+        before) in
         let here : int_eq q.0 q.0 ≡ true = let d = signed_Decides q.0 q.0 in d.1 refl in
         let all : filter (is_at q.0) (l ++ q ∷ r) ≡ q ∷ filter (is_at q.0) r = filter-append (is_at q.0) l (q ∷ r) ∙ rw (none, here) refl in
         ap (λ l'. option_map (λ x. x.1) (first l')) all
 
-found_listed : (flows : List FlowRow) (test : ℤ × FlowRow → Bool) (ps : List (ℤ × FlowRow)) → AllByRecursion (λ p. flow_of p.1.body.id flows ≡ Some p.1) ps → filter_map (λ id. flow_of id flows) (values (map (λ p. (p.0, flow_id p.1)) (filter test ps))) ≡ values (filter test ps)
+found_listed : (flows : List FlowRow) (test : ℤ × FlowRow → Bool) (ps : List (ℤ × FlowRow)) → AllByRecursion (λ p. flow_of p.1.body.id flows ≡ Some p.1) ps
+    → filter_map (λ id. flow_of id flows) (values (map (λ p. (p.0, flow_id p.1)) (filter test ps))) ≡ values (filter test ps)
 found_listed flows test [] h = refl
 found_listed flows test (p ∷ ps) h = by (test p) (found_listed flows test ps h.1)
   where
-    by : (t : Bool) → filter_map (λ id. flow_of id flows) (values (map (λ q. (q.0, flow_id q.1)) (filter test ps))) ≡ values (filter test ps) → filter_map (λ id. flow_of id flows) (values (map (λ q. (q.0, flow_id q.1)) (cond t (p ∷ filter test ps) (filter test ps)))) ≡ values (cond t (p ∷ filter test ps) (filter test ps))
+    by : (t : Bool) → filter_map (λ id. flow_of id flows) (values (map (λ q. (q.0, flow_id q.1)) (filter test ps))) ≡ values (filter test ps)
+        → filter_map (λ id. flow_of id flows) (values (map (λ q. (q.0, flow_id q.1)) (cond t (p ∷ filter test ps) (filter test ps)))) ≡ values
+        (cond t (p ∷ filter test ps) (filter test ps))
     by true ih = rw h.0 (ap (λ l. p.1 ∷ l) ih)
     by false ih = ih
 
-found_ids : (flows ps : List (ℤ × FlowRow)) → IsKeyedBy flow_key flows → IsKeyedBy flow_key ps → AllByRecursion (λ p. value_at p.0 flows ≡ Some p.1) ps → AllByRecursion (λ p. flow_of p.1.body.id (values flows) ≡ Some p.1) ps
+found_ids : (flows ps : List (ℤ × FlowRow)) → IsKeyedBy flow_key flows → IsKeyedBy flow_key ps → AllByRecursion (λ p. value_at p.0 flows ≡ Some p.1) ps
+    → AllByRecursion (λ p. flow_of p.1.body.id (values flows) ≡ Some p.1) ps
 found_ids flows [] keyed own h = tt
 found_ids flows (p ∷ ps) keyed own h =
     (sym (flow_found p.1.body.id flows keyed) ∙ ap (λ k. value_at k flows) (sym own.0) ∙ h.0, found_ids flows ps keyed own.1 h.1)
 
 -- once those were replaced, no flow has entries
-pub entries_gone : (id : ℕ) (ids : List ℕ) (rows : List FlowRow) (flows next : List (ℤ × FlowRow)) → IsRising flows → IsKeyedBy flow_key flows → ids ≡ values (naming flow_id flows_named id flows) → rows ≡ filter_map (λ i. flow_of i (values flows)) ids → next ≡ cleared id rows flows → next ≡ all_cleared id flows
+pub entries_gone : (id : ℕ) (ids : List ℕ) (rows : List FlowRow) (flows next : List (ℤ × FlowRow)) → IsRising flows → IsKeyedBy flow_key flows
+    → ids ≡ values (naming flow_id flows_named id flows) → rows ≡ filter_map (λ i. flow_of i (values flows)) ids → next ≡ cleared id rows flows
+    → next ≡ all_cleared id flows
 entries_gone id ids rows flows next rising keyed named found is =
     let each = found_ids flows flows keyed keyed (found_each [] flows rising) in
-    let shown : rows ≡ values (filter (λ p. has_number id (flows_named p.1)) flows) = found ∙ ap (filter_map (λ i. flow_of i (values flows))) named ∙ found_listed (values flows) (λ p. has_number id (flows_named p.1)) flows each in
+    let shown : rows ≡ values (filter (λ p. has_number id (flows_named p.1)) flows) = found ∙ ap (filter_map (λ i. flow_of i (values flows))) named ∙
+    found_listed (values flows) (λ p. has_number id (flows_named p.1)) flows each in
     is ∙ ap (λ l. cleared id l flows) shown ∙ cleared_named id flows flows ∙ cleared_from id [] flows rising keyed
 
 -- ---- what flows name without the entries of one
@@ -141,7 +164,8 @@ module _ (a : ℕ) where
   sources_stay id [] = refl
   sources_stay id (p ∷ ps) = by (has_number a (source_named p.1)) refl (sources_stay id ps)
     where
-      by : (t : Bool) → has_number a (source_named p.1) ≡ t → naming flow_id source_named a (all_cleared id ps) ≡ naming flow_id source_named a ps → naming flow_id source_named a (all_cleared id (p ∷ ps)) ≡ naming flow_id source_named a (p ∷ ps)
+      by : (t : Bool) → has_number a (source_named p.1) ≡ t → naming flow_id source_named a (all_cleared id ps) ≡ naming flow_id source_named a ps
+          → naming flow_id source_named a (all_cleared id (p ∷ ps)) ≡ naming flow_id source_named a (p ∷ ps)
       by true e ih = rw e (ap (λ l. (p.0, flow_id p.1) ∷ l) ih)
       by false e ih = rw e ih
 
@@ -150,21 +174,26 @@ module _ (a : ℕ) where
   none_left [] = refl
   none_left (m ∷ members) = by (m.flow == a) refl (none_left members)
     where
-      by : (t : Bool) → (m.flow == a) ≡ t → has_number a (member_ids (filter (λ x. not (x.flow == a)) members)) ≡ false → has_number a (member_ids (cond (not t) (m ∷ filter (λ x. not (x.flow == a)) members) (filter (λ x. not (x.flow == a)) members))) ≡ false
+      by : (t : Bool) → (m.flow == a) ≡ t → has_number a (member_ids (filter (λ x. not (x.flow == a)) members)) ≡ false
+          → has_number a (member_ids (cond (not t) (m ∷ filter (λ x. not (x.flow == a)) members) (filter (λ x. not (x.flow == a)) members))) ≡ false
       by true e ih = ih
       by false e ih = rw (eq_sym a m.flow ∙ e) ih
 
-  others_left : (id : ℕ) (members : List Member) → (a == id) ≡ false → has_number a (member_ids (filter (λ m. not (m.flow == id)) members)) ≡ has_number a (member_ids members)
+  others_left : (id : ℕ) (members : List Member) → (a == id) ≡ false → has_number a (member_ids (filter (λ m. not (m.flow == id)) members)) ≡ has_number a
+      (member_ids members)
   others_left id [] other = refl
   others_left id (m ∷ members) other = by (m.flow == id) refl (others_left id members other)
     where
-      by : (t : Bool) → (m.flow == id) ≡ t → has_number a (member_ids (filter (λ x. not (x.flow == id)) members)) ≡ has_number a (member_ids members) → has_number a (member_ids (cond (not t) (m ∷ filter (λ x. not (x.flow == id)) members) (filter (λ x. not (x.flow == id)) members))) ≡ has_number a (member_ids (m ∷ members))
+      by : (t : Bool) → (m.flow == id) ≡ t → has_number a (member_ids (filter (λ x. not (x.flow == id)) members)) ≡ has_number a (member_ids members)
+          → has_number a (member_ids (cond (not t) (m ∷ filter (λ x. not (x.flow == id)) members) (filter (λ x. not (x.flow == id)) members))) ≡ has_number a
+          (member_ids (m ∷ members))
       by true e ih =
           let apart : (a == m.flow) ≡ false = ap (λ n. a == n) (eqb-true m.flow id e) ∙ other in
           ih ∙ ap (λ b. b || has_number a (member_ids members)) (sym apart)
       by false e ih = ap (λ b. (a == m.flow) || b) ih
 
-  pub entries_stay : (id : ℕ) (ps : List (ℤ × FlowRow)) → naming flow_id flows_named a (all_cleared id ps) ≡ (if a == id then [] else naming flow_id flows_named a ps)
+  pub entries_stay : (id : ℕ) (ps : List (ℤ × FlowRow)) → naming flow_id flows_named a (all_cleared id ps)
+      ≡ (if a == id then [] else naming flow_id flows_named a ps)
   entries_stay id ps = by (a == id) refl
     where
       none : (qs : List (ℤ × FlowRow)) → naming flow_id flows_named a (all_cleared a qs) ≡ []
@@ -175,7 +204,8 @@ module _ (a : ℕ) where
       same [] e = refl
       same (q ∷ qs) e = on (has_number a (flows_named q.1)) refl (same qs e)
         where
-          on : (t : Bool) → has_number a (flows_named q.1) ≡ t → naming flow_id flows_named a (all_cleared id qs) ≡ naming flow_id flows_named a qs → naming flow_id flows_named a (all_cleared id (q ∷ qs)) ≡ naming flow_id flows_named a (q ∷ qs)
+          on : (t : Bool) → has_number a (flows_named q.1) ≡ t → naming flow_id flows_named a (all_cleared id qs) ≡ naming flow_id flows_named a qs
+              → naming flow_id flows_named a (all_cleared id (q ∷ qs)) ≡ naming flow_id flows_named a (q ∷ qs)
           on true h ih = rw (others_left id q.1.body.members e ∙ h, h) (ap (λ l. (q.0, flow_id q.1) ∷ l) ih)
           on false h ih = rw (others_left id q.1.body.members e ∙ h, h) ih
 
@@ -188,7 +218,8 @@ pub has_flow_is : (ps : List (ℤ × FlowRow)) (source : SourceRow) → has_flow
 has_flow_is [] source = refl
 has_flow_is (p ∷ ps) source = by (p.1.body.source == source.id) (source.id == p.1.body.source) (eq_sym p.1.body.source source.id) refl (has_flow_is ps source)
   where
-    by : (s t : Bool) → s ≡ t → (source.id == p.1.body.source) ≡ t → has_flow (values ps) source ≡ has_pairs (naming flow_id source_named source.id ps) → (s || has_flow (values ps) source) ≡ has_pairs (naming flow_id source_named source.id (p ∷ ps))
+    by : (s t : Bool) → s ≡ t → (source.id == p.1.body.source) ≡ t → has_flow (values ps) source ≡ has_pairs (naming flow_id source_named source.id ps)
+        → (s || has_flow (values ps) source) ≡ has_pairs (naming flow_id source_named source.id (p ∷ ps))
     by true true e h ih = rw h refl
     by false false e h ih = rw h ih
     by true false e h ih = absurd (grind (arith, e))

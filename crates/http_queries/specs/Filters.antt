@@ -41,7 +41,8 @@ asked_list_page pairs = record {
 
 -- the order that is asked for
 abbrev pub is_reverse : List Pair → Bool
-is_reverse pairs = unwrap_or (option_and_then truth_in (value_of (codes "reverse_order") pairs)) false
+is_reverse pairs = unwrap_or (option_and_then truth_in (value_of (codes "reverse_order") pairs))
+    false
 
 -- a page of segments
 abbrev pub asked_segment_page : List Pair → Page

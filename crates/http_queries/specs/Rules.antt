@@ -1,5 +1,6 @@
--- The names that a query may have, by what it asks for, each with what its value must spell; and the
--- first pair of a query that is at fault. Our own profile of the Time-addressable Media Store.
+-- The names that a query may have, by what it asks for, each with what its value must spell; and
+-- the first pair of a query that is at fault. Our own profile of the Time-addressable Media
+-- Store.
 use Rattle.std.specs.Prelude.{ℕ, nat_eq, List, [], ◌∷◌, ◌++◌, Bool, true, false, not, ◌||◌, Option, Some, None, is_some, if◌then◌else◌, bytes_eq, codes}
 use Rattle.std.specs.List.{list_any, starts_with}
 use Rattle.json_bodies.specs.Flow.{format_of}

@@ -8,4 +8,5 @@ use Rattle.http_routes.specs.Table.{all_routes}
 abbrev pub AreApart : Type 0
 AreApart =
     (path : List ℕ)
-    → IsTrue (each_pair (λ route other. not (is_path_of path route && is_path_of path other)) all_routes)
+    → IsTrue (each_pair (λ route other. not (is_path_of path route && is_path_of path other))
+    all_routes)

@@ -1,5 +1,5 @@
--- The parts of a target (RFC 3986, section 3): its path, its query, and the pieces of a path between
--- slashes; and which route a path names.
+-- The parts of a target (RFC 3986, section 3): its path, its query, and the pieces of a path
+-- between slashes; and which route a path names.
 use Rattle.std.specs.Prelude.{ℕ, List, [], ◌∷◌, Bool, true, false, ◌&&◌, ◌==◌, nat_eq, nat_lt, get_or, Option, Some, None, unwrap_or, if◌then◌else◌, find, bytes_eq, codes}
 use Rattle.std.specs.List.{list_all, starts_with}
 use Rattle.http_routes.specs.Table.{all_routes, route_text}
@@ -43,7 +43,8 @@ onto_first b (piece ∷ path_pieces) = (b ∷ piece) ∷ path_pieces
 -- the pieces of a text between its slashes
 unfoldable pub path_pieces : List ℕ → List (List ℕ)
 path_pieces [] = [] ∷ []
-path_pieces (b ∷ bytes) = if b == slash then [] ∷ path_pieces bytes else onto_first b (path_pieces bytes)
+path_pieces (b ∷ bytes) = if b == slash then [] ∷ path_pieces bytes else onto_first b
+    (path_pieces bytes)
 
 -- the piece behind so many slashes, which is empty where there is none
 abbrev pub piece_at : ℕ → List ℕ → List ℕ
@@ -60,8 +61,8 @@ abbrev pub has_byte : List ℕ → Bool
 has_byte [] = false
 has_byte (b ∷ bytes) = true
 
--- A piece of a path is what a piece of a route says: any one that isn't empty for one in braces, and
--- the same otherwise.
+-- A piece of a path is what a piece of a route says: any one that isn't empty for one in braces,
+-- and the same otherwise.
 abbrev pub piece_fits : List ℕ → List ℕ → Bool
 piece_fits piece part = if is_in_braces piece then has_byte part else bytes_eq piece part
 
@@ -70,7 +71,8 @@ abbrev pub pieces_fit : List (List ℕ) → List (List ℕ) → Bool
 pieces_fit [] [] = true
 pieces_fit [] (part ∷ parts) = false
 pieces_fit (piece ∷ path_pieces) [] = false
-pieces_fit (piece ∷ path_pieces) (part ∷ parts) = piece_fits piece part && pieces_fit path_pieces parts
+pieces_fit (piece ∷ path_pieces) (part ∷ parts) = piece_fits piece part && pieces_fit path_pieces
+    parts
 
 -- a path is one of a route
 abbrev pub is_path_of : List ℕ → Route → Bool

@@ -17,7 +17,8 @@ same_key a b = by (a == b) (int_eq (id_key a) (id_key b)) refl refl
     by true true es et = es ∙ sym et
     by false false es et = es ∙ sym et
     by true false es et = absurd (let e = eqb-true a b es in let f = subst (λ x. int_eq (id_key a) (id_key x) ≡ false) (sym e) et in grind (arith, ints, f))
-    by false true es et = absurd (let d = signed_Decides (id_key a) (id_key b) in let e : id_key a ≡ id_key b = d.0 et in let f : a ≡ b = omega (arith, ints, e) in grind (arith, nat_tests, f))
+    by false true es et = absurd (let d = signed_Decides (id_key a) (id_key b) in let e : id_key a ≡ id_key b = d.0 et in let f : a ≡ b =
+        omega (arith, ints, e) in grind (arith, nat_tests, f))
 
 pub below_key : (a b : ℕ) → nat_lt a b ≡ int_lt (id_key a) (id_key b)
 below_key a b = by (nat_lt a b) (int_lt (id_key a) (id_key b)) refl refl
@@ -30,16 +31,24 @@ below_key a b = by (nat_lt a b) (int_lt (id_key a) (id_key b)) refl refl
 
 module _ {V : Type 0} where
   -- a walk passes all pairs from its key on
-  pub walked_from : (n : ℕ) (key : ℤ) (ps : List (ℤ × V)) (before all : List V) → before ≡ [] → all ≡ before ++ take n (values (filter (is_from key) ps)) → n ≡ length ps → all ≡ values (filter (is_from key) ps)
+  pub walked_from : (n : ℕ) (key : ℤ) (ps : List (ℤ × V)) (before all : List V) → before ≡ [] → all ≡ before ++ take n (values (filter (is_from key) ps))
+      → n ≡ length ps → all ≡ values (filter (is_from key) ps)
   walked_from n key ps before all none e size =
-      rw (e, none) (take_all n (values (filter (is_from key) ps)) (omega (arith, length-map (filter (is_from key) ps) (λ p. p.1), fewer (is_from key) ps, size)))
+      rw (e, none) (take_all n (values (filter (is_from key) ps)) (omega (
+        arith,
+        length-map (filter (is_from key) ps) (λ p. p.1),
+        fewer (is_from key) ps,
+        size,
+      )))
 
   -- all pairs stand from the least key on, and none above the greatest
   pub all_from_least : (ps : List (ℤ × V)) → AreKeys ps → filter (is_from (negsuc (2 ^ 127 - 1))) ps ≡ ps
-  all_from_least ps fits = filter_all (is_from (negsuc (2 ^ 127 - 1))) ps (all_map (λ p. FitsSigned w128 p.0) (λ p. is_from (negsuc (2 ^ 127 - 1)) p ≡ true) (λ p fit. grind (arith, ints)) ps fits)
+  all_from_least ps fits = filter_all (is_from (negsuc (2 ^ 127 - 1))) ps (all_map (λ p. FitsSigned w128 p.0) (λ p. is_from (negsuc (2 ^ 127 - 1)) p ≡ true)
+      (λ p fit. grind (arith, ints)) ps fits)
 
   pub none_above : (key : ℤ) (ps : List (ℤ × V)) → AreKeys ps → pos (2 ^ 127 - 1) ≤ℤ key → filter (is_above key) ps ≡ []
-  none_above key ps fits last = filter_none (is_above key) ps (all_map (λ p. FitsSigned w128 p.0) (λ p. is_above key p ≡ false) (λ p fit. grind (arith, ints)) ps fits)
+  none_above key ps fits last = filter_none (is_above key) ps (all_map (λ p. FitsSigned w128 p.0) (λ p. is_above key p ≡ false) (λ p fit. grind (arith, ints))
+      ps fits)
 
   -- what stands above a key stands from the next one on
   pub from_next : (key next : ℤ) (ps : List (ℤ × V)) → next ≡ key +ℤ pos 1 → filter (is_from next) ps ≡ filter (is_above key) ps

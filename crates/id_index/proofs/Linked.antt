@@ -12,7 +12,9 @@ pub linked_is : (a id : ℕ) (to : List ℕ) (ids : List (ℤ × ℕ)) → linke
 linked_is a id [] ids = refl
 linked_is a id (x ∷ to) ids = by (a == x) (has_number a to) (linked_is a id to (with_pair (id_key id, id) ids)) (linked_is a id to ids)
   where
-    by : (s t : Bool) → linked a id to (with_pair (id_key id, id) ids) ≡ cond t (with_pair (id_key id, id) (with_pair (id_key id, id) ids)) (with_pair (id_key id, id) ids) → linked a id to ids ≡ cond t (with_pair (id_key id, id) ids) ids → linked a id to (cond s (with_pair (id_key id, id) ids) ids) ≡ cond (s || t) (with_pair (id_key id, id) ids) ids
+    by : (s t : Bool) → linked a id to (with_pair (id_key id, id) ids) ≡ cond t (with_pair (id_key id, id) (with_pair (id_key id, id) ids))
+        (with_pair (id_key id, id) ids) → linked a id to ids ≡ cond t (with_pair (id_key id, id) ids) ids
+        → linked a id to (cond s (with_pair (id_key id, id) ids) ids) ≡ cond (s || t) (with_pair (id_key id, id) ids) ids
     by true true put stay = put ∙ with_with (id_key id) id id ids
     by true false put stay = put
     by false true put stay = stay
@@ -22,7 +24,9 @@ pub unlinked_is : (a id : ℕ) (to : List ℕ) (ids : List (ℤ × ℕ)) → unl
 unlinked_is a id [] ids = refl
 unlinked_is a id (x ∷ to) ids = by (a == x) (has_number a to) (unlinked_is a id to (without_key (id_key id) ids)) (unlinked_is a id to ids)
   where
-    by : (s t : Bool) → unlinked a id to (without_key (id_key id) ids) ≡ cond t (without_key (id_key id) (without_key (id_key id) ids)) (without_key (id_key id) ids) → unlinked a id to ids ≡ cond t (without_key (id_key id) ids) ids → unlinked a id to (cond s (without_key (id_key id) ids) ids) ≡ cond (s || t) (without_key (id_key id) ids) ids
+    by : (s t : Bool) → unlinked a id to (without_key (id_key id) ids) ≡ cond t (without_key (id_key id) (without_key (id_key id) ids))
+        (without_key (id_key id) ids) → unlinked a id to ids ≡ cond t (without_key (id_key id) ids) ids
+        → unlinked a id to (cond s (without_key (id_key id) ids) ids) ≡ cond (s || t) (without_key (id_key id) ids) ids
     by true true cut stay = cut ∙ without_without (id_key id) ids
     by true false cut stay = cut
     by false true cut stay = stay

@@ -20,7 +20,8 @@ module _ {X : Type 0} (p q : X → Bool) where
   filter_within [] h = refl
   filter_within (x ∷ xs) h = by (p x) (q x) refl refl (filter_within xs h)
     where
-      by : (s t : Bool) → p x ≡ s → q x ≡ t → filter q (filter p xs) ≡ filter q xs → filter q (cond s (x ∷ filter p xs) (filter p xs)) ≡ cond t (x ∷ filter q xs) (filter q xs)
+      by : (s t : Bool) → p x ≡ s → q x ≡ t → filter q (filter p xs) ≡ filter q xs
+          → filter q (cond s (x ∷ filter p xs) (filter p xs)) ≡ cond t (x ∷ filter q xs) (filter q xs)
       by true true es et ih = rw et (ap (λ l. x ∷ l) ih)
       by true false es et ih = rw et ih
       by false true es et ih = absurd (let f = sym es ∙ h x et in grind (arith, f))
@@ -40,7 +41,8 @@ module _ {X : Type 0} (p q : X → Bool) where
   filter_swap [] = refl
   filter_swap (x ∷ xs) = by (p x) (q x) refl refl (filter_swap xs)
     where
-      by : (s t : Bool) → p x ≡ s → q x ≡ t → filter q (filter p xs) ≡ filter p (filter q xs) → filter q (cond s (x ∷ filter p xs) (filter p xs)) ≡ filter p (cond t (x ∷ filter q xs) (filter q xs))
+      by : (s t : Bool) → p x ≡ s → q x ≡ t → filter q (filter p xs) ≡ filter p (filter q xs) → filter q (cond s (x ∷ filter p xs) (filter p xs)) ≡ filter p
+          (cond t (x ∷ filter q xs) (filter q xs))
       by true true es et ih = rw (et, es) (ap (λ l. x ∷ l) ih)
       by true false es et ih = rw et ih
       by false true es et ih = rw es ih
@@ -53,16 +55,21 @@ module _ {V : Type 0} where
   at_is key p e = let d = signed_Decides p.0 key in d.0 e
 
   -- what stands at a key once a pair was put, or one left out
-  pub value_at_with : (key other : ℤ) (value : V) (ps : List (ℤ × V)) → value_at key (with_pair (other, value) ps) ≡ (if int_eq key other then Some value else value_at key ps)
+  pub value_at_with : (key other : ℤ) (value : V) (ps : List (ℤ × V))
+      → value_at key (with_pair (other, value) ps) ≡ (if int_eq key other then Some value else value_at key ps)
   value_at_with key other value ps = by (int_lt key other) (int_lt other key) refl refl
     where
-      split : filter (is_at key) (with_pair (other, value) ps) ≡ filter (is_at key) (filter (is_below other) ps) ++ filter (is_at key) ((other, value) ∷ filter (is_above other) ps)
+      split : filter (is_at key) (with_pair (other, value) ps) ≡ filter (is_at key) (filter (is_below other) ps) ++ filter (is_at key)
+          ((other, value) ∷ filter (is_above other) ps)
       split = filter-append (is_at key) (filter (is_below other) ps) ((other, value) ∷ filter (is_above other) ps)
 
-      on : (l r : List (ℤ × V)) (b : Bool) → filter (is_at key) (filter (is_below other) ps) ≡ l → int_eq other key ≡ b → filter (is_at key) (filter (is_above other) ps) ≡ r → value_at key (with_pair (other, value) ps) ≡ option_map (λ p. p.1) (first (l ++ cond b ((other, value) ∷ r) r))
+      on : (l r : List (ℤ × V)) (b : Bool) → filter (is_at key) (filter (is_below other) ps) ≡ l → int_eq other key ≡ b
+          → filter (is_at key) (filter (is_above other) ps) ≡ r → value_at key (with_pair (other, value) ps) ≡ option_map (λ p. p.1)
+          (first (l ++ cond b ((other, value) ∷ r) r))
       on l r b el eb er = ap (λ z. option_map (λ p. p.1) (first z)) (split ∙ rw (el, eb, er) refl)
 
-      by : (b a : Bool) → int_lt key other ≡ b → int_lt other key ≡ a → value_at key (with_pair (other, value) ps) ≡ (if int_eq key other then Some value else value_at key ps)
+      by : (b a : Bool) → int_lt key other ≡ b → int_lt other key ≡ a
+          → value_at key (with_pair (other, value) ps) ≡ (if int_eq key other then Some value else value_at key ps)
       by true true eb ea = absurd (grind (arith, ints))
       by true false eb ea =
           let no : int_eq key other ≡ false = grind (arith, ints) in
@@ -86,10 +93,13 @@ module _ {V : Type 0} where
   pub value_at_without : (key other : ℤ) (ps : List (ℤ × V)) → value_at key (without_key other ps) ≡ (if int_eq key other then None else value_at key ps)
   value_at_without key other ps = by (int_lt key other) (int_lt other key) refl refl
     where
-      on : (l r : List (ℤ × V)) → filter (is_at key) (filter (is_below other) ps) ≡ l → filter (is_at key) (filter (is_above other) ps) ≡ r → value_at key (without_key other ps) ≡ option_map (λ p. p.1) (first (l ++ r))
-      on l r el er = ap (λ z. option_map (λ p. p.1) (first z)) (filter-append (is_at key) (filter (is_below other) ps) (filter (is_above other) ps) ∙ rw (el, er) refl)
+      on : (l r : List (ℤ × V)) → filter (is_at key) (filter (is_below other) ps) ≡ l → filter (is_at key) (filter (is_above other) ps) ≡ r
+          → value_at key (without_key other ps) ≡ option_map (λ p. p.1) (first (l ++ r))
+      on l r el er = ap (λ z. option_map (λ p. p.1) (first z)) (filter-append (is_at key) (filter (is_below other) ps) (filter (is_above other) ps) ∙ rw
+          (el, er) refl)
 
-      by : (b a : Bool) → int_lt key other ≡ b → int_lt other key ≡ a → value_at key (without_key other ps) ≡ (if int_eq key other then None else value_at key ps)
+      by : (b a : Bool) → int_lt key other ≡ b → int_lt other key ≡ a
+          → value_at key (without_key other ps) ≡ (if int_eq key other then None else value_at key ps)
       by true true eb ea = absurd (grind (arith, ints))
       by true false eb ea =
           let no : int_eq key other ≡ false = grind (arith, ints) in
@@ -113,7 +123,8 @@ module _ {V : Type 0} where
   below_left : (key : ℤ) (ps : List (ℤ × V)) → filter (is_below key) (without_key key ps) ≡ filter (is_below key) ps
   below_left key ps =
       filter-append (is_below key) (filter (is_below key) ps) (filter (is_above key) ps)
-      ∙ rw (filter_within (is_below key) (is_below key) ps (λ p e. e), filter_apart (is_above key) (is_below key) ps (λ p e. grind (arith, ints))) (append-nil (filter (is_below key) ps))
+      ∙ rw (filter_within (is_below key) (is_below key) ps (λ p e. e), filter_apart (is_above key) (is_below key) ps (λ p e. grind (arith, ints)))
+      (append-nil (filter (is_below key) ps))
 
   above_left : (key : ℤ) (ps : List (ℤ × V)) → filter (is_above key) (without_key key ps) ≡ filter (is_above key) ps
   above_left key ps =
@@ -130,7 +141,8 @@ module _ {V : Type 0} where
   below_put key value ps =
       let here : int_lt key key ≡ false = grind (arith, ints) in
       filter-append (is_below key) (filter (is_below key) ps) ((key, value) ∷ filter (is_above key) ps)
-      ∙ rw (filter_within (is_below key) (is_below key) ps (λ p e. e), here, filter_apart (is_above key) (is_below key) ps (λ p e. grind (arith, ints))) (append-nil (filter (is_below key) ps))
+      ∙ rw (filter_within (is_below key) (is_below key) ps (λ p e. e), here, filter_apart (is_above key) (is_below key) ps (λ p e. grind (arith, ints)))
+      (append-nil (filter (is_below key) ps))
 
   above_put : (key : ℤ) (value : V) (ps : List (ℤ × V)) → filter (is_above key) (with_pair (key, value) ps) ≡ filter (is_above key) ps
   above_put key value ps =
@@ -150,7 +162,8 @@ module _ {V : Type 0} where
 
   pub standing : (key : ℤ) (value : V) (ps : List (ℤ × V)) → value_at key ps ≡ Some value → Standing key value ps
   standing key value [] e = absurd (grind (arith, e))
-  standing key value (p ∷ ps) e = by (is_at key p) refl (subst (λ b. option_map (λ q. q.1) (first (cond b (p ∷ filter (is_at key) ps) (filter (is_at key) ps))) ≡ Some value) refl e) (standing key value ps)
+  standing key value (p ∷ ps) e = by (is_at key p) refl (subst (λ b. option_map (λ q. q.1) (first (cond b (p ∷ filter (is_at key) ps) (filter (is_at key) ps)))
+      ≡ Some value) refl e) (standing key value ps)
     where
       some_same : {x y : V} → Some x ≡ Some y → x ≡ y
       some_same e' = grind arith
@@ -158,7 +171,8 @@ module _ {V : Type 0} where
       same_pair : (q : ℤ × V) → q.0 ≡ key → q.1 ≡ value → q ≡ (key, value)
       same_pair q ek ev = rw (← ek, ← ev) refl
 
-      by : (t : Bool) → is_at key p ≡ t → option_map (λ q. q.1) (first (cond t (p ∷ filter (is_at key) ps) (filter (is_at key) ps))) ≡ Some value → (value_at key ps ≡ Some value → Standing key value ps) → Standing key value (p ∷ ps)
+      by : (t : Bool) → is_at key p ≡ t → option_map (λ q. q.1) (first (cond t (p ∷ filter (is_at key) ps) (filter (is_at key) ps))) ≡ Some value
+          → (value_at key ps ≡ Some value → Standing key value ps) → Standing key value (p ∷ ps)
       by true h e' rest = record { left = []; right = ps; is = ap (λ q. q ∷ ps) (same_pair p (at_is key p h) (some_same e')) }
       by false h e' rest =
           let found = rest e' in
@@ -172,6 +186,7 @@ module _ {V : Type 0} where
       all_fail [] e' = tt
       all_fail (q ∷ qs) e' = by (is_at key q) refl e' (all_fail qs)
         where
-          by : (t : Bool) → is_at key q ≡ t → option_map (λ p. p.1) (first (cond t (q ∷ filter (is_at key) qs) (filter (is_at key) qs))) ≡ None → (value_at key qs ≡ None → AllByRecursion (λ p. not (is_at key p) ≡ true) qs) → AllByRecursion (λ p. not (is_at key p) ≡ true) (q ∷ qs)
+          by : (t : Bool) → is_at key q ≡ t → option_map (λ p. p.1) (first (cond t (q ∷ filter (is_at key) qs) (filter (is_at key) qs))) ≡ None
+              → (value_at key qs ≡ None → AllByRecursion (λ p. not (is_at key p) ≡ true) qs) → AllByRecursion (λ p. not (is_at key p) ≡ true) (q ∷ qs)
           by true h e'' rest = absurd (grind (arith, e''))
           by false h e'' rest = (rw h refl, rest e'')

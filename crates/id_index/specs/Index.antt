@@ -1,5 +1,5 @@
--- Which rows name an id. Rows have ids of their own, and each names ids, such as the flow that a flow
--- collects. An index has at each id that is named the ids of the rows that name it. Our own.
+-- Which rows name an id. Rows have ids of their own, and each names ids, such as the flow that a
+-- flow collects. An index has at each id that is named the ids of the rows that name it. Our own.
 use Rattle.std.specs.Prelude.{◌≡◌, ℕ, ℤ, ◌==◌, List, [], ◌∷◌, Bool, true, false, Option, Some, None, if◌then◌else◌, filter, map, unwrap_or}
 use Rattle.media_rows.specs.Lists.{has_number}
 use Rattle.media_rows.specs.Views.{id_key}

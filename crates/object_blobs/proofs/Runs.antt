@@ -29,7 +29,8 @@ each_at test count start block h low high =
     let i : ℕ = block - start in
     ap test (omega arith) ∙ all_at (λ k. test (start + k)) count i h (omega arith)
 
-pub each_from : (test : ℕ → Bool) (count start : ℕ) → ((block : ℕ) → start ≤ block → block < start + count → test block ≡ true) → each_block test count start ≡ true
+pub each_from : (test : ℕ → Bool) (count start : ℕ) → ((block : ℕ) → start ≤ block → block < start + count → test block ≡ true)
+    → each_block test count start ≡ true
 each_from test count start h = all_from (λ k. test (start + k)) count (λ i lt. h (start + i) (omega arith) (omega arith))
 
 -- ---- the least number that passes
@@ -49,7 +50,8 @@ unfolding numbers_below
 find_least p zero least lt here before = absurd (omega arith)
 find_least p (suc n) least lt here before = find-append p (numbers_below n) (n ∷ []) ∙ by (cases_eq least n) (λ below. find_least p n least below here before)
   where
-    by : (least ≡ n) ⊎ (least ≡ n → ⊥) → (least < n → find p (numbers_below n) ≡ Some least) → option_or (find p (numbers_below n)) (find p (n ∷ [])) ≡ Some least
+    by : (least ≡ n) ⊎ (least ≡ n → ⊥) → (least < n → find p (numbers_below n) ≡ Some least) → option_or (find p (numbers_below n)) (find p (n ∷ [])) ≡ Some
+        least
     by (inl same) rest = rw (none_passes p n (λ i below. before i (omega arith)), sym same, here) refl
     by (inr other) rest = rw (rest (omega arith)) refl
 
@@ -65,9 +67,11 @@ find_same p q (suc n) h =
 pub found_passes : (p : ℕ → Bool) (n least : ℕ) → find p (numbers_below n) ≡ Some least → (p least ≡ true) × (least < n)
 unfolding numbers_below
 found_passes p zero least e = absurd (grind (arith, e))
-found_passes p (suc n) least e = by (find p (numbers_below n)) refl (p n) refl (sym (find-append p (numbers_below n) (n ∷ [])) ∙ e) (λ k is. found_passes p n k is)
+found_passes p (suc n) least e = by (find p (numbers_below n)) refl (p n) refl (sym (find-append p (numbers_below n) (n ∷ [])) ∙ e)
+    (λ k is. found_passes p n k is)
   where
-    by : (o : Option ℕ) → find p (numbers_below n) ≡ o → (b : Bool) → p n ≡ b → option_or (find p (numbers_below n)) (cond (p n) (Some n) None) ≡ Some least → ((k : ℕ) → find p (numbers_below n) ≡ Some k → (p k ≡ true) × (k < n)) → (p least ≡ true) × (least < suc n)
+    by : (o : Option ℕ) → find p (numbers_below n) ≡ o → (b : Bool) → p n ≡ b → option_or (find p (numbers_below n)) (cond (p n) (Some n) None) ≡ Some least
+        → ((k : ℕ) → find p (numbers_below n) ≡ Some k → (p k ≡ true) × (k < n)) → (p least ≡ true) × (least < suc n)
     by (Some k) is b at e' rest =
         let same : k ≡ least = grind (arith, rw is at e') in
         let found = rest k is in

@@ -56,14 +56,21 @@ pub spaced_within : (low low' top top' : ℕ) (holes : List Hole) → low' ≤ l
 spaced_within low low' top top' [] l t h = tt
 spaced_within low low' top top' (hole ∷ later) l t h =
     let b = h.0.begins in
-    let e = h.0.ends in
-    (record { begins = omega arith; filled = h.0.filled; ends = omega arith }, spaced_within (hole.start + hole.blocks + 1) (hole.start + hole.blocks + 1) top top' later (omega arith) t h.1)
+    let e = h.0.ends in (
+      record { begins = omega arith; filled = h.0.filled; ends = omega arith },
+      spaced_within (hole.start + hole.blocks + 1) (hole.start + hole.blocks + 1) top
+          top' later (omega arith) t h.1,
+    )
 
-pub spaced_join : (low mid top : ℕ) (front rest : List Hole) → low ≤ mid → mid ≤ top → IsSpaced low mid front → IsSpaced mid top rest → IsSpaced low top (front ++ rest)
+pub spaced_join : (low mid top : ℕ) (front rest : List Hole) → low ≤ mid → mid ≤ top → IsSpaced low mid front → IsSpaced mid top rest
+    → IsSpaced low top (front ++ rest)
 spaced_join low mid top [] rest l t f r = spaced_within mid low top top rest l (omega arith) r
 spaced_join low mid top (hole ∷ later) rest l t f r =
-    let e = f.0.ends in
-    (record { begins = f.0.begins; filled = f.0.filled; ends = omega arith }, spaced_join (hole.start + hole.blocks + 1) mid top later rest (omega arith) t f.1 r)
+    let e = f.0.ends in (
+      record { begins = f.0.begins; filled = f.0.filled; ends = omega arith },
+      spaced_join (hole.start + hole.blocks + 1) mid top later rest (omega arith) t f.1
+          r,
+    )
 
 -- round one of the holes
 pub record Parts (low top : ℕ) (front : List Hole) (hole : Hole) (rest : List Hole) : Type 0 where
@@ -85,7 +92,8 @@ spaced_parts low top (first ∷ front) hole rest h =
 
 -- ---- the same by tests
 
-spaced_by : (blocks low : ℕ) (holes : List Hole) → list_all (is_hole_in blocks) holes ≡ true → each_pair ends_before holes ≡ true → list_all (λ h. nat_le low h.start) holes ≡ true → IsSpaced low (blocks + 1) holes
+spaced_by : (blocks low : ℕ) (holes : List Hole) → list_all (is_hole_in blocks) holes ≡ true → each_pair ends_before holes ≡ true
+    → list_all (λ h. nat_le low h.start) holes ≡ true → IsSpaced low (blocks + 1) holes
 spaced_by blocks low [] inside apart behind = tt
 spaced_by blocks low (hole ∷ later) inside apart behind =
     let i = and_parts (is_hole_in blocks hole) (list_all (is_hole_in blocks) later) inside in
@@ -99,7 +107,8 @@ spaced_by blocks low (hole ∷ later) inside apart behind =
 
 pub spaced_area : (area : Area) → HasHoles area → IsSpaced 0 (area.blocks + 1) area.holes
 spaced_area area h =
-    spaced_by area.blocks 0 area.holes h.inside h.apart (all_pass (is_hole_in area.blocks) (λ hole. nat_le 0 hole.start) (λ hole is. grind arith) area.holes h.inside)
+    spaced_by area.blocks 0 area.holes h.inside h.apart (all_pass (is_hole_in area.blocks) (λ hole. nat_le 0 hole.start) (λ hole is. grind arith) area.holes
+    h.inside)
 
 inside_by : (blocks low : ℕ) (holes : List Hole) → IsSpaced low (blocks + 1) holes → list_all (is_hole_in blocks) holes ≡ true
 inside_by blocks low [] h = refl
@@ -108,7 +117,8 @@ inside_by blocks low (hole ∷ later) h =
     let e = h.0.ends in
     and_from (is_hole_in blocks hole) _ (grind arith) (inside_by blocks (hole.start + hole.blocks + 1) later h.1)
 
-all_behind : (low from top : ℕ) (hole : Hole) (later : List Hole) → hole.start + hole.blocks < from → from ≤ low → IsSpaced low top later → list_all (ends_before hole) later ≡ true
+all_behind : (low from top : ℕ) (hole : Hole) (later : List Hole) → hole.start + hole.blocks < from → from ≤ low → IsSpaced low top later
+    → list_all (ends_before hole) later ≡ true
 all_behind low from top hole [] lt le h = refl
 all_behind low from top hole (next ∷ later) lt le h =
     let b = h.0.begins in
@@ -117,7 +127,8 @@ all_behind low from top hole (next ∷ later) lt le h =
 apart_by : (low top : ℕ) (holes : List Hole) → IsSpaced low top holes → each_pair ends_before holes ≡ true
 apart_by low top [] h = refl
 apart_by low top (hole ∷ later) h =
-    and_from (list_all (ends_before hole) later) _ (all_behind _ (hole.start + hole.blocks + 1) top hole later (omega arith) (omega arith) h.1) (apart_by (hole.start + hole.blocks + 1) top later h.1)
+    and_from (list_all (ends_before hole) later) _ (all_behind _ (hole.start + hole.blocks + 1) top hole later (omega arith) (omega arith) h.1)
+    (apart_by (hole.start + hole.blocks + 1) top later h.1)
 
 pub area_spaced : (blocks : ℕ) (holes : List Hole) → IsSpaced 0 (blocks + 1) holes → HasHoles (record { blocks = blocks; holes = holes })
 area_spaced blocks holes h = record { inside = inside_by blocks 0 holes h; apart = apart_by 0 (blocks + 1) holes h }
@@ -142,7 +153,14 @@ free_behind low top block (hole ∷ later) h le =
 
 -- a free block lies between the ends
 pub free_low : (low top block : ℕ) (holes : List Hole) → IsSpaced low top holes → is_free_block holes block ≡ true → low ≤ block
-free_low low top block holes h free = elim (cases_lt block low) [ inl lt ↦ absurd (let none = free_below low top block holes h lt in grind (arith, none, free)) | inr ge ↦ ge ]
+free_low low top block holes h free = elim (cases_lt block low) [
+  | inl lt ↦ absurd (let none = free_below low top block holes h lt in grind (arith, none, free))
+  | inr ge ↦ ge
+]
 
 pub free_high : (low top block : ℕ) (holes : List Hole) → IsSpaced low top holes → is_free_block holes block ≡ true → block + 1 < top
-free_high low top block holes h free = elim (cases_lt (block + 1) top) [ inl lt ↦ lt | inr ge ↦ absurd (let none = free_behind low top block holes h ge in grind (arith, none, free)) ]
+free_high low top block holes h free = elim (cases_lt (block + 1) top) [
+  | inl lt ↦ lt
+  | inr ge ↦
+      absurd (let none = free_behind low top block holes h ge in grind (arith, none, free))
+]

@@ -33,14 +33,16 @@ none_spread low top = record { keyed = tt; spaced = tt }
 pub spread_within : (low low' top top' : ℕ) (rows : List Pair) → low' ≤ low → top ≤ top' → Spread low top rows → Spread low' top' rows
 spread_within low low' top top' rows l t h = record { keyed = h.keyed; spaced = spaced_within low low' top top' (values rows) l t h.spaced }
 
-pub spread_join : (low mid top : ℕ) (front rest : List Pair) → low ≤ mid → mid ≤ top → Spread low mid front → Spread mid top rest → Spread low top (front ++ rest)
+pub spread_join : (low mid top : ℕ) (front rest : List Pair) → low ≤ mid → mid ≤ top → Spread low mid front → Spread mid top rest
+    → Spread low top (front ++ rest)
 spread_join low mid top front rest l t f r = record {
   keyed = all_append (λ p. p.0 ≡ hole_key p.1) front rest f.keyed r.keyed;
   spaced = subst (IsSpaced low top) (sym (map-append (λ p. p.1) front rest)) (spaced_join low mid top (values front) (values rest) l t f.spaced r.spaced);
 }
 
 -- a hole before others
-pub spread_first : (low top : ℕ) (pair : Pair) (rest : List Pair) → pair.0 ≡ hole_key pair.1 → Lies low top pair.1 → Spread (pair.1.start + pair.1.blocks + 1) top rest → Spread low top (pair ∷ rest)
+pub spread_first : (low top : ℕ) (pair : Pair) (rest : List Pair) → pair.0 ≡ hole_key pair.1 → Lies low top pair.1
+    → Spread (pair.1.start + pair.1.blocks + 1) top rest → Spread low top (pair ∷ rest)
 spread_first low top pair rest key lies h = record { keyed = (key, h.keyed); spaced = (lies, h.spaced) }
 
 pub spread_rest : (low top : ℕ) (pair : Pair) (rest : List Pair) → Spread low top (pair ∷ rest) → Spread (pair.1.start + pair.1.blocks + 1) top rest
@@ -83,20 +85,32 @@ keys_behind low top block (p ∷ rows) l h =
     (rw key (grind (arith, ints)), keys_behind (p.1.start + p.1.blocks + 1) top block rows (omega arith) (spread_rest low top p rows h))
 
 -- what stands before a key and behind it
-pub below_of : (key : ℤ) (front rest : List Pair) → AllByRecursion (λ p. p.0 <ℤ key) front → AllByRecursion (λ p. key ≤ℤ p.0) rest → filter (is_below key) (front ++ rest) ≡ front
+pub below_of : (key : ℤ) (front rest : List Pair) → AllByRecursion (λ p. p.0 <ℤ key) front → AllByRecursion (λ p. key ≤ℤ p.0) rest
+    → filter (is_below key) (front ++ rest) ≡ front
 below_of key front rest f r =
     filter-append (is_below key) front rest
-    ∙ rw (filter_all (is_below key) front (all_map (λ p. p.0 <ℤ key) _ (λ p lt. grind (arith, ints)) front f), filter_none (is_below key) rest (all_map (λ p. key ≤ℤ p.0) _ (λ p le. grind (arith, ints)) rest r)) (append-nil front)
+    ∙ rw (
+      filter_all (is_below key) front (all_map (λ p. p.0 <ℤ key) _ (λ p lt. grind (arith, ints)) front f),
+      filter_none (is_below key) rest (all_map (λ p. key ≤ℤ p.0) _ (λ p le. grind (arith, ints)) rest r),
+    ) (append-nil front)
 
-pub above_of : (key : ℤ) (front rest : List Pair) → AllByRecursion (λ p. p.0 ≤ℤ key) front → AllByRecursion (λ p. key <ℤ p.0) rest → filter (is_above key) (front ++ rest) ≡ rest
+pub above_of : (key : ℤ) (front rest : List Pair) → AllByRecursion (λ p. p.0 ≤ℤ key) front → AllByRecursion (λ p. key <ℤ p.0) rest
+    → filter (is_above key) (front ++ rest) ≡ rest
 above_of key front rest f r =
     filter-append (is_above key) front rest
-    ∙ rw (filter_none (is_above key) front (all_map (λ p. p.0 ≤ℤ key) _ (λ p le. grind (arith, ints)) front f), filter_all (is_above key) rest (all_map (λ p. key <ℤ p.0) _ (λ p lt. grind (arith, ints)) rest r)) refl
+    ∙ rw (
+      filter_none (is_above key) front (all_map (λ p. p.0 ≤ℤ key) _ (λ p le. grind (arith, ints)) front f),
+      filter_all (is_above key) rest (all_map (λ p. key <ℤ p.0) _ (λ p lt. grind (arith, ints)) rest r),
+    ) refl
 
-pub up_to_of : (key : ℤ) (front rest : List Pair) → AllByRecursion (λ p. p.0 ≤ℤ key) front → AllByRecursion (λ p. key <ℤ p.0) rest → filter (is_up_to key) (front ++ rest) ≡ front
+pub up_to_of : (key : ℤ) (front rest : List Pair) → AllByRecursion (λ p. p.0 ≤ℤ key) front → AllByRecursion (λ p. key <ℤ p.0) rest
+    → filter (is_up_to key) (front ++ rest) ≡ front
 up_to_of key front rest f r =
     filter-append (is_up_to key) front rest
-    ∙ rw (filter_all (is_up_to key) front (all_map (λ p. p.0 ≤ℤ key) _ (λ p le. grind (arith, ints)) front f), filter_none (is_up_to key) rest (all_map (λ p. key <ℤ p.0) _ (λ p lt. grind (arith, ints)) rest r)) (append-nil front)
+    ∙ rw (
+      filter_all (is_up_to key) front (all_map (λ p. p.0 ≤ℤ key) _ (λ p le. grind (arith, ints)) front f),
+      filter_none (is_up_to key) rest (all_map (λ p. key <ℤ p.0) _ (λ p lt. grind (arith, ints)) rest r),
+    ) (append-nil front)
 
 pub up_to : (key : ℤ) (rows : List Pair) → AllByRecursion (λ p. p.0 <ℤ key) rows → AllByRecursion (λ p. p.0 ≤ℤ key) rows
 up_to key rows h = all_map (λ p. p.0 <ℤ key) (λ p. p.0 ≤ℤ key) (λ p lt. grind (arith, ints)) rows h
@@ -105,7 +119,8 @@ pub from_on : (key : ℤ) (rows : List Pair) → AllByRecursion (λ p. key <ℤ 
 from_on key rows h = all_map (λ p. key <ℤ p.0) (λ p. key ≤ℤ p.0) (λ p lt. grind (arith, ints)) rows h
 
 -- a hole put between others
-pub put_between : (key : ℤ) (hole : Hole) (front rest : List Pair) → AllByRecursion (λ p. p.0 <ℤ key) front → AllByRecursion (λ p. key <ℤ p.0) rest → with_pair (key, hole) (front ++ rest) ≡ front ++ (key, hole) ∷ rest
+pub put_between : (key : ℤ) (hole : Hole) (front rest : List Pair) → AllByRecursion (λ p. p.0 <ℤ key) front → AllByRecursion (λ p. key <ℤ p.0) rest
+    → with_pair (key, hole) (front ++ rest) ≡ front ++ (key, hole) ∷ rest
 put_between key hole front rest f r = rw (below_of key front rest f (from_on key rest r), above_of key front rest (up_to key front f) r) refl
 
 -- ---- the last hole and the first
@@ -133,5 +148,6 @@ last_one (y ∷ z ∷ zs) x = last_one (z ∷ zs) x
 
 -- ---- free blocks
 
-pub free_rows : (front rest : List Pair) (block : ℕ) → is_free_block (values (front ++ rest)) block ≡ (is_free_block (values front) block || is_free_block (values rest) block)
+pub free_rows : (front rest : List Pair) (block : ℕ) → is_free_block (values (front ++ rest)) block
+    ≡ (is_free_block (values front) block || is_free_block (values rest) block)
 free_rows front rest block = ap (λ l. is_free_block l block) (map-append (λ p. p.1) front rest) ∙ free_append (values front) (values rest) block

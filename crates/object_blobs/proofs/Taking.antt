@@ -20,7 +20,8 @@ piece_spread low top hole l t = by (hole.blocks == 0) refl
   where
     by : (b : Bool) → (hole.blocks == 0) ≡ b → Spread low top (cond b [] ((hole_key hole, hole) ∷ []))
     by true e = none_spread low top
-    by false e = spread_first low top (hole_key hole, hole) [] refl (record { begins = l; filled = omega (arith, eqb-false hole.blocks 0 e); ends = t }) (none_spread (hole.start + hole.blocks + 1) top)
+    by false e = spread_first low top (hole_key hole, hole) [] refl (record { begins = l; filled = omega (arith, eqb-false hole.blocks 0 e); ends = t })
+        (none_spread (hole.start + hole.blocks + 1) top)
 
 piece_free : (hole : Hole) (block : ℕ) → is_free_block (values (piece hole)) block ≡ has_block hole.start hole.blocks block
 unfolding piece
@@ -45,9 +46,11 @@ rest_is hole = refl
 
 pub all_free_of : (blocks : ℕ) (whole : Hole) (rows : List Pair) → whole.start ≡ 0 → whole.blocks ≡ blocks → rows ≡ with_rest whole [] → AreHolesOf blocks rows
 all_free_of blocks whole rows start count e =
-    holes_of blocks rows (subst (Spread 0 (blocks + 1)) (sym (e ∙ rest_is whole)) (piece_spread 0 (blocks + 1) whole (omega arith) (omega (arith, start, count))))
+    holes_of blocks rows (subst (Spread 0 (blocks + 1)) (sym (e ∙ rest_is whole))
+    (piece_spread 0 (blocks + 1) whole (omega arith) (omega (arith, start, count))))
 
-pub all_free : (blocks : ℕ) (whole : Hole) (rows : List Pair) → whole.start ≡ 0 → whole.blocks ≡ blocks → rows ≡ with_rest whole [] → IsAllFree blocks (area_of blocks rows)
+pub all_free : (blocks : ℕ) (whole : Hole) (rows : List Pair) → whole.start ≡ 0 → whole.blocks ≡ blocks → rows ≡ with_rest whole []
+    → IsAllFree blocks (area_of blocks rows)
 all_free blocks whole rows start count e = record {
   blocks = refl;
   free = λ block. ap (λ l. is_free_block (values l) block) (e ∙ rest_is whole) ∙ piece_free whole block ∙ below block;
@@ -60,7 +63,8 @@ all_free blocks whole rows start count e = record {
 
 -- the hole's blocks are those before the place, its own and those behind it
 three : (hole : Hole) (start count block : ℕ) → hole.start ≤ start → start + count ≤ hole.start + hole.blocks → has_block start count block ≡ false
-    → has_block hole.start hole.blocks block ≡ (has_block hole.start (start - hole.start) block || has_block (start + count) (hole.blocks - (start - hole.start) - count) block)
+    → has_block hole.start hole.blocks block ≡ (has_block hole.start (start - hole.start) block || has_block (start + count)
+    (hole.blocks - (start - hole.start) - count) block)
 three hole start count block l e out = grind arith
 
 -- the hole of the place, what is left of it before the place, and what is left behind
@@ -74,7 +78,8 @@ pub record Cut (blocks start count : ℕ) (rows : List Pair) (hole front rest : 
   pub rest_blocks : rest.blocks ≡ hole.blocks - (start - hole.start) - count
 
 pub cut_of : (blocks start count : ℕ) (rows : List Pair) (hole : Hole) → AreHolesOf blocks rows → 0 < count → Holds rows start count hole
-    → Cut blocks start count rows hole (record { start = hole.start; blocks = start - hole.start }) (record { start = start + count; blocks = hole.blocks - (start - hole.start) - count })
+    → Cut blocks start count rows hole (record { start = hole.start; blocks = start - hole.start })
+    (record { start = start + count; blocks = hole.blocks - (start - hole.start) - count })
 cut_of blocks start count rows hole kept some holds = record {
   kept = kept;
   some = some;
@@ -85,15 +90,18 @@ cut_of blocks start count rows hole kept some holds = record {
   rest_blocks = refl;
 }
 
-front_is : (front : Hole) (rows : List Pair) → with_front front rows ≡ filter (is_below (hole_key front)) rows ++ (piece front ++ filter (is_above (hole_key front)) rows)
+front_is : (front : Hole) (rows : List Pair) → with_front front rows ≡ filter (is_below (hole_key front)) rows
+    ++ (piece front ++ filter (is_above (hole_key front)) rows)
 unfolding piece
 front_is front rows = by (front.blocks == 0)
   where
-    by : (b : Bool) → cond b (without_key (hole_key front) rows) (with_pair (hole_key front, front) rows) ≡ filter (is_below (hole_key front)) rows ++ (cond b [] ((hole_key front, front) ∷ []) ++ filter (is_above (hole_key front)) rows)
+    by : (b : Bool) → cond b (without_key (hole_key front) rows) (with_pair (hole_key front, front) rows) ≡ filter (is_below (hole_key front)) rows
+        ++ (cond b [] ((hole_key front, front) ∷ []) ++ filter (is_above (hole_key front)) rows)
     by true = refl
     by false = refl
 
-rest_put : (rest : Hole) (early late : List Pair) → AllByRecursion (λ p. p.0 <ℤ hole_key rest) early → AllByRecursion (λ p. hole_key rest <ℤ p.0) late → with_rest rest (early ++ late) ≡ early ++ (piece rest ++ late)
+rest_put : (rest : Hole) (early late : List Pair) → AllByRecursion (λ p. p.0 <ℤ hole_key rest) early → AllByRecursion (λ p. hole_key rest <ℤ p.0) late
+    → with_rest rest (early ++ late) ≡ early ++ (piece rest ++ late)
 unfolding piece
 rest_put rest early late e l = by (rest.blocks == 0)
   where
@@ -110,7 +118,8 @@ pub record Left (blocks start count : ℕ) (rows new : List Pair) (hole front re
   pub is : new ≡ (early ++ piece front) ++ (piece rest ++ late)
   pub spread : Spread 0 (blocks + 1) new
 
-left_is : (blocks start count : ℕ) (rows mid new : List Pair) (hole front rest : Hole) → Cut blocks start count rows hole front rest → mid ≡ with_front front rows → new ≡ with_rest rest mid → Left blocks start count rows new hole front rest
+left_is : (blocks start count : ℕ) (rows mid new : List Pair) (hole front rest : Hole) → Cut blocks start count rows hole front rest
+    → mid ≡ with_front front rows → new ≡ with_rest rest mid → Left blocks start count rows new hole front rest
 left_is blocks start count rows mid new hole front rest cut em en =
     let key = hole_key hole in
     let early = filter (is_below key) rows in
@@ -121,13 +130,17 @@ left_is blocks start count rows mid new hole front rest cut em en =
     let high = cut.holds.ends in
     let some = cut.some in
     let fits = round.lies.ends in
-    let before : Spread hole.start (start + 1) (piece front) = piece_spread hole.start (start + 1) front (omega (arith, cut.front_start)) (omega (arith, cut.front_start, cut.front_blocks)) in
-    let front_part : Spread 0 (start + 1) (early ++ piece front) = spread_join 0 hole.start (start + 1) early (piece front) (omega arith) (omega arith) round.before before in
-    let behind : Spread (start + 1) (hole.start + hole.blocks + 1) (piece rest) = piece_spread (start + 1) (hole.start + hole.blocks + 1) rest (omega (arith, cut.rest_start)) (omega (arith, cut.rest_start, cut.rest_blocks)) in
+    let before : Spread hole.start (start + 1) (piece front) = piece_spread hole.start (start + 1) front (omega (arith, cut.front_start))
+    (omega (arith, cut.front_start, cut.front_blocks)) in
+    let front_part : Spread 0 (start + 1) (early ++ piece front) = spread_join 0 hole.start (start + 1) early (piece front) (omega arith) (omega arith)
+    round.before before in
+    let behind : Spread (start + 1) (hole.start + hole.blocks + 1) (piece rest) = piece_spread (start + 1) (hole.start + hole.blocks + 1) rest
+    (omega (arith, cut.rest_start)) (omega (arith, cut.rest_start, cut.rest_blocks)) in
     let rest_part : Spread (start + 1) (blocks + 1) (piece rest ++ late) =
     spread_join (start + 1) (hole.start + hole.blocks + 1) (blocks + 1) (piece rest) late (omega arith) (omega arith) behind round.behind in
     let mid_is : mid ≡ (early ++ piece front) ++ late =
-    em ∙ front_is front rows ∙ ap (λ k. filter (is_below k) rows ++ (piece front ++ filter (is_above k) rows)) (ap pos cut.front_start) ∙ sym (append_assoc early (piece front) late) in
+    em ∙ front_is front rows ∙ ap (λ k. filter (is_below k) rows ++ (piece front ++ filter (is_above k) rows)) (ap pos cut.front_start) ∙ sym
+    (append_assoc early (piece front) late) in
     let is : new ≡ (early ++ piece front) ++ (piece rest ++ late) =
     en ∙ ap (with_rest rest) mid_is ∙ rest_put rest (early ++ piece front) late
     (keys_before 0 (start + 1) rest.start (early ++ piece front) (omega (arith, cut.rest_start)) front_part)
@@ -138,16 +151,19 @@ left_is blocks start count rows mid new hole front rest cut em en =
       round = round;
       was = was;
       is = is;
-      spread = subst (Spread 0 (blocks + 1)) (sym is) (spread_join 0 (start + 1) (blocks + 1) (early ++ piece front) (piece rest ++ late) (omega arith) (omega arith) front_part rest_part);
+      spread = subst (Spread 0 (blocks + 1)) (sym is) (spread_join 0 (start + 1) (blocks + 1) (early ++ piece front) (piece rest ++ late) (omega arith)
+          (omega arith) front_part rest_part);
     }
 
-pub taken_holes : (blocks start count : ℕ) (rows mid new : List Pair) (hole front rest : Hole) → Cut blocks start count rows hole front rest → mid ≡ with_front front rows → new ≡ with_rest rest mid → AreHolesOf blocks new
+pub taken_holes : (blocks start count : ℕ) (rows mid new : List Pair) (hole front rest : Hole) → Cut blocks start count rows hole front rest
+    → mid ≡ with_front front rows → new ≡ with_rest rest mid → AreHolesOf blocks new
 taken_holes blocks start count rows mid new hole front rest cut em en =
     let left = left_is blocks start count rows mid new hole front rest cut em en in
     holes_of blocks new left.spread
 
 -- which blocks are free then
-still_free : (blocks start count : ℕ) (rows new : List Pair) (hole front rest : Hole) → Cut blocks start count rows hole front rest → Left blocks start count rows new hole front rest → (block : ℕ)
+still_free : (blocks start count : ℕ) (rows new : List Pair) (hole front rest : Hole) → Cut blocks start count rows hole front rest
+    → Left blocks start count rows new hole front rest → (block : ℕ)
     → is_free_block (values new) block ≡ (is_free_block (values rows) block && not (has_block start count block))
 still_free blocks start count rows new hole front rest cut left block =
     new_free ∙ by (has_block start count block) refl ∙ ap (λ b. b && not (has_block start count block)) (sym old_free)
@@ -184,7 +200,8 @@ still_free blocks start count rows new hole front rest cut left block =
     shuffled false false false true = refl
     shuffled false false false false = refl
 
-    by : (t : Bool) → has_block start count block ≡ t → ((e || f) || (r || l)) ≡ ((e || (has_block hole.start hole.blocks block || l)) && not (has_block start count block))
+    by : (t : Bool) → has_block start count block ≡ t → ((e || f) || (r || l)) ≡ ((e || (has_block hole.start hole.blocks block || l)) && not
+        (has_block start count block))
     by true at =
         let low = has_low start count block at in
         let high = has_high start count block at in
@@ -199,7 +216,8 @@ still_free blocks start count rows new hole front rest cut left block =
         rw (at, three hole start count block cut.holds.begins cut.holds.ends at, cut.front_start, cut.front_blocks, cut.rest_start, cut.rest_blocks)
         (shuffled e (has_block hole.start (start - hole.start) block) (has_block (start + count) (hole.blocks - (start - hole.start) - count) block) l)
 
-pub taken_area : (blocks start count : ℕ) (rows mid new : List Pair) (hole front rest : Hole) → Cut blocks start count rows hole front rest → mid ≡ with_front front rows → new ≡ with_rest rest mid → IsTaken start count (area_of blocks rows) (area_of blocks new)
+pub taken_area : (blocks start count : ℕ) (rows mid new : List Pair) (hole front rest : Hole) → Cut blocks start count rows hole front rest
+    → mid ≡ with_front front rows → new ≡ with_rest rest mid → IsTaken start count (area_of blocks rows) (area_of blocks new)
 taken_area blocks start count rows mid new hole front rest cut em en = record {
   blocks = refl;
   free = still_free blocks start count rows new hole front rest cut (left_is blocks start count rows mid new hole front rest cut em en);

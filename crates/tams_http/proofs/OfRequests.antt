@@ -136,11 +136,14 @@ of_get routes.Service store path query = fine
 of_get routes.Hooks store path query = fine
 of_get routes.Sources store path query = chain (pairs_in kinds.Sources query) _ (pairs kinds.Sources query) (λ found. fine)
 of_get routes.Source store path query = chain (source_at path) _ (source path) (λ id. fine)
-of_get (routes.SourcePart part) store path query = chain (source_at path) _ (source path) (λ id. chain (source_part_name part path) _ (source_name part path) (λ name. fine))
+of_get (routes.SourcePart part) store path query = chain (source_at path) _ (source path) (λ id. chain (source_part_name part path) _ (source_name part path)
+    (λ name. fine))
 of_get routes.Flows store path query = chain (pairs_in kinds.Flows query) _ (pairs kinds.Flows query) (λ found. fine)
 of_get routes.Flow store path query = chain (flow_at path) _ (flow path) (λ id. fine)
-of_get (routes.FlowPart part) store path query = chain (flow_at path) _ (flow path) (λ id. chain (flow_part_name part path) _ (flow_name part path) (λ name. fine))
-of_get routes.Segments store path query = chain (flow_at path) _ (flow path) (λ id. chain (pairs_in kinds.Segments query) _ (pairs kinds.Segments query) (λ found. fine))
+of_get (routes.FlowPart part) store path query = chain (flow_at path) _ (flow path) (λ id. chain (flow_part_name part path) _ (flow_name part path)
+    (λ name. fine))
+of_get routes.Segments store path query = chain (flow_at path) _ (flow path) (λ id. chain (pairs_in kinds.Segments query) _ (pairs kinds.Segments query)
+    (λ found. fine))
 of_get routes.Storage store path query = of_method
 of_get routes.Object store path query = chain (object_at path) _ (object_ path) (λ id. fine)
 of_get routes.Requests store path query = fine
@@ -156,7 +159,8 @@ of_put routes.Source path body = of_method
 of_put (routes.SourcePart part) path body = chain (source_at path) _ (source path) (λ id. chain (source_part_name part path) _ (source_name part path)
     (λ name. chain (set_part name body) _ (set name body) (λ value. fine)))
 of_put routes.Flows path body = of_method
-of_put routes.Flow path body = chain (flow_at path) _ (flow path) (λ id. chain (bodies.flow_in id body) _ (from_body (bodies.flow_in id body) (flow_body id body)) (λ value. fine))
+of_put routes.Flow path body = chain (flow_at path) _ (flow path)
+    (λ id. chain (bodies.flow_in id body) _ (from_body (bodies.flow_in id body) (flow_body id body)) (λ value. fine))
 of_put (routes.FlowPart part) path body = chain (flow_at path) _ (flow path) (λ id. chain (flow_part_name part path) _ (flow_name part path)
     (λ name. chain (set_part name body) _ (set name body) (λ value. fine)))
 of_put routes.Segments path body = of_method
@@ -176,8 +180,10 @@ of_post (routes.SourcePart part) path body = of_method
 of_post routes.Flows path body = of_method
 of_post routes.Flow path body = of_method
 of_post (routes.FlowPart part) path body = of_method
-of_post routes.Segments path body = chain (flow_at path) _ (flow path) (λ id. chain (segments_in body) _ (from_body (segments_in body) (of_segments body)) (λ value. fine))
-of_post routes.Storage path body = chain (flow_at path) _ (flow path) (λ id. chain (want_in body) _ (from_body (want_in body) (of_storage body)) (λ value. fine))
+of_post routes.Segments path body = chain (flow_at path) _ (flow path) (λ id. chain (segments_in body) _ (from_body (segments_in body) (of_segments body))
+    (λ value. fine))
+of_post routes.Storage path body = chain (flow_at path) _ (flow path) (λ id. chain (want_in body) _ (from_body (want_in body) (of_storage body))
+    (λ value. fine))
 of_post routes.Object path body = of_method
 of_post routes.Requests path body = of_method
 of_post routes.Request path body = of_method

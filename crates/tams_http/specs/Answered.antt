@@ -1,5 +1,5 @@
--- The response to a request: its status, its fields in their order, and its body (RFC 9110, sections
--- 8, 10 and 15). Our own profile of the Time-addressable Media Store.
+-- The response to a request: its status, its fields in their order, and its body (RFC 9110,
+-- sections 8, 10 and 15). Our own profile of the Time-addressable Media Store.
 use Rattle.std.specs.Prelude.{ℕ, ◌==◌, ℤ, List, [], ◌∷◌, ◌++◌, Bool, Option, Some, None, option_map, length, if◌then◌else◌, codes, decimal}
 use Rattle.std.specs.Fmt.{signed_decimal}
 use Rattle.http_queries.specs.Next.{next_query}
@@ -140,7 +140,8 @@ next_key_text (replies.Refused refusal) = None
 -- the address of the page behind a key, as a link to the next one (RFC 8288, section 3)
 abbrev pub next_link : List ℕ → List ℕ → List ℕ → List ℕ
 next_link base target key =
-    codes "<" ++ base ++ path_of target ++ codes "?" ++ next_query (query_pairs (query_of target)) key
+    codes "<" ++ base ++ path_of target ++ codes "?" ++ next_query (query_pairs (query_of target))
+    key
     ++ codes ">; rel=\"next\""
 
 -- the link to the page behind a key, where there is one

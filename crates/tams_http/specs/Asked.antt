@@ -72,7 +72,8 @@ get_asked store routes.Root path query = runs commands.Root
 get_asked store routes.Service path query = runs commands.Service
 get_asked store routes.Hooks path query = runs commands.Hooks
 get_asked store routes.Sources path query = sources_asked query
-get_asked store routes.Source path query = source_at path >>= λ source. runs (commands.Source source)
+get_asked store routes.Source path query = source_at path >>= λ source.
+    runs (commands.Source source)
 get_asked store (routes.SourcePart part) path query =
     source_at path >>= λ source.
     source_part_name part path >>= λ name.
@@ -85,7 +86,8 @@ get_asked store (routes.FlowPart part) path query =
     runs (commands.FlowPart flow name)
 get_asked store routes.Segments path query = segments_asked path query
 get_asked store routes.Storage path query = Err NoMethod
-get_asked store routes.Object path query = object_at path >>= λ object. runs (commands.Object object)
+get_asked store routes.Object path query = object_at path >>= λ object.
+    runs (commands.Object object)
 get_asked store routes.Requests path query = runs commands.Requests
 get_asked store routes.Request path query =
     request_at store path >>= λ serial. runs (commands.Request serial)

@@ -1,5 +1,6 @@
--- What a command needs so that the library takes it: its texts are UTF-8, its essence text is one, the
--- ids of its objects have their form, its segments are bounded, and its page has an item.
+-- What a command needs so that the library takes it: its texts are UTF-8, its essence text is
+-- one, the ids of its objects have their form, its segments are bounded, and its page has an
+-- item.
 use Rattle.std.specs.Prelude.{Bool, true, nat_le}
 use Rattle.std.specs.List.{list_all}
 use Rattle.std.specs.Str.{is_utf8}

@@ -13,7 +13,8 @@ use Rattle.webhook_outbox.specs.Within.Slots.{HasSerials, event_key, slot_key}
 all_from : {V : Type 0} (ps : List (ℤ × V)) → HasSerials ps → filter (is_from (pos 0)) ps ≡ ps
 all_from ps serials = filter_all (is_from (pos 0)) ps (all_map (λ p. pos 0 ≤ℤ p.0) (λ p. is_from (pos 0) p ≡ true) (λ p le. grind (arith, ints)) ps serials)
 
-pub walked_all : {V : Type 0} (n : ℕ) (ps : List (ℤ × V)) (before all : List V) → before ≡ [] → all ≡ before ++ take n (values (filter (is_from (pos 0)) ps)) → n ≡ length ps → HasSerials ps → all ≡ values ps
+pub walked_all : {V : Type 0} (n : ℕ) (ps : List (ℤ × V)) (before all : List V) → before ≡ [] → all ≡ before ++ take n (values (filter (is_from (pos 0)) ps))
+    → n ≡ length ps → HasSerials ps → all ≡ values ps
 walked_all n ps before all none e size serials =
     rw (e, none, all_from ps serials, size) (take_all (length ps) (values ps) (omega (arith, length-map ps (λ p. p.1))))
 

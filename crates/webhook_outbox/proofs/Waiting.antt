@@ -28,7 +28,8 @@ Events = List (ℤ × EventRow)
 pub all_above : (events : Events) → IsKeyedBy event_key events → filter (is_above (negsuc 0)) events ≡ events
 all_above events keyed = filter_all (is_above (negsuc 0)) events (all_map (λ p. p.0 ≡ event_key p.1) _ (λ p key. rw key (grind (arith, ints))) events keyed)
 
-pub first_event : (events : Events) (o : Option (ℤ × EventRow)) → IsKeyedBy event_key events → o ≡ first (filter (is_above (negsuc 0)) events) → option_map (λ p. p.1) o ≡ first (values events)
+pub first_event : (events : Events) (o : Option (ℤ × EventRow)) → IsKeyedBy event_key events → o ≡ first (filter (is_above (negsuc 0)) events)
+    → option_map (λ p. p.1) o ≡ first (values events)
 first_event events o keyed e = ap (option_map (λ p. p.1)) (e ∙ ap first (all_above events keyed)) ∙ sym (first_value events)
 
 -- the values of those that wait
@@ -40,7 +41,8 @@ waiting_is hook events = sym (values_kept (λ row. row.hook == hook) (is_for hoo
     each (p ∷ ps) = (refl, each ps)
 
 -- a hook that is found has the events that wait for it
-pub found_waiting : (hook : ℕ) (slots : Slots) (events : Events) (slot : Slot) → AreSlots slots events → Some slot ≡ value_at (pos hook) slots → (hook_serial slot ≡ hook) × (slot.waiting ≡ filter (is_for hook) events)
+pub found_waiting : (hook : ℕ) (slots : Slots) (events : Events) (slot : Slot) → AreSlots slots events → Some slot ≡ value_at (pos hook) slots
+    → (hook_serial slot ≡ hook) × (slot.waiting ≡ filter (is_for hook) events)
 found_waiting hook slots events slot kept e =
     let key = found_pair (λ p. p.0 ≡ slot_key p.1) (pos hook) slots slot (sym e) kept.slots_keyed in
     let own = found_pair (λ p. p.1.waiting ≡ filter (is_for (hook_serial p.1)) events) (pos hook) slots slot (sym e) kept.waiting in
@@ -49,10 +51,12 @@ found_waiting hook slots events slot kept e =
 
 -- ---- a hook that isn't kept
 
-pub none_serial : (hook : ℕ) (slots : Slots) → IsKeyedBy slot_key slots → None ≡ value_at (pos hook) slots → (pair : ℤ × EventRow) → pair.1.hook ≡ hook → has_slot slots pair ≡ true → ⊥
+pub none_serial : (hook : ℕ) (slots : Slots) → IsKeyedBy slot_key slots → None ≡ value_at (pos hook) slots → (pair : ℤ × EventRow) → pair.1.hook ≡ hook
+    → has_slot slots pair ≡ true → ⊥
 none_serial hook slots keyed e pair same has = by slots keyed (none_at (pos hook) slots (sym e)) has
   where
-    by : (ps : Slots) → IsKeyedBy slot_key ps → AllByRecursion (λ p. is_at (pos hook) p ≡ false) ps → list_any (λ p. hook_serial p.1 == pair.1.hook) ps ≡ true → ⊥
+    by : (ps : Slots) → IsKeyedBy slot_key ps → AllByRecursion (λ p. is_at (pos hook) p ≡ false) ps → list_any (λ p. hook_serial p.1 == pair.1.hook) ps ≡ true
+        → ⊥
     by [] k n h = grind (arith, h)
     by (p ∷ ps) k n h =
         elim (or_cases (hook_serial p.1 == pair.1.hook) (list_any (λ q. hook_serial q.1 == pair.1.hook) ps) h) [
@@ -65,7 +69,8 @@ none_serial hook slots keyed e pair same has = by slots keyed (none_at (pos hook
         ]
 
 -- no event waits for it
-pub none_waiting : (hook : ℕ) (slots : Slots) (events : Events) → AreSlots slots events → None ≡ value_at (pos hook) slots → waiting_for hook (values events) ≡ []
+pub none_waiting : (hook : ℕ) (slots : Slots) (events : Events) → AreSlots slots events → None ≡ value_at (pos hook) slots
+    → waiting_for hook (values events) ≡ []
 none_waiting hook slots events kept e = each events kept.hooked
   where
     each : (ps : Events) → AllByRecursion (λ p. IsTrue (has_slot slots p)) ps → waiting_for hook (values ps) ≡ []
@@ -86,16 +91,24 @@ first_among (y ∷ ys) x P e h = subst P (grind (arith, e)) h.0
 pub event_is_there : (event : ℕ) (events : Events) → IsKeyedBy event_key events → IsFirst event (values events) → None ≡ value_at (pos event) events → ⊥
 event_is_there event events keyed is e =
     let others = each events keyed (none_at (pos event) events (sym e)) in
-    first_among (waiting_for is.row.hook (values events)) is.row (λ row. row.serial ≡ event → ⊥) is.is (all_kept (λ row. row.serial ≡ event → ⊥) (λ row. row.hook == is.row.hook) (values events) others) is.serial
+    first_among (waiting_for is.row.hook (values events)) is.row (λ row. row.serial ≡ event → ⊥) is.is
+    (all_kept (λ row. row.serial ≡ event → ⊥) (λ row. row.hook == is.row.hook) (values events) others) is.serial
   where
-    each : (ps : Events) → IsKeyedBy event_key ps → AllByRecursion (λ p. is_at (pos event) p ≡ false) ps → AllByRecursion (λ row. row.serial ≡ event → ⊥) (values ps)
+    each : (ps : Events) → IsKeyedBy event_key ps → AllByRecursion (λ p. is_at (pos event) p ≡ false) ps
+        → AllByRecursion (λ row. row.serial ≡ event → ⊥) (values ps)
     each [] k n = tt
-    each (p ∷ ps) k n = ((λ same. (let key : p.0 ≡ pos event = k.0 ∙ ap pos same in let here : is_at (pos event) p ≡ true = rw key (grind (arith, ints)) in grind (arith, here, n.0))), each ps k.1 n.1)
+    each (p ∷ ps) k n = (
+      (λ same. (let key : p.0 ≡ pos event = k.0 ∙ ap pos same in let here : is_at (pos event) p ≡ true = rw key (grind (arith, ints)) in
+          grind (arith, here, n.0))),
+      each ps k.1 n.1,
+    )
 
 -- and its hook is kept
-pub hook_is_there : (event : ℕ) (row : EventRow) (slots : Slots) (events : Events) → AreSlots slots events → Some row ≡ value_at (pos event) events → None ≡ value_at (pos row.hook) slots → ⊥
+pub hook_is_there : (event : ℕ) (row : EventRow) (slots : Slots) (events : Events) → AreSlots slots events → Some row ≡ value_at (pos event) events
+    → None ≡ value_at (pos row.hook) slots → ⊥
 hook_is_there event row slots events kept e none =
-    none_serial row.hook slots kept.slots_keyed none (pos event, row) refl (found_pair (λ p. IsTrue (has_slot slots p)) (pos event) events row (sym e) kept.hooked)
+    none_serial row.hook slots kept.slots_keyed none (pos event, row) refl (found_pair (λ p. IsTrue (has_slot slots p)) (pos event) events row (sym e)
+    kept.hooked)
 
 -- what is known where an event is delivered
 pub record Delivers (event : ℕ) (row : EventRow) (slot left : Slot) (slots : Slots) (events : Events) : Type 0 where
@@ -107,24 +120,29 @@ pub record Delivers (event : ℕ) (row : EventRow) (slot left : Slot) (slots : S
   pub same_row : left.row.value ≡ slot.row.value
   pub fewer : left.waiting ≡ without_key (pos event) slot.waiting
 
-pub same_serials : (key : ℤ) (slot left : Slot) (slots : Slots) → hook_serial left ≡ hook_serial slot → (n : ℕ) → list_any (λ p. hook_serial p.1 == n) (with_pair (key, left) slots) ≡ list_any (λ p. hook_serial p.1 == n) (with_pair (key, slot) slots)
+pub same_serials : (key : ℤ) (slot left : Slot) (slots : Slots) → hook_serial left ≡ hook_serial slot → (n : ℕ)
+    → list_any (λ p. hook_serial p.1 == n) (with_pair (key, left) slots) ≡ list_any (λ p. hook_serial p.1 == n) (with_pair (key, slot) slots)
 same_serials key slot left slots same n =
     list_any-append (λ p. hook_serial p.1 == n) (filter (is_below key) slots) ((key, left) ∷ filter (is_above key) slots)
-    ∙ ap (λ k. list_any (λ p. hook_serial p.1 == n) (filter (is_below key) slots) || ((k == n) || list_any (λ p. hook_serial p.1 == n) (filter (is_above key) slots))) same
+    ∙ ap (λ k. list_any (λ p. hook_serial p.1 == n) (filter (is_below key) slots)
+    || ((k == n) || list_any (λ p. hook_serial p.1 == n) (filter (is_above key) slots))) same
     ∙ sym (list_any-append (λ p. hook_serial p.1 == n) (filter (is_below key) slots) ((key, slot) ∷ filter (is_above key) slots))
 
-same_hooks : (key : ℤ) (slot left : Slot) (slots : Slots) → left.row.value ≡ slot.row.value → hooks_of (with_pair (key, left) slots) ≡ hooks_of (with_pair (key, slot) slots)
+same_hooks : (key : ℤ) (slot left : Slot) (slots : Slots) → left.row.value ≡ slot.row.value
+    → hooks_of (with_pair (key, left) slots) ≡ hooks_of (with_pair (key, slot) slots)
 same_hooks key slot left slots same = by (filter (is_below key) slots)
   where
     by : (front : Slots) → hooks_of (front ++ (key, left) ∷ filter (is_above key) slots) ≡ hooks_of (front ++ (key, slot) ∷ filter (is_above key) slots)
     by [] = ap (λ row. row ∷ hooks_of (filter (is_above key) slots)) same
     by (p ∷ front) = ap (λ l. p.1.row.value ∷ l) (by front)
 
-pub delivered_hooks : (event : ℕ) (row : EventRow) (slot left : Slot) (slots : Slots) (events : Events) → Delivers event row slot left slots events → hooks_of (with_pair (pos row.hook, left) slots) ≡ hooks_of slots
+pub delivered_hooks : (event : ℕ) (row : EventRow) (slot left : Slot) (slots : Slots) (events : Events) → Delivers event row slot left slots events
+    → hooks_of (with_pair (pos row.hook, left) slots) ≡ hooks_of slots
 delivered_hooks event row slot left slots events d =
     same_hooks (pos row.hook) slot left slots d.same_row ∙ sym (ap hooks_of (at_split (pos row.hook) slots slot d.slots_rise (sym d.slot_is)))
 
-pub delivered_events : (event : ℕ) (row : EventRow) (slot left : Slot) (slots : Slots) (events : Events) → Delivers event row slot left slots events → values (without_key (pos event) events) ≡ filter (λ r. not (r.serial == event)) (values events)
+pub delivered_events : (event : ℕ) (row : EventRow) (slot left : Slot) (slots : Slots) (events : Events) → Delivers event row slot left slots events
+    → values (without_key (pos event) events) ≡ filter (λ r. not (r.serial == event)) (values events)
 delivered_events event row slot left slots events d = left_out_is (λ r. r.serial == event) (pos event) events d.events_rise (tests events d.kept.events_keyed)
   where
     same_test : (key : ℤ) (n : ℕ) → key ≡ pos n → (n == event) ≡ is_at (pos event) (key, row)
@@ -134,24 +152,30 @@ delivered_events event row slot left slots events d = left_out_is (λ r. r.seria
     tests [] k = tt
     tests (p ∷ ps) k = (same_test p.0 p.1.serial k.0, tests ps k.1)
 
-waiting_rises : (event : ℕ) (row : EventRow) (slot : Slot) (slots : Slots) (events : Events) → {left : Slot} → Delivers event row slot left slots events → IsRising slot.waiting
+waiting_rises : (event : ℕ) (row : EventRow) (slot : Slot) (slots : Slots) (events : Events) → {left : Slot} → Delivers event row slot left slots events
+    → IsRising slot.waiting
 waiting_rises event row slot slots events d =
     subst IsRising (sym (found_waiting row.hook slots events slot d.kept d.slot_is).1) (rising_kept (is_for row.hook) events d.events_rise)
 
-pub delivered_slots : (event : ℕ) (row : EventRow) (slot left : Slot) (slots : Slots) (events : Events) → Delivers event row slot left slots events → AreSlots (with_pair (pos row.hook, left) slots) (without_key (pos event) events)
+pub delivered_slots : (event : ℕ) (row : EventRow) (slot left : Slot) (slots : Slots) (events : Events) → Delivers event row slot left slots events
+    → AreSlots (with_pair (pos row.hook, left) slots) (without_key (pos event) events)
 delivered_slots event row slot left slots events d =
     let key : ℤ = pos row.hook in
     let own = found_waiting row.hook slots events slot d.kept d.slot_is in
     let serial : hook_serial left ≡ row.hook = ap (λ (r : HookRow). r.serial) d.same_row ∙ own.0 in
-    let own_waiting : left.waiting ≡ filter (is_for row.hook) (without_key (pos event) events) = d.fewer ∙ ap (without_key (pos event)) own.1 ∙ without_kept (is_for row.hook) (pos event) events d.events_rise in
+    let own_waiting : left.waiting ≡ filter (is_for row.hook) (without_key (pos event) events) = d.fewer ∙ ap (without_key (pos event)) own.1 ∙ without_kept
+    (is_for row.hook) (pos event) events d.events_rise in
     let split = at_split key slots slot d.slots_rise (sym d.slot_is) in
     record {
       slots_keyed = keyed_with slot_key key left slots (ap pos (sym serial)) d.kept.slots_keyed;
       events_keyed = keyed_without event_key (pos event) events d.kept.events_keyed;
       waiting = all_append Waits (filter (is_below key) slots) ((key, left) ∷ filter (is_above key) slots)
-          (others (is_below key) (λ p below. grind (arith, ints)))
-          (subst (λ h. left.waiting ≡ filter (is_for h) (without_key (pos event) events)) (sym serial) own_waiting, others (is_above key) (λ p above. grind (arith, ints)));
-      hooked = all_append (λ p. IsTrue (has_slot (with_pair (key, left) slots) p)) (filter (is_below (pos event)) events) (filter (is_above (pos event)) events) (still (is_below (pos event)) split) (still (is_above (pos event)) split);
+          (others (is_below key) (λ p below. grind (arith, ints))) (
+            subst (λ h. left.waiting ≡ filter (is_for h) (without_key (pos event) events)) (sym serial) own_waiting,
+            others (is_above key) (λ p above. grind (arith, ints)),
+          );
+      hooked = all_append (λ p. IsTrue (has_slot (with_pair (key, left) slots) p)) (filter (is_below (pos event)) events) (filter (is_above (pos event)) events)
+          (still (is_below (pos event)) split) (still (is_above (pos event)) split);
       full = all_append (λ p. HasFailedWhenFull p.1) (filter (is_below key) slots) ((key, left) ∷ filter (is_above key) slots)
           (all_kept (λ p. HasFailedWhenFull p.1) (is_below key) slots d.kept.full)
           ((λ most. fails_still most), all_kept (λ p. HasFailedWhenFull p.1) (is_above key) slots d.kept.full);
@@ -159,8 +183,11 @@ delivered_slots event row slot left slots events d =
   where
     fails_still : nat_le most_waiting (length left.waiting) ≡ true → left.row.value.failed ≡ true
     fails_still most =
-        let shorter : length left.waiting ≤ length slot.waiting = rw (d.fewer, others_are (pos event) slot.waiting (waiting_rises event row slot slots events d)) (fewer (λ p. not (is_at (pos event) p)) slot.waiting) in
-        let before : nat_le most_waiting (length slot.waiting) ≡ true = le-leb most_waiting (length slot.waiting) (omega (arith, leb-true most_waiting (length left.waiting) most, shorter)) in
+        let shorter : length left.waiting ≤ length slot.waiting =
+        rw (d.fewer, others_are (pos event) slot.waiting (waiting_rises event row slot slots events d))
+        (fewer (λ p. not (is_at (pos event) p)) slot.waiting) in
+        let before : nat_le most_waiting (length slot.waiting) ≡ true = le-leb most_waiting (length slot.waiting)
+        (omega (arith, leb-true most_waiting (length left.waiting) most, shorter)) in
         ap (λ (r : HookRow). r.failed) d.same_row ∙ found_pair (λ p. HasFailedWhenFull p.1) (pos row.hook) slots slot (sym d.slot_is) d.kept.full before
 
     Waits : ℤ × Slot → Type 0
@@ -168,7 +195,9 @@ delivered_slots event row slot left slots events d =
 
     -- another hook's events stay
     other : (hook : ℕ) → (hook ≡ row.hook → ⊥) → filter (is_for hook) (without_key (pos event) events) ≡ filter (is_for hook) events
-    other hook apart = kept_without (is_for hook) (pos event) events d.events_rise (all_map (λ p. is_at (pos event) p ≡ true → p.1 ≡ row) (λ p. is_at (pos event) p ≡ true → is_for hook p ≡ false) (λ p same at. fails p (same at)) events (at_is (pos event) events row d.events_rise (sym d.row_is)))
+    other hook apart = kept_without (is_for hook) (pos event) events d.events_rise
+        (all_map (λ p. is_at (pos event) p ≡ true → p.1 ≡ row) (λ p. is_at (pos event) p ≡ true → is_for hook p ≡ false) (λ p same at. fails p (same at)) events
+        (at_is (pos event) events row d.events_rise (sym d.row_is)))
       where
         fails : (p : ℤ × EventRow) → p.1 ≡ row → is_for hook p ≡ false
         fails p same = rw same (ne_eqb row.hook hook (λ e. apart (sym e)))
@@ -176,22 +205,27 @@ delivered_slots event row slot left slots events d =
     apart_key : (p : ℤ × Slot) → p.0 ≡ slot_key p.1 → (p.0 ≡ pos row.hook → ⊥) → hook_serial p.1 ≡ row.hook → ⊥
     apart_key p k n e = n (k ∙ ap pos e)
 
-    both : (ps : Slots) → IsKeyedBy slot_key ps → AllByRecursion (λ p. p.1.waiting ≡ filter (is_for (hook_serial p.1)) events) ps → AllByRecursion (λ p. (p.0 ≡ pos row.hook → ⊥) → Waits p) ps
+    both : (ps : Slots) → IsKeyedBy slot_key ps → AllByRecursion (λ p. p.1.waiting ≡ filter (is_for (hook_serial p.1)) events) ps
+        → AllByRecursion (λ p. (p.0 ≡ pos row.hook → ⊥) → Waits p) ps
     both [] k w = tt
     both (p ∷ ps) k w = ((λ n. w.0 ∙ sym (other (hook_serial p.1) (apart_key p k.0 n))), both ps k.1 w.1)
 
     others : (test : ℤ × Slot → Bool) → ((p : ℤ × Slot) → test p ≡ true → p.0 ≡ pos row.hook → ⊥) → AllByRecursion Waits (filter test slots)
-    others test apart = use_all (filter test slots) (all_kept (λ p. (p.0 ≡ pos row.hook → ⊥) → Waits p) test slots (both slots d.kept.slots_keyed d.kept.waiting)) (each_passes test slots)
+    others test apart = use_all (filter test slots) (all_kept (λ p. (p.0 ≡ pos row.hook → ⊥) → Waits p) test slots
+        (both slots d.kept.slots_keyed d.kept.waiting)) (each_passes test slots)
       where
         use_all : (ps : Slots) → AllByRecursion (λ p. (p.0 ≡ pos row.hook → ⊥) → Waits p) ps → AllByRecursion (λ p. test p ≡ true) ps → AllByRecursion Waits ps
         use_all [] h t = tt
         use_all (p ∷ ps) h t = (h.0 (apart p t.0), use_all ps h.1 t.1)
 
-    still : (test : ℤ × EventRow → Bool) → slots ≡ with_pair (pos row.hook, slot) slots → AllByRecursion (λ p. IsTrue (has_slot (with_pair (pos row.hook, left) slots) p)) (filter test events)
+    still : (test : ℤ × EventRow → Bool) → slots ≡ with_pair (pos row.hook, slot) slots
+        → AllByRecursion (λ p. IsTrue (has_slot (with_pair (pos row.hook, left) slots) p)) (filter test events)
     still test split = all_map (λ p. IsTrue (has_slot slots p)) (λ p. IsTrue (has_slot (with_pair (pos row.hook, left) slots) p))
-        (λ p has. same_serials (pos row.hook) slot left slots (ap (λ (r : HookRow). r.serial) d.same_row) p.1.hook ∙ sym (ap (λ l. has_slot l p) split) ∙ has) (filter test events) (all_kept (λ p. IsTrue (has_slot slots p)) test events d.kept.hooked)
+        (λ p has. same_serials (pos row.hook) slot left slots (ap (λ (r : HookRow). r.serial) d.same_row) p.1.hook ∙ sym (ap (λ l. has_slot l p) split) ∙ has)
+        (filter test events) (all_kept (λ p. IsTrue (has_slot slots p)) test events d.kept.hooked)
 
-pub delivered_is : (event : ℕ) (row : EventRow) (slot left : Slot) (slots : Slots) (events : Events) (new_slots : Slots) (new_events : Events) → Delivers event row slot left slots events → new_slots ≡ with_pair (pos row.hook, left) slots → new_events ≡ without_key (pos event) events
+pub delivered_is : (event : ℕ) (row : EventRow) (slot left : Slot) (slots : Slots) (events : Events) (new_slots : Slots) (new_events : Events)
+    → Delivers event row slot left slots events → new_slots ≡ with_pair (pos row.hook, left) slots → new_events ≡ without_key (pos event) events
     → outbox_of new_slots new_events ≡ after_delivered event (outbox_of slots events)
 delivered_is event row slot left slots events new_slots new_events d es ee =
     ap (λ l. record { hooks = hooks_of l; events = values new_events }) es

@@ -12,4 +12,5 @@ rank_at ranks id = unwrap_or (value_at (id_key id) ranks) 0
 
 -- a flow's rank is above those of all that it collects
 abbrev pub is_ranked : (ℕ → ℕ) → FlowRow → Bool
-is_ranked rank row = list_all (λ to. nat_lt (rank to) (rank row.body.id)) (member_ids row.body.members)
+is_ranked rank row = list_all (λ to. nat_lt (rank to) (rank row.body.id))
+    (member_ids row.body.members)

@@ -126,8 +126,9 @@ pub record AreReferred (segments : List SegmentRow) (start kept : List Kept) : T
 
 -- ---- a book
 
--- Objects stand by serial, which is a number of 64 bits. Each id leads to its object's serial and to
--- no other one. Each object without references stands in the order of sweeps, and no other one.
+-- Objects stand by serial, which is a number of 64 bits. Each id leads to its object's serial and
+-- to no other one. Each object without references stands in the order of sweeps, and no other
+-- one.
 pub record IsBook (rows : List (ℤ × Kept)) (names : List (ℤ × List Named))
     (idle : List (ℤ × ℕ)) : Type 0 where
   pub keyed : IsKeyedBy kept_key rows

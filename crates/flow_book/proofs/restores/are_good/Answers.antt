@@ -19,10 +19,14 @@ are_placed-requires-clause-flows c = gathered_at flow_id c.args.flows.now c.args
 pub returns-then-not-are_placed : goal.returns-then-not-are_placed
 returns-then-not-are_placed c =
     let no : c.are_placed.result ≡ false = grind (arith, common_steps) in
-    sym (can_is c.args.sources.now c.args.flows.now c.args.kept_sources.now c.args.kept.now.flows c.args.kept.now.by_source c.args.kept.now.collectors c.requires.sources c.requires.flows ∙ ap (λ b. b && list_all (is_acyclic c.args.flows.now) c.args.flows.now) (sym c.are_placed.ensures ∙ no))
+    sym (can_is c.args.sources.now c.args.flows.now c.args.kept_sources.now c.args.kept.now.flows c.args.kept.now.by_source c.args.kept.now.collectors
+    c.requires.sources c.requires.flows ∙ ap (λ b. b && list_all (is_acyclic c.args.flows.now) c.args.flows.now) (sym c.are_placed.ensures ∙ no))
 
 pub returns : goal.returns
 returns c =
     let yes : c.are_placed.result ≡ true = grind (arith, common_steps) in
     let seen = ap values_of c.deref.ensures.value ∙ c.in_ok-rows.ensures in
-    if_ok c.are_acyclic.result (λ made is. is ∙ ap (λ l. list_all (is_acyclic l) l) seen ∙ sym (can_is c.args.sources.now c.args.flows.now c.args.kept_sources.now c.args.kept.now.flows c.args.kept.now.by_source c.args.kept.now.collectors c.requires.sources c.requires.flows ∙ ap (λ b. b && list_all (is_acyclic c.args.flows.now) c.args.flows.now) (sym c.are_placed.ensures ∙ yes))) c.are_acyclic.ensures
+    if_ok c.are_acyclic.result (λ made is. is ∙ ap (λ l. list_all (is_acyclic l) l) seen ∙ sym
+    (can_is c.args.sources.now c.args.flows.now c.args.kept_sources.now c.args.kept.now.flows c.args.kept.now.by_source c.args.kept.now.collectors
+    c.requires.sources c.requires.flows ∙ ap (λ b. b && list_all (is_acyclic c.args.flows.now) c.args.flows.now) (sym c.are_placed.ensures ∙ yes)))
+    c.are_acyclic.ensures

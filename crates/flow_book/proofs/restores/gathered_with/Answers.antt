@@ -17,5 +17,7 @@ pub returns : goal.returns
 returns c rows h =
     let not_there = sym (ap is_some c.row_at.ensures) ∙ copied_there c.row_at.result ∙ sym c.is_some.ensures ∙ c.if-is_some.false in
     let names = c.deref.ensures.value ∙ c.in_ok-collected.ensures ∙ ap member_ids c.items.ensures in
-    gathered_once c.args.row.now c.in_ok-duplicate.field-0 rows c.args.old.now.flows c.in_ok-with_row.field-0 c.args.old.now.by_source c.args.old.now.collectors c.in_ok-link.field-0 c.in_ok-link-2.field-0
-    c.keys_rise.ensures not_there c.in_ok-duplicate.ensures c.in_ok-with_row.ensures c.in_ok-link.ensures (subst (λ l. Links l c.args.row.now.body.id c.args.old.now.collectors c.in_ok-link-2.field-0) names c.in_ok-link-2.ensures) h
+    gathered_once c.args.row.now c.in_ok-duplicate.field-0 rows c.args.old.now.flows c.in_ok-with_row.field-0 c.args.old.now.by_source c.args.old.now.collectors
+    c.in_ok-link.field-0 c.in_ok-link-2.field-0
+    c.keys_rise.ensures not_there c.in_ok-duplicate.ensures c.in_ok-with_row.ensures c.in_ok-link.ensures
+    (subst (λ l. Links l c.args.row.now.body.id c.args.old.now.collectors c.in_ok-link-2.field-0) names c.in_ok-link-2.ensures) h

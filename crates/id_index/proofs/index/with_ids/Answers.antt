@@ -13,4 +13,5 @@ returns-then-has_pairs c =
 pub returns-else-has_pairs : goal.returns-else-has_pairs
 returns-else-has_pairs c =
     let none = none_there c.args.ids (sym c.has_pairs.ensures ∙ c.if-has_pairs.false) in
-    if_ok c.without_row.result (λ next is. subst (λ l. Sets c.args.to l c.args.linked.now next) (sym none) (ids_gone c.args.to c.args.linked.now next is)) c.without_row.ensures
+    if_ok c.without_row.result (λ next is. subst (λ l. Sets c.args.to l c.args.linked.now next) (sym none) (ids_gone c.args.to c.args.linked.now next is))
+    c.without_row.ensures

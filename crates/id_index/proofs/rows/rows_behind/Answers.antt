@@ -11,7 +11,8 @@ use Rattle.id_index.proofs.rows.rows_behind.Goals as goal
 pub returns : goal.returns
 returns g c =
     let fit : FitsSigned w128 c.id_key.result = search rules in
-    if_ok c.rows_from.result (λ list is. is ∙ ap values (from_next (id_key c.args.id) c.id_key.result c.args.rows.now (c.id_key.ensures ∙ omega (arith, ints)))) (simp to_z-of_z at c.rows_from.ensures)
+    if_ok c.rows_from.result (λ list is. is ∙ ap values (from_next (id_key c.args.id) c.id_key.result c.args.rows.now (c.id_key.ensures ∙ omega (arith, ints))))
+    (simp to_z-of_z at c.rows_from.ensures)
 
 -- none stands above the greatest key
 pub returns-then-id-eq340282366920938463463374607431768211455 : goal.returns-then-id-eq340282366920938463463374607431768211455

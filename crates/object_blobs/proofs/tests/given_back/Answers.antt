@@ -3,7 +3,8 @@ use Rattle.object_blobs.proofs.tests.given_back.Goals as goal
 
 -- the first place stays taken while the second one is
 pub give-requires-clause-taken : goal.give-requires-clause-taken
-give-requires-clause-taken c = taken_stays c.args.first.now.start 3 c.args.second.now.start 2 c.args.first.now.left c.args.second.now.left c.requires.left c.requires.first
+give-requires-clause-taken c = taken_stays c.args.first.now.start 3 c.args.second.now.start 2 c.args.first.now.left c.args.second.now.left c.requires.left
+    c.requires.first
 
 -- and the second one while the first one is given back
 pub give-requires-2-clause-taken : goal.give-requires-2-clause-taken

@@ -7,4 +7,5 @@ use Rattle.webhook_outbox.proofs.lists.all_values.Goals as goal
 pub returns : goal.returns
 returns g c =
     let count : c.len-count.result ≡ length c.args.rows.now = omega (arith, c.len-count.ensures) in
-    walked_all c.len-count.result c.args.rows.now (values_of c.in_ok-list.list.items) (values_of c.walk_from.new.out.items) (ap values_of c.in_ok-list.ensures.items) c.walk_from.ensures.values count c.requires.serials
+    walked_all c.len-count.result c.args.rows.now (values_of c.in_ok-list.list.items) (values_of c.walk_from.new.out.items)
+    (ap values_of c.in_ok-list.ensures.items) c.walk_from.ensures.values count c.requires.serials

@@ -7,4 +7,5 @@ use Rattle.flow_book.proofs.book.FlowBook.is_in_order.Goals as goal
 pub returns : goal.returns
 returns c =
     subst (λ catalog. is_catalog_in_order catalog ≡ true) c.self.view_is
-    (catalog_in_order c.self.inside.sources c.self.inside.flows c.keys_rise.ensures c.keys_rise-2.ensures c.self.invariant.sources_keyed c.self.invariant.flows_keyed)
+    (catalog_in_order c.self.inside.sources c.self.inside.flows c.keys_rise.ensures c.keys_rise-2.ensures c.self.invariant.sources_keyed
+    c.self.invariant.flows_keyed)

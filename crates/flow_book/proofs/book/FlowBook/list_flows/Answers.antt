@@ -15,4 +15,5 @@ returns-clause-rising c =
     let kept = c.self.inside.flows in
     let shown = ap values_of c.deref.ensures.value ∙ c.in_ok-rows.ensures in
     let rising : rises flow_before (values kept) ≡ true = values_rise (λ (row : FlowRow). row.body.id) kept c.keys_rise.ensures c.self.invariant.flows_keyed in
-    if_ok c.flows_listed.result (λ list is. listed_rise flow_before (is_flow_listed c.args.wanted.now c.args.after) (values_of c.deref.result.now) list is (subst (λ l. rises flow_before l ≡ true) (sym shown) rising)) c.flows_listed.ensures
+    if_ok c.flows_listed.result (λ list is. listed_rise flow_before (is_flow_listed c.args.wanted.now c.args.after) (values_of c.deref.result.now) list is
+    (subst (λ l. rises flow_before l ≡ true) (sym shown) rising)) c.flows_listed.ensures

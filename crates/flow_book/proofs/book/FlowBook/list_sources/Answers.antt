@@ -15,4 +15,5 @@ returns-clause-rising c =
     let kept = c.self.inside.sources in
     let shown = ap values_of c.deref.ensures.value ∙ c.in_ok-rows.ensures in
     let rising : rises source_before (values kept) ≡ true = values_rise (λ (row : SourceRow). row.id) kept c.keys_rise.ensures c.self.invariant.sources_keyed in
-    if_ok c.sources_listed.result (λ list is. listed_rise source_before (is_source_listed c.args.wanted.now c.args.after) (values_of c.deref.result.now) list is (subst (λ l. rises source_before l ≡ true) (sym shown) rising)) c.sources_listed.ensures
+    if_ok c.sources_listed.result (λ list is. listed_rise source_before (is_source_listed c.args.wanted.now c.args.after) (values_of c.deref.result.now) list is
+    (subst (λ l. rises source_before l ≡ true) (sym shown) rising)) c.sources_listed.ensures

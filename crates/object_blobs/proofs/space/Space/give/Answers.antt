@@ -26,7 +26,8 @@ invariant_of-result c =
       from_is = c.joined_start-first.ensures.first;
       to_is = c.joined_end-last.ensures.last;
     } in
-    given_holes c.self.inside.blocks c.args.start c.args.blocks c.self.inside.holes c.in_ok-others.others c.in_ok-with_hole.field-0 c.joined_start-first.result c.joined_end-last.result asked c.in_ok-others.ensures c.in_ok-with_hole.ensures
+    given_holes c.self.inside.blocks c.args.start c.args.blocks c.self.inside.holes c.in_ok-others.others c.in_ok-with_hole.field-0 c.joined_start-first.result
+    c.joined_end-last.result asked c.in_ok-others.ensures c.in_ok-with_hole.ensures
 
 pub returns : goal.returns
 returns c =
@@ -38,5 +39,6 @@ returns c =
       from_is = c.joined_start-first.ensures.first;
       to_is = c.joined_end-last.ensures.last;
     } in
-    let given = given_area c.self.inside.blocks c.args.start c.args.blocks c.self.inside.holes c.in_ok-others.others c.in_ok-with_hole.field-0 c.joined_start-first.result c.joined_end-last.result asked c.in_ok-others.ensures c.in_ok-with_hole.ensures in
+    let given = given_area c.self.inside.blocks c.args.start c.args.blocks c.self.inside.holes c.in_ok-others.others c.in_ok-with_hole.field-0
+    c.joined_start-first.result c.joined_end-last.result asked c.in_ok-others.ensures c.in_ok-with_hole.ensures in
     subst (λ old. IsGiven c.args.start c.args.blocks old (area_of c.self.inside.blocks c.in_ok-with_hole.field-0)) c.self.view_is given

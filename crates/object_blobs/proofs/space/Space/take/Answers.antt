@@ -15,12 +15,14 @@ pub invariant_of-result : goal.invariant_of-result
 invariant_of-result c =
     let some : 0 < c.args.blocks = search rules in
     let cut = cut_of c.self.inside.blocks c.args.start c.args.blocks c.self.inside.holes c.holding-hole.result c.self.invariant some c.holding-hole.ensures in
-    taken_holes c.self.inside.blocks c.args.start c.args.blocks c.self.inside.holes c.in_ok-holes.holes c.in_ok-with_rest.field-0 c.holding-hole.result _ _ cut c.in_ok-holes.ensures c.in_ok-with_rest.ensures
+    taken_holes c.self.inside.blocks c.args.start c.args.blocks c.self.inside.holes c.in_ok-holes.holes c.in_ok-with_rest.field-0 c.holding-hole.result _ _ cut
+    c.in_ok-holes.ensures c.in_ok-with_rest.ensures
 
 pub returns : goal.returns
 returns c =
     let some : 0 < c.args.blocks = search rules in
     let cut = cut_of c.self.inside.blocks c.args.start c.args.blocks c.self.inside.holes c.holding-hole.result c.self.invariant some c.holding-hole.ensures in
     let taken =
-    taken_area c.self.inside.blocks c.args.start c.args.blocks c.self.inside.holes c.in_ok-holes.holes c.in_ok-with_rest.field-0 c.holding-hole.result _ _ cut c.in_ok-holes.ensures c.in_ok-with_rest.ensures in
+    taken_area c.self.inside.blocks c.args.start c.args.blocks c.self.inside.holes c.in_ok-holes.holes c.in_ok-with_rest.field-0 c.holding-hole.result _ _ cut
+    c.in_ok-holes.ensures c.in_ok-with_rest.ensures in
     subst (λ old. IsTaken c.args.start c.args.blocks old (area_of c.self.inside.blocks c.in_ok-with_rest.field-0)) c.self.view_is taken

@@ -8,7 +8,8 @@ use Rattle.webhook_outbox.proofs.outbox.Outbox.delivered.Goals as goal
 -- the event waits
 pub unreachable-requires : goal.unreachable-requires
 unreachable-requires c =
-    event_is_there c.args.event c.self.inside.events c.self.invariant.events_keyed (subst (λ (o : Outbox). IsFirst c.args.event o.events) (sym c.self.view_is) c.requires.first) c.in_default.ensures
+    event_is_there c.args.event c.self.inside.events c.self.invariant.events_keyed (subst (λ (o : Outbox). IsFirst c.args.event o.events) (sym c.self.view_is)
+    c.requires.first) c.in_default.ensures
 
 -- for a hook that is kept
 pub unreachable-requires-in_default-value_at : goal.unreachable-requires-in_default-value_at
@@ -28,7 +29,8 @@ invariant_of-result c =
       fewer = c.in_ok-without_event.ensures;
     } in
     subst (λ slots. AreSlots slots c.in_ok-without_event-2.field-0) (sym c.in_ok-with_slot.ensures)
-    (subst (AreSlots _) (sym c.in_ok-without_event-2.ensures) (delivered_slots c.args.event c.in-Some.row.now c.in-Some-value_at.slot.now _ c.self.inside.slots c.self.inside.events d))
+    (subst (AreSlots _) (sym c.in_ok-without_event-2.ensures) (delivered_slots c.args.event c.in-Some.row.now c.in-Some-value_at.slot.now _ c.self.inside.slots
+    c.self.inside.events d))
 
 pub returns : goal.returns
 returns c =
@@ -41,5 +43,6 @@ returns c =
       same_row = c.in_ok-clone.ensures.cases;
       fewer = c.in_ok-without_event.ensures;
     } in
-    delivered_is c.args.event c.in-Some.row.now c.in-Some-value_at.slot.now _ c.self.inside.slots c.self.inside.events c.in_ok-with_slot.field-0 c.in_ok-without_event-2.field-0 d c.in_ok-with_slot.ensures c.in_ok-without_event-2.ensures
+    delivered_is c.args.event c.in-Some.row.now c.in-Some-value_at.slot.now _ c.self.inside.slots c.self.inside.events c.in_ok-with_slot.field-0
+    c.in_ok-without_event-2.field-0 d c.in_ok-with_slot.ensures c.in_ok-without_event-2.ensures
     ∙ ap (after_delivered c.args.event) c.self.view_is

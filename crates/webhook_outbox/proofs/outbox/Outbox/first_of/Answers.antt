@@ -11,7 +11,8 @@ use Rattle.webhook_outbox.proofs.outbox.Outbox.first_of.Goals as goal
 pub returns-in_err-slot : goal.returns-in_err-slot
 returns-in_err-slot c =
     ap option_copied c.from_residual.ensures
-    ∙ sym (ap first (ap (λ (o : Outbox). waiting_for c.args.hook o.events) (sym c.self.view_is) ∙ none_waiting c.args.hook c.self.inside.slots c.self.inside.events c.self.invariant c.in_err-slot.ensures))
+    ∙ sym (ap first (ap (λ (o : Outbox). waiting_for c.args.hook o.events) (sym c.self.view_is) ∙ none_waiting c.args.hook c.self.inside.slots
+    c.self.inside.events c.self.invariant c.in_err-slot.ensures))
 
 pub first_waiting-requires-clause-keyed : goal.first_waiting-requires-clause-keyed
 first_waiting-requires-clause-keyed c =

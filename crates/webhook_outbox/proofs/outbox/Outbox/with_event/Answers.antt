@@ -8,7 +8,8 @@ use Rattle.webhook_outbox.proofs.outbox.Outbox.with_event.Goals as goal
 -- the hook is kept
 pub unreachable-requires : goal.unreachable-requires
 unreachable-requires c =
-    hook_is_kept c.args.row c.self.inside.slots c.self.invariant.slots_keyed (subst (λ (o : Outbox). has_hook o.hooks c.args.row ≡ true) (sym c.self.view_is) c.requires.hook) c.in_default.ensures
+    hook_is_kept c.args.row c.self.inside.slots c.self.invariant.slots_keyed (subst (λ (o : Outbox). has_hook o.hooks c.args.row ≡ true) (sym c.self.view_is)
+    c.requires.hook) c.in_default.ensures
 
 pub invariant_of-result : goal.invariant_of-result
 invariant_of-result c =
@@ -17,11 +18,13 @@ invariant_of-result c =
       kept = c.self.invariant;
       slots_rise = c.keys_rise.ensures;
       slot_is = c.in-Some.ensures;
-      last = behind_keys c.args.row.serial c.self.inside.events c.self.invariant.events_keyed (subst (λ (o : Outbox). IsBehind c.args.row.serial o.events) (sym c.self.view_is) c.requires.last);
+      last = behind_keys c.args.row.serial c.self.inside.events c.self.invariant.events_keyed
+          (subst (λ (o : Outbox). IsBehind c.args.row.serial o.events) (sym c.self.view_is) c.requires.last);
       marked_row = c.in_ok-marked_row.ensures;
       waits = c.in_ok-with_row.ensures;
     } in
-    added_kept c.args.row c.in-Some.slot.now _ c.self.inside.slots c.in_ok-with_slot.field-0 c.self.inside.events c.in_ok-with_row-2.field-0 has d c.in_ok-with_slot.ensures c.in_ok-with_row-2.ensures
+    added_kept c.args.row c.in-Some.slot.now _ c.self.inside.slots c.in_ok-with_slot.field-0 c.self.inside.events c.in_ok-with_row-2.field-0 has d
+    c.in_ok-with_slot.ensures c.in_ok-with_row-2.ensures
 
 -- the event waits, and its hook is marked where it is full
 pub returns : goal.returns
@@ -30,9 +33,11 @@ returns c =
       kept = c.self.invariant;
       slots_rise = c.keys_rise.ensures;
       slot_is = c.in-Some.ensures;
-      last = behind_keys c.args.row.serial c.self.inside.events c.self.invariant.events_keyed (subst (λ (o : Outbox). IsBehind c.args.row.serial o.events) (sym c.self.view_is) c.requires.last);
+      last = behind_keys c.args.row.serial c.self.inside.events c.self.invariant.events_keyed
+          (subst (λ (o : Outbox). IsBehind c.args.row.serial o.events) (sym c.self.view_is) c.requires.last);
       marked_row = c.in_ok-marked_row.ensures;
       waits = c.in_ok-with_row.ensures;
     } in
-    added_is c.args.row c.in-Some.slot.now _ c.self.inside.slots c.in_ok-with_slot.field-0 c.self.inside.events c.in_ok-with_row-2.field-0 d c.in_ok-with_slot.ensures c.in_ok-with_row-2.ensures
+    added_is c.args.row c.in-Some.slot.now _ c.self.inside.slots c.in_ok-with_slot.field-0 c.self.inside.events c.in_ok-with_row-2.field-0 d
+    c.in_ok-with_slot.ensures c.in_ok-with_row-2.ensures
     ∙ ap (with_events (c.args.row ∷ [])) c.self.view_is

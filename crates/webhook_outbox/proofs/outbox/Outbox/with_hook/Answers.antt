@@ -11,16 +11,20 @@ use Rattle.webhook_outbox.proofs.outbox.Outbox.with_hook.Goals as goal
 pub invariant_of-result : goal.invariant_of-result
 invariant_of-result c =
     let slot : Slot = record { row = c.in_ok-new.field-0; waiting = c.empty.result } in
-    let last = behind_hooks c.args.serial c.self.inside.slots c.self.invariant.slots_keyed (subst (λ (o : Outbox). IsBehindHooks c.args.serial o.hooks) (sym c.self.view_is) c.requires.last) in
+    let last = behind_hooks c.args.serial c.self.inside.slots c.self.invariant.slots_keyed
+    (subst (λ (o : Outbox). IsBehindHooks c.args.serial o.hooks) (sym c.self.view_is) c.requires.last) in
     let own : hook_serial slot ≡ c.args.serial = ap (λ (r : HookRow). r.serial) c.in_ok-new.ensures.ok in
     subst (AreSlots c.in_ok-with_slot.field-0) (sym c.in_ok-share.ensures)
-    (hooked_slots c.args.serial slot c.self.inside.slots c.in_ok-with_slot.field-0 c.self.inside.events c.self.invariant own c.empty.ensures last c.in_ok-with_slot.ensures)
+    (hooked_slots c.args.serial slot c.self.inside.slots c.in_ok-with_slot.field-0 c.self.inside.events c.self.invariant own c.empty.ensures last
+    c.in_ok-with_slot.ensures)
 
 pub returns : goal.returns
 returns c =
     let slot : Slot = record { row = c.in_ok-new.field-0; waiting = c.empty.result } in
-    let last = behind_hooks c.args.serial c.self.inside.slots c.self.invariant.slots_keyed (subst (λ (o : Outbox). IsBehindHooks c.args.serial o.hooks) (sym c.self.view_is) c.requires.last) in
-    let row : c.in_ok-new.field-0.value ≡ hook_row c.args.hook.now c.args.serial = c.in_ok-new.ensures.ok ∙ ap (λ h. hook_row h c.args.serial) c.in_ok-duplicate.ensures in
+    let last = behind_hooks c.args.serial c.self.inside.slots c.self.invariant.slots_keyed
+    (subst (λ (o : Outbox). IsBehindHooks c.args.serial o.hooks) (sym c.self.view_is) c.requires.last) in
+    let row : c.in_ok-new.field-0.value ≡ hook_row c.args.hook.now c.args.serial = c.in_ok-new.ensures.ok ∙ ap (λ h. hook_row h c.args.serial)
+    c.in_ok-duplicate.ensures in
     ap (outbox_of c.in_ok-with_slot.field-0) c.in_ok-share.ensures
     ∙ hooked_is c.args.serial slot c.self.inside.slots c.in_ok-with_slot.field-0 c.self.inside.events last c.in_ok-with_slot.ensures
     ∙ ap (λ r. after_hook r (outbox_of c.self.inside.slots c.self.inside.events)) row
