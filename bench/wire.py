@@ -1,17 +1,18 @@
 #!/usr/bin/env python3
 """How many bytes a second `http_wire` takes of a request with a body of 1 MiB, by the size of the pieces in
-which they come, with a length and in chunks of 4 KiB.
+which they come, with a length and in chunks of 4 KiB; and the nanoseconds of a piece.
 
     bench/wire.py [ROUNDS]
 
 Each figure is the best of the rounds, of which each runs all in turn. The time of a run that feeds nothing is
-taken off. The program has to be built: `cd crates/wire_measure && rt run`.
+taken off. It is time of the processor, so that what else the machine does counts for little. The program has to
+be built: `cd crates/wire_measure && rt run`.
 """
 import os
+import resource
 import subprocess
 import sys
 import tempfile
-import time
 
 HERE = os.path.dirname(os.path.abspath(__file__))
 PROGRAM = os.path.join(HERE, "..", "crates", "wire_measure", "out", "wire_measure")
@@ -31,12 +32,18 @@ def chunked():
     return LINE + b"Transfer-Encoding: chunked\r\n\r\n" + chunk * (BODY // CHUNK) + b"0\r\n\r\n"
 
 
+def spent():
+    """The seconds that the programs so far took of the processor."""
+    used = resource.getrusage(resource.RUSAGE_CHILDREN)
+    return used.ru_utime + used.ru_stime
+
+
 def seconds(path, piece, times):
-    begin = time.perf_counter()
+    begin = spent()
     done = subprocess.run(
         [PROGRAM, path, str(piece), str(times)], check=True, capture_output=True, text=True
     )
-    end = time.perf_counter()
+    end = spent()
     if done.stdout != f"{times} whole\n":
         sys.exit(f"wrong answer: {done.stdout!r}")
     return end - begin
@@ -59,7 +66,8 @@ def main():
                     speed = size * times / max(seconds(path, piece, times) - start, 1e-9)
                     best[name, piece] = max(best.get((name, piece), 0.0), speed)
     for (name, piece), speed in best.items():
-        print(f"{name:>7} pieces of {piece:>6}: {speed / 1e6:>9.1f} MB/s")
+        rest = f"{speed / 1e6:>9.1f} MB/s, {piece / speed * 1e9:>8.1f} ns a piece"
+        print(f"{name:>7} pieces of {piece:>6}: {rest}")
     print(f"fastest over slowest: {max(best.values()) / min(best.values()):.1f}")
 
 
