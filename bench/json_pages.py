@@ -58,23 +58,22 @@ def ran(what, size, times, wanted):
     return taken
 
 
-def ours(what, size, times, wanted):
-    """The microseconds of one, by the program."""
-    bare = min(ran(what, size, 0, wanted) for _ in range(ROUNDS))
-    full = min(ran(what, size, times, wanted) for _ in range(ROUNDS))
-    return (full - bare) / times * 1e6
-
-
 def theirs(done, given, times):
-    """The microseconds of one, by Python."""
-    best = None
+    """The seconds that Python takes."""
+    start = time.process_time()
+    for _ in range(times):
+        done(given)
+    return time.process_time() - start
+
+
+def both(what, wanted, size, times, done, given):
+    """The microseconds of one, by the program and by Python, which take turns."""
+    bare, full, other = [], [], []
     for _ in range(ROUNDS):
-        start = time.process_time()
-        for _ in range(times):
-            done(given)
-        taken = time.process_time() - start
-        best = taken if best is None else min(best, taken)
-    return best / times * 1e6
+        bare.append(ran(what, size, 0, wanted))
+        full.append(ran(what, size, times, wanted))
+        other.append(theirs(done, given, times))
+    return (min(full) - min(bare)) / times * 1e6, min(other) / times * 1e6
 
 
 def main():
@@ -82,13 +81,14 @@ def main():
     times = int(sys.argv[2]) if len(sys.argv) > 2 else 300
     page = [segment(place) for place in range(size)]
     text = printed(page)
-    print(f"{size} segments, {len(text)} bytes; microseconds of the program, of Python {sys.version.split()[0]}")
+    version = sys.version.split()[0]
+    print(f"{size} segments, {len(text)} bytes; microseconds, the program's and then Python {version}'s")
     for what, wanted, done, given in [
         ("print", len(text), printed, page),
         ("read", size, json.loads, text),
     ]:
-        mine, other = ours(what, size, times, wanted), theirs(done, given, times)
-        print(f"{what:>5} {mine:>9.0f} {other:>9.0f}")
+        ours, other = both(what, wanted, size, times, done, given)
+        print(f"{what:>5} {ours:>9.0f} {other:>9.0f}")
 
 
 if __name__ == "__main__":
