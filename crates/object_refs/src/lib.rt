@@ -9,5 +9,7 @@ mod kept;
 mod keys;
 mod names;
 mod restores;
+#[cfg(test)]
+mod tests;
 
 pub use crate::book::ObjectBook;
