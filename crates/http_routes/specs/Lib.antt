@@ -2,3 +2,4 @@ pub mod Table
 pub mod Paths
 pub mod Named
 pub mod Apart
+pub mod Routing

@@ -8,11 +8,13 @@ mod methods;
 mod named;
 mod path;
 mod route;
+mod table;
 #[cfg(test)]
 mod tests;
 
 pub use crate::laws::routes_are_apart;
 pub use crate::methods::Methods;
 pub use crate::named::{read_named_id, read_named_object, read_named_request, read_named_tag};
-pub use crate::path::{find_route, path_of, query_of};
+pub use crate::path::{path_of, query_of};
 pub use crate::route::{FlowPart, Route, SourcePart};
+pub use crate::table::RouteTable;

@@ -7,7 +7,7 @@ ghost use Rattle.tams_http.specs.Answered.{field_if, id_key_text, next_key_of, r
 
 use disk_trait::{Listed, Memory, Text};
 use http_queries::{id_of_key, next_query, read_pairs};
-use http_routes::{find_route, path_of, query_of};
+use http_routes::{RouteTable, path_of, query_of};
 use http_wire::{Field, FieldList};
 use itoa::Buffer;
 use media_rows::{Refusal, Reply, View, print_id};
@@ -109,10 +109,10 @@ pub(crate) fn content_type(
 }
 
 /// The methods of the route that a target names.
-fn allowed_at(alloc: Global, target: &[u8]) -> Result<Option<Text>, Memory>
+fn allowed_at(alloc: Global, table: &RouteTable, target: &[u8]) -> Result<Option<Text>, Memory>
     ensures { IfOk result (λ value. value ≡ spec.allowed_at target.now) }
 {
-    match find_route(path_of(target)) {
+    match table.find(path_of(target)) {
         Some(route) => Ok(Some(Text::from_bytes(alloc, route.methods().allow().as_bytes())?)),
         None => Ok(None),
     }
@@ -125,13 +125,18 @@ fn is_no_method(refusal: &Refusal) -> bool
 }
 
 /// The methods that are allowed, where another one was asked for.
-pub(crate) fn allow(alloc: Global, reply: &Reply, target: &[u8]) -> Result<Option<Text>, Memory>
+pub(crate) fn allow(
+    alloc: Global,
+    table: &RouteTable,
+    reply: &Reply,
+    target: &[u8],
+) -> Result<Option<Text>, Memory>
     ensures { IfOk result (λ value. value ≡ spec.allow reply.now target.now) }
 {
     match reply {
         Reply::Refused(refusal) => {
             if is_no_method(refusal) {
-                allowed_at(alloc, target)
+                allowed_at(alloc, table, target)
             } else {
                 Ok(None)
             }

@@ -8,6 +8,7 @@ use crate::fields::{
     push_field,
 };
 use disk_trait::{Listed, Memory, Text};
+use http_routes::RouteTable;
 use http_wire::FieldList;
 use media_rows::Reply;
 use std::alloc::Global;
@@ -16,6 +17,7 @@ use std::alloc::Global;
 #[derive(Drop)]
 pub(crate) struct Context<'a> {
     pub(crate) store: u128,
+    pub(crate) table: &'a RouteTable,
     pub(crate) base: &'a Text,
     pub(crate) target: &'a [u8],
     pub(crate) ends: bool,
@@ -62,7 +64,12 @@ pub(crate) fn response_fields(
         content_length(alloc, reply, body)?,
     )?;
     push_field(alloc, to, "Content-Type", content_type(alloc, reply, body)?)?;
-    push_field(alloc, to, "Allow", allow(alloc, reply, context.target)?)?;
+    push_field(
+        alloc,
+        to,
+        "Allow",
+        allow(alloc, context.table, reply, context.target)?,
+    )?;
     push_field(
         alloc,
         to,

@@ -12,7 +12,7 @@ use crate::asked::asked_by;
 use crate::fields::reply_status;
 use crate::response::{Context, response_fields};
 use disk_trait::{Memory, Text};
-use http_routes::{find_route, path_of};
+use http_routes::{RouteTable, path_of};
 use http_wire::{MethodKind, write_response};
 use media_rows::{Refusal, Reply};
 use std::alloc::Global;
@@ -23,6 +23,7 @@ use tams_json::print_reply;
 #[derive(Drop)]
 pub struct Routes {
     store: u128,
+    table: RouteTable,
 }
 
 impl Model for Routes {
@@ -35,10 +36,11 @@ impl Model for Routes {
 
 impl Routes {
     /// The routes of the store with this id.
-    pub fn new(store: u128) -> Result<Routes, Memory>
+    pub fn new(alloc: Global, store: u128) -> Result<Routes, Memory>
         ensures { IfOk result (λ routes. routes ≡ store) }
     {
-        Ok(Routes { store })
+        let table = RouteTable::new(alloc)?;
+        Ok(Routes { store, table })
     }
 
     /// What a request asks for, by its method, its target and its body, or its first refusal: the route,
@@ -54,7 +56,7 @@ impl Routes {
         ensures answer { Answers (ask_of self.now method target.now body.now) result }
         ensures good { IfOk result (λ ask. IsTrue (is_ask_good ask)) }
     {
-        let Some(route) = find_route(path_of(target)) else {
+        let Some(route) = self.table.find(path_of(target)) else {
             return Err(AskFault::Refused(Refusal::NoRoute));
         };
         if !route.methods().has(method) {
@@ -89,6 +91,7 @@ impl Routes {
         let body = print_reply(alloc, reply, self.store, base)?;
         let context = Context {
             store: self.store,
+            table: &self.table,
             base,
             target,
             ends,
