@@ -1,14 +1,17 @@
 //! Measures the books: `book_measure WHAT SIZE TIMES` makes a book of SIZE rows and then does WHAT so often, at
 //! random places. It prints one number, to which each answer adds; the time is taken from outside, less that of
 //! the same words with 0 times. WHAT is `page` (of 100 segments at most), `add` (a segment added, and removed),
-//! `put`, `look` or `open` (a book of flows made from its rows).
+//! `put`, `look` or `open` (a book of flows made from its rows); or, on a book of objects, `allocate`,
+//! `mark-stored`, `first-idle`, `find`, `refer`, or `unrefer` (behind a `refer`).
 #![tactic(auto)]
 
 mod flows;
+mod objects;
 mod places;
 mod segments;
 
 use crate::flows::{looks, opened, puts};
+use crate::objects::{Call, calls, references};
 use crate::segments::{adds, pages};
 use disk_trait::Memory;
 use std::alloc::Global;
@@ -52,6 +55,12 @@ fn measured(alloc: Global, what: &str, size: u64, times: u64) -> Result<u64, Mem
         "put" => puts(alloc, size, times),
         "look" => looks(alloc, size, times),
         "open" => opened(alloc, size, times),
+        "allocate" => calls(alloc, Call::Allocate, size, times),
+        "mark-stored" => calls(alloc, Call::MarkStored, size, times),
+        "first-idle" => calls(alloc, Call::FirstIdle, size, times),
+        "find" => calls(alloc, Call::Find, size, times),
+        "refer" => references(alloc, false, size, times),
+        "unrefer" => references(alloc, true, size, times),
         _ => Ok(0),
     }
 }
