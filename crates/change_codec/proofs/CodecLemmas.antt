@@ -6,7 +6,7 @@ use Rattle.media_rows.specs.declared.row.Row.{Row}
 use Rattle.field_codec.specs.Meaning.{Spells, WholeFault}
 use Rattle.field_codec.specs.Spelling.{Spelling}
 use Rattle.field_codec.specs.Laws.{IsBytes, Lawful}
-use Rattle.field_codec.specs.Reading.{Wrote}
+use Rattle.field_codec.specs.Reading.{WritesValue}
 use Rattle.field_codec.proofs.Wholes.{one_front, one_value, one_place, one_whole_place, left_over, less_left, fault_within, fault_begins_none, whole_within}
 use Rattle.change_codec.specs.Changes.{change_spelling}
 use Rattle.change_codec.specs.Rows.{row_spelling}
@@ -21,7 +21,7 @@ bytes_remain f bytes rest x left law is e size some = rw size (left_over f law b
 
 -- ---- changes
 
-pub change_written : (change : Change) (text : List ℕ) → Wrote change_spelling [] change text → Spells change_spelling.meaning text change
+pub change_written : (change : Change) (text : List ℕ) → WritesValue change_spelling [] change text → Spells change_spelling.meaning text change
 change_written change text w = record { fits = w.fits; whole = w.written ∙ change_lawful.adds [] change }
 
 pub change_fault : (bytes : List ℕ) (left : ℕ) → IsBytes bytes → WholeFault change_spelling.meaning bytes left → ChangeFaultAt bytes (length bytes - left)
@@ -31,7 +31,7 @@ change_fault bytes left is fault =
 
 -- ---- rows
 
-pub row_written : (old : List ℕ) (row : Row) (text new : List ℕ) → Wrote row_spelling [] row text → new ≡ old ++ text → AppendsRow old row new
+pub row_written : (old : List ℕ) (row : Row) (text new : List ℕ) → WritesValue row_spelling [] row text → new ≡ old ++ text → AppendsRow old row new
 row_written old row text new w e = record { spelling = text; spells = record { fits = w.fits; whole = w.written ∙ row_lawful.adds [] row }; appended = e }
 
 pub row_read : (bytes rest : List ℕ) (row : Row) → IsBytes bytes → row_spelling.read bytes ≡ Ok (row, rest)

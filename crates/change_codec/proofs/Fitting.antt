@@ -7,7 +7,7 @@ use Rattle.change_codec.specs.Values.{kind_spelling, tags_spelling, flow_head_sp
 use Rattle.change_codec.specs.Changes.{change_spelling}
 use Rattle.change_codec.specs.Rows.{row_spelling, source_row_spelling, flow_row_spelling}
 use Rattle.change_codec.specs.Fitting.{change_size, snapshot_size}
-use Rattle.change_codec.specs.WorkedFitting.{labelled, plain_flow, one_flow, FitsAsWorked}
+use Rattle.change_codec.specs.WorkedFitting.{labelled, fitting_flow, one_flow, FitsAsWorked}
 use Rattle.media_rows.specs.declared.source.SourceRow.{SourceRow}
 use Rattle.media_rows.specs.declared.flow.FlowRow.{FlowRow}
 use Rattle.media_rows.specs.declared.flow.FormatKind.TheVariants.{Video}
@@ -31,7 +31,7 @@ abbrev source_row : SourceRow
 source_row = record { id = 161; format = Video; label = None; description = None; tags = []; created = 0; updated = 0 }
 
 abbrev flow_row : FlowRow
-flow_row = record { body = plain_flow; created = 0; metadata_updated = 0; segments_updated = None }
+flow_row = record { body = fitting_flow; created = 0; metadata_updated = 0; segments_updated = None }
 
 three_rows : rows_of one_flow ≡ Source source_row ∷ Flow flow_row ∷ Numbers 1 ∷ []
 three_rows = refl

@@ -3,7 +3,7 @@ use Rattle.std.proofs.Common.{◌≡◌, ℕ, zero, suc, ◌-◌, ◌+◌, ◌�
 use Rattle.std.specs.List.{AllByRecursion}
 use Rattle.std.proofs.lemmas.List.{append-nil, nil_from_length, take_all}
 use Rattle.field_codec.specs.Spelling.{Spelling, ◌>>=◌, items_at, items_onto, items}
-use Rattle.field_codec.specs.Reading.{Fails, Wrote}
+use Rattle.field_codec.specs.Reading.{Fails, WritesValue}
 use Rattle.field_codec.specs.declared.fault.ReadFault.{ReadFault}
 use Rattle.field_codec.specs.declared.fault.ReadFault.TheVariants as faults
 
@@ -65,7 +65,7 @@ drop_one (x ∷ xs) zero d lt = refl
 drop_one (x ∷ xs) (suc i) d lt = drop_one xs i d (omega arith)
 
 pub one_written : {A : Type 0} (f : Spelling A) (old : List ℕ) (xs : List A) (i : ℕ) (x : A) (now next : List ℕ) → i < length xs → x ≡ get_or xs i x
-    → Written f old xs i now → Wrote f now x next → Written f old xs (i + 1) next
+    → Written f old xs i now → WritesValue f now x next → Written f old xs (i + 1) next
 one_written {A = A} f old xs i x now next lt is before wrote =
     let more : i + 1 ≡ suc i = omega arith in
     let step : items_onto f.onto next (drop (suc i) xs) ≡ items_onto f.onto now (drop i xs) =
@@ -77,7 +77,7 @@ drop_all : {A : Type 0} (xs : List A) (i : ℕ) → length xs ≤ i → drop i x
 drop_all xs i le = nil_from_length (drop i xs) (omega (arith, length-drop i xs))
 
 pub all_written : {A : Type 0} (f : Spelling A) (old : List ℕ) (xs : List A) (i : ℕ) (now : List ℕ) → length xs ≤ i → Written f old xs i now
-    → Wrote (items f (length xs)) old xs now
+    → WritesValue (items f (length xs)) old xs now
 all_written f old xs i now le w = record {
   written = sym (ap (items_onto f.onto now) (drop_all xs i le)) ∙ w.rest;
   fits = (refl, subst (AllByRecursion f.meaning.fits) (take_all i xs le) w.fits);

@@ -19,7 +19,7 @@ use Rattle.field_codec.proofs.LeafLaws.{bool_lawful, text_lawful, one_of_lawful}
 use Rattle.field_codec.proofs.Numbers.{u32_below, u32_lawful, u64_lawful, u128_lawful}
 use Rattle.field_codec.proofs.RangeLaws.{range_lawful}
 use Rattle.change_codec.specs.Values.{kind_spelling, event_spelling, tags_spelling, flow_spelling, hook_spelling}
-use Rattle.change_codec.specs.Rows.{source_row_spelling, flow_row_spelling, object_state, state_values, state_spelling, object_row_spelling, segment_row_spelling, status_spelling, delete_row_spelling, hook_row_spelling, event_row_spelling, measured, sized, RowFields, row_of, row_fields, row_spelling}
+use Rattle.change_codec.specs.Rows.{source_row_spelling, flow_row_spelling, object_state, state_values, state_spelling, object_row_spelling, segment_row_spelling, status_spelling, delete_row_spelling, hook_row_spelling, event_row_spelling, measured, sized, RowFields, row_of_fields, row_fields, row_spelling}
 use Rattle.change_codec.proofs.ValueLaws.{opt_text, opt_u64, kind_lawful, event_lawful, tags_lawful, flow_lawful, segment_lawful, hook_lawful}
 
 -- ---- the fields of each kind of row
@@ -122,7 +122,7 @@ sized_lawful f law =
 -- ---- rows
 
 -- a row has the fields that it was made of
-fields-row : (p : RowFields) → row_fields (row_of p) ≡ p
+fields-row : (p : RowFields) → row_fields (row_of_fields p) ≡ p
 fields-row (inl p) = refl
 fields-row (inr (inl p)) = refl
 fields-row (inr (inr (inl p))) = refl
@@ -134,7 +134,7 @@ fields-row (inr (inr (inr (inr (inr (inr (inr (inl p)))))))) = refl
 fields-row (inr (inr (inr (inr (inr (inr (inr (inr x)))))))) = absurd x
 
 -- a row is the one with its fields
-row-fields : (r : Row) → row_of (row_fields r) ≡ r
+row-fields : (r : Row) → row_of_fields (row_fields r) ≡ r
 row-fields (rows.Source row) = refl
 row-fields (rows.Flow row) = refl
 row-fields (rows.Object row) = refl
@@ -148,7 +148,7 @@ row-fields (rows.Numbers serial) = refl
 pub row_lawful : Lawful row_spelling
 unfolding row_spelling
 row_lawful =
-    via_lawful row_of row_fields _ fields-row row-fields
+    via_lawful row_of_fields row_fields _ fields-row row-fields
     (one_kind 1 2 (sized source_row_spelling) _ (omega arith) (sized_lawful _ source_row_lawful)
     (one_kind 2 3 (sized flow_row_spelling) _ (omega arith) (sized_lawful _ flow_row_lawful)
     (one_kind 3 4 (sized object_row_spelling) _ (omega arith) (sized_lawful _ object_row_lawful)

@@ -4,7 +4,7 @@ use Rattle.std.proofs.lemmas.Bool.{eq-eqb, ne_eqb}
 use Rattle.field_codec.specs.Spelling.{Spelling}
 use Rattle.field_codec.specs.Laws.{IsBytes, Lawful}
 use Rattle.field_codec.specs.Leaves.{u32_spelling}
-use Rattle.field_codec.specs.Reading.{Wrote}
+use Rattle.field_codec.specs.Reading.{WritesValue}
 use Rattle.change_codec.specs.Rows.{sized}
 
 -- what a value takes of the bytes is its spelling
@@ -29,12 +29,12 @@ sized_wrong f law bytes fields rest size x is head e apart =
     rw (head, e, ne_eqb (length (f.meaning.spell x)) size len) refl
 
 -- the fields, which were written by themselves, are the value's spelling
-pub fields_are : {A : Type 0} (f : Spelling A) → Lawful f → (x : A) (fields : List ℕ) → Wrote f [] x fields → fields ≡ f.meaning.spell x
+pub fields_are : {A : Type 0} (f : Spelling A) → Lawful f → (x : A) (fields : List ℕ) → WritesValue f [] x fields → fields ≡ f.meaning.spell x
 fields_are f law x fields w = w.written ∙ law.adds [] x
 
-pub sized_wrote : {A : Type 0} (f : Spelling A) → Lawful f → (kind middle new fields : List ℕ) (x : A) → Wrote f [] x fields
-    → Wrote u32_spelling kind (length fields) middle
-    → new ≡ middle ++ fields → length (f.meaning.spell x) < 2 ^ 32 → Wrote (sized f) kind x new
+pub sized_wrote : {A : Type 0} (f : Spelling A) → Lawful f → (kind middle new fields : List ℕ) (x : A) → WritesValue f [] x fields
+    → WritesValue u32_spelling kind (length fields) middle
+    → new ≡ middle ++ fields → length (f.meaning.spell x) < 2 ^ 32 → WritesValue (sized f) kind x new
 sized_wrote f law kind middle new fields x wrote head behind short =
     let is = fields_are f law x fields wrote in
     let len : length fields ≡ length (f.meaning.spell x) = ap length is in

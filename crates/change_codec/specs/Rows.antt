@@ -153,16 +153,16 @@ RowFields =
     ⊎ (FlowRow ⊎ (ObjectRow ⊎ (SegmentRow ⊎ (DeleteRow ⊎ (HookRow ⊎ (EventRow ⊎ (ℕ ⊎ ⊥)))))))
 
 -- the row with these fields
-abbrev pub row_of : RowFields → Row
-row_of (inl row) = rows.Source row
-row_of (inr (inl row)) = rows.Flow row
-row_of (inr (inr (inl row))) = rows.Object row
-row_of (inr (inr (inr (inl row)))) = rows.Segment row
-row_of (inr (inr (inr (inr (inl row))))) = rows.Request row
-row_of (inr (inr (inr (inr (inr (inl row)))))) = rows.Hook row
-row_of (inr (inr (inr (inr (inr (inr (inl row))))))) = rows.Event row
-row_of (inr (inr (inr (inr (inr (inr (inr (inl serial)))))))) = rows.Numbers serial
-row_of (inr (inr (inr (inr (inr (inr (inr (inr x)))))))) = absurd x
+abbrev pub row_of_fields : RowFields → Row
+row_of_fields (inl row) = rows.Source row
+row_of_fields (inr (inl row)) = rows.Flow row
+row_of_fields (inr (inr (inl row))) = rows.Object row
+row_of_fields (inr (inr (inr (inl row)))) = rows.Segment row
+row_of_fields (inr (inr (inr (inr (inl row))))) = rows.Request row
+row_of_fields (inr (inr (inr (inr (inr (inl row)))))) = rows.Hook row
+row_of_fields (inr (inr (inr (inr (inr (inr (inl row))))))) = rows.Event row
+row_of_fields (inr (inr (inr (inr (inr (inr (inr (inl serial)))))))) = rows.Numbers serial
+row_of_fields (inr (inr (inr (inr (inr (inr (inr (inr x)))))))) = absurd x
 
 -- the fields of a row
 abbrev pub row_fields : Row → RowFields
@@ -177,7 +177,7 @@ row_fields (rows.Numbers serial) = inr (inr (inr (inr (inr (inr (inr (inl serial
 
 -- one byte of kind, and the fields of that kind behind their length
 unfoldable pub row_spelling : Spelling Row
-row_spelling = via row_of row_fields
+row_spelling = via row_of_fields row_fields
     (either 1 (sized source_row_spelling)
     (either 2 (sized flow_row_spelling)
     (either 3 (sized object_row_spelling)

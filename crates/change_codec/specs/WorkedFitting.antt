@@ -9,8 +9,8 @@ use Rattle.media_rows.specs.Library.{Library, empty_library}
 use Rattle.change_codec.specs.Fitting.{State, change_size, snapshot_size, fits, fits_room, with_record}
 
 -- the flow whose id ends in `f1`, of the source whose id ends in `a1`, with no other member
-abbrev pub plain_flow : FlowBody
-plain_flow = record {
+abbrev pub fitting_flow : FlowBody
+fitting_flow = record {
   id = 241;
   source = 161;
   format = Video;
@@ -28,7 +28,7 @@ plain_flow = record {
 
 -- the put of it with this label
 abbrev pub labelled : Option (List ℕ) → Change
-labelled text = PutFlow 0 (record plain_flow { label = text })
+labelled text = PutFlow 0 (record fitting_flow { label = text })
 
 -- the library of one flow without a label
 abbrev pub one_flow : Library

@@ -2,7 +2,7 @@
 ghost use Rattle.std.specs.Prelude.{◌≡◌, ◌∷◌, OnOk};
 ghost use Rattle.media_rows.specs.Changes.{moment_of};
 ghost use Rattle.field_codec.specs.Spelling.{pair};
-ghost use Rattle.field_codec.specs.Reading.{GivesField, Wrote};
+ghost use Rattle.field_codec.specs.Reading.{GivesField, WritesValue};
 ghost use Rattle.change_codec.specs.Changes.{change_kind, change_spelling};
 
 use crate::field::Field;
@@ -249,7 +249,7 @@ fn moment_of(change: &Change) -> u64
 /// Writes two fields, one after the other.
 fn write_both<A: Field, B: Field>(first: &A, second: &B, out: &mut Text) -> Result<(), Memory>
     requires { (pair A.spelling B.spelling).asks (first.now, second.now) }
-    ensures { OnOk result (Wrote (pair A.spelling B.spelling) out.old (first.now, second.now) out.new) }
+    ensures { OnOk result (WritesValue (pair A.spelling B.spelling) out.old (first.now, second.now) out.new) }
 {
     first.write_to(out)?;
     second.write_to(out)?;

@@ -3,7 +3,7 @@
 ghost use Rattle.std.specs.Prelude.{◌≡◌, OnOk};
 ghost use Rattle.field_codec.specs.Spelling.{Spelling, pair, optional};
 ghost use Rattle.field_codec.specs.Leaves.{u64_spelling, u128_spelling, bool_spelling, ts_spelling, text_spelling, range_spelling};
-ghost use Rattle.field_codec.specs.Reading.{GivesField, Wrote};
+ghost use Rattle.field_codec.specs.Reading.{GivesField, WritesValue};
 
 use disk_trait::{Memory, Text};
 use field_codec::{
@@ -24,7 +24,7 @@ pub(crate) trait Field: Drop + Sized {
     /// Writes the value at the end. After an error the text is any.
     fn write_to(&self, out: &mut Text) -> Result<(), Memory>
         requires { spelling.asks self.now }
-        ensures { OnOk result (Wrote spelling out.old self.now out.new) };
+        ensures { OnOk result (WritesValue spelling out.old self.now out.new) };
 }
 
 impl Field for u64 {

@@ -1,6 +1,6 @@
 //! The fields of a flow.
 ghost use Rattle.std.specs.Prelude.{◌≡◌, OnOk};
-ghost use Rattle.field_codec.specs.Reading.{GivesField, Wrote};
+ghost use Rattle.field_codec.specs.Reading.{GivesField, WritesValue};
 ghost use Rattle.change_codec.specs.Values.{flow_head_spelling, flow_texts_spelling, flow_rest_spelling, flow_spelling};
 
 use crate::field::Field;

@@ -3,7 +3,7 @@ ghost use Rattle.std.specs.Prelude.{◌≡◌, OnOk, length};
 ghost use Rattle.std.specs.List.{AllByRecursion};
 ghost use Rattle.field_codec.specs.Spelling.{items};
 ghost use Rattle.field_codec.specs.Leaves.{listed};
-ghost use Rattle.field_codec.specs.Reading.{GivesField, Wrote};
+ghost use Rattle.field_codec.specs.Reading.{GivesField, WritesValue};
 
 use crate::field::Field;
 use disk_trait::{Listed, Memory, Text};
@@ -43,7 +43,7 @@ fn read_items<T: Field>(
 
 fn write_items<T: Field>(list: &[T], out: &mut Text) -> Result<(), Memory>
     requires { AllByRecursion T.spelling.asks list.now }
-    ensures { OnOk result (Wrote (items T.spelling (length list.now)) out.old list.now out.new) }
+    ensures { OnOk result (WritesValue (items T.spelling (length list.now)) out.old list.now out.new) }
 {
     for item in list {
         item.write_to(out)?;

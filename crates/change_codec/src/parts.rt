@@ -1,7 +1,7 @@
 //! Parts of flows and of sources.
 ghost use Rattle.std.specs.Prelude.{◌≡◌, OnOk};
 ghost use Rattle.field_codec.specs.Spelling.{optional};
-ghost use Rattle.field_codec.specs.Reading.{GivesField, Wrote};
+ghost use Rattle.field_codec.specs.Reading.{GivesField, WritesValue};
 ghost use Rattle.change_codec.specs.Values.{named_tag, tag_part_spelling, flow_part_spelling, source_part_spelling};
 
 use crate::field::Field;
@@ -87,7 +87,7 @@ pub(crate) fn read_source_part(alloc: Global, input: &mut Cursor) -> Result<Part
 /// Writes a part of a source, which is spelled as a flow's.
 pub(crate) fn write_source_part(part: &Part, out: &mut Text) -> Result<(), Memory>
     requires { source_part_spelling.asks part.now }
-    ensures { OnOk result (Wrote source_part_spelling out.old part.now out.new) }
+    ensures { OnOk result (WritesValue source_part_spelling out.old part.now out.new) }
 {
     part.write_to(out)?;
     Ok(())
@@ -128,7 +128,7 @@ fn read_tag_of(alloc: Global, name: &Text, input: &mut Cursor) -> Result<Tag, Re
 #[tactic(auto, unfolding(crate::specs::Values::tag_part_spelling))]
 fn write_tag_part(name: &Text, tag: &Option<Tag>, out: &mut Text) -> Result<(), Memory>
     requires { tag_part_spelling.asks (name.now, tag.now) }
-    ensures { OnOk result (Wrote tag_part_spelling out.old (name.now, tag.now) out.new) }
+    ensures { OnOk result (WritesValue tag_part_spelling out.old (name.now, tag.now) out.new) }
 {
     name.write_to(out)?;
     write_named(name, tag, out)?;
@@ -138,7 +138,7 @@ fn write_tag_part(name: &Text, tag: &Option<Tag>, out: &mut Text) -> Result<(), 
 /// Writes the tag of this name, where there is one.
 fn write_named(name: &Text, tag: &Option<Tag>, out: &mut Text) -> Result<(), Memory>
     requires { (optional (named_tag name.now)).asks tag.now }
-    ensures { OnOk result (Wrote (optional (named_tag name.now)) out.old tag.now out.new) }
+    ensures { OnOk result (WritesValue (optional (named_tag name.now)) out.old tag.now out.new) }
 {
     match tag {
         None => out.push(0)?,

@@ -1,7 +1,7 @@
 //! Rows: a kind, the length of the fields in 4 bytes, and the fields.
 ghost use Rattle.std.specs.Prelude.{◌≡◌, ◌∷◌, ◌++◌, [], OnOk};
 ghost use Rattle.field_codec.specs.Laws.{Lawful};
-ghost use Rattle.field_codec.specs.Reading.{GivesField, Wrote};
+ghost use Rattle.field_codec.specs.Reading.{GivesField, WritesValue};
 ghost use Rattle.change_codec.specs.Rows.{sized, row_spelling};
 
 use crate::field::Field;
@@ -33,7 +33,7 @@ pub(crate) fn read_row(alloc: Global, input: &mut Cursor) -> Result<Row, ReadFau
 #[tactic(auto, unfolding(crate::specs::Rows::row_spelling))]
 pub(crate) fn write_row(alloc: Global, row: &Row, out: &mut Text) -> Result<(), Memory>
     requires { row_spelling.asks row.now }
-    ensures { OnOk result (Wrote row_spelling out.old row.now out.new) }
+    ensures { OnOk result (WritesValue row_spelling out.old row.now out.new) }
 {
     match row {
         Row::Source(row) => write_sized(alloc, 1, row, out)?,
@@ -68,7 +68,7 @@ fn read_sized<T: Field>(alloc: Global, input: &mut Cursor) -> Result<T, ReadFaul
 fn write_sized<T: Field>(alloc: Global, kind: u8, value: &T, out: &mut Text) -> Result<(), Memory>
     requires lawful { Lawful T.spelling }
     requires asks { (sized T.spelling).asks value.now }
-    ensures { OnOk result (Wrote (sized T.spelling) (out.old ++ kind ∷ []) value.now out.new) }
+    ensures { OnOk result (WritesValue (sized T.spelling) (out.old ++ kind ∷ []) value.now out.new) }
 {
     let mut fields = Text::new(alloc);
     value.write_to(&mut fields)?;

@@ -1,6 +1,6 @@
 //! The values that stand in changes and rows: formats, events, statuses, tags, members, segments, hooks.
 ghost use Rattle.std.specs.Prelude.{◌≡◌, OnOk};
-ghost use Rattle.field_codec.specs.Reading.{GivesField, Wrote};
+ghost use Rattle.field_codec.specs.Reading.{GivesField, WritesValue};
 ghost use Rattle.change_codec.specs.Values.{kind_spelling, event_spelling, tag_spelling, is_rising, tags_spelling, member_spelling, segment_spelling, hook_spelling};
 
 use crate::field::Field;
@@ -100,7 +100,7 @@ pub(crate) fn read_tags(alloc: Global, input: &mut Cursor) -> Result<TagList, Re
 #[tactic(auto, unfolding(crate::specs::Values::tags_spelling))]
 pub(crate) fn write_tags(tags: &TagList, out: &mut Text) -> Result<(), Memory>
     requires { tags_spelling.asks tags.now }
-    ensures { OnOk result (Wrote tags_spelling out.old tags.now out.new) }
+    ensures { OnOk result (WritesValue tags_spelling out.old tags.now out.new) }
 {
     tags.write_to(out)?;
     Ok(())

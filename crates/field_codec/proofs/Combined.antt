@@ -3,7 +3,7 @@ use Rattle.std.proofs.Common.{◌≡◌, ◌≤◌, ℕ, List, ◌++◌, length,
 use Rattle.std.proofs.lemmas.List.{append-nil}
 use Rattle.std.specs.Prelude.{Bool, true, false, if◌then◌else◌}
 use Rattle.field_codec.specs.Meaning.{SpellsFirst, HasNone}
-use Rattle.field_codec.specs.Spelling.{Spelling, ◌>>=◌, found_or, leaf, no_field, followed, pair, via, narrowed, kept, where_is}
+use Rattle.field_codec.specs.Spelling.{Spelling, ◌>>=◌, found_or, leaf, no_field, followed, pair, via, narrowed, kept_if, where_is}
 use Rattle.field_codec.specs.Laws.{IsBytes, Lawful}
 use Rattle.field_codec.proofs.Lawful.{IsBytes-behind, bind_ok, bind_err, ok_is}
 
@@ -239,7 +239,7 @@ kept_some : {A : Type 0} (b : Bool) (x y : A) → (if b then Some x else None) �
 kept_some true x y e = (cc, refl)
 kept_some false x y e = absurd cc
 
-kept_laws : {A : Type 0} (test : A → Bool) (fits : A → Type 0) → NarrowLaws (kept test) (λ x. x) (λ x. test x ≡ true) (λ x. test x ≡ true) fits
+kept_laws : {A : Type 0} (test : A → Bool) (fits : A → Type 0) → NarrowLaws (kept_if test) (λ x. x) (λ x. test x ≡ true) (λ x. test x ≡ true) fits
 kept_laws test fits = record {
   is = λ x y fit e. let k = kept_some (test x) x y e in (k.0, ap test k.0 ∙ k.1);
   again = λ y fit has. rw has refl;
@@ -247,4 +247,4 @@ kept_laws test fits = record {
 }
 
 pub where_is_lawful : {A : Type 0} (test : A → Bool) (f : Spelling A) → Lawful f → Lawful (where_is test f)
-where_is_lawful test f law = narrowed_lawful (kept test) (λ x. x) (λ x. test x ≡ true) (λ x. test x ≡ true) f (kept_laws test f.meaning.fits) law
+where_is_lawful test f law = narrowed_lawful (kept_if test) (λ x. x) (λ x. test x ≡ true) (λ x. test x ≡ true) f (kept_laws test f.meaning.fits) law

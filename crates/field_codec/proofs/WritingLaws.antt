@@ -7,26 +7,26 @@ use Rattle.time_range.specs.Spelling.{low_end, high_end}
 use Rattle.time_range.specs.declared.ranges.Span.{Span}
 use Rattle.time_range.specs.declared.ends.End.{End}
 use Rattle.field_codec.specs.Leaves.{IsShort, text_spelling, u128_spelling, ts_spelling, end_spelling, range_spelling}
-use Rattle.field_codec.specs.Reading.{Wrote}
+use Rattle.field_codec.specs.Reading.{WritesValue}
 
 pub text_wrote : (old middle text new : List ℕ) → IsShort text → middle ≡ old ++ u32_bytes (length text) → new ≡ middle ++ text
-    → Wrote text_spelling old text new
+    → WritesValue text_spelling old text new
 unfolding text_spelling
 text_wrote old middle text new short first second = record {
   written = second ∙ ap (λ (t : List ℕ). t ++ text) first ∙ append_assoc old (u32_bytes (length text)) text;
   fits = short;
 }
 
-pub ts_wrote : (old new : List ℕ) (ts : ℤ) → IsNanos ts → Wrote u128_spelling old (cast_unsigned w128 ts) new → Wrote ts_spelling old ts new
+pub ts_wrote : (old new : List ℕ) (ts : ℤ) → IsNanos ts → WritesValue u128_spelling old (cast_unsigned w128 ts) new → WritesValue ts_spelling old ts new
 unfolding ts_spelling u128_spelling
 ts_wrote old new ts is wrote = record { written = wrote.written; fits = (wrote.fits, is) }
 
-pub never_wrote : (old new : List ℕ) (range : Option Span) → range ≡ None → new ≡ old ++ 0 ∷ [] → Wrote range_spelling old range new
+pub never_wrote : (old new : List ℕ) (range : Option Span) → range ≡ None → new ≡ old ++ 0 ∷ [] → WritesValue range_spelling old range new
 unfolding range_spelling
 never_wrote old new range never e = rw never (record { written = e; fits = (tt, tt) })
 
 spans_wrote : (old flag middle new : List ℕ) (span : Span) → IsRange (Some span) → flag ≡ old ++ 1 ∷ []
-    → Wrote end_spelling flag (low_end span.low) middle → Wrote end_spelling middle (high_end span.high) new → Wrote range_spelling old (Some span) new
+    → WritesValue end_spelling flag (low_end span.low) middle → WritesValue end_spelling middle (high_end span.high) new → WritesValue range_spelling old (Some span) new
 unfolding range_spelling
 spans_wrote old flag middle new span is e low high = record {
   written = high.written ∙ ap (λ (t : List ℕ). end_spelling.onto t (high_end span.high))
@@ -42,7 +42,7 @@ some_ends low high = Some (low, high)
 
 pub range_wrote : (old flag middle new : List ℕ) (range : Option Span) (low high : End) → IsRange range → (range ≡ None → ⊥)
     → IfSome range (λ s. some_ends low high ≡ some_ends (low_end s.low) (high_end s.high)) → flag ≡ old ++ 1 ∷ []
-    → Wrote end_spelling flag low middle → Wrote end_spelling middle high new → Wrote range_spelling old range new
+    → WritesValue end_spelling flag low middle → WritesValue end_spelling middle high new → WritesValue range_spelling old range new
 range_wrote old flag middle new None low high is points value e first second = absurd (points refl)
 range_wrote old flag middle new (Some span) low high is points value e first second =
     let both = pair_is (low, high) (low_end span.low, high_end span.high) value in

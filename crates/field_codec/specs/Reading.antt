@@ -30,7 +30,7 @@ ReadsWhole f bytes (Err faults.Memory) = Unit {0}
 ReadsWhole f bytes (Err (faults.Bad field)) = WholeFault f.meaning bytes field.left
 
 -- the value's spelling stands behind what was there, and the value has one
-pub record Wrote {A : Type 0} (f : Spelling A) (old : List ℕ) (value : A)
+pub record WritesValue {A : Type 0} (f : Spelling A) (old : List ℕ) (value : A)
     (new : List ℕ) : Type 0 where
   pub written : new ≡ f.onto old value
   pub fits : f.meaning.fits value

@@ -83,12 +83,12 @@ narrowed to from fits asks f = record {
 }
 
 -- the value, where it passes a test
-abbrev pub kept : {A : Type 0} → (A → Bool) → A → Option A
-kept test x = if test x then Some x else None
+abbrev pub kept_if : {A : Type 0} → (A → Bool) → A → Option A
+kept_if test x = if test x then Some x else None
 
 -- a field with a test
 abbrev pub where_is : {A : Type 0} → (A → Bool) → Spelling A → Spelling A
-where_is test f = narrowed (kept test) (λ x. x) (λ x. test x ≡ true) (λ x. test x ≡ true) f
+where_is test f = narrowed (kept_if test) (λ x. x) (λ x. test x ≡ true) (λ x. test x ≡ true) f
 
 -- ---- kinds
 

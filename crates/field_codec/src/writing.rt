@@ -4,7 +4,7 @@ ghost use Rattle.std.specs.Int.{w128, cast_unsigned};
 ghost use Rattle.time_range.specs.Points.{IsRange};
 ghost use Rattle.time_range.specs.Ends.{IsEndWithin};
 ghost use Rattle.field_codec.specs.Leaves.{IsShort, u8_spelling, u32_spelling, u64_spelling, u128_spelling, bool_spelling, ts_spelling, text_spelling, end_spelling, range_spelling};
-ghost use Rattle.field_codec.specs.Reading.{Wrote};
+ghost use Rattle.field_codec.specs.Reading.{WritesValue};
 
 use disk_trait::numbers::{u32_bytes, u64_bytes, u128_bytes};
 use disk_trait::{Memory, Text};
@@ -13,7 +13,7 @@ use time_range::{End, TimeRange, Ts};
 /// A number of 1 byte.
 #[tactic(auto, unfolding(crate::specs::Leaves::u8_spelling))]
 pub fn write_u8(out: &mut Text, number: u8) -> Result<(), Memory>
-    ensures { OnOk result (Wrote u8_spelling out.old number out.new) }
+    ensures { OnOk result (WritesValue u8_spelling out.old number out.new) }
 {
     out.push(number)
 }
@@ -21,7 +21,7 @@ pub fn write_u8(out: &mut Text, number: u8) -> Result<(), Memory>
 /// A number of 4 bytes.
 #[tactic(auto, unfolding(crate::specs::Leaves::u32_spelling))]
 pub fn write_u32(out: &mut Text, number: u32) -> Result<(), Memory>
-    ensures { OnOk result (Wrote u32_spelling out.old number out.new) }
+    ensures { OnOk result (WritesValue u32_spelling out.old number out.new) }
 {
     out.append(&u32_bytes(number))
 }
@@ -29,7 +29,7 @@ pub fn write_u32(out: &mut Text, number: u32) -> Result<(), Memory>
 /// A number of 8 bytes.
 #[tactic(auto, unfolding(crate::specs::Leaves::u64_spelling))]
 pub fn write_u64(out: &mut Text, number: u64) -> Result<(), Memory>
-    ensures { OnOk result (Wrote u64_spelling out.old number out.new) }
+    ensures { OnOk result (WritesValue u64_spelling out.old number out.new) }
 {
     out.append(&u64_bytes(number))
 }
@@ -37,7 +37,7 @@ pub fn write_u64(out: &mut Text, number: u64) -> Result<(), Memory>
 /// A number of 16 bytes.
 #[tactic(auto, unfolding(crate::specs::Leaves::u128_spelling))]
 pub fn write_u128(out: &mut Text, number: u128) -> Result<(), Memory>
-    ensures { OnOk result (Wrote u128_spelling out.old number out.new) }
+    ensures { OnOk result (WritesValue u128_spelling out.old number out.new) }
 {
     out.append(&u128_bytes(number))
 }
@@ -45,7 +45,7 @@ pub fn write_u128(out: &mut Text, number: u128) -> Result<(), Memory>
 /// A mark: 0 or 1.
 #[tactic(auto, unfolding(crate::specs::Leaves::u8_spelling, crate::specs::Leaves::bool_spelling))]
 pub fn write_bool(out: &mut Text, mark: bool) -> Result<(), Memory>
-    ensures { OnOk result (Wrote bool_spelling out.old mark out.new) }
+    ensures { OnOk result (WritesValue bool_spelling out.old mark out.new) }
 {
     write_u8(out, u8::from(mark))
 }
@@ -59,7 +59,7 @@ fn bits_of(ts: Ts) -> u128
 
 /// A timestamp: its nanoseconds in 16 bytes, two's complement.
 pub fn write_ts(out: &mut Text, ts: Ts) -> Result<(), Memory>
-    ensures { OnOk result (Wrote ts_spelling out.old ts out.new) }
+    ensures { OnOk result (WritesValue ts_spelling out.old ts out.new) }
 {
     let _nanos = ts.nanos();
     write_u128(out, bits_of(ts))?;
@@ -69,7 +69,7 @@ pub fn write_ts(out: &mut Text, ts: Ts) -> Result<(), Memory>
 /// A text: the number of its bytes in 4 bytes, and these.
 pub fn write_text(out: &mut Text, text: &Text) -> Result<(), Memory>
     requires { IsShort text.now }
-    ensures { OnOk result (Wrote text_spelling out.old text.now out.new) }
+    ensures { OnOk result (WritesValue text_spelling out.old text.now out.new) }
 {
     let bytes = text.bytes();
     out.append(&u32_bytes(bytes.len() as u32))?;
@@ -81,7 +81,7 @@ pub fn write_text(out: &mut Text, text: &Text) -> Result<(), Memory>
 #[tactic(auto, unfolding(crate::specs::Leaves::end_spelling))]
 pub fn write_end(out: &mut Text, end: End) -> Result<(), Memory>
     requires { IsEndWithin end }
-    ensures { OnOk result (Wrote end_spelling out.old end out.new) }
+    ensures { OnOk result (WritesValue end_spelling out.old end out.new) }
 {
     match end {
         End::Unbounded => out.push(0),
@@ -98,7 +98,7 @@ pub fn write_end(out: &mut Text, end: End) -> Result<(), Memory>
 
 /// A range: 0 for never, or 1 and its two ends.
 pub fn write_range(out: &mut Text, range: &TimeRange) -> Result<(), Memory>
-    ensures { OnOk result (Wrote range_spelling out.old range.now out.new) }
+    ensures { OnOk result (WritesValue range_spelling out.old range.now out.new) }
 {
     let _known = has_points(range);
     match range.ends() {

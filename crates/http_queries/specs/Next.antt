@@ -2,7 +2,7 @@
 -- the last key of this page, as the URL Standard writes a form (section 5.2).
 use Rattle.std.specs.Prelude.{ℕ, List, [], Bool, not, filter, fold, codes}
 use Rattle.form_urlencoded.specs.Form.{append_pair}
-use Rattle.http_queries.specs.Pairs.{is_named}
+use Rattle.http_queries.specs.Pairs.{is_pair_named}
 use Rattle.http_queries.specs.declared.pairs.Pair.{Pair}
 
 -- the name of the key
@@ -11,7 +11,7 @@ page_name = codes "page"
 
 -- a pair isn't the key
 abbrev pub stays_in_link : Pair → Bool
-stays_in_link pair = not (is_named page_name pair)
+stays_in_link pair = not (is_pair_named page_name pair)
 
 -- a form with a pair more
 abbrev pub form_with : List ℕ → Pair → List ℕ

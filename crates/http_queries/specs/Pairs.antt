@@ -14,9 +14,9 @@ unfoldable pub query_pairs : List ℕ → List Pair
 query_pairs query = map pair_of (raw_pairs query)
 
 -- a pair has this name
-abbrev pub is_named : List ℕ → Pair → Bool
-is_named name pair = bytes_eq pair.name name
+abbrev pub is_pair_named : List ℕ → Pair → Bool
+is_pair_named name pair = bytes_eq pair.name name
 
 -- the value of the first pair of a name, where there is one
 abbrev pub value_of : List ℕ → List Pair → Option (List ℕ)
-value_of name pairs = option_map (λ pair. pair.value) (find (is_named name) pairs)
+value_of name pairs = option_map (λ pair. pair.value) (find (is_pair_named name) pairs)

@@ -7,7 +7,7 @@ use Rattle.json_bodies.specs.Flow.{format_of}
 use Rattle.media_rows.specs.Ids.{id_of}
 use Rattle.time_range.specs.Spelled.{range_in}
 use Rattle.http_queries.specs.Numbers.{limit_in, point_in, truth_in}
-use Rattle.http_queries.specs.Pairs.{is_named}
+use Rattle.http_queries.specs.Pairs.{is_pair_named}
 use Rattle.http_queries.specs.declared.pairs.Pair.{Pair}
 use Rattle.http_queries.specs.declared.rules.QueryKind.{QueryKind}
 use Rattle.http_queries.specs.declared.rules.QueryKind.TheVariants.{Sources, Flows, Segments, Cut}
@@ -82,7 +82,7 @@ is_read rules.Never value = false
 abbrev pub breaks : List Pair → Pair → Option Rule → Bool
 breaks earlier pair None = false
 breaks earlier pair (Some rule) =
-    list_any (is_named pair.name) earlier || not (is_read rule pair.value)
+    list_any (is_pair_named pair.name) earlier || not (is_read rule pair.value)
 
 -- a pair is at fault behind earlier ones
 abbrev pub is_faulty : QueryKind → List Pair → Pair → Bool

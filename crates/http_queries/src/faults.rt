@@ -1,7 +1,7 @@
 //! The first pair of a query that is at fault.
 ghost use Rattle.std.specs.Prelude.{◌≡◌, IfOk};
 ghost use Rattle.std.specs.List.{list_any};
-ghost use Rattle.http_queries.specs.Pairs.{is_named};
+ghost use Rattle.http_queries.specs.Pairs.{is_pair_named};
 ghost use Rattle.http_queries.specs.Rules.{is_faulty, query_fault};
 
 use crate::pairs::{Pair, PairList, is_named};
@@ -35,7 +35,7 @@ fn is_faulty(kind: QueryKind, earlier: &[Pair], pair: &Pair) -> bool
 
 /// Whether a name is that of an earlier pair.
 fn stood(earlier: &[Pair], name: &[u8]) -> bool
-    ensures { result ≡ list_any (is_named name.now) earlier.now }
+    ensures { result ≡ list_any (is_pair_named name.now) earlier.now }
 {
     earlier.iter().any(|pair| is_named(pair, name))
 }

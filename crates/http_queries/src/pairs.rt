@@ -1,6 +1,6 @@
 //! The pairs of a query, as the URL Standard reads a form.
 ghost use Rattle.std.specs.Prelude.{◌≡◌, IfOk, option_map};
-ghost use Rattle.http_queries.specs.Pairs.{is_named, query_pairs, value_of};
+ghost use Rattle.http_queries.specs.Pairs.{is_pair_named, query_pairs, value_of};
 
 use disk_trait::{Listed, Memory, Text, same_bytes};
 use form_urlencoded::parse;
@@ -34,7 +34,7 @@ pub fn read_pairs(alloc: Global, query: &[u8]) -> Result<PairList, Memory>
 
 /// Whether a pair has this name.
 pub(crate) fn is_named(pair: &Pair, name: &[u8]) -> bool
-    ensures { result ≡ is_named name.now pair.now }
+    ensures { result ≡ is_pair_named name.now pair.now }
 {
     same_bytes(pair.name.bytes(), name)
 }

@@ -37,8 +37,8 @@ abbrev pub is_tag_name : List ℕ → Bool
 is_tag_name name = (nat_le 1 (length name) && nat_le (length name) 128) && is_utf8 name
 
 -- the name of a tag
-abbrev pub named_tag : List ℕ → Option (List ℕ)
-named_tag path = passing is_tag_name (decoded_at name_place path)
+abbrev pub tag_named : List ℕ → Option (List ℕ)
+tag_named path = passing is_tag_name (decoded_at name_place path)
 
 -- a serial: 1 to 19 digits, of which the first isn't 0
 abbrev pub serial_of : List ℕ → Option ℕ

@@ -3,7 +3,7 @@ ghost use Rattle.std.specs.Prelude.{◌≡◌, ◌++◌, ◌&&◌, IfOk, IsTrue,
 ghost use Rattle.std.specs.Str.{is_utf8};
 ghost use Rattle.media_rows.specs.Good.{if_there};
 ghost use Rattle.media_rows.specs.Ids.{id_text, is_object_id};
-ghost use Rattle.http_routes.specs.Named.{decoded_at, named_id, named_object, named_request, request_serial, serial_of, stripped, named_tag};
+ghost use Rattle.http_routes.specs.Named.{decoded_at, named_id, named_object, named_request, request_serial, serial_of, stripped, tag_named};
 
 use crate::path::piece_at;
 use disk_trait::{Memory, Text};
@@ -54,7 +54,7 @@ pub fn read_named_object(alloc: Global, path: &[u8]) -> Result<Option<Text>, Mem
 
 /// The name of the tag that a path names, where it is 1 to 128 bytes of UTF-8.
 pub fn read_named_tag(alloc: Global, path: &[u8]) -> Result<Option<Text>, Memory>
-    ensures found { IfOk result (λ found. found ≡ named_tag path.now) }
+    ensures found { IfOk result (λ found. found ≡ tag_named path.now) }
     ensures good { IfOk result (λ found. IsTrue (if_there is_utf8 found)) }
 {
     let name = decoded_at(alloc, path, NAME_PLACE)?;
@@ -66,7 +66,7 @@ pub fn read_named_tag(alloc: Global, path: &[u8]) -> Result<Option<Text>, Memory
 }
 
 fn has_tag_length(name: &[u8]) -> bool
-    ensures { result ≡ (nat_le 1 (length name.now) && nat_le (length name.now) 128) }
+    ensures { result ≡ (nat_le 1 (length name.now) && nat_le (length name.now) LONGEST_TAG_NAME) }
 {
     1 <= name.len() && name.len() <= LONGEST_TAG_NAME
 }

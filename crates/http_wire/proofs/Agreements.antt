@@ -6,18 +6,18 @@ use Rattle.std.proofs.lemmas.List.{drop-append-le, length-take-le}
 use Rattle.std.proofs.Math.Seq.{take-append-add}
 use Rattle.std.proofs.lemmas.List.{take-append-drop}
 use Rattle.httparse.specs.Grammar.{RequestHead}
-use Rattle.http_wire.specs.Agreeing.{Agrees, AgreesAtStart, AgreesBy, AgreesOnBody, AgreesOnHead, AgreesOnPush, AgreesOnRefusal, AgreesOnWait, AgreesOnWhole, Follows, Given, MayTurn, MediaAgrees, OpenAgrees, before, settled, settled_by, with_bytes}
-use Rattle.http_wire.specs.Feeds.{Fed, is_last, left_of}
-use Rattle.http_wire.specs.Framing.{closes}
+use Rattle.http_wire.specs.Agreeing.{Agrees, AgreesAtStart, AgreesBy, AgreesOnBody, AgreesOnHead, AgreesOnPush, AgreesOnRefusal, AgreesOnWait, AgreesOnWhole, Continues, Given, MayTurn, MediaAgrees, OpenAgrees, before, settled, settled_by, with_bytes}
+use Rattle.http_wire.specs.Feeds.{Fed, is_last_request, left_of}
+use Rattle.http_wire.specs.Framing.{ends_connection}
 use Rattle.http_wire.specs.Heads.{whole}
-use Rattle.http_wire.specs.Hearing.{Asked, Heard, IsHeard, and_then, ends_with, stopped}
+use Rattle.http_wire.specs.Hearing.{Asked, HeardRequests, IsHeard, and_then, ends_with, stopped_by}
 use Rattle.http_wire.specs.Requests.{IsNext, given, opened}
 use Rattle.http_wire.specs.declared.framing.WireFault.{WireFault}
 use Rattle.http_wire.specs.declared.stage.Stage.{Stage}
 use Rattle.http_wire.specs.declared.stage.Stage.TheVariants.{Failed, Media, Open}
 use Rattle.http_wire.proofs.Hearings.{ends_last, ends_last_media, hears_on, hears_on_media, stays_refused}
 
-before-push : (done : List Asked) (asked : Asked) (tail : Heard)
+before-push : (done : List Asked) (asked : Asked) (tail : HeardRequests)
     → before (done ++ asked ∷ []) tail ≡ before done (and_then asked.head asked.body tail)
 before-push [] asked tail = refl
 before-push (first ∷ done) asked tail = ap (and_then first.head first.body) (before-push done asked tail)
@@ -50,14 +50,14 @@ one_less requests few = omega arith
 last_is : (requests : ℕ) → requests < 1000000 → nat_eq (requests + 1) 1000000 ≡ nat_eq (1000000 - (requests + 1)) 0
 last_is requests few = grind (arith, nat_tests)
 
-ends_same : (closed : Bool) (requests : ℕ) → requests < 1000000 → is_last closed (requests + 1) ≡ (closed || nat_eq (1000000 - (requests + 1)) 0)
+ends_same : (closed : Bool) (requests : ℕ) → requests < 1000000 → is_last_request closed (requests + 1) ≡ (closed || nat_eq (1000000 - (requests + 1)) 0)
 ends_same closed requests few = ap (λ b. closed || b) (last_is requests few)
 
 or_false : (a b : Bool) → (a || b) ≡ false → b ≡ false
 or_false true b e = absurd (true≢false e)
 or_false false b e = e
 
-count_on : (closed ended : Bool) (requests : ℕ) → requests < 1000000 → ended ≡ is_last closed (requests + 1) → ended ≡ false → requests + 1 < 1000000
+count_on : (closed ended : Bool) (requests : ℕ) → requests < 1000000 → ended ≡ is_last_request closed (requests + 1) → ended ≡ false → requests + 1 < 1000000
 count_on closed ended requests few is goes =
     let other : nat_eq (requests + 1) 1000000 ≡ false = or_false closed (nat_eq (requests + 1) 1000000) (sym is ∙ goes) in
     grind (arith, nat_tests)
@@ -104,14 +104,14 @@ agrees_on_refusal all so_far old new fault agrees may refuses =
     record {
       count = rw (leaves.ended_is, leaves.requests_are) agrees.count;
       spells = rw (leaves.stage_is, leaves.unread) (λ later.
-          settled_feed all so_far old agrees may later (stopped fault (old.unread ++ later))
+          settled_feed all so_far old agrees may later (stopped_by fault (old.unread ++ later))
           (rw (one_less old.requests few) (stays_refused (1000000 - (old.requests + 1)) old.unread later fault refuses.next)));
     }
 
 -- what follows a request makes what follows from it on
-on_by_end : (ends : Bool) (requests n : ℕ) (unread later : List ℕ) (head : RequestHead) (body : List ℕ) (tail : Heard) → requests < 1000000
+on_by_end : (ends : Bool) (requests n : ℕ) (unread later : List ℕ) (head : RequestHead) (body : List ℕ) (tail : HeardRequests) → requests < 1000000
     → ends ≡ ends_with (1000000 - (requests + 1)) head → IsNext unread (whole (given head body) n) → n ≤ length unread
-    → Follows ends (requests + 1) (drop n unread ++ later) tail → IsHeard (1000000 - requests) (unread ++ later) (and_then head body tail)
+    → Continues ends (requests + 1) (drop n unread ++ later) tail → IsHeard (1000000 - requests) (unread ++ later) (and_then head body tail)
 on_by_end true requests n unread later head body tail few is next inside follows =
     rw (one_less requests few, follows) (ends_last (1000000 - (requests + 1)) unread later head body n next inside (sym is))
 on_by_end false requests n unread later head body tail few is next inside follows =
@@ -123,17 +123,17 @@ agrees_on_whole all so_far old new shown agrees may gives =
     let few : old.requests < 1000000 = agrees.count may.goes_on in
     let ends = gives.tells.ends in
     record {
-      count = rw (leaves.ended_is, leaves.requests_are) (count_on (closes gives.head) shown.ends old.requests few ends);
+      count = rw (leaves.ended_is, leaves.requests_are) (count_on (ends_connection gives.head) shown.ends old.requests few ends);
       spells = rw (leaves.stage_is, leaves.ended_is, leaves.requests_are, leaves.unread) (λ later tail follows.
           rw before-push (settled_feed all so_far old agrees may later (and_then gives.head gives.body tail)
-          (on_by_end shown.ends old.requests gives.n old.unread later gives.head gives.body tail few (ends ∙ ends_same (closes gives.head)
+          (on_by_end shown.ends old.requests gives.n old.unread later gives.head gives.body tail few (ends ∙ ends_same (ends_connection gives.head)
           old.requests few)
           gives.next gives.inside follows)));
     }
 
-media_by_end : (ends : Bool) (requests n size : ℕ) (unread later : List ℕ) (head : RequestHead) (tail : Heard) → requests < 1000000
+media_by_end : (ends : Bool) (requests n size : ℕ) (unread later : List ℕ) (head : RequestHead) (tail : HeardRequests) → requests < 1000000
     → ends ≡ ends_with (1000000 - (requests + 1)) head → IsNext unread (whole (opened head size) n) → n ≤ length unread
-    → size ≤ length (drop n unread ++ later) → Follows ends (requests + 1) (drop size (drop n unread ++ later)) tail
+    → size ≤ length (drop n unread ++ later) → Continues ends (requests + 1) (drop size (drop n unread ++ later)) tail
     → IsHeard (1000000 - requests) (unread ++ later) (and_then head (take size (drop n unread ++ later)) tail)
 media_by_end true requests n size unread later head tail few is next inside long follows =
     rw (one_less requests few, follows) (ends_last_media (1000000 - (requests + 1)) unread later head size n next inside (sym is) long)
@@ -146,10 +146,10 @@ agrees_on_head all so_far old new shown agrees may gives =
     let few : old.requests < 1000000 = agrees.count may.goes_on in
     let ends = gives.tells.ends in
     record {
-      count = rw (leaves.ended_is, leaves.requests_are) (count_on (closes gives.head) shown.ends old.requests few ends);
+      count = rw (leaves.ended_is, leaves.requests_are) (count_on (ends_connection gives.head) shown.ends old.requests few ends);
       spells = rw (leaves.stage_is, leaves.ended_is, leaves.requests_are, leaves.unread) (λ later tail long follows.
           settled_feed all so_far old agrees may later (and_then gives.head (take shown.length (drop gives.n old.unread ++ later)) tail)
-          (media_by_end shown.ends old.requests gives.n shown.length old.unread later gives.head tail few (ends ∙ ends_same (closes gives.head)
+          (media_by_end shown.ends old.requests gives.n shown.length old.unread later gives.head tail few (ends ∙ ends_same (ends_connection gives.head)
           old.requests few)
           gives.next gives.inside long follows));
     }

@@ -3,11 +3,11 @@ use Rattle.std.proofs.Common.{◌≡◌, ℕ, ◌+◌, ◌<◌, ◌≤◌, Bool,
 use Rattle.std.proofs.lemmas.Bool.Decides.{nat_tests}
 use Rattle.std.proofs.lemmas.List.{drop-take, length-take-le, take-take, take_all}
 use Rattle.std.proofs.Common.{length-drop}
-use Rattle.http_wire.specs.Feeds.{Answers, AnswersBy, Fed, Leaves, Tells, TellsBody, Turns, feed_room, is_last}
-use Rattle.http_wire.specs.Heads.{refused, text_at}
+use Rattle.http_wire.specs.Feeds.{StepsTo, AnswersBy, Fed, Leaves, TellsHead, TellsBody, Turns, feed_room, is_last_request}
+use Rattle.http_wire.specs.Heads.{refused, span_text}
 use Rattle.http_wire.specs.Parts.{Parts, held}
 use Rattle.http_wire.specs.Requests.{IsNext}
-use Rattle.http_wire.specs.Within.Seeing.{IsFound, IsGiven, IsOpened, IsShown}
+use Rattle.http_wire.specs.Within.Seeing.{IsFound, IsContentGiven, IsMediaOpened, IsShown}
 use Rattle.http_wire.specs.declared.framing.WireFault.{WireFault}
 use Rattle.http_wire.specs.declared.head.FoundHead.{FoundHead}
 use Rattle.http_wire.specs.declared.head.Span.{Span}
@@ -16,7 +16,7 @@ use Rattle.http_wire.specs.declared.stage.Stage.{Stage}
 use Rattle.http_wire.specs.declared.stage.Stage.TheVariants.{Failed, Media, Open}
 use Rattle.http_wire.specs.declared.stage.Step.{Step}
 use Rattle.http_wire.specs.declared.stage.Step.TheVariants as steps
-use Rattle.http_wire.specs.Steps.{refusal_of}
+use Rattle.http_wire.specs.Steps.{wire_refusal}
 use Rattle.media_rows.specs.declared.refusal.Refusal.{Refusal}
 use Rattle.http_wire.proofs.Seeking.{text_at-take}
 
@@ -27,7 +27,7 @@ answers_by Open old new step other turns = turns
 answers_by (Media left) old new step other turns = turns
 answers_by (Failed fault) old new step other turns = absurd (other fault refl)
 
-pub answers_turn : (old new : Fed) (step : Step) → ((fault : WireFault) → old.stage ≡ Failed fault → ⊥) → Turns old step new → Answers old step new
+pub answers_turn : (old new : Fed) (step : Step) → ((fault : WireFault) → old.stage ≡ Failed fault → ⊥) → Turns old step new → StepsTo old step new
 answers_turn old new step other turns = answers_by old.stage old new step other turns
 
 -- ---- places in the bytes that are given
@@ -40,13 +40,13 @@ kept_place span n inside small =
 -- the target is in the head's bytes
 pub tells_found : (unread : List ℕ) (n number size : ℕ) (found : FoundHead) (known : IsFound unread found) (body : Span) (shown : Head) (fed : Fed)
     → found.length ≤ n → n ≤ length unread → fed.last ≡ take n unread → IsShown found body size number shown
-    → Tells fed known.head number shown
+    → TellsHead fed known.head number shown
 tells_found unread n number size found known body shown fed few inside last is =
     let low : nat_lt found.target.start feed_room ≡ true = kept_place found.target found.length known.tells.inside known.small in
     let shown_low : nat_lt shown.target.start feed_room ≡ true = rw is.target low in
     let long : length fed.last ≡ n = ap length last ∙ length-take-le n unread inside in
     let within : found.target.start + found.target.length ≤ n = omega (arith, known.tells.inside) in
-    let there : text_at fed.last shown.target ≡ text_at unread found.target =
+    let there : span_text fed.last shown.target ≡ span_text unread found.target =
     rw (last, is.target) (text_at-take unread n found.target within) in
     let in_last : shown.target.start + shown.target.length ≤ length fed.last = rw (long, is.target) within in
     record {
@@ -54,7 +54,7 @@ tells_found unread n number size found known body shown fed few inside last is =
       target_place = rw shown_low in_last;
       target = rw shown_low (there ∙ known.tells.target);
       interim = is.interim ∙ known.tells.interim;
-      ends = is.ends ∙ ap (λ c. is_last c number) known.tells.closes;
+      ends = is.ends ∙ ap (λ c. is_last_request c number) known.tells.closes;
     }
 
 -- a body of so many bytes is behind them
@@ -111,7 +111,7 @@ leaves_by kept parts content body was stage other requests number n had ended is
 }
 
 module _ (kept parts : Parts) (bytes content body : List ℕ) (was : Stage) (requests : ℕ) (had : Bool) (there : bytes ≡ kept.unread) where
-  pub turn_refused : (fault : WireFault) (refusal : Refusal) → parts ≡ held 0 kept → refusal ≡ refusal_of fault → IsNext bytes (refused fault)
+  pub turn_refused : (fault : WireFault) (refusal : Refusal) → parts ≡ held 0 kept → refusal ≡ wire_refusal fault → IsNext bytes (refused fault)
       → Turns (fed_of kept content was requests had) (steps.Refused refusal) (fed_of parts body (Failed fault) requests had)
   turn_refused fault refusal is name next = (
     fault,
@@ -122,7 +122,7 @@ module _ (kept parts : Parts) (bytes content body : List ℕ) (was : Stage) (req
     },
   )
 
-  pub turn_opened : (found : FoundHead) (size : ℕ) (place : Span) (shown : Head) → parts ≡ held found.length kept → IsOpened bytes found size
+  pub turn_opened : (found : FoundHead) (size : ℕ) (place : Span) (shown : Head) → parts ≡ held found.length kept → IsMediaOpened bytes found size
       → IsShown found place size (requests + 1) shown
       → Turns (fed_of kept content was requests had) (steps.Head shown) (fed_of parts body (Media size) (requests + 1) shown.ends)
   turn_opened found size place shown is found_it told = record {
@@ -139,7 +139,7 @@ module _ (kept parts : Parts) (bytes content body : List ℕ) (was : Stage) (req
   }
 
   pub turn_plain : (found : FoundHead) (size : ℕ) (place : Span) (shown : Head) → parts ≡ held (found.length + size) kept
-      → IsGiven bytes (take size (drop found.length bytes)) found size → place ≡ record { start = found.length; length = size }
+      → IsContentGiven bytes (take size (drop found.length bytes)) found size → place ≡ record { start = found.length; length = size }
       → IsShown found place size (requests + 1) shown
       → Turns (fed_of kept content was requests had) (steps.Whole shown) (fed_of parts body Open (requests + 1) shown.ends)
   turn_plain found size place shown is found_it at told = record {
@@ -158,7 +158,7 @@ module _ (kept parts : Parts) (bytes content body : List ℕ) (was : Stage) (req
   }
 
   pub turn_decoded : (found : FoundHead) (size long : ℕ) (place : Span) (shown : Head) → parts ≡ held (found.length + size) kept
-      → IsGiven bytes body found size → place ≡ record { start = 8404993; length = long } → long ≡ length body
+      → IsContentGiven bytes body found size → place ≡ record { start = 8404993; length = long } → long ≡ length body
       → IsShown found place long (requests + 1) shown
       → Turns (fed_of kept content was requests had) (steps.Whole shown) (fed_of parts body Open (requests + 1) shown.ends)
   turn_decoded found size long place shown is found_it at all told = record {

@@ -3,7 +3,7 @@ use Rattle.std.proofs.Common.{◌≡◌, ℕ, zero, suc, Bool, true, false, List
 use Rattle.std.proofs.lemmas.Bool.Decides.{nat_tests}
 use Rattle.std.proofs.lemmas.List.{drop-append-le}
 use Rattle.httparse.specs.Grammar.{RequestHead}
-use Rattle.http_wire.specs.Hearing.{Heard, IsHeard, HeardFrom, GoesOn, MediaGoesOn, and_then, ends_with, IsOneHearing, StaysDecided, StaysRefused, HearsOn, HearsOnMedia, EndsLast, EndsLastMedia}
+use Rattle.http_wire.specs.Hearing.{HeardRequests, IsHeard, HeardFrom, GoesOn, MediaGoesOn, and_then, ends_with, IsOneHearing, StaysDecided, StaysRefused, HearsOn, HearsOnMedia, EndsLast, EndsLastMedia}
 use Rattle.http_wire.specs.Heads.{Front, IsHeadBy, more, refused, whole}
 use Rattle.http_wire.specs.Lines.{head_end}
 use Rattle.http_wire.specs.Requests.{Got, IsNext, after_read, given, opened}
@@ -44,23 +44,23 @@ next_unique bytes one two a b =
 -- ---- one hearing
 
 -- what is heard behind a request is one thing
-abbrev IsOne : (List ℕ → Heard → Type 0) → Type 0
-IsOne later = (bytes : List ℕ) (heard other : Heard) → later bytes heard → later bytes other → heard ≡ other
+abbrev IsOne : (List ℕ → HeardRequests → Type 0) → Type 0
+IsOne later = (bytes : List ℕ) (heard other : HeardRequests) → later bytes heard → later bytes other → heard ≡ other
 
-goes_one : (ends : Bool) (later : List ℕ → Heard → Type 0) (head : RequestHead) (body bytes : List ℕ) (heard other : Heard) → IsOne later
+goes_one : (ends : Bool) (later : List ℕ → HeardRequests → Type 0) (head : RequestHead) (body bytes : List ℕ) (heard other : HeardRequests) → IsOne later
     → GoesOn ends later head body bytes heard → GoesOn ends later head body bytes other → heard ≡ other
 goes_one true later head body bytes heard other one a b = a ∙ sym b
 goes_one false later head body bytes heard other one a b =
     a.2 ∙ ap (and_then head body) (one bytes a.0 b.0 a.1 b.1) ∙ sym b.2
 
-media_one : (short ends : Bool) (later : List ℕ → Heard → Type 0) (head : RequestHead) (size : ℕ) (all bytes : List ℕ) (heard other : Heard)
+media_one : (short ends : Bool) (later : List ℕ → HeardRequests → Type 0) (head : RequestHead) (size : ℕ) (all bytes : List ℕ) (heard other : HeardRequests)
     → IsOne later
     → MediaGoesOn short ends later head size all bytes heard → MediaGoesOn short ends later head size all bytes other → heard ≡ other
 media_one true ends later head size all bytes heard other one a b = a ∙ sym b
 media_one false ends later head size all bytes heard other one a b =
     goes_one ends later head (take size bytes) (drop size bytes) heard other one a b
 
-from_one : (left : ℕ) (later : List ℕ → Heard → Type 0) (bytes : List ℕ) (next : Front Got) (heard other : Heard) → IsOne later
+from_one : (left : ℕ) (later : List ℕ → HeardRequests → Type 0) (bytes : List ℕ) (next : Front Got) (heard other : HeardRequests) → IsOne later
     → HeardFrom left later bytes next heard → HeardFrom left later bytes next other → heard ≡ other
 from_one left later bytes more heard other one a b = a ∙ sym b
 from_one left later bytes (refused fault) heard other one a b = a ∙ sym b

@@ -4,7 +4,7 @@ use Rattle.std.proofs.lemmas.List.{drop-append-le, take-append-le, length-take-l
 use Rattle.http_wire.specs.Chunks.{chunks, chunks_within, one_chunk, prefixed}
 use Rattle.http_wire.specs.Framing.{max_body}
 use Rattle.http_wire.specs.Heads.{more, refused, whole}
-use Rattle.http_wire.specs.Within.Reading.{IsChunk, IsLineSeen, Reached, FindsChunk}
+use Rattle.http_wire.specs.Within.Reading.{IsChunk, IsLineSeen, IsReached, FindsChunk}
 use Rattle.http_wire.specs.declared.chunk_line.LineSeen.{LineSeen}
 use Rattle.http_wire.specs.declared.chunk_line.LineSeen.TheVariants as lines
 use Rattle.http_wire.specs.declared.chunks.ChunkFound.TheVariants as found
@@ -18,7 +18,7 @@ abbrev pub fresh : ℕ → Progress
 fresh at = record { at = at; line = lines.Open 0 }
 
 -- at the start
-pub Reached_start : (bytes : List ℕ) → Reached bytes [] (fresh 0)
+pub Reached_start : (bytes : List ℕ) → IsReached bytes [] (fresh 0)
 Reached_start bytes = record {
   inside = omega arith;
   room = omega arith;
@@ -44,7 +44,7 @@ seen_later bytes later room (lines.Last n) seen = record {
 }
 
 -- and so does how far a body was read
-pub Reached_later : (bytes later content : List ℕ) (progress : Progress) → Reached bytes content progress → Reached (bytes ++ later) content progress
+pub Reached_later : (bytes later content : List ℕ) (progress : Progress) → IsReached bytes content progress → IsReached (bytes ++ later) content progress
 Reached_later bytes later content progress reached = record {
   inside = omega (arith, reached.inside, length-append bytes later);
   room = reached.room;
@@ -53,7 +53,7 @@ Reached_later bytes later content progress reached = record {
 }
 
 -- what stands at the place is what is left of the body
-pub reached_front : (bytes content : List ℕ) (progress : Progress) → Reached bytes content progress
+pub reached_front : (bytes content : List ℕ) (progress : Progress) → IsReached bytes content progress
     → chunks_within max_body bytes
     ≡ prefixed content progress.at (one_chunk (chunks (max_body - length content)) (max_body - length content) (drop progress.at bytes))
 reached_front bytes content progress reached =
@@ -65,9 +65,9 @@ on_at : (at n s : ℕ) → at + (n + s + 2) ≡ at + n + s + 2
 on_at at n s = omega arith
 
 -- one chunk on
-pub Reached_more : (bytes content : List ℕ) (progress : Progress) (n s : ℕ) → Reached bytes content progress
+pub Reached_more : (bytes content : List ℕ) (progress : Progress) (n s : ℕ) → IsReached bytes content progress
     → IsChunk (drop progress.at bytes) (max_body - length content) n s
-    → Reached bytes (content ++ take s (drop n (drop progress.at bytes))) (fresh (progress.at + n + s + 2))
+    → IsReached bytes (content ++ take s (drop n (drop progress.at bytes))) (fresh (progress.at + n + s + 2))
 Reached_more bytes content progress n s reached chunk =
     let line = chunk.line in
     let long : s ≤ length (drop n (drop progress.at bytes)) = omega (arith, length-drop n (drop progress.at bytes), chunk.inside) in
@@ -90,9 +90,9 @@ Reached_more bytes content progress n s reached chunk =
 
 -- ---- what is found of the chunk at the place says what is found of the body
 
-pub chunks_more : (bytes content rest : List ℕ) (room : ℕ) (progress : Progress) (line : LineSeen) → Reached bytes content progress
+pub chunks_more : (bytes content rest : List ℕ) (room : ℕ) (progress : Progress) (line : LineSeen) → IsReached bytes content progress
     → rest ≡ drop progress.at bytes → room ≡ max_body - length content → FindsChunk rest room (found.More line)
-    → (chunks_within max_body bytes ≡ more) × Reached bytes content (record { at = progress.at; line = line })
+    → (chunks_within max_body bytes ≡ more) × IsReached bytes content (record { at = progress.at; line = line })
 chunks_more bytes content rest room progress line reached there left (none, seen) = (
   reached_front bytes content progress reached ∙ rw (← there, ← left, none (chunks room)) refl,
   record {
@@ -103,13 +103,13 @@ chunks_more bytes content rest room progress line reached there left (none, seen
   },
 )
 
-pub chunks_refused : (bytes content rest : List ℕ) (room : ℕ) (progress : Progress) (fault : WireFault) → Reached bytes content progress
+pub chunks_refused : (bytes content rest : List ℕ) (room : ℕ) (progress : Progress) (fault : WireFault) → IsReached bytes content progress
     → rest ≡ drop progress.at bytes → room ≡ max_body - length content → FindsChunk rest room (found.Refused fault)
     → chunks_within max_body bytes ≡ refused fault
 chunks_refused bytes content rest room progress fault reached there left is =
     reached_front bytes content progress reached ∙ rw (← there, ← left, is (chunks room)) refl
 
-pub chunks_last : (bytes content rest : List ℕ) (room : ℕ) (progress : Progress) (n : ℕ) → Reached bytes content progress
+pub chunks_last : (bytes content rest : List ℕ) (room : ℕ) (progress : Progress) (n : ℕ) → IsReached bytes content progress
     → rest ≡ drop progress.at bytes → room ≡ max_body - length content → FindsChunk rest room (found.Last n)
     → (chunks_within max_body bytes ≡ whole content (progress.at + n)) × (progress.at + n ≤ length bytes)
 chunks_last bytes content rest room progress n reached there left (is, inside) = (
@@ -117,8 +117,8 @@ chunks_last bytes content rest room progress n reached there left (is, inside) =
   omega (arith, inside, ap length there, length-drop progress.at bytes, reached.inside),
 )
 
-pub chunks_on : (bytes content rest : List ℕ) (room : ℕ) (progress : Progress) (n s : ℕ) → Reached bytes content progress
+pub chunks_on : (bytes content rest : List ℕ) (room : ℕ) (progress : Progress) (n s : ℕ) → IsReached bytes content progress
     → rest ≡ drop progress.at bytes → room ≡ max_body - length content → IsChunk rest room n s
-    → Reached bytes (content ++ take s (drop n rest)) (fresh (progress.at + n + s + 2))
+    → IsReached bytes (content ++ take s (drop n rest)) (fresh (progress.at + n + s + 2))
 chunks_on bytes content rest room progress n s reached there left chunk =
     rw there (Reached_more bytes content progress n s reached (rw (← there, ← left) chunk))

@@ -5,7 +5,7 @@ use Rattle.std.proofs.Math.Seq.{take-append-add}
 use Rattle.std.proofs.lemmas.Bool.{cases_lt}
 use Rattle.httparse.specs.Grammar.{RequestHead}
 use Rattle.http_wire.specs.Chunks.{coded_front}
-use Rattle.http_wire.specs.Heads.{Describes, IsHead, IsHeadBy, IsOneHead, text_at, whole}
+use Rattle.http_wire.specs.Heads.{Describes, IsHead, IsHeadBy, IsOneHead, span_text, whole}
 use Rattle.http_wire.specs.Lines.{head_end, looked, max_head}
 use Rattle.http_wire.specs.Within.Seeing.{FindsHead, IsFound, IsSeeking, IsSeen}
 use Rattle.http_wire.specs.declared.head.FoundHead.{FoundHead}
@@ -45,7 +45,7 @@ pub seek_refused : (unread : List ℕ) (place : Place) → head_end unread ≡ S
 seek_refused unread place still long = rw still (refl, omega (arith, length-take max_head unread))
 
 -- a place within the head's bytes
-pub text_at-take : (bytes : List ℕ) (n : ℕ) (span : Span) → span.start + span.length ≤ n → text_at (take n bytes) span ≡ text_at bytes span
+pub text_at-take : (bytes : List ℕ) (n : ℕ) (span : Span) → span.start + span.length ≤ n → span_text (take n bytes) span ≡ span_text bytes span
 text_at-take bytes n span inside =
     let sums : span.start + (n - span.start) ≡ n = omega arith in
     let few : span.length ≤ n - span.start = omega arith in
@@ -110,7 +110,7 @@ IsHead_later bytes later head n inside stands = head_later_by bytes later head n
 
 -- bytes at a place stay
 pub text_at-append : (bytes later : List ℕ) (span : Span) → span.start + span.length ≤ length bytes
-    → text_at (bytes ++ later) span ≡ text_at bytes span
+    → span_text (bytes ++ later) span ≡ span_text bytes span
 text_at-append bytes later span inside =
     let start : span.start ≤ length bytes = omega arith in
     let long : span.length ≤ length (drop span.start bytes) = omega (arith, length-drop span.start bytes) in

@@ -5,11 +5,11 @@ use Rattle.std.proofs.lemmas.Bool.Decides.{nat_tests}
 use Rattle.std.proofs.lemmas.List.{drop-append-le, take-append-le}
 use Rattle.std.proofs.lemmas.List.Sums.{sum_by-append}
 use Rattle.httparse.specs.Grammar.{RequestHead}
-use Rattle.http_wire.specs.Chunks.{behind_data, body_end, capped, chunk_data, chunked, chunks, chunks_within, closed, count_lines, line_size, lined_chunk, one_chunk, prefixed, sized_chunk, trailer, trailer_by}
+use Rattle.http_wire.specs.Chunks.{behind_data, body_end, capped_data, chunk_data, chunked, chunks, chunks_within, ending_of, count_lines, line_size, lined_chunk, one_chunk, prefixed, sized_chunk, trailer, trailer_by}
 use Rattle.http_wire.specs.Framing.{is_media, judge, max_body}
 use Rattle.http_wire.specs.Heads.{Front, IsHead, IsHeadBy, more, refused, whole}
 use Rattle.http_wire.specs.Lines.{behind_byte, further, head_end, line_end, looked, next_place, one_on}
-use Rattle.http_wire.specs.Requests.{Got, IsNext, after_head, after_read, body_at, framed, media_head, with_body}
+use Rattle.http_wire.specs.Requests.{Got, IsNext, after_head, after_read, body_at, framed_body, media_head, with_content}
 use Rattle.http_wire.specs.declared.chunk_line.Ending.{Ending}
 use Rattle.http_wire.specs.declared.chunk_line.Ending.TheVariants.{Ended, Open, Wrong}
 use Rattle.http_wire.specs.declared.framing.Framing.{Framing}
@@ -67,11 +67,11 @@ one_return : (first second : Bool) → KeepsEnd (cond first Open Wrong) (cond (f
 one_return true second = tt
 one_return false second = refl
 
-closed_keeps : (bytes later : List ℕ) → KeepsEnd (closed bytes) (closed (bytes ++ later))
+closed_keeps : (bytes later : List ℕ) → KeepsEnd (ending_of bytes) (ending_of (bytes ++ later))
 closed_keeps [] later = tt
-closed_keeps (c ∷ []) [] = same_end (closed (c ∷ []))
+closed_keeps (c ∷ []) [] = same_end (ending_of (c ∷ []))
 closed_keeps (c ∷ []) (l ∷ later) = one_return (nat_eq c 13) (nat_eq l 10)
-closed_keeps (c ∷ l ∷ bytes) later = same_end (closed (c ∷ l ∷ bytes))
+closed_keeps (c ∷ l ∷ bytes) later = same_end (ending_of (c ∷ l ∷ bytes))
 
 two_inside : (both : Bool) (n k : ℕ) → cond both (Ended 2) Wrong ≡ Ended n → n ≤ suc (suc k)
 two_inside true n k e = let same : 2 ≡ n = cc in omega arith
@@ -81,7 +81,7 @@ no_end : (first : Bool) (n : ℕ) → cond first Open Wrong ≡ Ended n → n �
 no_end true n e = cc
 no_end false n e = cc
 
-closed_inside : (bytes : List ℕ) (n : ℕ) → closed bytes ≡ Ended n → n ≤ length bytes
+closed_inside : (bytes : List ℕ) (n : ℕ) → ending_of bytes ≡ Ended n → n ≤ length bytes
 closed_inside [] n e = cc
 closed_inside (c ∷ []) n e = no_end (nat_eq c 13) n e
 closed_inside (c ∷ l ∷ bytes) n e = two_inside (nat_eq c 13 && nat_eq l 10) n (length bytes) e
@@ -200,26 +200,26 @@ end_keeps (Ended n) after keeps = rw keeps refl
 -- ---- chunks
 
 module _ (next : List ℕ → Front (List ℕ)) (size : ℕ) (rest later : List ℕ) (stays : (r : List ℕ) → Keeps (next r) (next (r ++ later))) where
-  data_keeps : (end : Ending) → size ≤ length rest → closed (drop size rest) ≡ end
-      → Keeps (behind_data next size rest end) (behind_data next size (rest ++ later) (closed (drop size rest ++ later)))
+  data_keeps : (end : Ending) → size ≤ length rest → ending_of (drop size rest) ≡ end
+      → Keeps (behind_data next size rest end) (behind_data next size (rest ++ later) (ending_of (drop size rest ++ later)))
   data_keeps Open inside is = tt
   data_keeps Wrong inside is =
-      let keeps : KeepsEnd Wrong (closed (drop size rest ++ later)) = rw is at (closed_keeps (drop size rest) later) in
+      let keeps : KeepsEnd Wrong (ending_of (drop size rest ++ later)) = rw is at (closed_keeps (drop size rest) later) in
       rw keeps refl
   data_keeps (Ended m) inside is =
-      let keeps : KeepsEnd (Ended m) (closed (drop size rest ++ later)) = rw is at (closed_keeps (drop size rest) later) in
+      let keeps : KeepsEnd (Ended m) (ending_of (drop size rest ++ later)) = rw is at (closed_keeps (drop size rest) later) in
       let there : size + m ≤ length rest = omega (arith, closed_inside (drop size rest) m is, length-drop size rest) in
       rw (keeps, take-append-le size rest later inside, drop-append-le (size + m) rest later there)
       (keeps_prefixed (take size rest) (size + m) _ _ (stays (drop (size + m) rest)))
 
   chunk_data_by : (short : Bool) → nat_lt (length rest) size ≡ short
-      → Keeps (cond short more (behind_data next size rest (closed (drop size rest)))) (chunk_data next size (rest ++ later))
+      → Keeps (cond short more (behind_data next size rest (ending_of (drop size rest)))) (chunk_data next size (rest ++ later))
   chunk_data_by true is = tt
   chunk_data_by false is =
       let inside : size ≤ length rest = grind (arith, nat_tests) in
       let long : nat_lt (length (rest ++ later)) size ≡ false =
       (let sum : size ≤ length (rest ++ later) = omega (arith, length-append rest later) in search (arith, rules, nat_tests)) in
-      rw (long, drop-append-le size rest later inside) (data_keeps (closed (drop size rest)) inside refl)
+      rw (long, drop-append-le size rest later inside) (data_keeps (ending_of (drop size rest)) inside refl)
 
 -- ways to go on, each of which keeps what is decided
 abbrev KeepOn : (ℕ → List ℕ → Front (List ℕ)) → List ℕ → Type 0
@@ -270,7 +270,7 @@ chunks_keep (suc count) later room bytes =
 
 capped_over : (front further : List ℕ) (over : Bool) → nat_lt 8388608 (length front) ≡ over → (8388609 ≤ length front → further ≡ [])
     → chunks_within max_body front ≡ more
-    → Keeps (cond over (refused TooLarge) more) (capped (length (front ++ further)) (chunks_within max_body (front ++ further)))
+    → Keeps (cond over (refused TooLarge) more) (capped_data (length (front ++ further)) (chunks_within max_body (front ++ further)))
 capped_over front further true is none waits =
     let long : 8388609 ≤ length front = grind (arith, nat_tests) in
     rw (none long, append-nil, waits, is) refl
@@ -278,10 +278,10 @@ capped_over front further false is none waits = tt
 
 capped_keeps : (front further : List ℕ) (found : Front (List ℕ)) → (8388609 ≤ length front → further ≡ []) → chunks_within max_body front ≡ found
     → Keeps found (chunks_within max_body (front ++ further))
-    → Keeps (capped (length front) found) (capped (length (front ++ further)) (chunks_within max_body (front ++ further)))
+    → Keeps (capped_data (length front) found) (capped_data (length (front ++ further)) (chunks_within max_body (front ++ further)))
 capped_keeps front further more none is keeps = capped_over front further (nat_lt 8388608 (length front)) refl none is
 capped_keeps front further (refused fault) none is keeps = rw keeps refl
-capped_keeps front further (whole body n) none is keeps = rw keeps (keeps_same (capped (length front) (whole body n)))
+capped_keeps front further (whole body n) none is keeps = rw keeps (keeps_same (capped_data (length front) (whole body n)))
 
 chunked_keeps : (bytes later : List ℕ) → Keeps (chunked bytes) (chunked (bytes ++ later))
 chunked_keeps bytes later =
@@ -304,7 +304,7 @@ body_keeps (Length n) bytes later = length_by bytes later n (nat_lt (length byte
 body_keeps Chunked bytes later = chunked_keeps bytes later
 
 with_body_keeps : (head : RequestHead) (n : ℕ) (body after : Front (List ℕ)) → Keeps body after
-    → Keeps (with_body head n body) (with_body head n after)
+    → Keeps (with_content head n body) (with_content head n after)
 with_body_keeps head n more after keeps = tt
 with_body_keeps head n (refused fault) after keeps = rw keeps refl
 with_body_keeps head n (whole body m) after keeps = rw keeps refl
@@ -312,7 +312,7 @@ with_body_keeps head n (whole body m) after keeps = rw keeps refl
 -- ---- the request
 
 framed_keeps : (media : Bool) (head : RequestHead) (n : ℕ) (bytes later : List ℕ) (framing : Framing)
-    → Keeps (framed media head n bytes framing) (framed media head n (bytes ++ later) framing)
+    → Keeps (framed_body media head n bytes framing) (framed_body media head n (bytes ++ later) framing)
 framed_keeps true head n bytes later framing = keeps_same (media_head head n framing)
 framed_keeps false head n bytes later framing = with_body_keeps head n _ _ (body_keeps framing bytes later)
 

@@ -1,7 +1,7 @@
 -- What a feed gave and keeps, call by call, agrees with what all bytes that it took spell.
 use Rattle.std.specs.Prelude.{◌≡◌, ◌≢◌, ℕ, ◌-◌, ◌<◌, ◌≤◌, Bool, true, false, List, [], ◌∷◌, ◌++◌, length, take, drop, Option, Some, None}
 use Rattle.http_wire.specs.Feeds.{Fed, GivesHead, GivesWhole, Refuses, Waits, handed_on, heard, left_of, max_requests, new_feed}
-use Rattle.http_wire.specs.Hearing.{Asked, Heard, IsHeard, IsHeardOf, and_then, nothing, stopped}
+use Rattle.http_wire.specs.Hearing.{Asked, HeardRequests, IsHeard, IsHeardOf, and_then, nothing_heard, stopped_by}
 use Rattle.http_wire.specs.declared.framing.WireFault.{WireFault}
 use Rattle.http_wire.specs.declared.stage.Head.{Head}
 use Rattle.http_wire.specs.declared.stage.Stage.{Stage}
@@ -18,7 +18,7 @@ abbrev pub nothing_given : Given
 nothing_given = record { done = []; media = None }
 
 -- requests before what else is heard
-abbrev pub before : List Asked → Heard → Heard
+abbrev pub before : List Asked → HeardRequests → HeardRequests
 before [] tail = tail
 before (asked ∷ later) tail = and_then asked.head asked.body (before later tail)
 
@@ -32,23 +32,23 @@ abbrev pub settled : Given → List Asked
 settled given = settled_by given.done given.media
 
 -- what may be heard of the bytes behind so many requests, unless the last one ended the connection
-abbrev pub Follows : Bool → ℕ → List ℕ → Heard → Type 0
-Follows true requests bytes tail = tail ≡ nothing bytes
-Follows false requests bytes tail = IsHeard (max_requests - requests) bytes tail
+abbrev pub Continues : Bool → ℕ → List ℕ → HeardRequests → Type 0
+Continues true requests bytes tail = tail ≡ nothing_heard bytes
+Continues false requests bytes tail = IsHeard (max_requests - requests) bytes tail
 
 -- Whatever follows the bytes so far: the requests, and then what the unread bytes and those that
 -- follow spell, are what all of them spell.
 abbrev pub OpenAgrees : List ℕ → List Asked → Bool → ℕ → List ℕ → Type 0
 OpenAgrees all done ended requests unread =
-    (later : List ℕ) (tail : Heard) → Follows ended requests (unread ++ later) tail
+    (later : List ℕ) (tail : HeardRequests) → Continues ended requests (unread ++ later) tail
     → IsHeardOf (all ++ later) (before done tail)
 
 -- the same behind a media PUT, of whose body so many bytes are still to be handed on
 abbrev pub MediaAgrees : ℕ → List ℕ → List Asked → Option Asked → Bool → ℕ → List ℕ → Type 0
 MediaAgrees left all done None ended requests unread = ⊥
 MediaAgrees left all done (Some last) ended requests unread =
-    (later : List ℕ) (tail : Heard) → left ≤ length (unread ++ later)
-    → Follows ended requests (drop left (unread ++ later)) tail
+    (later : List ℕ) (tail : HeardRequests) → left ≤ length (unread ++ later)
+    → Continues ended requests (drop left (unread ++ later)) tail
     → IsHeardOf (all ++ later)
     (before done (and_then last.head (last.body ++ take left (unread ++ later)) tail))
 
@@ -60,7 +60,7 @@ AgreesBy (Media left) all given ended requests unread =
     MediaAgrees left all given.done given.media ended requests unread
 AgreesBy (Failed fault) all given ended requests unread =
     (later : List ℕ)
-    → IsHeardOf (all ++ later) (before (settled given) (stopped fault (unread ++ later)))
+    → IsHeardOf (all ++ later) (before (settled given) (stopped_by fault (unread ++ later)))
 
 -- what was given, and what a feed keeps, agree with all bytes
 pub record Agrees (all : List ℕ) (given : Given) (fed : Fed) : Type 0 where

@@ -85,10 +85,10 @@ prefixed content n (refused fault) = refused fault
 prefixed content n (whole body m) = whole (content ++ body) (n + m)
 
 -- the end of a chunk's data: CR LF
-abbrev pub closed : List ℕ → Ending
-closed [] = Open
-closed (c ∷ []) = if c == carriage_return then Open else Wrong
-closed (c ∷ l ∷ bytes) = if (c == carriage_return) && (l == line_feed) then Ended 2 else Wrong
+abbrev pub ending_of : List ℕ → Ending
+ending_of [] = Open
+ending_of (c ∷ []) = if c == carriage_return then Open else Wrong
+ending_of (c ∷ l ∷ bytes) = if (c == carriage_return) && (l == line_feed) then Ended 2 else Wrong
 
 -- the end of the body behind the last chunk
 abbrev pub body_end : Ending → Front (List ℕ)
@@ -105,7 +105,7 @@ behind_data next n bytes (Ended m) = prefixed (take n bytes) (n + m) (next (drop
 -- a chunk's data of so many bytes, and what stands behind the chunk
 abbrev pub chunk_data : (List ℕ → Front (List ℕ)) → ℕ → List ℕ → Front (List ℕ)
 chunk_data next n bytes =
-    if nat_lt (length bytes) n then more else behind_data next n bytes (closed (drop n bytes))
+    if nat_lt (length bytes) n then more else behind_data next n bytes (ending_of (drop n bytes))
 
 -- a chunk by its size, whose line has so many bytes: the last one, or one with data, after which
 -- the others have so much less room
@@ -144,10 +144,10 @@ max_coded = 8388608
 
 -- The body, by what its first 8,388,609 bytes hold: it is refused where it ends behind more than
 -- 8,388,608.
-abbrev pub capped : ℕ → Front (List ℕ) → Front (List ℕ)
-capped size more = if nat_lt max_coded size then refused TooLarge else more
-capped size (refused fault) = refused fault
-capped size (whole body n) = if nat_lt max_coded n then refused TooLarge else whole body n
+abbrev pub capped_data : ℕ → Front (List ℕ) → Front (List ℕ)
+capped_data size more = if nat_lt max_coded size then refused TooLarge else more
+capped_data size (refused fault) = refused fault
+capped_data size (whole body n) = if nat_lt max_coded n then refused TooLarge else whole body n
 
 -- the bytes of a chunked body that are looked at
 abbrev pub coded_front : List ℕ → List ℕ
@@ -155,4 +155,4 @@ coded_front bytes = take 8388609 bytes
 
 -- the chunked body at the front of bytes
 abbrev pub chunked : List ℕ → Front (List ℕ)
-chunked bytes = capped (length (coded_front bytes)) (chunks_within max_body (coded_front bytes))
+chunked bytes = capped_data (length (coded_front bytes)) (chunks_within max_body (coded_front bytes))

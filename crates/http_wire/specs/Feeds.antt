@@ -1,10 +1,10 @@
 -- A feed: how the bytes of a connection are cut into requests, call by call.
 use Rattle.std.specs.Prelude.{◌≡◌, ℕ, ◌+◌, ◌-◌, ◌≤◌, ◌==◌, nat_lt, Bool, true, false, ◌||◌, List, [], ◌++◌, length, take, drop, if◌then◌else◌}
 use Rattle.httparse.specs.Grammar.{RequestHead}
-use Rattle.http_wire.specs.Framing.{closes, method_kind, wants_interim}
-use Rattle.http_wire.specs.Heads.{IsHead, more, refused, text_at, whole}
+use Rattle.http_wire.specs.Framing.{ends_connection, method_kind, wants_interim}
+use Rattle.http_wire.specs.Heads.{IsHead, more, refused, span_text, whole}
 use Rattle.http_wire.specs.Requests.{IsNext, given, opened}
-use Rattle.http_wire.specs.Steps.{refusal_of}
+use Rattle.http_wire.specs.Steps.{wire_refusal}
 use Rattle.http_wire.specs.declared.framing.WireFault.{WireFault}
 use Rattle.http_wire.specs.declared.head.Span.{Span}
 use Rattle.http_wire.specs.declared.stage.Head.{Head}
@@ -44,8 +44,8 @@ abbrev pub feed_room : ℕ
 feed_room = 8404993
 
 -- how many bytes it keeps
-abbrev pub kept : Fed → ℕ
-kept fed = length fed.last + length fed.unread
+abbrev pub kept_count : Fed → ℕ
+kept_count fed = length fed.last + length fed.unread
 
 -- how many bytes of a media body weren't handed on yet
 abbrev pub left_of : Stage → ℕ
@@ -92,9 +92,9 @@ abbrev pub IsPlace : Fed → Span → Type 0
 IsPlace fed span = IsPlaceBy (is_kept_place span) fed span
 
 -- the bytes at a place
-abbrev pub bytes_at : Fed → Span → List ℕ
-bytes_at fed span =
-    if is_kept_place span then text_at fed.last span else text_at fed.body (body_place span)
+abbrev pub span_bytes : Fed → Span → List ℕ
+span_bytes fed span =
+    if is_kept_place span then span_text fed.last span else span_text fed.body (body_place span)
 
 -- ---- answers
 
@@ -108,22 +108,22 @@ pub record Leaves
   pub ended_is : new.ended ≡ ended
 
 -- the connection ends behind the so many-th request
-abbrev pub is_last : Bool → ℕ → Bool
-is_last closed number = closed || number == max_requests
+abbrev pub is_last_request : Bool → ℕ → Bool
+is_last_request closed number = closed || number == max_requests
 
 -- what a head of a request, which is the so many-th, tells of it
-pub record Tells (fed : Fed) (head : RequestHead) (number : ℕ) (shown : Head) : Type 0 where
+pub record TellsHead (fed : Fed) (head : RequestHead) (number : ℕ) (shown : Head) : Type 0 where
   pub method : shown.method ≡ method_kind head.method
   pub target_place : IsPlace fed shown.target
-  pub target : bytes_at fed shown.target ≡ head.target
+  pub target : span_bytes fed shown.target ≡ head.target
   pub interim : shown.wants_interim ≡ wants_interim head
-  pub ends : shown.ends ≡ is_last (closes head) number
+  pub ends : shown.ends ≡ is_last_request (ends_connection head) number
 
 -- the body that is told of a request
 pub record TellsBody (fed : Fed) (body : List ℕ) (shown : Head) : Type 0 where
   pub size : shown.length ≡ length body
   pub place : IsPlace fed shown.body
-  pub content : bytes_at fed shown.body ≡ body
+  pub content : span_bytes fed shown.body ≡ body
 
 -- a media PUT is given at its head
 pub record GivesHead (old new : Fed) (shown : Head) : Type 0 where
@@ -132,7 +132,7 @@ pub record GivesHead (old new : Fed) (shown : Head) : Type 0 where
   pub next : IsNext old.unread (whole (opened head shown.length) n)
   pub inside : n ≤ length old.unread
   pub leaves : Leaves old new n (Media shown.length) (old.requests + 1) shown.ends
-  pub tells : Tells new head (old.requests + 1) shown
+  pub tells : TellsHead new head (old.requests + 1) shown
 
 -- another request is given whole
 pub record GivesWhole (old new : Fed) (shown : Head) : Type 0 where
@@ -142,7 +142,7 @@ pub record GivesWhole (old new : Fed) (shown : Head) : Type 0 where
   pub next : IsNext old.unread (whole (given head body) n)
   pub inside : n ≤ length old.unread
   pub leaves : Leaves old new n Open (old.requests + 1) shown.ends
-  pub tells : Tells new head (old.requests + 1) shown
+  pub tells : TellsHead new head (old.requests + 1) shown
   pub tells_body : TellsBody new body shown
 
 -- the wire is refused
@@ -161,11 +161,11 @@ Turns old steps.More new = Waits old new
 Turns old (steps.Head shown) new = GivesHead old new shown
 Turns old (steps.Whole shown) new = GivesWhole old new shown
 Turns old (steps.Refused refusal) new =
-    (fault : WireFault) × (refusal ≡ refusal_of fault) × Refuses old new fault
+    (fault : WireFault) × (refusal ≡ wire_refusal fault) × Refuses old new fault
 
 -- what was refused stays so, and nothing changes
 abbrev pub Stays : Fed → WireFault → Step → Fed → Type 0
-Stays old fault step new = (step ≡ steps.Refused (refusal_of fault)) × (new ≡ old)
+Stays old fault step new = (step ≡ steps.Refused (wire_refusal fault)) × (new ≡ old)
 
 -- the answer by the stage
 abbrev pub AnswersBy : Stage → Fed → Step → Fed → Type 0
@@ -174,8 +174,8 @@ AnswersBy (Media left) old step new = Turns old step new
 AnswersBy (Failed fault) old step new = Stays old fault step new
 
 -- what a feed answers to the question for the next request
-abbrev pub Answers : Fed → Step → Fed → Type 0
-Answers old step new = AnswersBy old.stage old step new
+abbrev pub StepsTo : Fed → Step → Fed → Type 0
+StepsTo old step new = AnswersBy old.stage old step new
 
 -- The head at the front of the unread bytes is whole, none of the five refusals stands in it, and
 -- an interim response is due to it.

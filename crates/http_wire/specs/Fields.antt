@@ -12,10 +12,10 @@ abbrev pub same_text : List ℕ → List ℕ → Bool
 same_text left right = bytes_eq (map to_ascii_lowercase left) (map to_ascii_lowercase right)
 
 -- the values of the fields of a name, each field being its name and its value
-abbrev pub values_of : List ℕ → List (List ℕ × List ℕ) → List (List ℕ)
-values_of name [] = []
-values_of name (field ∷ fields) =
-    if same_text field.0 name then field.1 ∷ values_of name fields else values_of name fields
+abbrev pub field_values : List ℕ → List (List ℕ × List ℕ) → List (List ℕ)
+field_values name [] = []
+field_values name (field ∷ fields) =
+    if same_text field.0 name then field.1 ∷ field_values name fields else field_values name fields
 
 -- the first of them, where there is one
 abbrev pub first_of : List (List ℕ) → Option (List ℕ)

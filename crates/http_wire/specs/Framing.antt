@@ -4,7 +4,7 @@ use Rattle.std.specs.Prelude.{ℕ, ◌==◌, Bool, true, false, not, ◌&&◌, �
 use Rattle.std.specs.List.{list_any, starts_with}
 use Rattle.httparse.specs.Grammar.{RequestHead}
 use Rattle.httparse.specs.Spans.{name_and_value}
-use Rattle.http_wire.specs.Fields.{first_of, read_length, same_text, values_of}
+use Rattle.http_wire.specs.Fields.{first_of, read_length, same_text, field_values}
 use Rattle.http_wire.specs.declared.head.MethodKind.{MethodKind}
 use Rattle.http_wire.specs.declared.head.MethodKind.TheVariants as kinds
 use Rattle.http_wire.specs.declared.framing.Framing.{Framing}
@@ -47,23 +47,23 @@ framing_by minor lengths codings (Some text) (Some coding) = None
 -- the framing that fields declare, and none where it can't be read
 abbrev pub declared : ℕ → List (List ℕ × List ℕ) → Option Framing
 declared minor fields =
-    let lengths = values_of (codes "content-length") fields in
-    let codings = values_of (codes "transfer-encoding") fields in
+    let lengths = field_values (codes "content-length") fields in
+    let codings = field_values (codes "transfer-encoding") fields in
     framing_by minor lengths codings (first_of lengths) (first_of codings)
 
 -- some content coding isn't `identity`
 abbrev pub is_coded : List (List ℕ × List ℕ) → Bool
 is_coded fields =
     list_any (λ value. not (same_text (codes "identity") value))
-    (values_of (codes "content-encoding") fields)
+    (field_values (codes "content-encoding") fields)
 
 -- The framing, or the first refusal that stands: it can't be read, a media object is sent in
 -- chunks, the body passes the limit, or it is coded.
-abbrev pub judged : Bool → Bool → Option Framing → Result Framing WireFault
-judged media coded None = Err BadFraming
-judged media coded (Some Chunked) =
+abbrev pub judged_framing : Bool → Bool → Option Framing → Result Framing WireFault
+judged_framing media coded None = Err BadFraming
+judged_framing media coded (Some Chunked) =
     if media then Err LengthRequired else if coded then Err Coding else Ok Chunked
-judged media coded (Some (Length n)) =
+judged_framing media coded (Some (Length n)) =
     if nat_lt (body_limit media) n then Err TooLarge
     else if coded then Err Coding else Ok (Length n)
 
@@ -91,7 +91,7 @@ is_media method target =
 -- the framing of a head, or its refusal
 abbrev pub judge : RequestHead → Result Framing WireFault
 judge head =
-    judged (is_media head.method head.target) (is_coded (fields_of head))
+    judged_framing (is_media head.method head.target) (is_coded (fields_of head))
     (declared head.minor (fields_of head))
 
 -- a body is to come
@@ -109,7 +109,7 @@ interim_by minor expects framing = (minor == 1) && expects && has_body framing
 abbrev pub wants_interim : RequestHead → Bool
 wants_interim head =
     interim_by head.minor
-    (list_any (same_text (codes "100-continue")) (values_of (codes "expect") (fields_of head)))
+    (list_any (same_text (codes "100-continue")) (field_values (codes "expect") (fields_of head)))
     (judge head)
 
 -- the connection ends behind the answer: always so in HTTP/1.0 (RFC 9112, section 9.3)
@@ -117,7 +117,7 @@ abbrev pub closes_by : ℕ → Bool → Bool
 closes_by minor says_close = (minor == 0) || says_close
 
 -- the same of a head
-abbrev pub closes : RequestHead → Bool
-closes head =
+abbrev pub ends_connection : RequestHead → Bool
+ends_connection head =
     closes_by head.minor
-    (list_any (same_text (codes "close")) (values_of (codes "connection") (fields_of head)))
+    (list_any (same_text (codes "close")) (field_values (codes "connection") (fields_of head)))

@@ -2,7 +2,7 @@
 -- of its fields is limited by our own rule.
 use Rattle.std.specs.Prelude.{◌≡◌, ℕ, ◌+◌, ◌<◌, ◌≤◌, List, [], length, take, drop}
 use Rattle.httparse.specs.Grammar.{ReadsRequest, RequestHead}
-use Rattle.http_wire.specs.Framing.{closes, is_media, judge, method_kind, wants_interim}
+use Rattle.http_wire.specs.Framing.{ends_connection, is_media, judge, method_kind, wants_interim}
 use Rattle.http_wire.specs.Lines.{head_end, max_head}
 use Rattle.http_wire.specs.declared.framing.WireFault.{WireFault}
 use Rattle.http_wire.specs.declared.framing.WireFault.TheVariants.{BadHead}
@@ -43,15 +43,15 @@ abbrev pub IsHead : List ℕ → Front RequestHead → Type 0
 IsHead bytes front = IsHeadBy (head_end bytes) bytes front
 
 -- the bytes at a place
-abbrev pub text_at : List ℕ → Span → List ℕ
-text_at bytes span = take span.length (drop span.start bytes)
+abbrev pub span_text : List ℕ → Span → List ℕ
+span_text bytes span = take span.length (drop span.start bytes)
 
 -- what is told of a head that stands in bytes
 pub record Describes (bytes : List ℕ) (head : RequestHead) (found : FoundHead) : Type 0 where
   pub method : found.method ≡ method_kind head.method
-  pub target : text_at bytes found.target ≡ head.target
+  pub target : span_text bytes found.target ≡ head.target
   pub inside : found.target.start + found.target.length ≤ found.length
   pub media : found.is_media ≡ is_media head.method head.target
   pub framing : found.framing ≡ judge head
   pub interim : found.wants_interim ≡ wants_interim head
-  pub closes : found.closes ≡ closes head
+  pub closes : found.closes ≡ ends_connection head

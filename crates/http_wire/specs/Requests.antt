@@ -22,10 +22,10 @@ body_at (Length n) bytes = if nat_lt (length bytes) n then more else whole (take
 body_at Chunked bytes = chunked bytes
 
 -- a head of so many bytes, and the body behind it
-abbrev pub with_body : RequestHead → ℕ → Front (List ℕ) → Front Got
-with_body head n more = more
-with_body head n (refused fault) = refused fault
-with_body head n (whole body m) = whole (given head body) (n + m)
+abbrev pub with_content : RequestHead → ℕ → Front (List ℕ) → Front Got
+with_content head n more = more
+with_content head n (refused fault) = refused fault
+with_content head n (whole body m) = whole (given head body) (n + m)
 
 -- a media PUT, whose head has so many bytes
 abbrev pub media_head : RequestHead → ℕ → Framing → Front Got
@@ -33,15 +33,15 @@ media_head head n (Length size) = whole (opened head size) n
 media_head head n Chunked = refused LengthRequired
 
 -- what stands at the front, by a head of so many bytes that isn't refused
-abbrev pub framed : Bool → RequestHead → ℕ → List ℕ → Framing → Front Got
-framed media head n bytes framing =
-    if media then media_head head n framing else with_body head n (body_at framing bytes)
+abbrev pub framed_body : Bool → RequestHead → ℕ → List ℕ → Framing → Front Got
+framed_body media head n bytes framing =
+    if media then media_head head n framing else with_content head n (body_at framing bytes)
 
 -- the same, by a head's framing or refusal, and the bytes behind the head
 abbrev pub after_head : RequestHead → ℕ → List ℕ → Result Framing WireFault → Front Got
 after_head head n bytes (Err fault) = refused fault
 after_head head n bytes (Ok framing) =
-    framed (is_media head.method head.target) head n bytes framing
+    framed_body (is_media head.method head.target) head n bytes framing
 
 -- the same, by what stands at the front as a head
 abbrev pub after_read : List ℕ → Front RequestHead → Front Got

@@ -5,9 +5,9 @@ use Rattle.http_wire.specs.declared.framing.WireFault.{WireFault}
 use Rattle.http_wire.specs.declared.framing.WireFault.TheVariants.{BadFraming, BadHead, Coding, LengthRequired, TooLarge}
 
 -- the refusal that answers a fault of the wire
-abbrev pub refusal_of : WireFault → Refusal
-refusal_of BadHead = refusals.BadHead
-refusal_of BadFraming = refusals.BadFraming
-refusal_of LengthRequired = refusals.LengthRequired
-refusal_of TooLarge = refusals.TooLarge
-refusal_of Coding = refusals.Coding
+abbrev pub wire_refusal : WireFault → Refusal
+wire_refusal BadHead = refusals.BadHead
+wire_refusal BadFraming = refusals.BadFraming
+wire_refusal LengthRequired = refusals.LengthRequired
+wire_refusal TooLarge = refusals.TooLarge
+wire_refusal Coding = refusals.Coding

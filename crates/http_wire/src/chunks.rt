@@ -4,7 +4,7 @@ ghost use Rattle.std.specs.Vec.{vec_capacity};
 ghost use Rattle.http_wire.specs.Chunks.{coded_front, line_size};
 ghost use Rattle.http_wire.specs.Framing.{max_body};
 ghost use Rattle.http_wire.specs.Lines.{line_end};
-ghost use Rattle.http_wire.specs.Within.Reading.{FindsChunk, FindsChunked, FindsChunks, IsLine, IsLineSeen, Reached};
+ghost use Rattle.http_wire.specs.Within.Reading.{FindsChunk, FindsChunked, FindsChunks, IsLine, IsLineSeen, IsReached};
 
 use crate::chunk_line::{Ending, LineSeen, closed, find_line_behind, read_size, trailer};
 use crate::framing::{BODY_ROOM, WireFault};
@@ -120,7 +120,7 @@ fn room_behind(body: &Vec<u8>) -> usize
 
 /// Reads a chunked body from where it was read to, and puts its data behind what was read before.
 pub(crate) fn read_chunks(bytes: &[u8], start: Progress, body: &mut Vec<u8>) -> ChunksFound
-    requires reached { Reached bytes.now body.old.items start }
+    requires reached { IsReached bytes.now body.old.items start }
     requires room { max_body ≤ vec_capacity body.old }
     ensures found { FindsChunks bytes.now result body.new.items }
     ensures room { max_body ≤ vec_capacity body.new }
@@ -150,7 +150,7 @@ pub(crate) fn read_chunks(bytes: &[u8], start: Progress, body: &mut Vec<u8>) -> 
 
 /// Reads a chunked body with the limit of its coded bytes.
 pub(crate) fn read_chunked(bytes: &[u8], start: Progress, body: &mut Vec<u8>) -> ChunksFound
-    requires reached { Reached (coded_front bytes.now) body.old.items start }
+    requires reached { IsReached (coded_front bytes.now) body.old.items start }
     requires room { max_body ≤ vec_capacity body.old }
     ensures found { FindsChunked bytes.now result body.new.items }
     ensures room { max_body ≤ vec_capacity body.new }

@@ -1,6 +1,6 @@
 //! A feed cuts the bytes of a connection into requests, in whatever pieces they come.
 ghost use Rattle.std.specs.Prelude.{◌≡◌, ◌-◌, ◌+◌, ◌++◌, ◌↔◌, ◌≤◌, IfOk, IsFalse, IsTrue, drop, length, min, take};
-ghost use Rattle.http_wire.specs.Feeds.{Answers, IsInterimDue, IsPlace, bytes_at, feed_room, handed_on, heard, is_last, kept, left_of, new_feed};
+ghost use Rattle.http_wire.specs.Feeds.{StepsTo, IsInterimDue, IsPlace, span_bytes, feed_room, handed_on, heard, is_last_request, kept_count, left_of, new_feed};
 ghost use Rattle.http_wire.specs.Within.Seeing.{IsShown, KnowsHead};
 
 use crate::framing::BODY_ROOM;
@@ -95,7 +95,7 @@ impl Feed {
 
     /// Takes the first bytes of a piece for which there is room, and says how many. It takes no memory.
     pub fn push(&mut self, piece: &[u8]) -> usize
-        ensures count { result ≡ min (length piece.now) (feed_room - kept self.old) }
+        ensures count { result ≡ min (length piece.now) (feed_room - kept_count self.old) }
         ensures heard { self.new ≡ heard self.old (take result piece.now) }
     {
         let count = piece.len().min(KEPT_ROOM - self.kept.len());
@@ -108,7 +108,7 @@ impl Feed {
     pub fn next_request(&mut self) -> Step
         requires handed_on { left_of self.old.stage ≡ 0 }
         requires goes_on { IsFalse self.old.ended }
-        ensures { Answers self.old result self.new }
+        ensures { StepsTo self.old result self.new }
     {
         if let Stage::Failed(fault) = self.stage {
             return Step::Refused(fault.refusal());
@@ -159,7 +159,7 @@ impl Feed {
     /// The bytes at a place of the last head.
     pub fn bytes(&self, span: Span) -> &[u8]
         requires { IsPlace self.now span }
-        ensures { result.now ≡ bytes_at self.now span }
+        ensures { result.now ≡ span_bytes self.now span }
     {
         if span.start < KEPT_ROOM {
             part(self.kept.last(), span.start, span.length)
@@ -256,7 +256,7 @@ fn show_decoded(found: &FoundHead, size: usize, number: u64) -> Head
 
 /// Whether the connection ends behind the so many-th request.
 fn is_last(closes: bool, number: u64) -> bool
-    ensures { result ≡ is_last closes number }
+    ensures { result ≡ is_last_request closes number }
 {
     closes || number == MAX_REQUESTS
 }

@@ -2,7 +2,7 @@
 ghost use Rattle.std.specs.Prelude.{◌≡◌, All, length, not, option_copied};
 ghost use Rattle.std.specs.List.{list_any};
 ghost use Rattle.httparse.specs.Spans.{IsHeaderWithin};
-ghost use Rattle.http_wire.specs.Fields.{fields_at, first_of, read_length, same_text, values_of};
+ghost use Rattle.http_wire.specs.Fields.{fields_at, first_of, read_length, same_text, field_values};
 
 use httparse::spans::HeaderSpan;
 
@@ -23,7 +23,7 @@ pub(crate) fn first_value<'b>(
     name: &[u8],
 ) -> Option<&'b [u8]>
     requires { All (IsHeaderWithin (length bytes.now)) headers.now }
-    ensures { option_copied result ≡ first_of (values_of name.now (fields_at bytes.now headers.now)) }
+    ensures { option_copied result ≡ first_of (field_values name.now (fields_at bytes.now headers.now)) }
 {
     for header in headers {
         if same_text(header.name.of(bytes), name) {
@@ -36,7 +36,7 @@ pub(crate) fn first_value<'b>(
 /// How many values a name has.
 pub(crate) fn count_values(bytes: &[u8], headers: &[HeaderSpan], name: &[u8]) -> usize
     requires { All (IsHeaderWithin (length bytes.now)) headers.now }
-    ensures { result ≡ length (values_of name.now (fields_at bytes.now headers.now)) }
+    ensures { result ≡ length (field_values name.now (fields_at bytes.now headers.now)) }
 {
     let mut count = 0;
     for header in headers {
@@ -50,7 +50,7 @@ pub(crate) fn count_values(bytes: &[u8], headers: &[HeaderSpan], name: &[u8]) ->
 /// Whether some value of a name is this text.
 pub(crate) fn has_value(bytes: &[u8], headers: &[HeaderSpan], name: &[u8], text: &[u8]) -> bool
     requires { All (IsHeaderWithin (length bytes.now)) headers.now }
-    ensures { result ≡ list_any (same_text text.now) (values_of name.now (fields_at bytes.now headers.now)) }
+    ensures { result ≡ list_any (same_text text.now) (field_values name.now (fields_at bytes.now headers.now)) }
 {
     for header in headers {
         if same_text(header.name.of(bytes), name) && same_text(text, header.value.of(bytes)) {
@@ -64,7 +64,7 @@ pub(crate) fn has_value(bytes: &[u8], headers: &[HeaderSpan], name: &[u8], text:
 pub(crate) fn has_other(bytes: &[u8], headers: &[HeaderSpan], name: &[u8], text: &[u8]) -> bool
     requires { All (IsHeaderWithin (length bytes.now)) headers.now }
     ensures { result ≡ list_any (λ value. not (same_text text.now value))
-        (values_of name.now (fields_at bytes.now headers.now)) }
+        (field_values name.now (fields_at bytes.now headers.now)) }
 {
     for header in headers {
         if same_text(header.name.of(bytes), name) && !same_text(text, header.value.of(bytes)) {

@@ -1,8 +1,8 @@
 //! How a head's body is framed, and which head is refused (RFC 9112, section 6).
 ghost use Rattle.std.specs.Prelude.{◌≡◌, All, codes, length};
 ghost use Rattle.httparse.specs.Spans.{IsHeaderWithin};
-ghost use Rattle.http_wire.specs.Fields.{fields_at, values_of};
-ghost use Rattle.http_wire.specs.Framing.{declared, has_body, is_coded, judged, read_coding, read_same_length};
+ghost use Rattle.http_wire.specs.Fields.{fields_at, field_values};
+ghost use Rattle.http_wire.specs.Framing.{declared, has_body, is_coded, judged_framing, read_coding, read_same_length};
 
 use crate::fields::{count_values, first_value, has_other, read_length, same_text};
 use httparse::spans::HeaderSpan;
@@ -73,7 +73,7 @@ fn read_coding(minor: u8, count: usize, text: &[u8]) -> Option<Framing>
 fn read_same_length(bytes: &[u8], headers: &[HeaderSpan], text: &[u8]) -> Option<Framing>
     requires { All (IsHeaderWithin (length bytes.now)) headers.now }
     ensures { result
-        ≡ read_same_length (values_of (codes "content-length") (fields_at bytes.now headers.now)) text.now }
+        ≡ read_same_length (field_values (codes "content-length") (fields_at bytes.now headers.now)) text.now }
 {
     if has_other(bytes, headers, CONTENT_LENGTH, text) {
         return None;
@@ -98,7 +98,7 @@ pub(crate) fn judged(
     is_coded: bool,
     framing: Option<Framing>,
 ) -> Result<Framing, WireFault>
-    ensures { result ≡ judged is_media is_coded framing }
+    ensures { result ≡ judged_framing is_media is_coded framing }
 {
     let limit = if is_media { MAX_MEDIA } else { MAX_BODY };
     match framing {

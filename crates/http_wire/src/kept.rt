@@ -41,8 +41,8 @@ impl Model for Kept {
     ghost invariant = { λ k. record {
       order : k.start + k.taken ≤ k.read;
       inside : k.read ≤ vec_len k.bytes;
-      few : k.taken + (vec_len k.bytes - k.read) ≤ 8404993;
-      room : 16809986 ≤ vec_capacity k.bytes;
+      few : k.taken + (vec_len k.bytes - k.read) ≤ KEPT_ROOM;
+      room : BUFFER_ROOM ≤ vec_capacity k.bytes;
     } };
 }
 
@@ -69,7 +69,7 @@ impl Kept {
     /// The unread bytes.
     pub(crate) fn unread(&self) -> &[u8]
         ensures value { result.now ≡ self.now.unread }
-        ensures few { length result.now ≤ 8404993 }
+        ensures few { length result.now ≤ KEPT_ROOM }
     {
         after(&self.bytes, self.read)
     }
@@ -77,7 +77,7 @@ impl Kept {
     /// How many bytes are kept.
     pub(crate) fn len(&self) -> usize
         ensures size { result ≡ kept_size self.now }
-        ensures few { result ≤ 8404993 }
+        ensures few { result ≤ KEPT_ROOM }
     {
         self.taken + (self.bytes.len() - self.read)
     }
@@ -112,7 +112,7 @@ impl Kept {
 
     /// Adds bytes for which there is room.
     pub(crate) fn push(&mut self, piece: &[u8])
-        requires { kept_size self.old + length piece.now ≤ 8404993 }
+        requires { kept_size self.old + length piece.now ≤ KEPT_ROOM }
         ensures { self.new ≡ with_more piece.now self.old }
     {
         if self.taken + (self.bytes.len() - self.read) <= self.read - self.taken {

@@ -1,6 +1,6 @@
 //! Where a feed stands, and what it answers.
 ghost use Rattle.std.specs.Prelude.{◌≡◌};
-ghost use Rattle.http_wire.specs.Steps.{refusal_of};
+ghost use Rattle.http_wire.specs.Steps.{wire_refusal};
 
 use crate::framing::WireFault;
 use crate::head::{MethodKind, Span};
@@ -49,7 +49,7 @@ pub enum Step {
 impl WireFault {
     /// The refusal that is answered.
     pub(crate) fn refusal(self) -> Refusal
-        ensures { result ≡ refusal_of self }
+        ensures { result ≡ wire_refusal self }
     {
         match self {
             WireFault::BadHead => Refusal::BadHead,

@@ -18,13 +18,13 @@ use Rattle.media_rows.specs.declared.segment.Segment.{Segment}
 use Rattle.json_bodies.specs.declared.fault.Breach.{Breach}
 use Rattle.json_bodies.specs.declared.fault.Breach.TheVariants.{Missing, WrongKind, TooLong, OutOfRange, BadTimerange}
 use Rattle.json_bodies.specs.Body.{json_in, without_fraction, value_in, checked_object}
-use Rattle.json_bodies.specs.Flow.{same_id, anything, format, tags, essence, origin_of, named_source, texts_of, numbers_of, contents_of, flow_of, flow_in}
-use Rattle.json_bodies.specs.Hook.{address, events, ids, hook_of, hook_in}
-use Rattle.json_bodies.specs.Part.{part_of, part_in}
+use Rattle.json_bodies.specs.Flow.{same_id, anything, format, tags, essence, origin_of, named_source, flow_texts, numbers_of, flow_contents, flow_body_of, flow_in}
+use Rattle.json_bodies.specs.Hook.{address, events, ids, hook_from, hook_in}
+use Rattle.json_bodies.specs.Part.{part_from, part_in}
 use Rattle.json_bodies.specs.Refusals.{is_body_refusal}
-use Rattle.json_bodies.specs.Kinds.{counted, object_id_value, tag_rule, collection}
-use Rattle.json_bodies.specs.Rules.{◌>>=◌, named, optional, required, absent_or, if_required, id, text, truth, whole, longest_text, longest_description, last_whole}
-use Rattle.json_bodies.specs.Segments.{object_id, bounded, offset, duration, whole_number, samples_of, segment_of, segments_of, segments_in_items, post_items, segments_in}
+use Rattle.json_bodies.specs.Kinds.{counted_items, object_id_value, tag_rule, collection}
+use Rattle.json_bodies.specs.Rules.{◌>>=◌, named_result, optional_member, required, absent_or, if_required, id, text, truth, whole, longest_text, longest_description, last_whole}
+use Rattle.json_bodies.specs.Segments.{object_id, bounded, offset, duration, whole_number, samples_of, segment_of, segments_from, segments_in_items, post_items, segments_in}
 use Rattle.json_bodies.specs.Storage.{most_objects, count_in, want_from, want_of, want_in}
 
 -- a refusal, where there is one, is one of a body
@@ -42,7 +42,7 @@ chain (Ok x) next h k = k x
 chain (Err why) next h k = record { is = h.is }
 
 -- so it is for a member
-member_of : {X : Type 0} (name : List ℕ) (given : Result X Breach) → IsOfBodies (named name given)
+member_of : {X : Type 0} (name : List ℕ) (given : Result X Breach) → IsOfBodies (named_result name given)
 member_of name (Ok x) = fine
 member_of name (Err Missing) = record { is = refl }
 member_of name (Err WrongKind) = record { is = refl }
@@ -52,12 +52,12 @@ member_of name (Err BadTimerange) = record { is = refl }
 
 -- for a member, and what goes on with it
 after : {X Y : Type 0} (name : List ℕ) (given : Result X Breach) (next : X → Result Y Refusal) → ((x : X) → IsOfBodies (next x))
-    → IsOfBodies (named name given >>= next)
-after name given next k = chain (named name given) next (member_of name given) k
+    → IsOfBodies (named_result name given >>= next)
+after name given next k = chain (named_result name given) next (member_of name given) k
 
 -- for a member that may be absent, and one that has to be there
 may : {X Y : Type 0} (name : List ℕ) (rule : Data → Result X Breach) (fields : Data) (next : Option X → Result Y Refusal)
-    → ((x : Option X) → IsOfBodies (next x)) → IsOfBodies (optional name rule fields >>= next)
+    → ((x : Option X) → IsOfBodies (next x)) → IsOfBodies (optional_member name rule fields >>= next)
 may name rule fields next k = after name (absent_or rule (get name fields)) next k
 
 must : {X Y : Type 0} (name : List ℕ) (rule : Data → Result X Breach) (fields : Data) (next : X → Result Y Refusal)
@@ -97,7 +97,7 @@ origin fields =
     may (codes "source_id") id fields _ (λ found. must (codes "format") anything fields _
     (λ _. chain (named_source found) _ (source_of found) (λ source. must (codes "format") format fields _ (λ kind. fine))))
 
-texts : (fields : Data) → IsOfBodies (texts_of fields)
+texts : (fields : Data) → IsOfBodies (flow_texts fields)
 texts fields =
     may (codes "codec") (text longest_text) fields _ (λ codec. may (codes "container") (text longest_text) fields _
     (λ container. may (codes "label") (text longest_text) fields _
@@ -108,18 +108,18 @@ numbers fields =
     may (codes "read_only") truth fields _ (λ mark. may (codes "max_bit_rate") (whole 0 last_whole) fields _
     (λ most. may (codes "avg_bit_rate") (whole 0 last_whole) fields _ (λ average. fine)))
 
-contents : (fields : Data) → IsOfBodies (contents_of fields)
+contents : (fields : Data) → IsOfBodies (flow_contents fields)
 contents fields =
     may (codes "tags") tags fields _ (λ found. may (codes "flow_collection") collection fields _
     (λ members. may (codes "essence_parameters") essence fields _ (λ text. fine)))
 
-flow : (id : ℕ) (fields : Data) → IsOfBodies (flow_of id fields)
+flow : (id : ℕ) (fields : Data) → IsOfBodies (flow_body_of id fields)
 flow id fields =
-    may (codes "id") (same_id id) fields _ (λ _. chain (origin_of fields) _ (origin fields) (λ origin. chain (texts_of fields) _ (texts fields)
-    (λ texts. chain (numbers_of fields) _ (numbers fields) (λ numbers. chain (contents_of fields) _ (contents fields) (λ contents. fine)))))
+    may (codes "id") (same_id id) fields _ (λ _. chain (origin_of fields) _ (origin fields) (λ origin. chain (flow_texts fields) _ (texts fields)
+    (λ texts. chain (numbers_of fields) _ (numbers fields) (λ numbers. chain (flow_contents fields) _ (contents fields) (λ contents. fine)))))
 
 pub of_flow : (id : ℕ) (body : List ℕ) → IsOfBodies (flow_in id body)
-of_flow id body = body_of body (flow_of id) (flow id)
+of_flow id body = body_of body (flow_body_of id) (flow id)
 
 -- ---- segments
 
@@ -134,10 +134,10 @@ segment fields =
     (λ range. may (codes "ts_offset") offset fields _ (λ offset. may (codes "last_duration") duration fields _
     (λ duration. chain (samples_of fields) _ (samples fields) (λ samples. fine)))))
 
-segments : (values : Items) → IsOfBodies (segments_of values)
+segments : (values : Items) → IsOfBodies (segments_from values)
 segments no_items = fine
 segments (item value values) =
-    chain (segment_of value) _ (segment value) (λ first. chain (segments_of values) _ (segments values) (λ later. fine))
+    chain (segment_of value) _ (segment value) (λ first. chain (segments_from values) _ (segments values) (λ later. fine))
 
 posted : (values : Option Items) → IsOfBodies (segments_in_items values)
 posted None = record { is = refl }
@@ -160,18 +160,18 @@ pub of_storage : (body : List ℕ) → IsOfBodies (want_in body)
 of_storage [] = fine
 of_storage (byte ∷ bytes) =
     body_of (byte ∷ bytes) want_of
-    (λ fields. may (codes "object_ids") (counted object_id_value 1 most_objects) fields (want_from fields) (λ ids. want_by fields ids))
+    (λ fields. may (codes "object_ids") (counted_items object_id_value 1 most_objects) fields (want_from fields) (λ ids. want_by fields ids))
 
-hook : (fields : Data) → IsOfBodies (hook_of fields)
+hook : (fields : Data) → IsOfBodies (hook_from fields)
 hook fields =
     must (codes "url") address fields _ (λ url. must (codes "events") events fields _
     (λ kinds. may (codes "api_key_name") (text longest_text) fields _ (λ name. may (codes "api_key_value") (text longest_text) fields _
     (λ value. may (codes "flow_ids") ids fields _ (λ flows. may (codes "source_ids") ids fields _ (λ sources. fine))))))
 
 pub of_hook : (body : List ℕ) → IsOfBodies (hook_in body)
-of_hook body = body_of body hook_of hook
+of_hook body = body_of body hook_from hook
 
-part : (name : PartName) (value : Data) → IsOfBodies (part_of name value)
+part : (name : PartName) (value : Data) → IsOfBodies (part_from name value)
 part (names.Tag name) value = after (codes "tags") (tag_rule name value) _ (λ tag. fine)
 part names.Tags value = record { is = refl }
 part names.Label value = after (codes "label") (text longest_text value) _ (λ label. fine)
@@ -182,4 +182,4 @@ part names.MaxBitRate value = after (codes "max_bit_rate") (whole 0 last_whole v
 part names.AvgBitRate value = after (codes "avg_bit_rate") (whole 0 last_whole value) _ (λ rate. fine)
 
 pub of_part : (name : PartName) (body : List ℕ) → IsOfBodies (part_in name body)
-of_part name body = chain (value_in body) (part_of name) (value_of (json_in body)) (part name)
+of_part name body = chain (value_in body) (part_from name) (value_of (json_in body)) (part name)

@@ -25,10 +25,10 @@ AnswersValue found (Err (bodies.Refused why)) = found ≡ Err why
 AnswersValue found (Err bodies.Memory) = Unit {0}
 
 -- the answer is what a rule gives
-abbrev pub Keeps : {T : Type 0} → Result T Breach → Result T RuleFault → Type 0
-Keeps given (Ok x) = given ≡ Ok x
-Keeps given (Err (rules.Breach breach)) = given ≡ Err breach
-Keeps given (Err rules.Memory) = Unit {0}
+abbrev pub KeepsBreach : {T : Type 0} → Result T Breach → Result T RuleFault → Type 0
+KeepsBreach given (Ok x) = given ≡ Ok x
+KeepsBreach given (Err (rules.Breach breach)) = given ≡ Err breach
+KeepsBreach given (Err rules.Memory) = Unit {0}
 
 -- the answer for a fault of a rule, at the member of this name
 abbrev pub IsFaultOf : {T : Type 0} → List ℕ → RuleFault → Result T BodyFault → Type 0

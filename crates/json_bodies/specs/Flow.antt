@@ -16,15 +16,15 @@ use Rattle.json_bodies.specs.declared.flow.Origin.{Origin}
 use Rattle.json_bodies.specs.declared.flow.FlowTexts.{FlowTexts}
 use Rattle.json_bodies.specs.declared.flow.FlowNumbers.{FlowNumbers}
 use Rattle.json_bodies.specs.declared.flow.FlowContents.{FlowContents}
-use Rattle.json_bodies.specs.Rules.{◌>>=◌, optional, required, judged, of_kind, has_at_most, id, id_value, text, truth, whole, longest_text, longest_description, last_whole}
-use Rattle.json_bodies.specs.Kinds.{tested, with_item, tag_value, has_short_values, collection}
+use Rattle.json_bodies.specs.Rules.{◌>>=◌, optional_member, required, judged, of_kind, has_at_most, id, id_of_value, text, truth, whole, longest_text, longest_description, last_whole}
+use Rattle.json_bodies.specs.Kinds.{tested, with_item, tag_of_value, has_short_values, collection}
 use Rattle.json_bodies.specs.Body.{value_in, checked_object}
 
 -- ---- the id, the source and the format
 
 -- the id that the path names
 abbrev pub same_id : ℕ → Data → Result ℕ Breach
-same_id id value = of_kind (option_and_then (tested (λ other. other == id)) (id_value value))
+same_id id value = of_kind (option_and_then (tested (λ other. other == id)) (id_of_value value))
 
 -- the format of a name
 abbrev pub format_of : List ℕ → Option FormatKind
@@ -47,7 +47,7 @@ named_source (Some source) = Ok source
 -- there, then the source, and then the format is tested.
 abbrev pub origin_of : Data → Result Origin Refusal
 origin_of fields =
-    optional (codes "source_id") id fields >>= λ found.
+    optional_member (codes "source_id") id fields >>= λ found.
     required (codes "format") anything fields >>= λ _.
     named_source found >>= λ source.
     required (codes "format") format fields >>= λ kind.
@@ -56,20 +56,20 @@ origin_of fields =
 -- ---- texts and numbers
 
 -- the texts of a flow
-abbrev pub texts_of : Data → Result FlowTexts Refusal
-texts_of fields =
-    optional (codes "codec") (text longest_text) fields >>= λ codec.
-    optional (codes "container") (text longest_text) fields >>= λ container.
-    optional (codes "label") (text longest_text) fields >>= λ label.
-    optional (codes "description") (text longest_description) fields >>= λ description.
+abbrev pub flow_texts : Data → Result FlowTexts Refusal
+flow_texts fields =
+    optional_member (codes "codec") (text longest_text) fields >>= λ codec.
+    optional_member (codes "container") (text longest_text) fields >>= λ container.
+    optional_member (codes "label") (text longest_text) fields >>= λ label.
+    optional_member (codes "description") (text longest_description) fields >>= λ description.
     Ok (record { codec = codec; container = container; label = label; description = description })
 
 -- the mark and the numbers of a flow
 abbrev pub numbers_of : Data → Result FlowNumbers Refusal
 numbers_of fields =
-    optional (codes "read_only") truth fields >>= λ mark.
-    optional (codes "max_bit_rate") (whole 0 last_whole) fields >>= λ max_bit_rate.
-    optional (codes "avg_bit_rate") (whole 0 last_whole) fields >>= λ avg_bit_rate.
+    optional_member (codes "read_only") truth fields >>= λ mark.
+    optional_member (codes "max_bit_rate") (whole 0 last_whole) fields >>= λ max_bit_rate.
+    optional_member (codes "avg_bit_rate") (whole 0 last_whole) fields >>= λ avg_bit_rate.
     Ok (record {
       read_only = unwrap_or mark false;
       max_bit_rate = max_bit_rate;
@@ -89,7 +89,7 @@ longest_tag_name = 128
 -- the tags that members are, by their names, where each is one
 abbrev pub each_tag : Members → Option (List Tag)
 each_tag no_members = Some []
-each_tag (member name value members) = with_item (tag_value name value) (each_tag members)
+each_tag (member name value members) = with_item (tag_of_value name value) (each_tag members)
 
 -- a tag's name and its values are of allowed length
 abbrev pub is_short_tag : Tag → Bool
@@ -113,23 +113,23 @@ abbrev pub essence : Data → Result (List ℕ) Breach
 essence value = of_kind (option_map compact_text (tested is_object value))
 
 -- what a flow holds besides
-abbrev pub contents_of : Data → Result FlowContents Refusal
-contents_of fields =
-    optional (codes "tags") tags fields >>= λ found.
-    optional (codes "flow_collection") collection fields >>= λ members.
-    optional (codes "essence_parameters") essence fields >>= λ essence.
+abbrev pub flow_contents : Data → Result FlowContents Refusal
+flow_contents fields =
+    optional_member (codes "tags") tags fields >>= λ found.
+    optional_member (codes "flow_collection") collection fields >>= λ members.
+    optional_member (codes "essence_parameters") essence fields >>= λ essence.
     Ok (record { tags = unwrap_or found []; members = unwrap_or members []; essence = essence })
 
 -- ---- the flow
 
 -- the flow of an id that an object spells
-abbrev pub flow_of : ℕ → Data → Result FlowBody Refusal
-flow_of id fields =
-    optional (codes "id") (same_id id) fields >>= λ _.
+abbrev pub flow_body_of : ℕ → Data → Result FlowBody Refusal
+flow_body_of id fields =
+    optional_member (codes "id") (same_id id) fields >>= λ _.
     origin_of fields >>= λ origin.
-    texts_of fields >>= λ texts.
+    flow_texts fields >>= λ texts.
     numbers_of fields >>= λ numbers.
-    contents_of fields >>= λ contents.
+    flow_contents fields >>= λ contents.
     Ok (record {
       id = id;
       source = origin.source;
@@ -148,4 +148,4 @@ flow_of id fields =
 
 -- the flow of an id that a body spells
 abbrev pub flow_in : ℕ → List ℕ → Result FlowBody Refusal
-flow_in id body = value_in body >>= λ value. checked_object value >>= λ _. flow_of id value
+flow_in id body = value_in body >>= λ value. checked_object value >>= λ _. flow_body_of id value

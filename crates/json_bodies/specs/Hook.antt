@@ -13,8 +13,8 @@ use Rattle.media_rows.specs.Good.{if_there}
 use Rattle.media_rows.specs.Lists.{each_pair}
 use Rattle.json_bodies.specs.declared.fault.Breach.{Breach}
 use Rattle.json_bodies.specs.declared.fault.Breach.TheVariants.{WrongKind, TooLong}
-use Rattle.json_bodies.specs.Rules.{◌>>=◌, optional, required, of_kind, has_at_most, text, id_value, longest_text}
-use Rattle.json_bodies.specs.Kinds.{counted, list_of, tested}
+use Rattle.json_bodies.specs.Rules.{◌>>=◌, optional_member, required, of_kind, has_at_most, text, id_of_value, longest_text}
+use Rattle.json_bodies.specs.Kinds.{counted_items, items_of_value, tested}
 use Rattle.json_bodies.specs.Body.{value_in, checked_object}
 
 -- ---- addresses
@@ -58,20 +58,20 @@ abbrev pub event_of : List ℕ → Option EventKind
 event_of name = find (λ kind. bytes_eq name (event_name kind)) all_events
 
 -- the event that a text names
-abbrev pub event_value : Data → Option EventKind
-event_value value = option_and_then event_of (as_str value)
+abbrev pub event_kind_of : Data → Option EventKind
+event_kind_of value = option_and_then event_of (as_str value)
 
 -- two events aren't the same
 abbrev pub is_other_event : EventKind → EventKind → Bool
 is_other_event a b = not (event_number a == event_number b)
 
 -- no event stands twice
-abbrev pub are_distinct : List EventKind → Bool
-are_distinct kinds = each_pair is_other_event kinds
+abbrev pub are_kinds_distinct : List EventKind → Bool
+are_kinds_distinct kinds = each_pair is_other_event kinds
 
 -- a list of names of events, of which none stands twice
 abbrev pub events : Data → Result (List EventKind) Breach
-events value = of_kind (option_and_then (tested are_distinct) (list_of event_value value))
+events value = of_kind (option_and_then (tested are_kinds_distinct) (items_of_value event_kind_of value))
 
 -- ---- the hook
 
@@ -81,17 +81,17 @@ most_ids = 256
 
 -- a list of ids
 abbrev pub ids : Data → Result (List ℕ) Breach
-ids value = counted id_value 0 most_ids value
+ids value = counted_items id_of_value 0 most_ids value
 
 -- the hook that an object spells
-abbrev pub hook_of : Data → Result Hook Refusal
-hook_of fields =
+abbrev pub hook_from : Data → Result Hook Refusal
+hook_from fields =
     required (codes "url") address fields >>= λ url.
     required (codes "events") events fields >>= λ events.
-    optional (codes "api_key_name") (text longest_text) fields >>= λ key_name.
-    optional (codes "api_key_value") (text longest_text) fields >>= λ key_value.
-    optional (codes "flow_ids") ids fields >>= λ flow_ids.
-    optional (codes "source_ids") ids fields >>= λ source_ids.
+    optional_member (codes "api_key_name") (text longest_text) fields >>= λ key_name.
+    optional_member (codes "api_key_value") (text longest_text) fields >>= λ key_value.
+    optional_member (codes "flow_ids") ids fields >>= λ flow_ids.
+    optional_member (codes "source_ids") ids fields >>= λ source_ids.
     Ok (record {
       url = url;
       events = events;
@@ -103,7 +103,7 @@ hook_of fields =
 
 -- the hook that a body spells
 abbrev pub hook_in : List ℕ → Result Hook Refusal
-hook_in body = value_in body >>= λ value. checked_object value >>= λ _. hook_of value
+hook_in body = value_in body >>= λ value. checked_object value >>= λ _. hook_from value
 
 -- each text of a hook is UTF-8
 abbrev pub has_hook_texts : Hook → Bool

@@ -10,7 +10,7 @@ use Rattle.media_rows.specs.Good.{if_there}
 use Rattle.media_rows.specs.Ids.{is_object_id}
 use Rattle.media_rows.specs.Lists.{or_else}
 use Rattle.json_bodies.specs.declared.fault.Breach.{Breach}
-use Rattle.json_bodies.specs.Rules.{judged, is_any, has_at_most, has_between, id_value, longest_text}
+use Rattle.json_bodies.specs.Rules.{judged, is_any, has_at_most, has_between, id_of_value, longest_text}
 
 -- an item of a kind and the rest of its list
 abbrev pub with_item : {X : Type 0} → Option X → Option (List X) → Option (List X)
@@ -22,12 +22,12 @@ each_item kind no_items = Some []
 each_item kind (item value values) = with_item (kind value) (each_item kind values)
 
 -- a list, each item of which is of the kind
-abbrev pub list_of : {X : Type 0} → (Data → Option X) → Data → Option (List X)
-list_of kind value = option_and_then (each_item kind) (as_array value)
+abbrev pub items_of_value : {X : Type 0} → (Data → Option X) → Data → Option (List X)
+items_of_value kind value = option_and_then (each_item kind) (as_array value)
 
 -- a list with as many items as are allowed
-abbrev pub counted : {X : Type 0} → (Data → Option X) → ℕ → ℕ → Data → Result (List X) Breach
-counted kind least most value = judged is_any (has_between least most) (list_of kind value)
+abbrev pub counted_items : {X : Type 0} → (Data → Option X) → ℕ → ℕ → Data → Result (List X) Breach
+counted_items kind least most value = judged is_any (has_between least most) (items_of_value kind value)
 
 -- what passes a test
 abbrev pub tested : {X : Type 0} → (X → Bool) → X → Option X
@@ -50,10 +50,10 @@ abbrev pub listed_tag : List ℕ → List (List ℕ) → Tag
 listed_tag name values = record { name = name; single = false; values = values }
 
 -- a tag, whose value is a text or a list of texts
-abbrev pub tag_value : List ℕ → Data → Option Tag
-tag_value name value =
+abbrev pub tag_of_value : List ℕ → Data → Option Tag
+tag_of_value name value =
     or_else (option_map (single_tag name) (as_str value))
-    (option_map (listed_tag name) (list_of as_str value))
+    (option_map (listed_tag name) (items_of_value as_str value))
 
 -- no value of a tag is longer than a text may be
 abbrev pub has_short_values : Tag → Bool
@@ -61,7 +61,7 @@ has_short_values tag = list_all (has_at_most longest_text) tag.values
 
 -- a tag with values of allowed length
 abbrev pub tag_rule : List ℕ → Data → Result Tag Breach
-tag_rule name value = judged has_short_values is_any (tag_value name value)
+tag_rule name value = judged has_short_values is_any (tag_of_value name value)
 
 -- ---- collected flows
 
@@ -82,7 +82,7 @@ member_with flow role = record { flow = flow; role = role }
 abbrev pub member_value : Data → Option Member
 member_value value = option_and_then
     (λ flow. option_map (member_with flow) (role_value (get (codes "role") value)))
-    (option_and_then id_value (get (codes "id") value))
+    (option_and_then id_of_value (get (codes "id") value))
 
 -- a role is no longer than a text may be
 abbrev pub has_short_role : Member → Bool
@@ -91,4 +91,4 @@ has_short_role member = if_there (has_at_most longest_text) member.role
 -- the flows that a flow collects
 abbrev pub collection : Data → Result (List Member) Breach
 collection value =
-    judged (list_all has_short_role) (has_at_most most_members) (list_of member_value value)
+    judged (list_all has_short_role) (has_at_most most_members) (items_of_value member_value value)

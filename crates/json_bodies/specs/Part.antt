@@ -10,59 +10,47 @@ use Rattle.media_rows.specs.declared.part.PartName.TheVariants as names
 use Rattle.media_rows.specs.declared.refusal.Refusal.{Refusal}
 use Rattle.media_rows.specs.declared.refusal.Refusal.TheVariants as refusals
 use Rattle.media_rows.specs.Good.{if_there, is_tag_text, is_member_text}
-use Rattle.json_bodies.specs.Rules.{◌>>=◌, named, text, truth, whole, longest_text, longest_description, last_whole}
+use Rattle.json_bodies.specs.Rules.{◌>>=◌, named_result, text, truth, whole, longest_text, longest_description, last_whole}
 use Rattle.json_bodies.specs.Kinds.{tag_rule, collection}
 use Rattle.json_bodies.specs.Body.{value_in}
 
 -- the name stands for all tags, which aren't set at once
 abbrev pub is_all_tags : PartName → Bool
-is_all_tags (names.Tag name) = false
 is_all_tags names.Tags = true
-is_all_tags names.Label = false
-is_all_tags names.Description = false
-is_all_tags names.ReadOnly = false
-is_all_tags names.Collection = false
-is_all_tags names.MaxBitRate = false
-is_all_tags names.AvgBitRate = false
+is_all_tags _ = false
 
 -- a bit rate
 abbrev pub rate : List ℕ → Data → Result ℕ Refusal
-rate name value = named name (whole 0 last_whole value)
+rate name value = named_result name (whole 0 last_whole value)
 
 -- The part that a value spells. A fault names the part, for a tag `tags`; that all tags are set is
 -- never asked.
-abbrev pub part_of : PartName → Data → Result Part Refusal
-part_of (names.Tag name) value =
-    named (codes "tags") (tag_rule name value) >>= λ tag. Ok (parts.Tag name (Some tag))
-part_of names.Tags value = Err (refusals.WrongKind (codes "tags"))
-part_of names.Label value =
-    named (codes "label") (text longest_text value) >>= λ label. Ok (parts.Label (Some label))
-part_of names.Description value =
-    named (codes "description") (text longest_description value)
+abbrev pub part_from : PartName → Data → Result Part Refusal
+part_from (names.Tag name) value =
+    named_result (codes "tags") (tag_rule name value) >>= λ tag. Ok (parts.Tag name (Some tag))
+part_from names.Tags value = Err (refusals.WrongKind (codes "tags"))
+part_from names.Label value =
+    named_result (codes "label") (text longest_text value) >>= λ label. Ok (parts.Label (Some label))
+part_from names.Description value =
+    named_result (codes "description") (text longest_description value)
     >>= λ description. Ok (parts.Description (Some description))
-part_of names.ReadOnly value =
-    named (codes "read_only") (truth value) >>= λ mark. Ok (parts.ReadOnly mark)
-part_of names.Collection value =
-    named (codes "flow_collection") (collection value) >>= λ members. Ok (parts.Collection members)
-part_of names.MaxBitRate value =
+part_from names.ReadOnly value =
+    named_result (codes "read_only") (truth value) >>= λ mark. Ok (parts.ReadOnly mark)
+part_from names.Collection value =
+    named_result (codes "flow_collection") (collection value) >>= λ members. Ok (parts.Collection members)
+part_from names.MaxBitRate value =
     rate (codes "max_bit_rate") value >>= λ rate. Ok (parts.MaxBitRate (Some rate))
-part_of names.AvgBitRate value =
+part_from names.AvgBitRate value =
     rate (codes "avg_bit_rate") value >>= λ rate. Ok (parts.AvgBitRate (Some rate))
 
 -- the part that a body spells
 abbrev pub part_in : PartName → List ℕ → Result Part Refusal
-part_in name body = value_in body >>= part_of name
+part_in name body = value_in body >>= part_from name
 
 -- a tag's name is UTF-8
 abbrev pub is_name_text : PartName → Bool
 is_name_text (names.Tag name) = is_utf8 name
-is_name_text names.Tags = true
-is_name_text names.Label = true
-is_name_text names.Description = true
-is_name_text names.ReadOnly = true
-is_name_text names.Collection = true
-is_name_text names.MaxBitRate = true
-is_name_text names.AvgBitRate = true
+is_name_text _ = true
 
 -- each text of a part is UTF-8
 abbrev pub is_part_text : Part → Bool

@@ -83,12 +83,12 @@ abbrev pub whole : ℕ → ℕ → Data → Result ℕ Breach
 whole least most value = ranged least most (as_number value)
 
 -- the id that a text spells
-abbrev pub id_value : Data → Option ℕ
-id_value value = option_and_then id_of (as_str value)
+abbrev pub id_of_value : Data → Option ℕ
+id_of_value value = option_and_then id_of (as_str value)
 
 -- an id
 abbrev pub id : Data → Result ℕ Breach
-id value = of_kind (id_value value)
+id value = of_kind (id_of_value value)
 
 -- ---- members of an object
 
@@ -101,9 +101,9 @@ breach_of name OutOfRange = refusals.OutOfRange name
 breach_of name BadTimerange = refusals.BadTimerange name
 
 -- what a rule gives, where a breach is the refusal of the member of this name
-abbrev pub named : {X : Type 0} → List ℕ → Result X Breach → Result X Refusal
-named name (Ok x) = Ok x
-named name (Err breach) = Err (breach_of name breach)
+abbrev pub named_result : {X : Type 0} → List ℕ → Result X Breach → Result X Refusal
+named_result name (Ok x) = Ok x
+named_result name (Err breach) = Err (breach_of name breach)
 
 -- what a rule gives of a value that is there
 abbrev pub some_of : {X : Type 0} → Result X Breach → Result (Option X) Breach
@@ -122,10 +122,10 @@ if_required rule None = Err Missing
 if_required rule (Some value) = rule value
 
 -- a member that may be absent; `null` is a value
-abbrev pub optional : {X : Type 0} → List ℕ → (Data → Result X Breach) → Data
+abbrev pub optional_member : {X : Type 0} → List ℕ → (Data → Result X Breach) → Data
     → Result (Option X) Refusal
-optional name rule fields = named name (absent_or rule (get name fields))
+optional_member name rule fields = named_result name (absent_or rule (get name fields))
 
 -- a member that has to be there
 abbrev pub required : {X : Type 0} → List ℕ → (Data → Result X Breach) → Data → Result X Refusal
-required name rule fields = named name (if_required rule (get name fields))
+required name rule fields = named_result name (if_required rule (get name fields))

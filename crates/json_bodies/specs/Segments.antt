@@ -13,7 +13,7 @@ use Rattle.media_rows.specs.Ranges.{has_both_ends}
 use Rattle.json_bodies.specs.declared.fault.Breach.{Breach}
 use Rattle.json_bodies.specs.declared.fault.Breach.TheVariants.{WrongKind, BadTimerange}
 use Rattle.json_bodies.specs.declared.segments.Samples.{Samples}
-use Rattle.json_bodies.specs.Rules.{◌>>=◌, optional, required, of_kind, is_any, whole, last_whole}
+use Rattle.json_bodies.specs.Rules.{◌>>=◌, optional_member, required, of_kind, is_any, whole, last_whole}
 use Rattle.json_bodies.specs.Kinds.{tested, object_id_value}
 use Rattle.json_bodies.specs.Body.{value_in}
 
@@ -59,9 +59,9 @@ whole_number value = whole 0 last_whole value
 -- what a segment says of samples
 abbrev pub samples_of : Data → Result Samples Refusal
 samples_of fields =
-    optional (codes "sample_offset") whole_number fields >>= λ offset.
-    optional (codes "sample_count") whole_number fields >>= λ count.
-    optional (codes "key_frame_count") whole_number fields >>= λ key_frames.
+    optional_member (codes "sample_offset") whole_number fields >>= λ offset.
+    optional_member (codes "sample_count") whole_number fields >>= λ count.
+    optional_member (codes "key_frame_count") whole_number fields >>= λ key_frames.
     Ok (record { offset = unwrap_or offset 0; count = count; key_frames = key_frames })
 
 -- the segment that an object spells
@@ -69,8 +69,8 @@ abbrev pub segment_of : Data → Result Segment Refusal
 segment_of fields =
     required (codes "object_id") object_id fields >>= λ id.
     required (codes "timerange") bounded fields >>= λ range.
-    optional (codes "ts_offset") offset fields >>= λ ts_offset.
-    optional (codes "last_duration") duration fields >>= λ last_duration.
+    optional_member (codes "ts_offset") offset fields >>= λ ts_offset.
+    optional_member (codes "last_duration") duration fields >>= λ last_duration.
     samples_of fields >>= λ samples.
     Ok (record {
       object = id;
@@ -110,15 +110,15 @@ post_items value =
     else option_and_then (tested is_post_list) (as_array value)
 
 -- the segments of objects, or the first refusal in the first object that has one
-abbrev pub segments_of : Items → Result (List Segment) Refusal
-segments_of no_items = Ok []
-segments_of (item value values) =
-    segment_of value >>= λ first. segments_of values >>= λ later. Ok (first ∷ later)
+abbrev pub segments_from : Items → Result (List Segment) Refusal
+segments_from no_items = Ok []
+segments_from (item value values) =
+    segment_of value >>= λ first. segments_from values >>= λ later. Ok (first ∷ later)
 
 -- the segments of a post
 abbrev pub segments_in_items : Option Items → Result (List Segment) Refusal
 segments_in_items None = Err (OutOfRange (codes "body"))
-segments_in_items (Some values) = segments_of values
+segments_in_items (Some values) = segments_from values
 
 -- the segments that a body posts
 abbrev pub segments_in : List ℕ → Result (List Segment) Refusal

@@ -1,13 +1,11 @@
 -- Bodies that ask for objects: so many of them, or these.
-use Rattle.std.specs.Prelude.{ℕ, List, [], ◌∷◌, Bool, true, Option, Some, None, Result, Ok, unwrap_or, codes}
-use Rattle.std.specs.List.{list_all}
+use Rattle.std.specs.Prelude.{ℕ, List, [], ◌∷◌, Option, Some, None, Result, Ok, unwrap_or, codes}
 use Rattle.serde_json.specs.Data.{Data}
 use Rattle.media_rows.specs.declared.command.Want.{Want}
 use Rattle.media_rows.specs.declared.command.Want.TheVariants as wants
 use Rattle.media_rows.specs.declared.refusal.Refusal.{Refusal}
-use Rattle.media_rows.specs.Ids.{is_object_id}
-use Rattle.json_bodies.specs.Rules.{◌>>=◌, optional, whole}
-use Rattle.json_bodies.specs.Kinds.{counted, object_id_value}
+use Rattle.json_bodies.specs.Rules.{◌>>=◌, optional_member, whole}
+use Rattle.json_bodies.specs.Kinds.{counted_items, object_id_value}
 use Rattle.json_bodies.specs.Body.{value_in, checked_object}
 
 -- the most objects that are asked for at once
@@ -21,7 +19,7 @@ usual_objects = 100
 -- as many objects as `limit` says, or the usual number
 abbrev pub count_in : Data → Result Want Refusal
 count_in fields =
-    optional (codes "limit") (whole 1 most_objects) fields
+    optional_member (codes "limit") (whole 1 most_objects) fields
     >>= λ limit. Ok (wants.Count (unwrap_or limit usual_objects))
 
 -- these objects, where `object_ids` names them, and else so many
@@ -32,7 +30,7 @@ want_from fields None = count_in fields
 -- What an object asks for. Where `object_ids` is there, `limit` isn't looked at.
 abbrev pub want_of : Data → Result Want Refusal
 want_of fields =
-    optional (codes "object_ids") (counted object_id_value 1 most_objects) fields
+    optional_member (codes "object_ids") (counted_items object_id_value 1 most_objects) fields
     >>= want_from fields
 
 -- what a body asks for, which may be absent
@@ -41,7 +39,3 @@ want_in [] = Ok (wants.Count usual_objects)
 want_in (byte ∷ bytes) =
     value_in (byte ∷ bytes) >>= λ value. checked_object value >>= λ _. want_of value
 
--- each id that is named is an object's
-abbrev pub is_want_good : Want → Bool
-is_want_good (wants.Count n) = true
-is_want_good (wants.Named ids) = list_all is_object_id ids

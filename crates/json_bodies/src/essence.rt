@@ -7,7 +7,7 @@ ghost use Rattle.media_rows.specs.Good.{if_there};
 ghost use Rattle.json_bodies.specs.Answers.{Answers};
 ghost use Rattle.json_bodies.specs.Flow.{essence};
 ghost use Rattle.json_bodies.specs.Plain.{IsPlain};
-ghost use Rattle.json_bodies.specs.Rules.{optional, named};
+ghost use Rattle.json_bodies.specs.Rules.{optional_member, named_result};
 
 use crate::fault::{BodyFault, Breach};
 use disk_trait::{Memory, Text};
@@ -20,7 +20,7 @@ const ESSENCE: &str = "essence_parameters";
 /// The essence text of a flow, which may be absent.
 pub(crate) fn read_essence(alloc: Global, object: &Value) -> Result<Option<Text>, BodyFault>
     requires { IsPlain (view object.now) }
-    ensures answer { Answers (optional (codes "essence_parameters") essence (view object.now)) result }
+    ensures answer { Answers (optional_member (codes "essence_parameters") essence (view object.now)) result }
     ensures good { IfOk result (λ found. IsTrue (if_there is_essence found)) }
 {
     match object.get(ESSENCE) {

@@ -7,7 +7,7 @@ ghost use Rattle.media_rows.specs.Essence.{is_essence};
 ghost use Rattle.media_rows.specs.Good.{if_there, is_body_text, is_tag_text, is_member_text};
 ghost use Rattle.json_bodies.specs.Answers.{Answers};
 ghost use Rattle.json_bodies.specs.Flow as spec;
-ghost use Rattle.json_bodies.specs.Flow.{anything, origin_of, texts_of, numbers_of, contents_of, flow_of, flow_in, same_id, format, named_source};
+ghost use Rattle.json_bodies.specs.Flow.{anything, origin_of, flow_texts, numbers_of, flow_contents, flow_body_of, flow_in, same_id, format, named_source};
 ghost use Rattle.json_bodies.specs.Plain.{IsPlain};
 ghost use Rattle.json_bodies.specs.Rules.{required};
 
@@ -69,7 +69,7 @@ pub fn read_flow(alloc: Global, body: &[u8], id: u128) -> Result<FlowBody, BodyF
 
 fn flow_of(alloc: Global, object: &Value, id: u128) -> Result<FlowBody, BodyFault>
     requires { IsPlain (view object.now) }
-    ensures answer { Answers (flow_of id (view object.now)) result }
+    ensures answer { Answers (flow_body_of id (view object.now)) result }
     ensures texts { IfOk result (λ flow. IsTrue (is_body_text flow)) }
 {
     optional(alloc, object, "id", &SameIdRule { id })?;
@@ -127,7 +127,7 @@ fn named_source(alloc: Global, found: Option<u128>) -> Result<u128, BodyFault>
 }
 
 fn texts_of(alloc: Global, object: &Value) -> Result<FlowTexts, BodyFault>
-    ensures answer { Answers (texts_of (view object.now)) result }
+    ensures answer { Answers (flow_texts (view object.now)) result }
     ensures codec { IfOk result (λ texts. IsTrue (if_there is_utf8 texts.codec)) }
     ensures container { IfOk result (λ texts. IsTrue (if_there is_utf8 texts.container)) }
     ensures label { IfOk result (λ texts. IsTrue (if_there is_utf8 texts.label)) }
@@ -162,7 +162,7 @@ fn numbers_of(alloc: Global, object: &Value) -> Result<FlowNumbers, BodyFault>
 
 fn contents_of(alloc: Global, object: &Value) -> Result<FlowContents, BodyFault>
     requires { IsPlain (view object.now) }
-    ensures answer { Answers (contents_of (view object.now)) result }
+    ensures answer { Answers (flow_contents (view object.now)) result }
     ensures tags { IfOk result (λ contents. IsTrue (list_all is_tag_text contents.tags)) }
     ensures members { IfOk result (λ contents. IsTrue (list_all is_member_text contents.members)) }
     ensures essence { IfOk result (λ contents. IsTrue (if_there is_essence contents.essence)) }

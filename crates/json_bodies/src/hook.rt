@@ -6,7 +6,7 @@ ghost use Rattle.serde_json.specs.View.{view};
 ghost use Rattle.media_rows.specs.Good.{if_there};
 ghost use Rattle.json_bodies.specs.Answers.{Answers};
 ghost use Rattle.json_bodies.specs.Hook as spec;
-ghost use Rattle.json_bodies.specs.Hook.{address, event_value, events, hook_of, hook_in, has_hook_texts, is_other_event};
+ghost use Rattle.json_bodies.specs.Hook.{address, event_kind_of, events, hook_from, hook_in, has_hook_texts, is_other_event};
 
 use crate::body::{check_object, read_body};
 use crate::fault::{BodyFault, Breach, RuleFault};
@@ -37,7 +37,7 @@ pub fn read_hook(alloc: Global, body: &[u8]) -> Result<Hook, BodyFault>
 }
 
 fn hook_of(alloc: Global, object: &Value) -> Result<Hook, BodyFault>
-    ensures answer { Answers (hook_of (view object.now)) result }
+    ensures answer { Answers (hook_from (view object.now)) result }
     ensures texts { IfOk result (λ hook. IsTrue (has_hook_texts hook)) }
 {
     let text = TextRule { most: LONGEST_TEXT };
@@ -118,7 +118,7 @@ fn event_of(name: &str) -> Option<EventKind>
 struct EventNameKind;
 
 impl Kind<EventKind> for EventNameKind {
-    ghost kind_of = { λ _. event_value };
+    ghost kind_of = { λ _. event_kind_of };
 
     ghost is_good = { λ _ _. true };
 

@@ -7,8 +7,8 @@ ghost use Rattle.serde_json.specs.Find.{as_str};
 ghost use Rattle.serde_json.specs.View.{view, items_view};
 ghost use Rattle.media_rows.specs.Good.{if_there, is_member_text};
 ghost use Rattle.media_rows.specs.Ids.{is_object_id};
-ghost use Rattle.json_bodies.specs.Kinds.{each_item, list_of, counted, object_id_value, role_value, member_value};
-ghost use Rattle.json_bodies.specs.Rules.{id_value};
+ghost use Rattle.json_bodies.specs.Kinds.{each_item, items_of_value, counted_items, object_id_value, role_value, member_value};
+ghost use Rattle.json_bodies.specs.Rules.{id_of_value};
 
 use crate::fault::{Breach, RuleFault};
 use crate::rules::Rule;
@@ -58,7 +58,7 @@ pub(crate) fn read_list<T: Drop, K: Kind<T>>(
     kind: &K,
 ) -> Result<Option<Listed<T>>, Memory>
     ensures items { IfOk result (λ found. found
-        ≡ list_of (K.kind_of kind.now) (view value.now)) }
+        ≡ items_of_value (K.kind_of kind.now) (view value.now)) }
     ensures good { IfOk result
         (λ found. IsTrue (if_there (list_all (K.is_good kind.now)) found)) }
 {
@@ -77,7 +77,7 @@ pub(crate) struct CountedRule<K> {
 }
 
 impl<T: Drop, K: Kind<T>> Rule<Listed<T>> for CountedRule<K> {
-    ghost gives = { λ rule. counted (K.kind_of rule.kind) rule.least rule.most };
+    ghost gives = { λ rule. counted_items (K.kind_of rule.kind) rule.least rule.most };
 
     ghost is_good = { λ rule. list_all (K.is_good rule.kind) };
 
@@ -117,7 +117,7 @@ impl Kind<Text> for TextKind {
 pub(crate) struct IdKind;
 
 impl Kind<u128> for IdKind {
-    ghost kind_of = { λ _. id_value };
+    ghost kind_of = { λ _. id_of_value };
 
     ghost is_good = { λ _ _. true };
 
@@ -163,7 +163,7 @@ fn read_role(alloc: Global, value: Option<&Value>) -> Result<Option<Option<Text>
 
 /// The id that the value spells, where there is one.
 fn read_id_value(value: Option<&Value>) -> Option<u128>
-    ensures { result ≡ option_and_then id_value (option_map (λ v. view v.now) value.entry) }
+    ensures { result ≡ option_and_then id_of_value (option_map (λ v. view v.now) value.entry) }
 {
     read_id(value?.as_str()?.as_bytes())
 }

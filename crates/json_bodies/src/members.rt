@@ -3,7 +3,7 @@ ghost use Rattle.std.specs.Prelude.{◌≡◌, IfOk, IsTrue};
 ghost use Rattle.serde_json.specs.View.{view};
 ghost use Rattle.media_rows.specs.Good as good;
 ghost use Rattle.json_bodies.specs.Answers.{Answers, IsFaultOf};
-ghost use Rattle.json_bodies.specs.Rules.{named, optional, required};
+ghost use Rattle.json_bodies.specs.Rules.{named_result, optional_member, required};
 
 use crate::fault::{BodyFault, Breach, RuleFault};
 use crate::rules::Rule;
@@ -27,7 +27,7 @@ pub(crate) fn optional<T: Drop, R: Rule<T>>(
     name: &str,
     rule: &R,
 ) -> Result<Option<T>, BodyFault>
-    ensures answer { Answers (optional name.now (R.gives rule.now) (view object.now)) result }
+    ensures answer { Answers (optional_member name.now (R.gives rule.now) (view object.now)) result }
     ensures good { IfOk result (λ found. IsTrue (good.if_there (R.is_good rule.now) found)) }
 {
     let Some(value) = object.get(name) else {
@@ -65,7 +65,7 @@ pub(crate) fn valued<T: Drop, R: Rule<T>>(
     name: &str,
     rule: &R,
 ) -> Result<T, BodyFault>
-    ensures answer { Answers (named name.now (R.gives rule.now (view value.now))) result }
+    ensures answer { Answers (named_result name.now (R.gives rule.now (view value.now))) result }
     ensures good { IfOk result (λ found. IsTrue (R.is_good rule.now found)) }
 {
     match rule.read(alloc, value) {

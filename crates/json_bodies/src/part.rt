@@ -4,7 +4,7 @@ ghost use Rattle.std.specs.Str.{is_utf8};
 ghost use Rattle.serde_json.specs.View.{view};
 ghost use Rattle.media_rows.specs.declared.part.PartName.TheVariants as names;
 ghost use Rattle.json_bodies.specs.Answers.{Answers};
-ghost use Rattle.json_bodies.specs.Part.{rate, part_of, part_in, is_all_tags, is_name_text, is_part_text};
+ghost use Rattle.json_bodies.specs.Part.{rate, part_from, part_in, is_all_tags, is_name_text, is_part_text};
 
 use crate::body::read_body;
 use crate::fault::BodyFault;
@@ -30,7 +30,7 @@ pub fn read_part(alloc: Global, body: &[u8], name: PartName) -> Result<Part, Bod
 
 fn part_of(alloc: Global, value: &Value, name: PartName) -> Result<Part, BodyFault>
     requires { IsFalse (is_all_tags name) }
-    ensures answer { Answers (part_of name (view value.now)) result }
+    ensures answer { Answers (part_from name (view value.now)) result }
     ensures texts { IsTrue (is_name_text name) → IfOk result (λ part. IsTrue (is_part_text part)) }
 {
     match name {
@@ -60,7 +60,7 @@ fn part_of(alloc: Global, value: &Value, name: PartName) -> Result<Part, BodyFau
 
 /// A tag with its name.
 fn tag_part(alloc: Global, value: &Value, name: Text) -> Result<Part, BodyFault>
-    ensures answer { Answers (part_of (names.Tag name) (view value.now)) result }
+    ensures answer { Answers (part_from (names.Tag name) (view value.now)) result }
     ensures texts { is_utf8 name ≡ true → IfOk result (λ part. IsTrue (is_part_text part)) }
 {
     let tag = valued(alloc, value, "tags", &TagRule { name: &name })?;

@@ -4,7 +4,7 @@ ghost use Rattle.std.specs.Prelude.{◌≡◌, IfOk, IsTrue, true};
 ghost use Rattle.std.specs.Str.{is_utf8};
 ghost use Rattle.serde_json.specs.Data.{Data};
 ghost use Rattle.serde_json.specs.View.{view};
-ghost use Rattle.json_bodies.specs.Answers.{Keeps};
+ghost use Rattle.json_bodies.specs.Answers.{KeepsBreach};
 ghost use Rattle.json_bodies.specs.Rules.{text, truth, whole, id};
 
 use crate::fault::{Breach, RuleFault};
@@ -34,7 +34,7 @@ pub(crate) trait Rule<T> {
     ghost is_good: { Self → T → Bool };
 
     fn read(&self, alloc: Global, value: &Value) -> Result<T, RuleFault>
-        ensures answer { Keeps (gives self.now (view value.now)) result }
+        ensures answer { KeepsBreach (gives self.now (view value.now)) result }
         ensures good { IfOk result (λ x. IsTrue (is_good self.now x)) };
 }
 

@@ -5,7 +5,7 @@ ghost use Rattle.serde_json.specs.Data.{item, no_items};
 ghost use Rattle.serde_json.specs.View.{view, items_view};
 ghost use Rattle.media_rows.specs.Ids.{is_object_id};
 ghost use Rattle.json_bodies.specs.Answers.{Answers};
-ghost use Rattle.json_bodies.specs.Segments.{object_id, samples_of, segment_of, are_objects, item_count, is_post_list, segments_of, segments_in_items, post_items, segments_in, is_post_good};
+ghost use Rattle.json_bodies.specs.Segments.{object_id, samples_of, segment_of, are_objects, item_count, is_post_list, segments_from, segments_in_items, post_items, segments_in, is_post_good};
 
 use crate::body::{body_refusal, read_body};
 use crate::fault::{BodyFault, Breach, RuleFault};
@@ -49,7 +49,7 @@ pub fn read_segments(alloc: Global, body: &[u8]) -> Result<PostList, BodyFault>
 
 /// A post of one object.
 fn one_segment(alloc: Global, object: &Value) -> Result<PostList, BodyFault>
-    ensures answer { Answers (segments_of (item (view object.now) no_items)) result }
+    ensures answer { Answers (segments_from (item (view object.now) no_items)) result }
     ensures good { IfOk result (λ posts. IsTrue (list_all is_post_good posts)) }
 {
     let mut posts = PostList::new(alloc);
@@ -67,7 +67,7 @@ fn is_post_list(values: &[Value]) -> bool
 #[tactic(auto, using(crate::proofs::Counts::item_count_of))]
 fn has_post_length(values: &[Value]) -> bool
     ensures { result ≡ (nat_le 1 (item_count (items_view values.now))
-        && nat_le (item_count (items_view values.now)) 1000) }
+        && nat_le (item_count (items_view values.now)) MOST_SEGMENTS) }
 {
     1 <= values.len() && values.len() <= MOST_SEGMENTS
 }
@@ -85,7 +85,7 @@ fn are_objects(values: &[Value]) -> bool
 
 /// The segments of objects, one after another.
 fn segments_of(alloc: Global, values: &[Value]) -> Result<PostList, BodyFault>
-    ensures answer { Answers (segments_of (items_view values.now)) result }
+    ensures answer { Answers (segments_from (items_view values.now)) result }
     ensures good { IfOk result (λ posts. IsTrue (list_all is_post_good posts)) }
 {
     let mut posts = PostList::new(alloc);

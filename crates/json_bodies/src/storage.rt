@@ -2,7 +2,8 @@
 ghost use Rattle.std.specs.Prelude.{IfOk, IsTrue};
 ghost use Rattle.serde_json.specs.View.{view};
 ghost use Rattle.json_bodies.specs.Answers.{Answers};
-ghost use Rattle.json_bodies.specs.Storage.{count_in, want_of, want_in, is_want_good};
+ghost use Rattle.media_rows.specs.Sound.{is_want_good};
+ghost use Rattle.json_bodies.specs.Storage.{count_in, want_of, want_in};
 
 use crate::body::{check_object, read_body};
 use crate::fault::BodyFault;

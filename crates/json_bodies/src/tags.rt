@@ -7,7 +7,7 @@ ghost use Rattle.serde_json.specs.View.{view, members_view};
 ghost use Rattle.media_rows.specs.Good.{if_there, is_member_text, is_tag_text};
 ghost use Rattle.json_bodies.specs.Flow.{each_tag, is_short_tag, has_name, tags};
 ghost use Rattle.json_bodies.specs.Kinds as spec;
-ghost use Rattle.json_bodies.specs.Kinds.{tag_value, tag_rule, has_short_values, has_short_role, collection};
+ghost use Rattle.json_bodies.specs.Kinds.{tag_of_value, tag_rule, has_short_values, has_short_role, collection};
 
 use crate::fault::{Breach, RuleFault};
 use crate::kinds::{Kind, MemberKind, TextKind, read_list};
@@ -28,7 +28,7 @@ const MOST_MEMBERS: usize = 256;
 
 /// The tag of a name, whose value is a text or a list of texts.
 pub(crate) fn read_tag(alloc: Global, name: &[u8], value: &Value) -> Result<Option<Tag>, Memory>
-    ensures tag { IfOk result (λ found. found ≡ tag_value name.now (view value.now)) }
+    ensures tag { IfOk result (λ found. found ≡ tag_of_value name.now (view value.now)) }
     ensures good { IfOk result
         (λ found. IsTrue (if_there (λ tag. list_all is_utf8 tag.values) found)) }
     ensures name { IfOk result (λ found. IfSome found (λ tag. tag.name ≡ name.now)) }
@@ -96,7 +96,7 @@ impl<'n> Rule<Tag> for TagRule<'n> {
 #[tactic(auto, using(crate::proofs::Texts::is_utf8_text))]
 fn read_named_tag(alloc: Global, name: &String, value: &Value) -> Result<Option<Tag>, Memory>
     ensures tag { IfOk result
-        (λ found. found ≡ tag_value (string_bytes name.now) (view value.now)) }
+        (λ found. found ≡ tag_of_value (string_bytes name.now) (view value.now)) }
     ensures good { IfOk result (λ found. IsTrue (if_there is_tag_text found)) }
 {
     read_tag(alloc, name.as_str().as_bytes(), value)

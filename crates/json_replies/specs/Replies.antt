@@ -15,7 +15,7 @@ use Rattle.media_rows.specs.declared.reply.View.{View}
 use Rattle.media_rows.specs.declared.reply.View.TheVariants as views
 use Rattle.time_range.specs.Printing.{canonical_range_text}
 use Rattle.json_replies.specs.Rows.{source_value, flow_value, segment_value, object_value, storage_value, request_value, hook_value}
-use Rattle.json_replies.specs.Shapes.{string_value, number_value, truth_value, list_of, object_of, Member, always, where_set}
+use Rattle.json_replies.specs.Shapes.{string_value, number_value, truth_value, list_tokens, object_tokens, Member, always, where_set}
 use Rattle.json_replies.specs.Values.{id_value, tag_value, tags_value, collection_value}
 
 -- ---- refusals
@@ -64,7 +64,7 @@ refusal_members refusal =
 
 -- a refusal
 unfoldable pub refusal_value : Refusal → List Token
-refusal_value refusal = object_of (refusal_members refusal)
+refusal_value refusal = object_tokens (refusal_members refusal)
 
 -- ---- parts
 
@@ -100,17 +100,17 @@ service_members store =
 
 -- what an asking command shows, for the store's id and the base of its addresses
 abbrev pub view_value : ℕ → List ℕ → View → List Token
-view_value store base views.Root = list_of string_value root_names
-view_value store base views.Service = object_of (service_members store)
+view_value store base views.Root = list_tokens string_value root_names
+view_value store base views.Service = object_tokens (service_members store)
 view_value store base (views.Source row) = source_value row
-view_value store base (views.Sources rows next) = list_of source_value rows
+view_value store base (views.Sources rows next) = list_tokens source_value rows
 view_value store base (views.Flow flow) = flow_value flow
-view_value store base (views.Flows flows next) = list_of flow_value flows
-view_value store base (views.Segments rows next) = list_of (segment_value base) rows
+view_value store base (views.Flows flows next) = list_tokens flow_value flows
+view_value store base (views.Segments rows next) = list_tokens (segment_value base) rows
 view_value store base (views.Object row flows) = object_value row flows
 view_value store base (views.Request row) = request_value store row
-view_value store base (views.Requests rows) = list_of (request_value store) rows
-view_value store base (views.Hooks hooks) = list_of hook_value hooks
+view_value store base (views.Requests rows) = list_tokens (request_value store) rows
+view_value store base (views.Hooks hooks) = list_tokens hook_value hooks
 view_value store base (views.OnePart part) = part_value part
 view_value store base (views.AllTags tags) = tags_value tags
 

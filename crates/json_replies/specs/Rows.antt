@@ -1,7 +1,8 @@
 -- What is shown of sources, flows, segments, objects, delete requests and hooks: the members of
 -- each, by rising name in byte order. Our own profile of the Time-addressable Media Store.
-use Rattle.std.specs.Prelude.{ℕ, List, [], ◌∷◌, ◌++◌, Bool, true, false, Option, Some, None, codes, decimal}
+use Rattle.std.specs.Prelude.{ℕ, List, [], ◌∷◌, ◌++◌, Option, Some, None, codes, decimal}
 use Rattle.json.specs.Token.{Token}
+use Rattle.media_rows.specs.Objects.{is_stored}
 use Rattle.media_rows.specs.Ids.{id_text}
 use Rattle.media_rows.specs.declared.flow.FlowRow.{FlowRow}
 use Rattle.media_rows.specs.declared.object.ObjectRow.{ObjectRow}
@@ -14,7 +15,7 @@ use Rattle.media_rows.specs.declared.segment.Segment.{Segment}
 use Rattle.media_rows.specs.declared.segment.SegmentRow.{SegmentRow}
 use Rattle.media_rows.specs.declared.source.SourceRow.{SourceRow}
 use Rattle.json_replies.specs.Addresses.{media_address}
-use Rattle.json_replies.specs.Shapes.{string_value, number_value, truth_value, list_of, object_of, Member, always, where_set, where_any}
+use Rattle.json_replies.specs.Shapes.{string_value, number_value, truth_value, list_tokens, object_tokens, Member, always, where_set, where_any}
 use Rattle.json_replies.specs.Values.{id_value, moment_value, stamp_value, range_value, format_value, event_value, status_value, hook_status_value, kept_value, tags_value, collection_value}
 
 -- ---- sources
@@ -33,7 +34,7 @@ source_members row =
 
 -- a source
 unfoldable pub source_value : SourceRow → List Token
-source_value row = object_of (source_members row)
+source_value row = object_tokens (source_members row)
 
 -- ---- flows
 
@@ -75,7 +76,7 @@ flow_members flow = flow_first flow.row ++ (flow_middle flow.row ++ flow_last fl
 
 -- a flow, with the hull of its segments
 unfoldable pub flow_value : FlowShown → List Token
-flow_value flow = object_of (flow_members flow)
+flow_value flow = object_tokens (flow_members flow)
 
 -- ---- segments
 
@@ -85,12 +86,12 @@ get_url_members base object = always (codes "url") (string_value (media_address 
 
 -- the one such address of an object
 abbrev pub get_url_value : List ℕ → List ℕ → List Token
-get_url_value base object = object_of (get_url_members base object)
+get_url_value base object = object_tokens (get_url_members base object)
 
 -- the members of a segment
 abbrev pub segment_members : List ℕ → Segment → List Member
 segment_members base segment =
-    always (codes "get_urls") (list_of (get_url_value base) (segment.object ∷ []))
+    always (codes "get_urls") (list_tokens (get_url_value base) (segment.object ∷ []))
     ∷ where_set (codes "key_frame_count") number_value segment.key_frames
     ∷ where_set (codes "last_duration") stamp_value segment.last_duration
     ∷ always (codes "object_id") (string_value segment.object)
@@ -102,7 +103,7 @@ segment_members base segment =
 
 -- a segment
 unfoldable pub segment_value : List ℕ → SegmentRow → List Token
-segment_value base row = object_of (segment_members base row.segment)
+segment_value base row = object_tokens (segment_members base row.segment)
 
 -- ---- objects
 
@@ -111,23 +112,18 @@ abbrev pub stored_length : ObjectState → Option ℕ
 stored_length Allocated = None
 stored_length (Stored start size) = Some size
 
--- whether an object has its bytes
-abbrev pub is_stored : ObjectState → Bool
-is_stored Allocated = false
-is_stored (Stored start size) = true
-
 -- the members of an object, with the flows that refer to it
 abbrev pub object_members : ObjectRow → List ℕ → List Member
 object_members row flows =
     where_set (codes "length") number_value (stored_length row.state)
     ∷ always (codes "object_id") (string_value row.id)
-    ∷ always (codes "referenced_by_flows") (list_of id_value flows)
+    ∷ always (codes "referenced_by_flows") (list_tokens id_value flows)
     ∷ always (codes "stored") (truth_value (is_stored row.state))
     ∷ []
 
 -- an object
 unfoldable pub object_value : ObjectRow → List ℕ → List Token
-object_value row flows = object_of (object_members row flows)
+object_value row flows = object_tokens (object_members row flows)
 
 -- ---- storage
 
@@ -142,21 +138,21 @@ put_url_members base object =
 abbrev pub allocated_members : List ℕ → List ℕ → List Member
 allocated_members base object =
     always (codes "object_id") (string_value object)
-    ∷ always (codes "put_url") (object_of (put_url_members base object))
+    ∷ always (codes "put_url") (object_tokens (put_url_members base object))
     ∷ []
 
 -- an allocated object
 unfoldable pub allocated_value : List ℕ → List ℕ → List Token
-allocated_value base object = object_of (allocated_members base object)
+allocated_value base object = object_tokens (allocated_members base object)
 
 -- the one member of what an allocation answers
 abbrev pub storage_members : List ℕ → List (List ℕ) → List Member
 storage_members base objects =
-    always (codes "media_objects") (list_of (allocated_value base) objects) ∷ []
+    always (codes "media_objects") (list_tokens (allocated_value base) objects) ∷ []
 
 -- what an allocation answers
 unfoldable pub storage_value : List ℕ → List (List ℕ) → List Token
-storage_value base objects = object_of (storage_members base objects)
+storage_value base objects = object_tokens (storage_members base objects)
 
 -- ---- delete requests
 
@@ -178,7 +174,7 @@ request_members store row =
 
 -- a delete request
 unfoldable pub request_value : ℕ → DeleteRow → List Token
-request_value store row = object_of (request_members store row)
+request_value store row = object_tokens (request_members store row)
 
 -- ---- hooks
 
@@ -186,9 +182,9 @@ request_value store row = object_of (request_members store row)
 abbrev pub hook_members : HookShown → List Member
 hook_members shown =
     where_set (codes "api_key_name") string_value shown.row.hook.key_name
-    ∷ always (codes "events") (list_of event_value shown.row.hook.events)
-    ∷ where_set (codes "flow_ids") (list_of id_value) shown.row.hook.flow_ids
-    ∷ where_set (codes "source_ids") (list_of id_value) shown.row.hook.source_ids
+    ∷ always (codes "events") (list_tokens event_value shown.row.hook.events)
+    ∷ where_set (codes "flow_ids") (list_tokens id_value) shown.row.hook.flow_ids
+    ∷ where_set (codes "source_ids") (list_tokens id_value) shown.row.hook.source_ids
     ∷ always (codes "status") (hook_status_value shown.row.failed)
     ∷ always (codes "url") (string_value shown.row.hook.url)
     ∷ always (codes "waiting") (number_value shown.waiting)
@@ -196,4 +192,4 @@ hook_members shown =
 
 -- a hook
 unfoldable pub hook_value : HookShown → List Token
-hook_value shown = object_of (hook_members shown)
+hook_value shown = object_tokens (hook_members shown)

@@ -24,8 +24,8 @@ abbrev pub truth_value : Bool → List Token
 truth_value truth = boolean truth ∷ []
 
 -- the values of some items, in their order
-abbrev pub list_of : {X : Type 0} → (X → List Token) → List X → List Token
-list_of value xs = begin_array ∷ flat_map value xs ++ end_array ∷ []
+abbrev pub list_tokens : {X : Type 0} → (X → List Token) → List X → List Token
+list_tokens value xs = begin_array ∷ flat_map value xs ++ end_array ∷ []
 
 -- ---- members of an object
 
@@ -52,21 +52,21 @@ abbrev pub where_any : {X : Type 0} → List ℕ → (List X → List Token) →
 where_any name value xs = record { name = name; value = if_any value xs }
 
 -- the tokens of a name with its value
-abbrev pub named : List ℕ → Option (List Token) → List Token
-named name None = []
-named name (Some value) = key name ∷ value
+abbrev pub named_tokens : List ℕ → Option (List Token) → List Token
+named_tokens name None = []
+named_tokens name (Some value) = key name ∷ value
 
 -- the tokens of a member: none where it isn't there
 unfoldable pub member_tokens : Member → List Token
-member_tokens m = named m.name m.value
+member_tokens m = named_tokens m.name m.value
 
 -- the tokens of members, in their order
 abbrev pub members_tokens : List Member → List Token
 members_tokens members = flat_map member_tokens members
 
 -- an object with these members
-abbrev pub object_of : List Member → List Token
-object_of members = begin_object ∷ members_tokens members ++ end_object ∷ []
+abbrev pub object_tokens : List Member → List Token
+object_tokens members = begin_object ∷ members_tokens members ++ end_object ∷ []
 
 -- a member's name, where the member is there
 abbrev pub name_if : List ℕ → Option (List Token) → List (List ℕ)

@@ -13,7 +13,7 @@ use Rattle.media_rows.specs.declared.flow.Tag.{Tag}
 use Rattle.media_rows.specs.declared.request.DeleteStatus.{DeleteStatus}
 use Rattle.time_range.specs.Printing.{canonical_ts_text, canonical_range_text}
 use Rattle.time_range.specs.declared.ranges.Span.{Span}
-use Rattle.json_replies.specs.Shapes.{string_value, list_of, object_of, Member, always, where_set}
+use Rattle.json_replies.specs.Shapes.{string_value, list_tokens, object_tokens, Member, always, where_set}
 
 -- the id of a source, a flow or the store
 abbrev pub id_value : ℕ → List Token
@@ -49,15 +49,15 @@ unfoldable pub kept_value : List ℕ → List Token
 kept_value text = tokens text
 
 -- the values of a tag: the text alone where the tag is a single one, and otherwise their list
-abbrev pub values_of : Bool → List (List ℕ) → List Token
-values_of true (text ∷ []) = string_value text
-values_of true [] = list_of string_value []
-values_of true (text ∷ next ∷ more) = list_of string_value (text ∷ next ∷ more)
-values_of false texts = list_of string_value texts
+abbrev pub value_lists : Bool → List (List ℕ) → List Token
+value_lists true (text ∷ []) = string_value text
+value_lists true [] = list_tokens string_value []
+value_lists true (text ∷ next ∷ more) = list_tokens string_value (text ∷ next ∷ more)
+value_lists false texts = list_tokens string_value texts
 
 -- a tag's value
 abbrev pub tag_value : Tag → List Token
-tag_value tag = values_of tag.single tag.values
+tag_value tag = value_lists tag.single tag.values
 
 -- a tag as a member of the object of tags
 abbrev pub tag_member : Tag → Member
@@ -65,7 +65,7 @@ tag_member tag = always tag.name (tag_value tag)
 
 -- tags, in their order
 abbrev pub tags_value : List Tag → List Token
-tags_value tags = object_of (map tag_member tags)
+tags_value tags = object_tokens (map tag_member tags)
 
 -- the members of a flow that another one collects
 abbrev pub collected_members : Collected → List Member
@@ -76,8 +76,8 @@ collected_members m =
 
 -- a flow that another one collects
 abbrev pub collected_value : Collected → List Token
-collected_value m = object_of (collected_members m)
+collected_value m = object_tokens (collected_members m)
 
 -- a flow's collection
 abbrev pub collection_value : List Collected → List Token
-collection_value members = list_of collected_value members
+collection_value members = list_tokens collected_value members

@@ -1,7 +1,7 @@
 //! Lists that stand in many answers: tags, collections and ids.
 ghost use Rattle.std.specs.Prelude.{◌≡◌, ◌++◌, OnOk, map};
-ghost use Rattle.json_replies.specs.Shapes.{Appends, list_of, members_tokens};
-ghost use Rattle.json_replies.specs.Values.{collected_members, collected_value, collection_value, event_value, id_value, tag_member, tag_value, tags_value, values_of};
+ghost use Rattle.json_replies.specs.Shapes.{Appends, list_tokens, members_tokens};
+ghost use Rattle.json_replies.specs.Values.{collected_members, collected_value, collection_value, event_value, id_value, tag_member, tag_value, tags_value, value_lists};
 
 use crate::json_text::JsonText;
 use crate::shows::{Shows, show_if_set, show_list, show_member};
@@ -43,7 +43,7 @@ fn show_values(
     values: &TextList,
     out: &mut JsonText,
 ) -> Result<(), Memory>
-    ensures { OnOk result (Appends out.old out.new (values_of single values.now)) }
+    ensures { OnOk result (Appends out.old out.new (value_lists single values.now)) }
 {
     match values.items() {
         [value] if single => out.text(value.bytes()),
@@ -93,7 +93,7 @@ impl Shows<MemberList> for Collections {
 }
 
 impl Shows<IdList> for IdLists {
-    ghost shown = { λ _. list_of id_value };
+    ghost shown = { λ _. list_tokens id_value };
 
     fn show(&self, alloc: Global, value: &IdList, out: &mut JsonText) -> Result<(), Memory> {
         show_list(alloc, value.items(), &Ids, out)
@@ -101,7 +101,7 @@ impl Shows<IdList> for IdLists {
 }
 
 impl Shows<EventList> for EventLists {
-    ghost shown = { λ _. list_of event_value };
+    ghost shown = { λ _. list_tokens event_value };
 
     fn show(&self, alloc: Global, value: &EventList, out: &mut JsonText) -> Result<(), Memory> {
         show_list(alloc, value.items(), &Events, out)

@@ -1,7 +1,8 @@
 //! Segments, and the objects that hold their media.
 ghost use Rattle.std.specs.Prelude.{◌≡◌, ◌++◌, ◌∷◌, [], OnOk, codes};
-ghost use Rattle.json_replies.specs.Rows.{allocated_value, get_url_value, is_stored, object_value, put_url_members, segment_value, storage_value, stored_length};
-ghost use Rattle.json_replies.specs.Shapes.{Appends, list_of, object_of};
+ghost use Rattle.media_rows.specs.Objects.{is_stored};
+ghost use Rattle.json_replies.specs.Rows.{allocated_value, get_url_value, object_value, put_url_members, segment_value, storage_value, stored_length};
+ghost use Rattle.json_replies.specs.Shapes.{Appends, list_tokens, object_tokens};
 
 use crate::addresses::Addresses;
 use crate::json_text::JsonText;
@@ -74,7 +75,7 @@ impl<'a> Shows<SegmentRow> for Segments<'a> {
 }
 
 impl<'a> Shows<Text> for GetUrls<'a> {
-    ghost shown = { λ g object. list_of (get_url_value g.base.now) (object ∷ []) };
+    ghost shown = { λ g object. list_tokens (get_url_value g.base.now) (object ∷ []) };
 
     fn show(&self, alloc: Global, object: &Text, out: &mut JsonText) -> Result<(), Memory> {
         out.begin_array()?;
@@ -86,7 +87,7 @@ impl<'a> Shows<Text> for GetUrls<'a> {
 }
 
 impl<'a> Shows<Text> for PutUrls<'a> {
-    ghost shown = { λ p object. object_of (put_url_members p.base.now object) };
+    ghost shown = { λ p object. object_tokens (put_url_members p.base.now object) };
 
     fn show(&self, alloc: Global, object: &Text, out: &mut JsonText) -> Result<(), Memory> {
         out.begin_object()?;
@@ -109,7 +110,7 @@ impl<'a> Shows<Text> for Allocated<'a> {
 }
 
 impl<'a> Shows<TextList> for AllocatedLists<'a> {
-    ghost shown = { λ a. list_of (allocated_value a.base.now) };
+    ghost shown = { λ a. list_tokens (allocated_value a.base.now) };
 
     fn show(&self, alloc: Global, objects: &TextList, out: &mut JsonText) -> Result<(), Memory> {
         show_list(alloc, objects.items(), &Allocated { base: self.base }, out)

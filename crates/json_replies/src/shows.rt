@@ -1,7 +1,7 @@
 //! Ways to show a value, and what is said once for all of them: lists, and members of an object.
 ghost use Rattle.std.specs.Prelude.{◌≡◌, ◌++◌, List, OnOk};
 ghost use Rattle.json.specs.Token.{Token};
-ghost use Rattle.json_replies.specs.Shapes.{Appends, always, list_of, member_tokens, string_value, where_any, where_set};
+ghost use Rattle.json_replies.specs.Shapes.{Appends, always, list_tokens, member_tokens, string_value, where_any, where_set};
 
 use crate::json_text::JsonText;
 use disk_trait::{Listed, Memory};
@@ -23,7 +23,7 @@ pub(crate) fn show_list<T, S: Shows<T>>(
     shows: &S,
     out: &mut JsonText,
 ) -> Result<(), Memory>
-    ensures { OnOk result (Appends out.old out.new (list_of (S.shown shows.now) items.now)) }
+    ensures { OnOk result (Appends out.old out.new (list_tokens (S.shown shows.now) items.now)) }
 {
     out.begin_array()?;
     for item in items {

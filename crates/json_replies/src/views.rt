@@ -1,7 +1,7 @@
 //! What asking commands show.
 ghost use Rattle.std.specs.Prelude.{◌≡◌, OnOk};
 ghost use Rattle.json_replies.specs.Replies.{root_names, service_members, view_value};
-ghost use Rattle.json_replies.specs.Shapes.{Appends, list_of, object_of, string_value};
+ghost use Rattle.json_replies.specs.Shapes.{Appends, list_tokens, object_tokens, string_value};
 
 use crate::flows::Flows;
 use crate::json_text::JsonText;
@@ -45,7 +45,7 @@ pub(crate) fn show_view(
 
 /// Appends the names of what the store has.
 fn show_root(out: &mut JsonText) -> Result<(), Memory>
-    ensures { OnOk result (Appends out.old out.new (list_of string_value root_names)) }
+    ensures { OnOk result (Appends out.old out.new (list_tokens string_value root_names)) }
 {
     out.begin_array()?;
     out.string("flow-delete-requests")?;
@@ -58,7 +58,7 @@ fn show_root(out: &mut JsonText) -> Result<(), Memory>
 
 /// Appends what the store says of itself.
 fn show_service(alloc: Global, store: u128, out: &mut JsonText) -> Result<(), Memory>
-    ensures { OnOk result (Appends out.old out.new (object_of (service_members store))) }
+    ensures { OnOk result (Appends out.old out.new (object_tokens (service_members store))) }
 {
     out.begin_object()?;
     show_member(alloc, "store_id", &store, &Ids, out)?;

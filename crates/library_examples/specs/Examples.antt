@@ -63,16 +63,16 @@ abbrev pub member : ℕ → Member
 member flow = record { flow = flow; role = None }
 
 -- a store of 46 media blocks
-abbrev pub nothing : Library
-nothing = empty_library 1 46
+abbrev pub empty_store : Library
+empty_store = empty_library 1 46
 
 -- the PUT of a video flow of that source, which collects none
 abbrev pub put : ℕ → ℕ → Change
 put moment flow = changes.PutFlow moment (body flow Video [])
 
 -- the PUT of a video flow that collects another one
-abbrev pub put_over : ℕ → ℕ → ℕ → Change
-put_over moment flow other = changes.PutFlow moment (body flow Video (member other ∷ []))
+abbrev pub put_collecting : ℕ → ℕ → ℕ → Change
+put_collecting moment flow other = changes.PutFlow moment (body flow Video (member other ∷ []))
 
 -- a second in points of half nanoseconds
 abbrev pub second : ℕ
@@ -107,7 +107,7 @@ allocate object = changes.Allocate 0 first_flow (object ∷ [])
 abbrev pub stored : Library
 stored =
     after_all
-    (put 0 first_flow ∷ allocate (codes "a") ∷ changes.Store 0 (codes "a") 0 3 ∷ []) nothing
+    (put 0 first_flow ∷ allocate (codes "a") ∷ changes.Store 0 (codes "a") 0 3 ∷ []) empty_store
 
 -- segments of the one object for so many seconds, one after the other, each of a second
 abbrev pub pieces : ℕ → List Segment

@@ -10,14 +10,14 @@ use Rattle.media_rows.specs.Formats.{event_number}
 use Rattle.media_rows.specs.Library.{Library}
 use Rattle.media_rows.specs.Outbox.{Posted, after_post, waiting_count}
 use Rattle.media_rows.specs.Ranges.{eternity}
-use Rattle.library_examples.specs.Examples.{new_label, after_all, first_flow, second_flow, one_source, nothing, put, seconds, piece, stored, post, allocate, hook, listen, outbox_with}
+use Rattle.library_examples.specs.Examples.{new_label, after_all, first_flow, second_flow, one_source, empty_store, put, seconds, piece, stored, post, allocate, hook, listen, outbox_with}
 use Rattle.library_examples.specs.Studio.{third_flow, other_source, main_body, one_hook, two_hook, event, studio_events, studio}
 
 -- ---- events of each change
 
 -- an empty library with a hook that takes everything
 abbrev pub listening : Library
-listening = after listen nothing
+listening = after listen empty_store
 
 -- the kinds of the events that wait
 abbrev pub kinds : Library → List ℕ
@@ -28,8 +28,8 @@ abbrev pub at_work : Library
 at_work = after_all (post (piece 0 1 ∷ piece 1 2 ∷ []) ∷ listen ∷ []) stored
 
 -- the same without segments
-abbrev pub bare : Library
-bare = after listen stored
+abbrev pub hook_alone : Library
+hook_alone = after listen stored
 
 -- the request to delete the first flow with all its segments
 abbrev pub ask_for_all : Change
@@ -51,23 +51,23 @@ pub record EventsAreTold : Type 0 where
   pub added : kinds (after (post (piece 2 3 ∷ [])) at_work) ≡ 4 ∷ []
   pub cut : kinds (after (changes.CutSegments 0 first_flow (seconds 0 1)) at_work) ≡ 5 ∷ []
   pub dropped : kinds (after (changes.DropFlow 0 first_flow) at_work) ≡ 5 ∷ 3 ∷ 8 ∷ []
-  pub dropped_bare : kinds (after (changes.DropFlow 0 first_flow) bare) ≡ 3 ∷ 8 ∷ []
+  pub dropped_bare : kinds (after (changes.DropFlow 0 first_flow) hook_alone) ≡ 3 ∷ 8 ∷ []
   pub asked_for : kinds (after ask_for_all at_work) ≡ []
   pub last_step : kinds (after_all (ask_for_all ∷ changes.DeleteStep 0 ∷ []) at_work)
       ≡ 5 ∷ 3 ∷ 8 ∷ []
-  pub bare_step : kinds (after_all (ask_for_all ∷ changes.DeleteStep 0 ∷ []) bare) ≡ 3 ∷ 8 ∷ []
+  pub bare_step : kinds (after_all (ask_for_all ∷ changes.DeleteStep 0 ∷ []) hook_alone) ≡ 3 ∷ 8 ∷ []
   pub allocated : kinds (after (allocate (codes "b")) at_work) ≡ []
   pub stored_one :
       kinds (after (changes.Store 0 (codes "b") 1 1) (after (allocate (codes "b")) at_work))
       ≡ []
-  pub swept : kinds (after (changes.SweepStep 90000) bare) ≡ []
+  pub swept : kinds (after (changes.SweepStep 90000) hook_alone) ≡ []
   pub hook_comes : kinds (after (changes.PutHook 0 (hook (codes "i") None)) at_work) ≡ []
   pub hulls : map (λ row. row.range) (after (changes.DropFlow 0 first_flow) at_work).outbox.events
       ≡ Some (seconds 0 2) ∷ None ∷ None ∷ []
   pub serials_rise :
       map (λ row. row.serial) (after (changes.DropFlow 0 first_flow) at_work).outbox.events
       ≡ 5 ∷ 6 ∷ 7 ∷ []
-  pub other_flow : kinds (after (put 0 first_flow) (after listen_to_second nothing)) ≡ 6 ∷ []
+  pub other_flow : kinds (after (put 0 first_flow) (after listen_to_second empty_store)) ≡ 6 ∷ []
 
 -- ---- two hooks with lists of flows and sources
 
@@ -140,7 +140,7 @@ two_more count = after_post (flow_event FlowCreated second_flow one_source ∷ [
 -- a library with 999 waiting events, once a flow came with its source
 abbrev pub flow_came : Library
 flow_came =
-    after (put 5 first_flow) (record nothing { outbox = outbox_with 999; next_serial = 1001 })
+    after (put 5 first_flow) (record empty_store { outbox = outbox_with 999; next_serial = 1001 })
 
 -- The event that makes 1,000 waiting marks its hook as failed. From then on the hook takes none,
 -- also of the same change, and none gets a serial.

@@ -23,14 +23,14 @@ use Rattle.media_rows.specs.Ranges.{eternity}
 use Rattle.media_rows.specs.Sound.{is_good_command, has_good_values, is_sound}
 use Rattle.media_rows.specs.declared.command.Command.TheVariants as commands
 use Rattle.media_rows.specs.declared.command.Want.TheVariants.{Count, Named}
-use Rattle.library_examples.specs.Examples.{one_source, first_flow, second_flow, member, nothing, put, seconds, piece, piece_of, stored, allocate, with_pieces, shared, hook, outbox_with}
+use Rattle.library_examples.specs.Examples.{one_source, first_flow, second_flow, member, empty_store, put, seconds, piece, piece_of, stored, allocate, with_pieces, shared, hook, outbox_with}
 use Rattle.library_examples.specs.Studio.{third_flow, take_tag, left_source, bare_source, main_body, sound_body, main_flow, sound_flow, both_flow, object_a, object_b, object_c, later_piece, early_piece, open_request, done_request, one_hook, event, studio_events, studio}
 
 -- ---- good libraries
 
 -- The examples are good.
 pub record ExamplesAreGood : Type 0 where
-  pub empty : is_good nothing ≡ true
+  pub empty : is_good empty_store ≡ true
   pub shared_is : is_good shared ≡ true
   pub studio_is : is_good studio ≡ true
 
@@ -39,8 +39,8 @@ abbrev pub with_segments : List SegmentRow → Library
 with_segments segments = record studio { segments = segments }
 
 -- a segment that names an object
-abbrev pub naming : List ℕ → SegmentRow
-naming object = record { flow = first_flow; serial = 4; segment = piece_of object 10 20 }
+abbrev pub naming_object : List ℕ → SegmentRow
+naming_object object = record { flow = first_flow; serial = 4; segment = piece_of object 10 20 }
 
 -- the studio with other objects
 abbrev pub with_objects : List ObjectRow → Library
@@ -75,11 +75,11 @@ pub record BadSegments : Type 0 where
 -- An object that a segment names is kept and stored.
 pub record BadReferences : Type 0 where
   pub fine : are_references_good studio.objects studio.segments ≡ true
-  pub unkept : are_references_good studio.objects (naming (codes "z") ∷ []) ≡ false
-  pub unstored : are_references_good studio.objects (naming (codes "c") ∷ []) ≡ false
-  pub last_one : are_references_good studio.objects (naming (codes "a") ∷ naming (codes "c") ∷ [])
+  pub unkept : are_references_good studio.objects (naming_object (codes "z") ∷ []) ≡ false
+  pub unstored : are_references_good studio.objects (naming_object (codes "c") ∷ []) ≡ false
+  pub last_one : are_references_good studio.objects (naming_object (codes "a") ∷ naming_object (codes "c") ∷ [])
       ≡ false
-  pub no_good_library : is_good (with_segments (naming (codes "c") ∷ [])) ≡ false
+  pub no_good_library : is_good (with_segments (naming_object (codes "c") ∷ [])) ≡ false
 
 -- an object at a place
 abbrev pub at : ℕ → ℕ → ObjectRow
@@ -128,17 +128,17 @@ pub record BadSources : Type 0 where
   }) ≡ false
 
 -- the first flow, which collects these
-abbrev pub collects : List Member → FlowRow
-collects members = record main_flow { body = record main_body { members = members } }
+abbrev pub collecting_these : List Member → FlowRow
+collecting_these members = record main_flow { body = record main_body { members = members } }
 
 -- Collected flows are kept, and none reaches itself.
 pub record BadCollections : Type 0 where
   pub fine : are_collections_good studio.catalog.flows ≡ true
   pub unkept : are_collections_good (main_flow ∷ both_flow ∷ []) ≡ false
   pub circle :
-      are_collections_good (collects (member third_flow ∷ []) ∷ sound_flow ∷ both_flow ∷ [])
+      are_collections_good (collecting_these (member third_flow ∷ []) ∷ sound_flow ∷ both_flow ∷ [])
       ≡ false
-  pub itself : are_collections_good (collects (member first_flow ∷ []) ∷ []) ≡ false
+  pub itself : are_collections_good (collecting_these (member first_flow ∷ []) ∷ []) ≡ false
 
 -- the studio's delete requests are good with these
 abbrev pub requests_good : List DeleteRow → Bool
@@ -189,30 +189,30 @@ abbrev pub too_late : ℕ
 too_late = 253402300800
 
 -- the studio with another first flow
-abbrev pub with_body : FlowBody → Library
-with_body new = with_flows (record main_flow { body = new } ∷ sound_flow ∷ both_flow ∷ [])
+abbrev pub with_flow_body : FlowBody → Library
+with_flow_body new = with_flows (record main_flow { body = new } ∷ sound_flow ∷ both_flow ∷ [])
 
 -- Texts are UTF-8, object ids and essence texts have their form, and moments lie in their range.
 pub record BadTexts : Type 0 where
   pub fine : are_texts_good studio ≡ true
-  pub codec : are_texts_good (with_body (record main_body { codec = Some no_text })) ≡ false
-  pub container : are_texts_good (with_body (record main_body { container = Some no_text })) ≡ false
-  pub label : are_texts_good (with_body (record main_body { label = Some no_text })) ≡ false
-  pub description : are_texts_good (with_body (record main_body { description = Some no_text }))
+  pub codec : are_texts_good (with_flow_body (record main_body { codec = Some no_text })) ≡ false
+  pub container : are_texts_good (with_flow_body (record main_body { container = Some no_text })) ≡ false
+  pub label : are_texts_good (with_flow_body (record main_body { label = Some no_text })) ≡ false
+  pub description : are_texts_good (with_flow_body (record main_body { description = Some no_text }))
       ≡ false
   pub tag_name :
       are_texts_good
-      (with_body (record main_body { tags = record take_tag { name = no_text } ∷ [] }))
+      (with_flow_body (record main_body { tags = record take_tag { name = no_text } ∷ [] }))
       ≡ false
   pub tag_value :
       are_texts_good
-      (with_body (record main_body { tags = record take_tag { values = no_text ∷ [] } ∷ [] }))
+      (with_flow_body (record main_body { tags = record take_tag { values = no_text ∷ [] } ∷ [] }))
       ≡ false
   pub role :
       are_texts_good
-      (with_body (record main_body { members = record { flow = 242; role = Some no_text } ∷ [] }))
+      (with_flow_body (record main_body { members = record { flow = 242; role = Some no_text } ∷ [] }))
       ≡ false
-  pub essence : are_texts_good (with_body (record main_body { essence = Some no_text })) ≡ false
+  pub essence : are_texts_good (with_flow_body (record main_body { essence = Some no_text })) ≡ false
   pub created : are_texts_good (with_flows (record main_flow { created = too_late } ∷ [])) ≡ false
   pub metadata : are_texts_good (with_flows (record main_flow { metadata_updated = too_late } ∷ []))
       ≡ false
@@ -254,8 +254,8 @@ pub record BadTexts : Type 0 where
 -- is stored or a block is taken, where too many or too few segments would go, and where the next
 -- library wouldn't be good.
 pub record ChangesAreTested : Type 0 where
-  pub put_applies : applies nothing (put 0 first_flow) ≡ true
-  pub late : applied (put 253402300800 first_flow) nothing ≡ None
+  pub put_applies : applies empty_store (put 0 first_flow) ≡ true
+  pub late : applied (put 253402300800 first_flow) empty_store ≡ None
   pub no_step : applied (changes.DeleteStep 0) stored ≡ None
   pub no_sweep : applied (changes.SweepStep 0) stored ≡ None
   pub no_hook : applied (changes.DropHook 0 (codes "h")) stored ≡ None

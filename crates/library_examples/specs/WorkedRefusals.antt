@@ -18,7 +18,7 @@ use Rattle.media_rows.specs.Catalog.{is_source_part}
 use Rattle.media_rows.specs.Changes.{after}
 use Rattle.media_rows.specs.Library.{Library}
 use Rattle.media_rows.specs.Ranges.{eternity}
-use Rattle.library_examples.specs.Examples.{after_all, first_flow, second_flow, one_source, body, body_of, member, nothing, put, put_over, seconds, piece, piece_of, stored, with_pieces, shared}
+use Rattle.library_examples.specs.Examples.{after_all, first_flow, second_flow, one_source, body, body_of, member, empty_store, put, put_collecting, seconds, piece, piece_of, stored, with_pieces, shared}
 use Rattle.library_examples.specs.Studio.{third_flow, other_source, take_tag, main_body, sound_body, open_request, done_request, studio}
 
 -- the first refusal of a command on the studio
@@ -54,7 +54,7 @@ set part = commands.SetFlow first_flow part
 -- before read-only, read-only before another format, another format before a missing member. The
 -- mark of a read-only flow may be set.
 pub record RefusalsStandInOrder : Type 0 where
-  pub no_flow : refusal_of nothing (commands.DropFlow first_flow) ≡ Some refusals.NoFlow
+  pub no_flow : refusal_of empty_store (commands.DropFlow first_flow) ≡ Some refusals.NoFlow
   pub read_only_put : refusal_of read_only put_faulty ≡ Some refusals.ReadOnly
   pub mark_is_set : refusal_of read_only (set (parts.ReadOnly false)) ≡ None
   pub label_is_not : refusal_of read_only (set (parts.Label None)) ≡ Some refusals.ReadOnly
@@ -106,8 +106,8 @@ pub record ReadOnlyStands : Type 0 where
 -- ---- parts that aren't set
 
 -- the clearing of a part of a flow of which nothing is said
-abbrev pub cleared : Part → Option Refusal
-cleared part = refusal_of stored (commands.SetFlow first_flow part)
+abbrev pub cleared_flow : Part → Option Refusal
+cleared_flow part = refusal_of stored (commands.SetFlow first_flow part)
 
 -- the clearing of a part of a source of which nothing is said
 abbrev pub cleared_source : Part → Option Refusal
@@ -115,12 +115,12 @@ cleared_source part = refused (commands.SetSource other_source part)
 
 -- What isn't set can't be cleared, and the refusal has the part's name.
 pub record UnsetPartsAreNamed : Type 0 where
-  pub tag : cleared (parts.Tag (codes "t") None) ≡ not_set (codes "tags")
-  pub label : cleared (parts.Label None) ≡ not_set (codes "label")
-  pub description : cleared (parts.Description None) ≡ not_set (codes "description")
-  pub collection : cleared (parts.Collection []) ≡ not_set (codes "flow_collection")
-  pub max_rate : cleared (parts.MaxBitRate None) ≡ not_set (codes "max_bit_rate")
-  pub avg_rate : cleared (parts.AvgBitRate None) ≡ not_set (codes "avg_bit_rate")
+  pub tag : cleared_flow (parts.Tag (codes "t") None) ≡ not_set (codes "tags")
+  pub label : cleared_flow (parts.Label None) ≡ not_set (codes "label")
+  pub description : cleared_flow (parts.Description None) ≡ not_set (codes "description")
+  pub collection : cleared_flow (parts.Collection []) ≡ not_set (codes "flow_collection")
+  pub max_rate : cleared_flow (parts.MaxBitRate None) ≡ not_set (codes "max_bit_rate")
+  pub avg_rate : cleared_flow (parts.AvgBitRate None) ≡ not_set (codes "avg_bit_rate")
   pub other_tag : refused (set (parts.Tag (codes "t") None)) ≡ not_set (codes "tags")
   pub source_tag : cleared_source (parts.Tag (codes "place") None) ≡ not_set (codes "tags")
   pub source_label : cleared_source (parts.Label None) ≡ not_set (codes "label")
@@ -156,8 +156,8 @@ pub record SetPartsAreCleared : Type 0 where
   pub collection : refused (commands.SetFlow third_flow (parts.Collection [])) ≡ None
   pub max_rate : refused (set (parts.MaxBitRate None)) ≡ None
   pub avg_rate : refused (set (parts.AvgBitRate None)) ≡ None
-  pub new_label : cleared (parts.Label (Some (codes "x"))) ≡ None
-  pub new_rate : cleared (parts.AvgBitRate (Some 1)) ≡ None
+  pub new_label : cleared_flow (parts.Label (Some (codes "x"))) ≡ None
+  pub new_rate : cleared_flow (parts.AvgBitRate (Some 1)) ≡ None
   pub source_tag : refused (commands.SetSource one_source (parts.Tag (codes "place") None)) ≡ None
   pub source_label : refused (commands.SetSource one_source (parts.Label None)) ≡ None
   pub source_description : refused (commands.SetSource one_source (parts.Description None)) ≡ None
@@ -190,7 +190,7 @@ pub record CollectionsComeLast : Type 0 where
       ≡ Some (refusals.CollectedMissing 999)
   pub kept_circle : put_main (member third_flow ∷ []) ≡ Some refusals.CollectsItself
   pub kept_fine : put_main (member second_flow ∷ []) ≡ None
-  pub long_circle : refusal_of (after (put_over 220 244 third_flow) studio)
+  pub long_circle : refusal_of (after (put_collecting 220 244 third_flow) studio)
       (commands.PutFlow (record main_body { members = member 244 ∷ [] }))
       ≡ Some refusals.CollectsItself
   pub set_missing : refused (set (parts.Collection (member third_flow ∷ member 999 ∷ [])))
@@ -201,7 +201,7 @@ pub record CollectionsComeLast : Type 0 where
 
 -- a source that a multi flow made
 abbrev pub multi_made : Library
-multi_made = after (changes.PutFlow 221 (body first_flow Multi [])) nothing
+multi_made = after (changes.PutFlow 221 (body first_flow Multi [])) empty_store
 
 -- A flow has its source's format or is multi, and a source of multi flows has none of another
 -- format.
@@ -298,7 +298,7 @@ pub record IdsAreTaken : Type 0 where
   pub free : allocating (codes "d" ∷ codes "e" ∷ []) ≡ None
   pub counted : refused (commands.Allocate first_flow (Count 2)) ≡ None
   pub repeated :
-      first_taken (is_kept_object nothing) [] (codes "a" ∷ codes "b" ∷ codes "b" ∷ codes "a" ∷ [])
+      first_taken (is_kept_object empty_store) [] (codes "a" ∷ codes "b" ∷ codes "b" ∷ codes "a" ∷ [])
       ≡ Some (codes "b")
 
 -- Bytes are kept once, of an object that is allocated.
@@ -315,12 +315,12 @@ source_ids library = map (λ row. row.id) library.catalog.sources
 
 -- a second flow that collects the first
 abbrev pub collecting : Library
-collecting = after (put_over 0 second_flow first_flow) stored
+collecting = after (put_collecting 0 second_flow first_flow) stored
 
 -- Flows of one source share it, and it goes with the last of them.
 pub record SourcesGo : Type 0 where
   pub one_source_for_two :
-      source_ids (after_all (put 0 first_flow ∷ put 5 second_flow ∷ []) nothing)
+      source_ids (after_all (put 0 first_flow ∷ put 5 second_flow ∷ []) empty_store)
       ≡ one_source ∷ []
   pub stays_with_one : source_ids (after (changes.DropFlow 20 first_flow) shared) ≡ one_source ∷ []
   pub goes_with_last :
@@ -339,7 +339,7 @@ pub record CollectionsAreTested : Type 0 where
       refusal_of stored (commands.PutFlow (body first_flow Video (member second_flow ∷ [])))
       ≡ Some (refusals.CollectedMissing second_flow)
   pub itself :
-      refusal_of nothing (commands.PutFlow (body first_flow Video (member first_flow ∷ [])))
+      refusal_of empty_store (commands.PutFlow (body first_flow Video (member first_flow ∷ [])))
       ≡ Some refusals.CollectsItself
   pub circle :
       refusal_of collecting (commands.PutFlow (body first_flow Video (member second_flow ∷ [])))

@@ -20,12 +20,12 @@ use Rattle.media_rows.specs.Media.{Archive, is_held, asks, puts, gets, answer_to
 use Rattle.media_rows.specs.Objects.{free_place}
 use Rattle.media_rows.specs.Ranges.{eternity}
 use Rattle.media_rows.specs.Segments.{covered, overlapping}
-use Rattle.library_examples.specs.Examples.{segment_serials, new_label, first_flow, second_flow, body, nothing, seconds, piece, stored, allocate, with_pieces, hook}
+use Rattle.library_examples.specs.Examples.{segment_serials, new_label, first_flow, second_flow, body, empty_store, seconds, piece, stored, allocate, with_pieces, hook}
 use Rattle.library_examples.specs.Studio.{other_source, main_body, object_a, object_b, one_hook, studio}
 
 -- the answer to a command on the studio at moment 205
-abbrev pub answered : Command → Outcome
-answered command = answer studio command 205
+abbrev pub studio_answer : Command → Outcome
+studio_answer command = answer studio command 205
 
 -- a reply with its change
 abbrev pub gives : Reply → Change → Outcome
@@ -40,35 +40,35 @@ leaves reply = record { reply = reply; change = None }
 -- A flow, a hook or segments that are new are created, and all else is done. What isn't there isn't
 -- dropped, and a refusal changes nothing.
 pub record RepliesAreGiven : Type 0 where
-  pub kept_flow : answered (commands.PutFlow main_body)
+  pub kept_flow : studio_answer (commands.PutFlow main_body)
       ≡ gives replies.Done (changes.PutFlow 205 main_body)
-  pub new_flow : answered (commands.PutFlow (body 244 Multi []))
+  pub new_flow : studio_answer (commands.PutFlow (body 244 Multi []))
       ≡ gives replies.Created (changes.PutFlow 205 (body 244 Multi []))
-  pub flow_part : answered (commands.SetFlow first_flow new_label)
+  pub flow_part : studio_answer (commands.SetFlow first_flow new_label)
       ≡ gives replies.Done (changes.SetFlow 205 first_flow new_label)
-  pub source_part : answered (commands.SetSource other_source new_label)
+  pub source_part : studio_answer (commands.SetSource other_source new_label)
       ≡ gives replies.Done (changes.SetSource 205 other_source new_label)
-  pub drop : answered (commands.DropFlow first_flow)
+  pub drop : studio_answer (commands.DropFlow first_flow)
       ≡ gives replies.Done (changes.DropFlow 205 first_flow)
-  pub named : answered (commands.Allocate first_flow (Named (codes "e" ∷ codes "d" ∷ [])))
+  pub named : studio_answer (commands.Allocate first_flow (Named (codes "e" ∷ codes "d" ∷ [])))
       ≡ gives (replies.CreatedObjects (codes "e" ∷ codes "d" ∷ []))
       (changes.Allocate 205 first_flow (codes "e" ∷ codes "d" ∷ []))
-  pub bytes : answered (commands.Keep (codes "c") 3 5)
+  pub bytes : studio_answer (commands.Keep (codes "c") 3 5)
       ≡ gives replies.Created (changes.Store 205 (codes "c") 3 5)
-  pub posted : answered (commands.AddSegments first_flow (piece 40 50 ∷ []))
+  pub posted : studio_answer (commands.AddSegments first_flow (piece 40 50 ∷ []))
       ≡ gives replies.Created (changes.AddSegments 205 first_flow (piece 40 50 ∷ []))
-  pub cut : answered (commands.CutSegments first_flow (seconds 0 15))
+  pub cut : studio_answer (commands.CutSegments first_flow (seconds 0 15))
       ≡ gives replies.Done (changes.CutSegments 205 first_flow (seconds 0 15))
-  pub only_overlapped : answered (commands.CutSegments first_flow (seconds 1 9))
+  pub only_overlapped : studio_answer (commands.CutSegments first_flow (seconds 1 9))
       ≡ leaves replies.Done
-  pub kept_hook : answered (commands.PutHook one_hook.hook)
+  pub kept_hook : studio_answer (commands.PutHook one_hook.hook)
       ≡ gives replies.Done (changes.PutHook 205 one_hook.hook)
-  pub new_hook : answered (commands.PutHook (hook (codes "h") None))
+  pub new_hook : studio_answer (commands.PutHook (hook (codes "h") None))
       ≡ gives replies.Created (changes.PutHook 205 (hook (codes "h") None))
-  pub hook_gone : answered (commands.DropHook (codes "http://two/"))
+  pub hook_gone : studio_answer (commands.DropHook (codes "http://two/"))
       ≡ gives replies.Done (changes.DropHook 205 (codes "http://two/"))
-  pub no_hook : answered (commands.DropHook (codes "http://three/")) ≡ leaves replies.Done
-  pub refused : answered (commands.DropFlow second_flow)
+  pub no_hook : studio_answer (commands.DropHook (codes "http://three/")) ≡ leaves replies.Done
+  pub refused : studio_answer (commands.DropFlow second_flow)
       ≡ leaves (replies.Refused refusals.ReadOnly)
 
 -- ---- what goes at once, and what is asked for
@@ -123,9 +123,9 @@ two_made = changes.Allocate 205 first_flow (codes "00000000-0000-0000-0000-00000
 -- may name none that begins so, but one that begins with another store's id.
 pub record IdsAreMade : Type 0 where
   pub first : made_id 1 1 ≡ codes "00000000-0000-0000-0000-000000000001-1"
-  pub like_it : is_taken nothing (Named []) (codes "00000000-0000-0000-0000-000000000001-x") ≡ true
-  pub other : is_taken nothing (Named []) (codes "00000000-0000-0000-0000-000000000002-1") ≡ false
-  pub counted : answered (commands.Allocate first_flow (Count 2))
+  pub like_it : is_taken empty_store (Named []) (codes "00000000-0000-0000-0000-000000000001-x") ≡ true
+  pub other : is_taken empty_store (Named []) (codes "00000000-0000-0000-0000-000000000002-1") ≡ false
+  pub counted : studio_answer (commands.Allocate first_flow (Count 2))
       ≡ gives (replies.CreatedObjects (codes "00000000-0000-0000-0000-000000000001-15"
       ∷ codes "00000000-0000-0000-0000-000000000001-16" ∷ [])) two_made
   pub serials_are_theirs : map (λ row. row.serial) (after two_made studio).objects
@@ -151,7 +151,7 @@ their_bytes = codes "xyz" ∷ [] ∷ []
 -- The first bytes of an object take the least free place, equal bytes change nothing, and others
 -- are refused. An object without bytes is stored even where no block is free.
 pub record MediaAreKept : Type 0 where
-  pub unknown : put_media_answer nothing [] (codes "a") (codes "xyz") 5
+  pub unknown : put_media_answer empty_store [] (codes "a") (codes "xyz") 5
       ≡ leaves (replies.Refused refusals.UnknownObject)
   pub first : put_media_answer two_objects their_bytes (codes "b") (codes "q") 5
       ≡ gives replies.Created (changes.Store 5 (codes "b") 1 1)

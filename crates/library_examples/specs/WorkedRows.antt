@@ -10,7 +10,7 @@ use Rattle.media_rows.specs.Ranges.{eternity}
 use Rattle.media_rows.specs.Requests.{Deletion, newest_done, asked_row}
 use Rattle.media_rows.specs.Restoring.{catalog_of, can_restore_catalog, can_restore_requests}
 use Rattle.media_rows.specs.Snapshot.{library_of, rows_of, row_before, kind_number}
-use Rattle.library_examples.specs.Examples.{first_flow, one_source, nothing, seconds, shared, listen}
+use Rattle.library_examples.specs.Examples.{first_flow, one_source, empty_store, seconds, shared, listen}
 use Rattle.library_examples.specs.Studio.{left_source, bare_source, main_flow, sound_flow, both_flow, object_a, object_b, object_c, later_piece, early_piece, third_piece, last_piece, open_request, done_request, one_hook, two_hook, event, studio}
 use Rattle.media_rows.specs.declared.row.Row.TheVariants as rows
 
@@ -40,13 +40,13 @@ pub record DoneOnesStay : Type 0 where
 -- ---- snapshots
 
 -- both flows and a hook
-abbrev pub heard : Library
-heard = after listen shared
+abbrev pub shared_and_heard : Library
+shared_and_heard = after listen shared
 
 -- A snapshot has its rows by kind, segments by flow and first point, and the next serial last.
 pub record SnapshotsHaveAll : Type 0 where
-  pub kinds : map kind_number (rows_of heard) ≡ 1 ∷ 2 ∷ 2 ∷ 3 ∷ 4 ∷ 4 ∷ 6 ∷ 8 ∷ []
-  pub rising : rises row_before (rows_of heard) ≡ true
+  pub kinds : map kind_number (rows_of shared_and_heard) ≡ 1 ∷ 2 ∷ 2 ∷ 3 ∷ 4 ∷ 4 ∷ 6 ∷ 8 ∷ []
+  pub rising : rises row_before (rows_of shared_and_heard) ≡ true
   pub whole : rows_of studio
       ≡ rows.Source left_source ∷ rows.Source bare_source
       ∷ rows.Flow main_flow ∷ rows.Flow sound_flow ∷ rows.Flow both_flow
@@ -60,12 +60,12 @@ pub record SnapshotsHaveAll : Type 0 where
       ∷ rows.Event (event 14 10 SegmentsAdded first_flow (Some (seconds 10 20)) 143)
       ∷ rows.Numbers 15 ∷ []
   pub studio_rises : rises row_before (rows_of studio) ≡ true
-  pub empty : rows_of nothing ≡ rows.Numbers 1 ∷ []
+  pub empty : rows_of empty_store ≡ rows.Numbers 1 ∷ []
 
 -- Rows make the library that they are of, each row at its place alone.
 pub record LibrariesAreMade : Type 0 where
   pub whole : library_of 1 46 (rows_of studio) ≡ studio
-  pub none : library_of 1 46 [] ≡ nothing
+  pub none : library_of 1 46 [] ≡ empty_store
   pub hook : (library_of 1 46 (rows.Hook two_hook ∷ [])).outbox.hooks ≡ two_hook ∷ []
   pub event_row :
       (library_of 1 46 (rows.Event (event 12 10 FlowUpdated 241 None 141) ∷ [])).outbox.events

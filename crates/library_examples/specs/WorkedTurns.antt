@@ -15,7 +15,7 @@ use Rattle.media_rows.specs.Ranges.{eternity}
 use Rattle.media_rows.specs.Requests.{asked_row, is_finished_by_step}
 use Rattle.media_rows.specs.declared.request.DeleteRow.{DeleteRow}
 use Rattle.media_rows.specs.Segments.{covered}
-use Rattle.library_examples.specs.Examples.{segment_serials, after_all, first_flow, second_flow, nothing, put, seconds, piece, stored, pieces, post, with_pieces, shared, hook}
+use Rattle.library_examples.specs.Examples.{segment_serials, after_all, first_flow, second_flow, empty_store, put, seconds, piece, stored, pieces, post, with_pieces, shared, hook}
 use Rattle.library_examples.specs.Studio.{third_flow, open_request, done_request, event, studio}
 
 -- the serials and the statuses of the delete requests, in their order
@@ -84,7 +84,7 @@ backwards = after_all
     ∷ changes.Store 3 (codes "a") 0 3
     ∷ changes.PutHook 4 (hook (codes "h") None)
     ∷ changes.AddSegments 5 first_flow (reverse (pieces 34))
-    ∷ changes.AskDelete 6 first_flow (seconds 1 34) false ∷ []) nothing
+    ∷ changes.AskDelete 6 first_flow (seconds 1 34) false ∷ []) empty_store
 
 -- the same after the first step
 abbrev pub backwards_once : Library
@@ -164,7 +164,7 @@ seventeen = map (λ i. record {
 
 -- a library with these objects
 abbrev pub crowded : Library
-crowded = record nothing { objects = seventeen; next_serial = 18 }
+crowded = record empty_store { objects = seventeen; next_serial = 18 }
 
 -- The objects that are idle longest go first, and of those that are idle equally long the ones of
 -- least serial; 16 go in one step.

@@ -251,22 +251,22 @@ pub record IdsInPages : Type 0 where
 -- ---- pages of segments
 
 -- a page of the segments of the first flow
-abbrev pub segments_in : Option Span → Option (List ℕ) → Page → Reply
-segments_in range object asked_page =
+abbrev pub segments_reply : Option Span → Option (List ℕ) → Page → Reply
+segments_reply range object asked_page =
     reply (commands.Segments first_flow (record { range = range; object = object }) asked_page)
 
 -- Segments are shown by first point, those that overlap the range in part among them, and only
 -- those that name the object where one is asked for.
 pub record SegmentsAreShown : Type 0 where
-  pub all : segments_in eternity None nine
+  pub all : segments_reply eternity None nine
       ≡ shown (views.Segments (early_piece ∷ later_piece ∷ last_piece ∷ []) None)
-  pub part : segments_in (seconds 5 15) None nine
+  pub part : segments_reply (seconds 5 15) None nine
       ≡ shown (views.Segments (early_piece ∷ later_piece ∷ []) None)
-  pub of_object : segments_in eternity (Some (codes "a")) nine
+  pub of_object : segments_reply eternity (Some (codes "a")) nine
       ≡ shown (views.Segments (later_piece ∷ last_piece ∷ []) None)
-  pub no_object : segments_in eternity (Some (codes "z")) nine ≡ shown (views.Segments [] None)
-  pub never : segments_in None None nine ≡ shown (views.Segments [] None)
-  pub page_of_object : segments_in eternity (Some (codes "a")) (page None 1 true)
+  pub no_object : segments_reply eternity (Some (codes "z")) nine ≡ shown (views.Segments [] None)
+  pub never : segments_reply None None nine ≡ shown (views.Segments [] None)
+  pub page_of_object : segments_reply eternity (Some (codes "a")) (page None 1 true)
       ≡ shown (views.Segments (last_piece ∷ []) (Some (pos 40000000000)))
 
 -- the serials of a page of five segments, each of a second, that overlap a range
@@ -285,8 +285,8 @@ abbrev pub mixed : Library
 mixed = after (post (piece 30 40 ∷ piece 10 20 ∷ piece 20 30 ∷ piece 0 10 ∷ [])) stored
 
 -- a range that begins within a segment and ends with the first point of the next
-abbrev pub half : Option Span
-half = Some (record { low = Some (pos 1000000000); high = Some (pos second) })
+abbrev pub half_range : Option Span
+half_range = Some (record { low = Some (pos 1000000000); high = Some (pos second) })
 
 -- Segments come by rising first point, or by falling. A page that isn't the last has the key of the
 -- next one, and a segment that begins before the range is in it all the same. Never overlaps none.
@@ -305,5 +305,5 @@ pub record PagesAreCut : Type 0 where
   pub backwards_next : points eternity (page (Some (pos 6000000000)) 2 true) ≡ 4 ∷ 3 ∷ []
   pub backwards_last : points eternity (page (Some (pos 2000000000)) 2 true) ≡ 2 ∷ []
   pub backwards_end : key (page (Some (pos 2000000000)) 2 true) ≡ None
-  pub part : points half nine ≡ 2 ∷ 3 ∷ []
+  pub part : points half_range nine ≡ 2 ∷ 3 ∷ []
   pub never : points None nine ≡ []

@@ -2,9 +2,9 @@
 use Rattle.std.proofs.Common.{◌≡◌, ◌≤◌, ◌+◌, ◌-◌, ℕ, List, length, ap, ◌∙◌, arith}
 use Rattle.disk_trait.specs.Calls.{bytes_at}
 use Rattle.disk_trait.proofs.OverwriteLemmas.{bytes_at-bytes_at}
-use Rattle.media_journal.specs.Within.Window.{Piece, HasBytes}
+use Rattle.media_journal.specs.Within.Window.{HalfPiece, HasBytes}
 
-pub piece_part : (image : List ℕ) (p : Piece) (at n : ℕ) → p.bytes ≡ bytes_at image p.offset (length p.bytes) → HasBytes p at n
+pub piece_part : (image : List ℕ) (p : HalfPiece) (at n : ℕ) → p.bytes ≡ bytes_at image p.offset (length p.bytes) → HasBytes p at n
     → bytes_at p.bytes (at - p.offset) n ≡ bytes_at image at n
 piece_part image p at n shown covers =
     let within : at - p.offset + n ≤ length p.bytes = omega (arith, covers.from, covers.to) in

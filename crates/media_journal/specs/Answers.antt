@@ -1,23 +1,19 @@
 -- What the calls of the journal answer.
-use Rattle.std.specs.Prelude.{Bool, true, false, Result, Ok, Err}
+use Rattle.std.specs.Prelude.{Bool, true, false, Result, Err}
 use Rattle.media_journal.specs.declared.fault.JournalFault.{JournalFault}
-use Rattle.media_journal.specs.declared.fault.JournalFault.TheVariants.{NotStore, Damaged, Disk, Memory}
+use Rattle.media_journal.specs.declared.fault.JournalFault.TheVariants.{Disk, Memory}
 use Rattle.media_journal.specs.declared.fault.ReadFault.{ReadFault}
 use Rattle.media_journal.specs.declared.fault.ReadFault.TheVariants as reading
 
 -- no call of the device failed
 abbrev pub not_disk : {T : Type 0} → Result T JournalFault → Bool
-not_disk (Ok x) = true
-not_disk (Err NotStore) = true
-not_disk (Err (Damaged at)) = true
 not_disk (Err Disk) = false
-not_disk (Err Memory) = true
+not_disk _ = true
 
 -- the same of reading bytes
 abbrev pub read_ok : {T : Type 0} → Result T ReadFault → Bool
-read_ok (Ok x) = true
 read_ok (Err reading.Disk) = false
-read_ok (Err reading.Memory) = true
+read_ok _ = true
 
 -- a fault of reading bytes as one of opening a journal
 abbrev pub as_journal_fault : ReadFault → JournalFault

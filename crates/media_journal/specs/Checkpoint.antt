@@ -3,12 +3,12 @@
 use Rattle.std.specs.Prelude.{◌≡◌, ◌+◌, ◌-◌, ◌*◌, ◌⊎◌, ◌==◌, ℕ, Bool, true, false, List, [], length, if◌then◌else◌}
 use Rattle.disk_trait.specs.Device.{Left}
 use Rattle.disk_trait.specs.Calls.{Torn}
-use Rattle.media_journal.specs.declared.header.TheConstants.{BLOCK}
+use Rattle.media_journal.specs.declared.header.TheConstants.{BLOCK, HALVES}
 use Rattle.media_journal.specs.Journal.{Contents, Gives, HasInHalf, Position}
 
 -- where the other half begins, where one of so many blocks begins here
 abbrev pub other_of : ℕ → ℕ → ℕ
-other_of start half = if start == 8192 then 8192 + BLOCK * half else 8192
+other_of start half = if start == HALVES then HALVES + BLOCK * half else HALVES
 
 -- where the half begins that isn't the journal's
 abbrev pub other_start : Position → ℕ
@@ -16,7 +16,7 @@ other_start p = other_of p.start p.half
 
 -- the selector's byte that names the half that begins here
 abbrev pub selector_for : ℕ → ℕ
-selector_for start = if start == 8192 then 0 else 1
+selector_for start = if start == HALVES then 0 else 1
 
 -- the position in the other half, behind n bytes of rows
 abbrev pub after_checkpoint : Position → ℕ → Position

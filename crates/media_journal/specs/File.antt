@@ -1,7 +1,7 @@
 -- The file, store format 1: a header, a selector, two halves with rows and records, and media
 -- blocks. Our own format. All numbers are big-endian, and a block has 4,096 bytes.
 use Rattle.std.specs.Prelude.{◌≡◌, ◌≢◌, ◌<◌, ◌≤◌, ◌+◌, ◌*◌, ◌%◌, ◌^◌, ◌==◌, ℕ, List, [], ◌∷◌, ◌++◌, length, slice_index, codes, Option, Some, None, if◌then◌else◌}
-use Rattle.media_journal.specs.declared.header.TheConstants.{BLOCK, MOST_BLOCKS, MOST_HALF}
+use Rattle.media_journal.specs.declared.header.TheConstants.{BLOCK, HALVES, SELECTOR, MOST_BLOCKS, MOST_HALF}
 use Rattle.disk_trait.specs.Calls.{bytes_at}
 use Rattle.disk_trait.specs.Numbers.{u32_bytes, u64_bytes, u128_bytes}
 use Rattle.media_journal.specs.declared.header.Header.{Header}
@@ -52,7 +52,7 @@ pub record AreSizes (h : Header) (size : ℕ) : Type 0 where
 -- where the half begins that the selector names: A at block 2 where its byte is even, and B behind
 -- A
 abbrev pub active_start : List ℕ → ℕ → ℕ
-active_start image half = if slice_index image 4096 % 2 == 0 then 8192 else 8192 + BLOCK * half
+active_start image half = if slice_index image SELECTOR % 2 == 0 then HALVES else HALVES + BLOCK * half
 
 -- the rows of a half with their length before them
 unfoldable pub rows_text : List ℕ → List ℕ

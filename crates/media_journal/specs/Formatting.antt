@@ -1,6 +1,6 @@
 -- What formatting a device answers and leaves.
 use Rattle.std.specs.Prelude.{◌≡◌, ◌≤◌, ◌+◌, ◌*◌, ℕ, Bool, true, false, List, [], ◌∷◌, ◌++◌, length, Result, Ok, Err}
-use Rattle.media_journal.specs.declared.header.TheConstants.{BLOCK}
+use Rattle.media_journal.specs.declared.header.TheConstants.{BLOCK, HALVES, SELECTOR}
 use Rattle.disk_trait.specs.Calls.{overwritten}
 use Rattle.media_journal.specs.declared.header.Header.{Header}
 use Rattle.media_journal.specs.declared.format.Gate.{Gate}
@@ -19,7 +19,7 @@ pub record FitsStore (h : Header) (size : ℕ) (rows : List ℕ) : Type 0 where
 abbrev pub FormatAnswer : List ℕ → List ℕ → Header → List ℕ → Result (Unit {0}) FormatFault → Type 0
 FormatAnswer old new h rows (Ok _) =
     (¬ (HasOpenHeader old)) × FitsStore h (length old) rows
-    × Reads new h (8192 + (8 + length rows)) rows []
+    × Reads new h (HALVES + (8 + length rows)) rows []
 FormatAnswer old new h rows (Err AlreadyStore) = HasOpenHeader old
 FormatAnswer old new h rows (Err TooSmall) =
     (¬ (HasOpenHeader old)) × (¬ (FitsStore h (length old) rows))
@@ -36,11 +36,8 @@ OnRefusal (Err Memory) T = T
 
 -- no call of the device failed
 abbrev pub format_ok : {T : Type 0} → Result T FormatFault → Bool
-format_ok (Ok x) = true
-format_ok (Err AlreadyStore) = true
-format_ok (Err TooSmall) = true
 format_ok (Err Disk) = false
-format_ok (Err Memory) = true
+format_ok _ = true
 
 -- the header's gate is open, and what stands before it is no header
 pub record IsStray (image : List ℕ) : Type 0 where
@@ -61,7 +58,7 @@ half_text rows = rows_text rows ++ 0 ∷ []
 abbrev pub with_store : List ℕ → List ℕ → List ℕ → List ℕ
 with_store header half image =
     overwritten 40 (1 ∷ [])
-    (overwritten 8192 half (overwritten 4096 (0 ∷ []) (overwritten 0 header image)))
+    (overwritten HALVES half (overwritten SELECTOR (0 ∷ []) (overwritten 0 header image)))
 
 -- the new image is the old one, whose gate may have been closed first, with a store
 pub record IsFormatted (header half old new : List ℕ) : Type 0 where

@@ -5,12 +5,13 @@ use Rattle.media_journal.specs.declared.header.Header.{Header}
 use Rattle.media_journal.specs.declared.open.Opened.{Opened}
 use Rattle.media_journal.specs.declared.fault.JournalFault.{JournalFault}
 use Rattle.media_journal.specs.declared.fault.JournalFault.TheVariants.{NotStore, Damaged, Disk, Memory}
+use Rattle.media_journal.specs.declared.open.TheConstants.{SHORTEST}
 use Rattle.media_journal.specs.File.{HasOpenHeader, IsHeader, AreSizes, HasLongRows, ReadsTorn, active_start}
 use Rattle.media_journal.specs.Journal.{Contents, Gives, IsWhole, Position}
 
 -- a file of at least five blocks whose header is an open one
 pub record IsStore (image : List ℕ) : Type 0 where
-  pub size : 20480 ≤ length image
+  pub size : SHORTEST ≤ length image
   pub header : HasOpenHeader image
 
 -- the header's numbers are none that the file may have

@@ -1,10 +1,10 @@
 -- That an image reads in one way, and is answered in one way.
-use Rattle.std.specs.Prelude.{◌≡◌, ℕ, List, Result, Ok, Err}
+use Rattle.std.specs.Prelude.{◌≡◌, ℕ, List, Result, Err}
 use Rattle.media_journal.specs.declared.header.Header.{Header}
 use Rattle.media_journal.specs.declared.record.Record.{Record}
 use Rattle.media_journal.specs.declared.open.Opened.{Opened}
 use Rattle.media_journal.specs.declared.fault.JournalFault.{JournalFault}
-use Rattle.media_journal.specs.declared.fault.JournalFault.TheVariants.{NotStore, Damaged, Disk, Memory}
+use Rattle.media_journal.specs.declared.fault.JournalFault.TheVariants.{Disk, Memory}
 use Rattle.media_journal.specs.File.{Reads, ReadsTorn, IsUnreadable}
 use Rattle.media_journal.specs.Opening.{IsStore, DamagedAt, OpenAnswer}
 
@@ -41,11 +41,9 @@ DamagedIsUnreadable image = (at : ℕ) → DamagedAt image at → IsUnreadable i
 
 -- the image decides the answer: no call of the device failed, and there was memory
 abbrev pub IsDecided : Result Opened JournalFault → Type 0
-IsDecided (Ok o) = Unit {0}
-IsDecided (Err NotStore) = Unit {0}
-IsDecided (Err (Damaged at)) = Unit {0}
 IsDecided (Err Disk) = ⊥
 IsDecided (Err Memory) = ⊥
+IsDecided _ = Unit {0}
 
 -- two answers that the image decides are one
 abbrev pub HasOneAnswer : List ℕ → Type 0

@@ -8,7 +8,7 @@ ghost use Rattle.media_journal.specs.JournalMoments.{EachGives};
 ghost use Rattle.media_journal.specs.Checkpoint.{CheckpointEnds, KeepsOrSwitches, WritesOther, after_checkpoint, other_of, selector_for, with_rows};
 ghost use Rattle.media_journal.specs.Within.Steps.{SyncedWriteEnds, WithinWrites, WritesEnd};
 
-use crate::header::{BLOCK, MOST_HALF};
+use crate::header::{BLOCK, HALVES, MOST_HALF};
 use crate::write::write_synced;
 use crate::{AppendFault, Journal};
 use disk_trait::numbers::u64_bytes;
@@ -91,20 +91,20 @@ impl Journal {
 fn other_half(start: u64, half: u64) -> u64
     requires { half ≤ MOST_HALF }
     ensures start { result ≡ other_of start half }
-    ensures least { 8192 ≤ result }
-    ensures most { result ≤ 8192 + BLOCK * half }
+    ensures least { HALVES ≤ result }
+    ensures most { result ≤ HALVES + BLOCK * half }
 {
-    if start == 2 * BLOCK {
-        2 * BLOCK + BLOCK * half
+    if start == HALVES {
+        HALVES + BLOCK * half
     } else {
-        2 * BLOCK
+        HALVES
     }
 }
 
 /// Writes the half that begins here with these rows, and then makes the selector name it.
 fn switch_half<D: Disk>(disk: &mut D, start: u64, rows: &[u8]) -> Result<(), Failed>
     requires device { start + (9 + length rows.now) ≤ (D.device disk.old).size }
-    requires place { 8192 ≤ start }
+    requires place { HALVES ≤ start }
     requires small { start < 2 ^ 62 }
     ensures calls { DiskCalls (is_ok result) (D.device disk.old) (D.device disk.new) }
     ensures six_calls { (D.device disk.new).moment ≤ (D.device disk.old).moment + 6 }
@@ -175,7 +175,7 @@ fn write_parts<D: Disk>(disk: &mut D, start: u64, rows: &[u8]) -> Result<(), Fai
 
 /// Makes the selector name the half that begins here, and syncs it.
 fn select_half<D: Disk>(disk: &mut D, start: u64) -> Result<(), Failed>
-    requires device { 8192 ≤ (D.device disk.old).size }
+    requires device { HALVES ≤ (D.device disk.old).size }
     ensures calls { DiskCalls (is_ok result) (D.device disk.old) (D.device disk.new) }
     ensures two_calls { (D.device disk.new).moment ≤ (D.device disk.old).moment + 2 }
     ensures written { (D.device disk.old).shows ≡ true → OnOk result ((D.device disk.new).seen
@@ -191,6 +191,6 @@ fn select_half<D: Disk>(disk: &mut D, start: u64) -> Result<(), Failed>
         (SyncedWriteEnds (is_ok result) BLOCK (selector_for start ∷ []) (D.device disk.old).seen)
         (D.device disk.old) (D.device disk.new) }
 {
-    let selector = if start == 2 * BLOCK { 0 } else { 1 };
+    let selector = if start == HALVES { 0 } else { 1 };
     write_synced(disk, BLOCK, &[selector])
 }

@@ -7,7 +7,7 @@ ghost use Rattle.media_journal.specs.Formatting.{FitsStore, FormatAnswer, GateIs
 ghost use Rattle.media_journal.specs.JournalMoments.{FormattingEnds, IsAtRest, NoneOrNew, WritesStore};
 ghost use Rattle.media_journal.specs.Within.Steps.{KeepsGate, LeavesNone, NoneOrFormatted, StoreEnds};
 
-use crate::header::{BLOCK, MOST_BLOCKS, MOST_HALF, is_open, magic};
+use crate::header::{BLOCK, HALVES, MOST_BLOCKS, MOST_HALF, SELECTOR, is_open, magic};
 use crate::write::write_synced;
 use crate::{FormatFault, Header};
 use disk_trait::numbers::{u64_bytes, u128_bytes};
@@ -87,7 +87,7 @@ fn fits_store(header: &Header, size: u64, rows: &[u8]) -> bool
 /// synced.
 fn make_store<D: Disk>(disk: &mut D, gate: Gate, header: &[u8], half: &[u8]) -> Result<(), Failed>
     requires header { length header.now ≡ 40 }
-    requires device { 8192 + length half.now ≤ (D.device disk.old).size }
+    requires device { HALVES + length half.now ≤ (D.device disk.old).size }
     ensures calls { DiskCalls (is_ok result) (D.device disk.old) (D.device disk.new) }
     ensures written { (D.device disk.old).shows ≡ true → OnOk result
         (IsFormatted header.now half.now (D.device disk.old).seen (D.device disk.new).seen) }
@@ -161,10 +161,10 @@ fn close_stray<D: Disk>(disk: &mut D, gate: Gate) -> Result<(), Failed>
 /// Writes all of a store but its open gate, and syncs it.
 fn write_store<D: Disk>(disk: &mut D, header: &[u8], half: &[u8]) -> Result<(), Failed>
     requires header { length header.now ≡ 40 }
-    requires device { 8192 + length half.now ≤ (D.device disk.old).size }
+    requires device { HALVES + length half.now ≤ (D.device disk.old).size }
     ensures calls { DiskCalls (is_ok result) (D.device disk.old) (D.device disk.new) }
     ensures written { (D.device disk.old).shows ≡ true → OnOk result ((D.device disk.new).seen
-        ≡ overwritten 8192 half.now (overwritten 4096 (0 ∷ [])
+        ≡ overwritten HALVES half.now (overwritten SELECTOR (0 ∷ [])
         (overwritten 0 header.now (D.device disk.old).seen))) }
     ensures durable { (D.device disk.old).honest ≡ true
         → OnOk result (LeavesOnly (D.device disk.new).seen (D.device disk.new)) }
@@ -174,7 +174,7 @@ fn write_store<D: Disk>(disk: &mut D, header: &[u8], half: &[u8]) -> Result<(), 
 {
     disk.write_at(0, header)?;
     disk.write_at(BLOCK, &[0])?;
-    disk.write_at(2 * BLOCK, half)?;
+    disk.write_at(HALVES, half)?;
     disk.sync()
 }
 

@@ -9,6 +9,12 @@ use disk_trait::{Disk, Failed, same_bytes};
 /// The bytes of a block.
 pub const BLOCK: u64 = 4096;
 
+/// Where the first half begins: behind the block of the header and that of the selector.
+pub const HALVES: u64 = 2 * BLOCK;
+
+/// Where the selector stands.
+pub const SELECTOR: u64 = BLOCK;
+
 /// The most blocks of a file.
 pub const MOST_BLOCKS: u64 = 1_073_741_824;
 

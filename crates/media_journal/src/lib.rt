@@ -26,7 +26,7 @@ mod write;
 pub use crate::fault::{AppendFault, FormatFault, JournalFault};
 pub use crate::format::format_device;
 pub use crate::frame::Frame;
-pub use crate::header::{BLOCK, Header, MOST_BLOCKS, MOST_HALF};
+pub use crate::header::{BLOCK, HALVES, Header, MOST_BLOCKS, MOST_HALF, SELECTOR};
 pub use crate::journal::Journal;
 pub use crate::open::{Opened, one_reading, open_journal};
 pub use crate::record::{Record, RecordList};

@@ -8,7 +8,7 @@ ghost use Rattle.media_journal.specs.Opening.{IsOpened, OpenAnswer, WholeUnlessT
 ghost use Rattle.media_journal.specs.Readings.{HasOneReading, HasOneTornReading, HasOneAnswer, ReadsAsStore, TornIsUnreadable, DamagedIsUnreadable};
 ghost use Rattle.media_journal.specs.Within.Scan.{IsReadHalf};
 
-use crate::header::{BLOCK, MOST_BLOCKS, MOST_HALF, read_header};
+use crate::header::{BLOCK, HALVES, MOST_BLOCKS, MOST_HALF, SELECTOR, read_header};
 use crate::scan::{Half, read_half};
 use crate::{Header, Journal, JournalFault, RecordList};
 use disk_trait::{Disk, Failed, Text};
@@ -16,9 +16,6 @@ use std::alloc::Global;
 
 /// The bytes of the shortest store, which has five blocks.
 const SHORTEST: u64 = 5 * BLOCK;
-
-/// Where the selector is, whose lowest bit names the active half.
-const SELECTOR: u64 = BLOCK;
 
 /// A journal with what its active half holds.
 #[derive(Drop)]
@@ -72,24 +69,24 @@ pub fn open_journal<D: Disk>(alloc: Global, disk: &mut D) -> Result<Opened, Jour
 /// Where the half begins that the selector names.
 fn read_start<D: Disk>(disk: &mut D, half: u64) -> Result<u64, Failed>
     requires half { half ≤ MOST_HALF }
-    requires device { 8192 ≤ (D.device disk.old).size }
+    requires device { HALVES ≤ (D.device disk.old).size }
     ensures reads { DiskReads (is_ok result) (D.device disk.old) (D.device disk.new) }
-    ensures bound { IfOk result (λ start. start ≤ 8192 + BLOCK * half) }
+    ensures bound { IfOk result (λ start. start ≤ HALVES + BLOCK * half) }
     ensures start { (D.device disk.old).shows ≡ true
         → IfOk result (λ start. start ≡ active_start (D.device disk.old).seen half) }
 {
     let mut selector = [0u8];
     disk.read_at(SELECTOR, &mut selector)?;
     if selector[0] % 2 == 0 {
-        Ok(2 * BLOCK)
+        Ok(HALVES)
     } else {
-        Ok(2 * BLOCK + BLOCK * half)
+        Ok(HALVES + BLOCK * half)
     }
 }
 
 /// What was opened, from its parts.
 fn assembled(header: Header, start: u64, half: Half) -> Opened
-    requires start { start ≤ 8192 + BLOCK * header.half }
+    requires start { start ≤ HALVES + BLOCK * header.half }
     requires sizes { header.half ≤ MOST_HALF }
     requires blocks { header.blocks ≤ MOST_BLOCKS }
     requires fits { 2 * header.half + 3 ≤ header.blocks }

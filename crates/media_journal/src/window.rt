@@ -24,9 +24,9 @@ pub(crate) struct Window {
 
 impl Model for Window {
     ghost use Rattle.std.specs.Prelude.{take};
-    ghost use Rattle.media_journal.specs.Within.Window.{Piece, IsWindow};
+    ghost use Rattle.media_journal.specs.Within.Window.{HalfPiece, IsWindow};
 
-    ghost Value = { Piece };
+    ghost Value = { HalfPiece };
 
     ghost view = { λ w. record {
       offset = w.offset;

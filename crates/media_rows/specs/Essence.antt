@@ -2,18 +2,14 @@
 -- rule).
 use Rattle.std.specs.Prelude.{ℕ, List, Bool, true, false, not, ◌&&◌, Option, Some, None, bytes_eq}
 use Rattle.std.specs.Str.{is_utf8}
-use Rattle.serde_json.specs.Data.{Data, null, boolean, number, string, array, object}
+use Rattle.serde_json.specs.Data.{Data, object}
 use Rattle.serde_json.specs.Read.{read}
 use Rattle.serde_json.specs.Written.{has_float, compact_text}
 
 -- a JSON value that is an object
 abbrev pub is_object : Data → Bool
-is_object null = false
-is_object (boolean b) = false
-is_object (number n) = false
-is_object (string s) = false
-is_object (array ds) = false
 is_object (object ms) = true
+is_object _ = false
 
 -- the value is an object, each of its numbers is a whole number of 64 bits, and its compact text,
 -- in which each object has its keys in byte order, is this one

@@ -46,6 +46,10 @@ clock_text seconds =
     84 ∷ two_digits (seconds / 3600) ++ 58 ∷ two_digits (seconds / 60 % 60)
     ++ 58 ∷ two_digits (seconds % 60) ++ 90 ∷ []
 
+-- the seconds of a day, none of which has a leap second
+abbrev pub seconds_in_day : ℕ
+seconds_in_day = 86400
+
 -- the text of a moment
 unfoldable pub moment_text : ℕ → List ℕ
-moment_text moment = date_text (civil_date (moment / 86400)) ++ clock_text (moment % 86400)
+moment_text moment = date_text (civil_date (moment / seconds_in_day)) ++ clock_text (moment % seconds_in_day)

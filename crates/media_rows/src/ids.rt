@@ -50,7 +50,7 @@ pub fn is_object_id(text: &[u8]) -> bool
 }
 
 fn has_object_id_length(text: &[u8]) -> bool
-    ensures { result ≡ (nat_le 1 (length text.now) && nat_le (length text.now) 200) }
+    ensures { result ≡ (nat_le 1 (length text.now) && nat_le (length text.now) LONGEST_OBJECT_ID) }
 {
     1 <= text.len() && text.len() <= LONGEST_OBJECT_ID
 }

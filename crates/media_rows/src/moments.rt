@@ -11,6 +11,9 @@ use std::alloc::Global;
 /// Seconds of a day.
 const DAY: u64 = 86_400;
 
+/// The last day, 9999-12-31, by the days since 1970-01-01.
+const LAST_DAY: i32 = 2_932_896;
+
 /// The text `YYYY-MM-DDTHH:MM:SSZ` of a moment, in whole seconds since 1970-01-01T00:00:00Z.
 pub fn moment_text(alloc: Global, moment: u64) -> Result<Text, Memory>
     requires { moment ≤ last_moment }
@@ -23,7 +26,7 @@ pub fn moment_text(alloc: Global, moment: u64) -> Result<Text, Memory>
 
 /// The text of the civil date so many days after 1970-01-01.
 fn day_text(alloc: Global, day: i32) -> Result<Text, Memory>
-    requires { IsBetween (pos 0) (pos 2932896) day }
+    requires { IsBetween (pos 0) LAST_DAY day }
     ensures { IfOk result (λ text. (n : _) → day ≡ pos n → text ≡ date_text (civil_date n)) }
 {
     let printed = date_of(day).to_string(alloc)?;
@@ -32,7 +35,7 @@ fn day_text(alloc: Global, day: i32) -> Result<Text, Memory>
 
 /// The civil date so many days after 1970-01-01.
 fn date_of(day: i32) -> Date
-    requires { IsBetween (pos 0) (pos 2932896) day }
+    requires { IsBetween (pos 0) LAST_DAY day }
     ensures { epoch_day result ≡ day }
 {
     let start = date(1970, 1, 1);
@@ -45,7 +48,7 @@ fn date_of(day: i32) -> Date
 /// The time of a day, behind its date.
 #[tactic(auto, unfolding(crate::specs::Moments::clock_text))]
 fn clock_bytes(seconds: u32) -> [u8; 10]
-    requires { seconds < 86400 }
+    requires { seconds < DAY }
     ensures { result ≡ clock_text seconds }
 {
     let [h1, h2] = two_digits(seconds / 3600);

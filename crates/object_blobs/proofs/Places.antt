@@ -1,7 +1,7 @@
 -- What callers need of places: one that was found may be taken, and one that was taken may be given back.
 use Rattle.std.proofs.Common.{◌≡◌, ℕ, ◌+◌, ◌-◌, ◌<◌, ◌≤◌, Bool, true, false, not, Some, refl, sym, ap, ◌∙◌, arith}
 use Rattle.std.proofs.lemmas.Bool.{and_right, not_from_false}
-use Rattle.object_blobs.specs.Holes.{Area, HasHoles, IsGiven, IsTaken, has_block, is_free_block, is_free_place, is_taken_place, least_place}
+use Rattle.object_blobs.specs.Holes.{Area, HasHoles, IsGiven, IsPlaceTaken, has_block, is_free_block, is_free_place, is_taken_place, least_place}
 use Rattle.object_blobs.proofs.Placing.{found_free}
 use Rattle.object_blobs.proofs.Runs.{each_at, each_from}
 use Rattle.object_blobs.proofs.Spaced.{free_high, has_from, spaced_area}
@@ -18,7 +18,7 @@ place_is_inside area count start h some free =
     omega arith
 
 -- a place that was taken isn't free
-pub taken_is_taken : (start count : ℕ) (old new : Area) → IsTaken start count old new → is_taken_place new.holes count start ≡ true
+pub taken_is_taken : (start count : ℕ) (old new : Area) → IsPlaceTaken start count old new → is_taken_place new.holes count start ≡ true
 taken_is_taken start count old new h = each_from (λ block. not (is_free_block new.holes block)) count start (λ block l e.
     not_from_false (is_free_block new.holes block) (h.free block ∙ and_right (is_free_block old.holes block) _
     (not_true (has_block start count block) (has_from start count block l e))))
@@ -27,7 +27,7 @@ taken_is_taken start count old new h = each_from (λ block. not (is_free_block n
     not_true b e = ap not e
 
 -- it stays so while another one is taken
-pub taken_stays : (start count other other_count : ℕ) (old new : Area) → IsTaken other other_count old new → is_taken_place old.holes count start ≡ true
+pub taken_stays : (start count other other_count : ℕ) (old new : Area) → IsPlaceTaken other other_count old new → is_taken_place old.holes count start ≡ true
     → is_taken_place new.holes count start ≡ true
 taken_stays start count other other_count old new h taken = each_from (λ block. not (is_free_block new.holes block)) count start (λ block l e.
     by block (each_at (λ b. not (is_free_block old.holes b)) count start block taken l e))

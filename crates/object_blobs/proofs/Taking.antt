@@ -5,7 +5,7 @@ use Rattle.std.specs.List.{AllByRecursion}
 use Rattle.std.proofs.lemmas.Bool.{eqb-true, eqb-false}
 use Rattle.shared_tree.specs.Pairs.{is_above, is_below, values, with_pair, without_key}
 use Rattle.object_blobs.specs.declared.space.Hole.{Hole}
-use Rattle.object_blobs.specs.Holes.{IsAllFree, IsTaken, has_block, is_free_block}
+use Rattle.object_blobs.specs.Holes.{IsAllFree, IsPlaceTaken, has_block, is_free_block}
 use Rattle.object_blobs.specs.Within.Keys.{AreHolesOf, Holds, area_of, hole_key, with_front, with_rest}
 use Rattle.object_blobs.proofs.Spaced.{free_behind, free_below, has_high, has_low, not_behind, not_below, same_tests}
 use Rattle.object_blobs.proofs.Spread.{Around, Pair, Spread, free_rows, holes_of, keys_before, keys_behind, none_spread, put_between, spread_around, spread_first, spread_join, spread_of}
@@ -217,7 +217,7 @@ still_free blocks start count rows new hole front rest cut left block =
         (shuffled e (has_block hole.start (start - hole.start) block) (has_block (start + count) (hole.blocks - (start - hole.start) - count) block) l)
 
 pub taken_area : (blocks start count : ℕ) (rows mid new : List Pair) (hole front rest : Hole) → Cut blocks start count rows hole front rest
-    → mid ≡ with_front front rows → new ≡ with_rest rest mid → IsTaken start count (area_of blocks rows) (area_of blocks new)
+    → mid ≡ with_front front rows → new ≡ with_rest rest mid → IsPlaceTaken start count (area_of blocks rows) (area_of blocks new)
 taken_area blocks start count rows mid new hole front rest cut em en = record {
   blocks = refl;
   free = still_free blocks start count rows new hole front rest cut (left_is blocks start count rows mid new hole front rest cut em en);

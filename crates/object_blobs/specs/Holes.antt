@@ -71,7 +71,7 @@ pub record IsAllFree (count : ℕ) (area : Area) : Type 0 where
   pub free : (block : ℕ) → is_free_block area.holes block ≡ nat_lt block count
 
 -- an area once so many blocks from a first one on aren't free any more: no other block changes
-pub record IsTaken (start count : ℕ) (old new : Area) : Type 0 where
+pub record IsPlaceTaken (start count : ℕ) (old new : Area) : Type 0 where
   pub blocks : new.blocks ≡ old.blocks
   pub free : (block : ℕ) → is_free_block new.holes block
       ≡ (is_free_block old.holes block && not (has_block start count block))

@@ -3,7 +3,7 @@ ghost use Rattle.std.specs.Prelude.{◌≡◌, ◌+◌, ◌<◌, ◌≤◌, IfOk
 ghost use Rattle.media_rows.specs.declared.object.ObjectRow.{ObjectRow};
 ghost use Rattle.media_rows.specs.Objects.{free_place};
 ghost use Rattle.std.specs.Prelude.{List};
-ghost use Rattle.object_blobs.specs.Holes.{HasHoles, IsAllFree, IsGiven, IsTaken, IsToldByFree, LeavesFree, is_free_place, is_taken_place, least_place};
+ghost use Rattle.object_blobs.specs.Holes.{HasHoles, IsAllFree, IsGiven, IsPlaceTaken, IsToldByFree, LeavesFree, is_free_place, is_taken_place, least_place};
 
 use crate::changes::{with_front, with_hole, with_rest, without_joined};
 use crate::looks::{first_fitting, holding, joined_end, joined_start};
@@ -93,7 +93,7 @@ impl Space {
     /// Takes so many blocks from this one on, all of which are free.
     pub fn take(&self, alloc: Global, start: u64, blocks: u64) -> Result<Space, Memory>
         requires free { IsTrue (is_free_place self.now.holes blocks start) }
-        ensures { IfOk result (IsTaken start blocks self.now) }
+        ensures { IfOk result (IsPlaceTaken start blocks self.now) }
     {
         if blocks == 0 {
             return self.share();

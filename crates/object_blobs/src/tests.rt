@@ -1,6 +1,6 @@
 //! Pieces of two extents that lie side by side, and places that are taken and given back.
 ghost use Rattle.std.specs.Prelude.{◌≡◌, ◌+◌, ◌<◌, ◌≤◌, IfOk, IsTrue};
-ghost use Rattle.object_blobs.specs.Holes.{IsTaken, is_free_place, is_taken_place};
+ghost use Rattle.object_blobs.specs.Holes.{IsPlaceTaken, is_free_place, is_taken_place};
 
 use super::*;
 use disk_trait::{Disk, Memory, MemoryDisk, NumberList, Text, same_bytes};
@@ -50,7 +50,7 @@ fn taken(alloc: Global, space: &Space, blocks: u64) -> Result<Placed, Memory>
     requires some { 0 < blocks }
     ensures free { IfOk result (λ t. IsTrue (is_free_place space.now.holes blocks t.start)) }
     ensures inside { IfOk result (λ t. t.start + blocks ≤ space.now.blocks) }
-    ensures left { IfOk result (λ t. IsTaken t.start blocks space.now t.left) }
+    ensures left { IfOk result (λ t. IsPlaceTaken t.start blocks space.now t.left) }
     ensures taken { IfOk result (λ t. IsTrue (is_taken_place t.left.holes blocks t.start)) }
 {
     space.has_holes();
@@ -77,7 +77,7 @@ fn given_back(alloc: Global, first: &Placed, second: &Placed) -> Result<Given, M
     requires inside { first.now.start + 3 ≤ first.now.left.blocks }
     requires free { IsTrue (is_free_place first.now.left.holes 2 second.now.start) }
     requires second { second.now.start + 2 ≤ first.now.left.blocks }
-    requires left { IsTaken second.now.start 2 first.now.left second.now.left }
+    requires left { IsPlaceTaken second.now.start 2 first.now.left second.now.left }
 {
     let before = second.left.give(alloc, first.start, 3)?;
     let both = before.give(alloc, second.start, 2)?;

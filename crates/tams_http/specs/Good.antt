@@ -7,7 +7,7 @@ use Rattle.std.specs.Str.{is_utf8}
 use Rattle.json_bodies.specs.Hook.{has_hook_texts}
 use Rattle.json_bodies.specs.Part.{is_part_text}
 use Rattle.json_bodies.specs.Segments.{is_post_good}
-use Rattle.json_bodies.specs.Storage.{is_want_good}
+use Rattle.media_rows.specs.Sound.{is_want_good}
 use Rattle.media_rows.specs.Good.{is_body_text}
 use Rattle.media_rows.specs.Ids.{is_object_id}
 use Rattle.media_rows.specs.declared.command.Command.{Command}

@@ -3,7 +3,7 @@ use Rattle.std.specs.Prelude.{◌≡◌, ℕ, ◌+◌, ◌-◌, ◌<◌, ◌≤�
 use Rattle.http_wire.specs.Framing.{max_body}
 use Rattle.http_wire.specs.Heads.{Front, more, refused, whole}
 use Rattle.http_wire.specs.Lines.{line_end}
-use Rattle.http_wire.specs.Chunks.{chunked, chunks_within, closed, coded_front, line_size, one_chunk, prefixed}
+use Rattle.http_wire.specs.Chunks.{chunked, chunks_within, ending_of, coded_front, line_size, one_chunk, prefixed}
 use Rattle.http_wire.specs.declared.chunk_line.Ending.TheVariants.{Ended}
 use Rattle.http_wire.specs.declared.chunk_line.LineSeen.{LineSeen}
 use Rattle.http_wire.specs.declared.chunk_line.LineSeen.TheVariants.{Last, Open, Read}
@@ -22,7 +22,7 @@ pub record IsLine (bytes : List ℕ) (room n size : ℕ) : Type 0 where
   pub fits : size ≤ room
 
 -- the line at the front ends behind so many bytes, and is the last chunk's
-pub record IsLast (bytes : List ℕ) (n : ℕ) : Type 0 where
+pub record IsLastLine (bytes : List ℕ) (n : ℕ) : Type 0 where
   pub ends : line_end bytes ≡ Some n
   pub inside : n ≤ length bytes
   pub sized : line_size (take n bytes) ≡ Some 0
@@ -31,13 +31,13 @@ pub record IsLast (bytes : List ℕ) (n : ℕ) : Type 0 where
 abbrev pub IsLineSeen : List ℕ → ℕ → LineSeen → Type 0
 IsLineSeen bytes room (Open n) = (n ≤ length bytes) × (line_end (take n bytes) ≡ None)
 IsLineSeen bytes room (Read n size) = IsLine bytes room n size
-IsLineSeen bytes room (Last n) = IsLast bytes n
+IsLineSeen bytes room (Last n) = IsLastLine bytes n
 
 -- a whole chunk with data stands at the front
 pub record IsChunk (bytes : List ℕ) (room n size : ℕ) : Type 0 where
   pub line : IsLine bytes room n size
   pub inside : n + size + 2 ≤ length bytes
-  pub ends : closed (drop (n + size) bytes) ≡ Ended 2
+  pub ends : ending_of (drop (n + size) bytes) ≡ Ended 2
 
 -- what is found of the chunk at the front
 abbrev pub FindsChunk : List ℕ → ℕ → ChunkFound → Type 0
@@ -53,7 +53,7 @@ FindsChunk bytes room (found.Chunk n size) = IsChunk bytes room n size
 
 -- Whole chunks were read up to a place: whatever follows, the body is their content and what stands
 -- from there on, for which there is so much less room.
-pub record Reached (bytes content : List ℕ) (progress : Progress) : Type 0 where
+pub record IsReached (bytes content : List ℕ) (progress : Progress) : Type 0 where
   pub inside : progress.at ≤ length bytes
   pub room : length content ≤ max_body
   pub rest : (later : List ℕ) → chunks_within max_body (bytes ++ later)
@@ -64,7 +64,7 @@ pub record Reached (bytes content : List ℕ) (progress : Progress) : Type 0 whe
 -- what is found of a chunked body
 abbrev pub FindsChunks : List ℕ → ChunksFound → List ℕ → Type 0
 FindsChunks bytes (all_found.More progress) content =
-    (chunks_within max_body bytes ≡ more) × Reached bytes content progress
+    (chunks_within max_body bytes ≡ more) × IsReached bytes content progress
 FindsChunks bytes (all_found.Refused fault) content = chunks_within max_body bytes ≡ refused fault
 FindsChunks bytes (all_found.Whole n) content =
     (chunks_within max_body bytes ≡ whole content n) × (n ≤ length bytes)
@@ -72,7 +72,7 @@ FindsChunks bytes (all_found.Whole n) content =
 -- what is found of a chunked body with the limit of its coded bytes
 abbrev pub FindsChunked : List ℕ → ChunksFound → List ℕ → Type 0
 FindsChunked bytes (all_found.More progress) content =
-    (chunked bytes ≡ more) × Reached (coded_front bytes) content progress
+    (chunked bytes ≡ more) × IsReached (coded_front bytes) content progress
 FindsChunked bytes (all_found.Refused fault) content = chunked bytes ≡ refused fault
 FindsChunked bytes (all_found.Whole n) content =
     (chunked bytes ≡ whole content n) × (n ≤ length bytes)

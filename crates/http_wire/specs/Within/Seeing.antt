@@ -2,11 +2,11 @@
 use Rattle.std.specs.Prelude.{◌≡◌, ℕ, ◌+◌, ◌≤◌, List, length, take, drop}
 use Rattle.httparse.specs.Grammar.{RequestHead}
 use Rattle.http_wire.specs.Chunks.{coded_front}
-use Rattle.http_wire.specs.Feeds.{is_last}
+use Rattle.http_wire.specs.Feeds.{is_last_request}
 use Rattle.http_wire.specs.Heads.{Describes, IsHead, more, refused, whole}
 use Rattle.http_wire.specs.Lines.{looked, max_head}
 use Rattle.http_wire.specs.Requests.{IsNext, given, opened}
-use Rattle.http_wire.specs.Within.Reading.{Reached}
+use Rattle.http_wire.specs.Within.Reading.{IsReached}
 use Rattle.http_wire.specs.declared.chunks.Progress.{Progress}
 use Rattle.http_wire.specs.declared.front.NextFound.{NextFound}
 use Rattle.http_wire.specs.declared.front.NextFound.TheVariants as nexts
@@ -39,7 +39,7 @@ pub record IsFound (unread : List ℕ) (found : FoundHead) : Type 0 where
 -- a head stands at the front, and a chunked body behind it was read so far
 pub record IsRead (unread body : List ℕ) (found : FoundHead) (progress : Progress) : Type 0 where
   pub known : IsFound unread found
-  pub reached : Reached (coded_front (drop found.length unread)) body progress
+  pub reached : IsReached (coded_front (drop found.length unread)) body progress
 
 -- what is known of the unread bytes, where these are the data of chunks that were read
 abbrev pub IsSeen : List ℕ → List ℕ → Seen → Type 0
@@ -54,13 +54,13 @@ FindsHead unread (heads.Whole found) = IsFound unread found
 
 -- a request stands at the front: its head, and a body of so many bytes behind it that gives this
 -- content
-pub record IsGiven (unread content : List ℕ) (found : FoundHead) (size : ℕ) : Type 0 where
+pub record IsContentGiven (unread content : List ℕ) (found : FoundHead) (size : ℕ) : Type 0 where
   pub known : IsFound unread found
   pub next : IsNext unread (whole (given known.head content) (found.length + size))
   pub inside : found.length + size ≤ length unread
 
 -- a media PUT stands at the front, with so long a body
-pub record IsOpened (unread : List ℕ) (found : FoundHead) (size : ℕ) : Type 0 where
+pub record IsMediaOpened (unread : List ℕ) (found : FoundHead) (size : ℕ) : Type 0 where
   pub known : IsFound unread found
   pub next : IsNext unread (whole (opened known.head size) found.length)
 
@@ -68,10 +68,10 @@ pub record IsOpened (unread : List ℕ) (found : FoundHead) (size : ℕ) : Type 
 abbrev pub FindsNext : List ℕ → NextFound → List ℕ → Type 0
 FindsNext unread (nexts.More known) content = IsNext unread more × IsSeen unread content known
 FindsNext unread (nexts.Refused fault) content = IsNext unread (refused fault)
-FindsNext unread (nexts.Opened found size) content = IsOpened unread found size
+FindsNext unread (nexts.Opened found size) content = IsMediaOpened unread found size
 FindsNext unread (nexts.Plain found size) content =
-    IsGiven unread (take size (drop found.length unread)) found size
-FindsNext unread (nexts.Decoded found size) content = IsGiven unread content found size
+    IsContentGiven unread (take size (drop found.length unread)) found size
+FindsNext unread (nexts.Decoded found size) content = IsContentGiven unread content found size
 
 -- what is known of the head of the unread bytes
 abbrev pub KnowsHead : List ℕ → Seen → Type 0
@@ -86,4 +86,4 @@ pub record IsShown
   pub body_is : shown.body ≡ body
   pub size_is : shown.length ≡ size
   pub interim : shown.wants_interim ≡ found.wants_interim
-  pub ends : shown.ends ≡ is_last found.closes number
+  pub ends : shown.ends ≡ is_last_request found.closes number

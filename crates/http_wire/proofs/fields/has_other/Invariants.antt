@@ -1,9 +1,9 @@
 use Rattle.std.proofs.Common.{◌≡◌, not, drop}
 use Rattle.std.specs.List.{list_any}
-use Rattle.http_wire.specs.Fields.{same_text, fields_at, values_of}
+use Rattle.http_wire.specs.Fields.{same_text, fields_at, field_values}
 use Rattle.http_wire.proofs.fields.has_other.Given as goal
 
 -- what the rest gives is what all give
 abbrev pub invariant-loop-header : goal.invariant-loop-header
-invariant-loop-header l = list_any (λ value. not (same_text l.text value)) (values_of l.name (fields_at l.bytes (drop l.header-index l.headers))) ≡
-    list_any (λ value. not (same_text l.text value)) (values_of l.name (fields_at l.bytes l.headers))
+invariant-loop-header l = list_any (λ value. not (same_text l.text value)) (field_values l.name (fields_at l.bytes (drop l.header-index l.headers))) ≡
+    list_any (λ value. not (same_text l.text value)) (field_values l.name (fields_at l.bytes l.headers))

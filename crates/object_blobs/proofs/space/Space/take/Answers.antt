@@ -1,5 +1,5 @@
 use Rattle.std.proofs.Common.{◌<◌, rules, arith, Fits, w64, subst}
-use Rattle.object_blobs.specs.Holes.{IsTaken}
+use Rattle.object_blobs.specs.Holes.{IsPlaceTaken}
 use Rattle.object_blobs.specs.Within.Keys.{area_of}
 use Rattle.object_blobs.proofs.Seen.{kept_most}
 use Rattle.object_blobs.proofs.Taking.{cut_of, taken_area, taken_holes}
@@ -25,4 +25,4 @@ returns c =
     let taken =
     taken_area c.self.inside.blocks c.args.start c.args.blocks c.self.inside.holes c.in_ok-holes.holes c.in_ok-with_rest.field-0 c.holding-hole.result _ _ cut
     c.in_ok-holes.ensures c.in_ok-with_rest.ensures in
-    subst (λ old. IsTaken c.args.start c.args.blocks old (area_of c.self.inside.blocks c.in_ok-with_rest.field-0)) c.self.view_is taken
+    subst (λ old. IsPlaceTaken c.args.start c.args.blocks old (area_of c.self.inside.blocks c.in_ok-with_rest.field-0)) c.self.view_is taken
