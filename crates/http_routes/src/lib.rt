@@ -9,8 +9,6 @@ mod named;
 mod path;
 mod route;
 mod table;
-#[cfg(test)]
-mod tests;
 
 pub use crate::laws::routes_are_apart;
 pub use crate::methods::Methods;

@@ -113,22 +113,22 @@ impl Feed {
         if let Stage::Failed(fault) = self.stage {
             return Step::Refused(fault.refusal());
         }
-        match find_next(self.kept.unread(), self.seen, &mut self.body) {
+        let next = find_next(self.kept.unread(), self.seen, &mut self.body);
+        self.seen = UNSEEN;
+        self.stage = Stage::Open;
+        match next {
             NextFound::More(seen) => {
                 self.kept.hold(0);
                 self.seen = seen;
-                self.stage = Stage::Open;
                 Step::More
             }
             NextFound::Refused(fault) => {
                 self.kept.hold(0);
-                self.seen = UNSEEN;
                 self.stage = Stage::Failed(fault);
                 Step::Refused(fault.refusal())
             }
             NextFound::Opened(found, size) => {
                 self.kept.hold(found.length);
-                self.seen = UNSEEN;
                 self.stage = Stage::Media(size);
                 self.requests += 1;
                 let head = show(&found, NO_PLACE, size, self.requests);
@@ -137,8 +137,6 @@ impl Feed {
             }
             NextFound::Plain(found, size) => {
                 self.kept.hold(found.length + size);
-                self.seen = UNSEEN;
-                self.stage = Stage::Open;
                 self.requests += 1;
                 let head = show_plain(&found, size, self.requests);
                 self.ended = head.ends;
@@ -146,8 +144,6 @@ impl Feed {
             }
             NextFound::Decoded(found, size) => {
                 self.kept.hold(found.length + size);
-                self.seen = UNSEEN;
-                self.stage = Stage::Open;
                 self.requests += 1;
                 let head = show_decoded(&found, self.body.len(), self.requests);
                 self.ended = head.ends;

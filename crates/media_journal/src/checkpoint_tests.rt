@@ -56,6 +56,17 @@ fn select(disk: &mut MemoryDisk, selector: u8) -> Result<(), Fail> {
     Ok(())
 }
 
+/// Behind a record more, and behind a checkpoint then.
+const BEHIND: Has = Has {
+    last: 2,
+    records: 1,
+};
+
+const BACK: Has = Has {
+    last: 3,
+    records: 0,
+};
+
 /// The writes of a checkpoint: the length of 8 bytes, the rows of 13, the closed gate, a sync, the
 /// selector and a sync. Of each, how many bytes were written, and what is found then.
 const STOPS: [(u64, u64, Has); 12] = [
@@ -76,39 +87,50 @@ const STOPS: [(u64, u64, Has); 12] = [
 /// The values of the selector over two halves that differ.
 const SELECTORS: [(u8, Has); 4] = [(0, OLD), (254, OLD), (1, NEW), (255, NEW)];
 
+/// What is found where a call is stopped after so many bytes. None where it has fewer.
+fn found_after(
+    alloc: Global,
+    disk: &MemoryDisk,
+    call: u64,
+    kept: u64,
+) -> Result<Option<Has>, Fail> {
+    match stopped(alloc, disk, call, kept)? {
+        Some(mut left) => Ok(Some(opened_as(alloc, &mut left)?)),
+        None => Ok(None),
+    }
+}
+
+/// What is found where the selector is this byte.
+fn found_at(alloc: Global, disk: &mut MemoryDisk, selector: u8) -> Result<Has, Fail> {
+    select(disk, selector)?;
+    Ok(opened_as(alloc, disk)?)
+}
+
+/// What is found after a record more, and after a checkpoint then.
+fn found_behind(alloc: Global, disk: &mut MemoryDisk) -> Result<(Has, Has), Fail> {
+    append_payload(alloc, disk)?;
+    let appended = opened_as(alloc, disk)?;
+    checkpoint_of(alloc, disk, 3)?;
+    Ok((appended, opened_as(alloc, disk)?))
+}
+
 #[test]
 fn a_stopped_checkpoint_leaves_the_old_half_or_the_new(rt: HostRuntime) -> Result<(), Fail> {
     let alloc = rt.alloc();
     let mut disk = store_of(alloc, 1)?;
     let first = checkpoint_of(alloc, &mut disk, 2)?;
     for (call, kept, has) in STOPS {
-        let left = stopped(alloc, &disk, first.saturating_add(call), kept)?;
-        let found = match left {
-            Some(mut left) => Some(opened_as(alloc, &mut left)?),
-            None => None,
-        };
+        let found = found_after(alloc, &disk, first.saturating_add(call), kept)?;
         assert_eq!(rt; found, Some(has), "call {call} after {kept} bytes");
     }
     for (selector, has) in SELECTORS {
-        select(&mut disk, selector)?;
-        assert_eq!(rt; opened_as(alloc, &mut disk)?, has, "selector {selector}");
+        assert_eq!(rt;
+            found_at(alloc, &mut disk, selector)?,
+            has,
+            "selector {selector}"
+        );
     }
     // It stands at 255 now: a record goes to half B, and a checkpoint back to half A.
-    append_payload(alloc, &mut disk)?;
-    assert_eq!(rt;
-        opened_as(alloc, &mut disk)?,
-        Has {
-            last: 2,
-            records: 1
-        }
-    );
-    checkpoint_of(alloc, &mut disk, 3)?;
-    assert_eq!(rt;
-        opened_as(alloc, &mut disk)?,
-        Has {
-            last: 3,
-            records: 0
-        }
-    );
+    assert_eq!(rt; found_behind(alloc, &mut disk)?, (BEHIND, BACK));
     Ok(())
 }

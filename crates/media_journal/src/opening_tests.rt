@@ -81,16 +81,27 @@ const CHANGES: [(usize, &[u8], Result<Found, JournalFault>); 22] = [
     (12288, &[0, 0, 0, 0, 0, 0, 0, 1], Ok((None, 1, 4012))),
 ];
 
+/// What opening answers where the first bytes of a store are there, with these bytes at a place.
+fn opening_of(
+    alloc: Global,
+    store: &MemoryDisk,
+    length: usize,
+    at: usize,
+    bytes: &[u8],
+) -> Result<Result<Found, JournalFault>, Memory> {
+    let mut disk = changed(alloc, store, length, at, bytes)?;
+    Ok(opening(alloc, &mut disk))
+}
+
 #[test]
 fn what_is_damaged_is_named(rt: HostRuntime) -> Result<(), Fail> {
     let alloc = rt.alloc();
     let store = short_store(alloc)?;
     for (at, bytes, answer) in &CHANGES {
-        let mut disk = changed(alloc, &store, 20480, *at, bytes)?;
-        assert_eq!(rt; opening(alloc, &mut disk), *answer);
+        assert_eq!(rt; opening_of(alloc, &store, 20480, *at, bytes)?, *answer);
     }
-    let mut short = changed(alloc, &store, 20479, 0, &[])?;
-    assert_eq!(rt; opening(alloc, &mut short), Err(NotStore));
+    let short = opening_of(alloc, &store, 20479, 0, &[])?;
+    assert_eq!(rt; short, Err(NotStore));
     Ok(())
 }
 

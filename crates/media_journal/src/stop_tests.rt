@@ -144,14 +144,18 @@ fn a_stopped_append_leaves_the_old_records_or_the_new(rt: HostRuntime) -> Result
     Ok(())
 }
 
+/// The room and the number of records of a journal.
+fn room_and_count(alloc: Global, disk: &mut MemoryDisk) -> Result<(u64, u64), JournalFault> {
+    let opened = open_journal(alloc, disk)?;
+    Ok((opened.journal.room(), count(&opened.found) as u64))
+}
+
 #[test]
 fn records_take_63_bytes_of_the_room(rt: HostRuntime) -> Result<(), Fail> {
     let alloc = rt.alloc();
     for (records, room) in [(0, 4075), (1, 4012), (63, 106)] {
         let mut disk = store_of(alloc, records)?;
-        let opened = open_journal(alloc, &mut disk)?;
-        assert_eq!(rt; opened.journal.room(), room, "after {records}");
-        assert_eq!(rt; count(&opened.found) as u64, records);
+        assert_eq!(rt; room_and_count(alloc, &mut disk)?, (room, records));
     }
     Ok(())
 }

@@ -78,21 +78,32 @@ fn fresh_store(alloc: Global) -> Result<MemoryDisk, FormatFault> {
     Ok(disk)
 }
 
+/// The header, the selector, half A, and a byte behind it.
+fn has_fresh_bytes(disk: &MemoryDisk) -> bool {
+    stands(disk, 0, &HEADER)
+        && stands(disk, 4095, &[255, 0, 255])
+        && stands(disk, 8192, &HALF)
+        && stands(disk, 8214, &[255])
+}
+
+fn opens_fresh(alloc: Global, disk: &mut MemoryDisk) -> Result<bool, JournalFault> {
+    let opened = open_journal(alloc, disk)?;
+    Ok(
+        opened.journal.room() == 32747
+            && same_bytes(opened.rows.bytes(), &ROWS)
+            && opened.found.items().is_empty()
+            && opened.id == ID,
+    )
+}
+
 #[test]
 fn a_fresh_store_has_these_bytes(rt: HostRuntime) -> Result<(), Fail> {
     let alloc = rt.alloc();
     let mut disk = fresh_store(alloc)?;
-    assert!(rt; stands(&disk, 0, &HEADER), "the header");
-    assert!(rt; stands(&disk, 4095, &[255, 0, 255]), "the selector");
-    assert!(rt; stands(&disk, 8192, &HALF), "half A");
-    assert!(rt; stands(&disk, 8214, &[255]), "behind half A");
+    assert!(rt; has_fresh_bytes(&disk));
     let again = format_device(alloc, &mut disk, 64, 8, ID, &ROWS);
     assert_eq!(rt; again, Err(FormatFault::AlreadyStore));
-    let opened = open_journal(alloc, &mut disk)?;
-    assert_eq!(rt; opened.journal.room(), 32747);
-    assert_eq!(rt; opened.rows.bytes(), ROWS.as_slice());
-    assert_eq!(rt; opened.found.items().len(), 0);
-    assert_eq!(rt; opened.id, ID);
+    assert!(rt; opens_fresh(alloc, &mut disk)?);
     Ok(())
 }
 
@@ -185,16 +196,30 @@ fn room_found(alloc: Global, disk: &MemoryDisk) -> Result<u64, Fail> {
     Ok(opened.journal.room())
 }
 
+/// What an append of so many bytes answers.
+fn append_of(
+    alloc: Global,
+    disk: &mut MemoryDisk,
+    length: usize,
+) -> Result<Option<AppendFault>, Fail> {
+    let payload = vec![in alloc; 7u8; length]?;
+    Ok(append_once(alloc, disk, &payload)?)
+}
+
+/// Whether a row is as an append to this device answers.
+fn is_as_said(alloc: Global, fresh: &MemoryDisk, row: &Append) -> Result<bool, Fail> {
+    let mut disk = changed(alloc, fresh, 4096, 0, row.fail)?;
+    let answer = append_of(alloc, &mut disk, row.length)?;
+    Ok(answer == row.answer && room_found(alloc, &disk)? == row.room)
+}
+
 #[test]
 fn an_append_fits_or_says_why_not(rt: HostRuntime) -> Result<(), Fail> {
     let alloc = rt.alloc();
     let mut fresh = device(alloc, 20480)?;
     format_device(alloc, &mut fresh, 5, 1, ID, &ROWS)?;
-    for row in &APPENDS {
-        let mut disk = changed(alloc, &fresh, 4096, 0, row.fail)?;
-        let payload = vec![in alloc; 7u8; row.length]?;
-        assert_eq!(rt; append_once(alloc, &mut disk, &payload), Ok(row.answer));
-        assert_eq!(rt; room_found(alloc, &disk)?, row.room);
+    for (place, row) in APPENDS.iter().enumerate() {
+        assert!(rt; is_as_said(alloc, &fresh, row)?, "row {place}");
     }
     Ok(())
 }
