@@ -9,5 +9,6 @@ pub mod Hearings
 pub mod Interims
 pub mod Moves
 pub mod Reaching
+pub mod Room
 pub mod Seeking
 pub mod Staying

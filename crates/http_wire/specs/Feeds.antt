@@ -1,5 +1,5 @@
 -- A feed: how the bytes of a connection are cut into requests, call by call.
-use Rattle.std.specs.Prelude.{◌≡◌, ℕ, ◌+◌, ◌-◌, ◌≤◌, ◌==◌, nat_lt, Bool, true, false, ◌||◌, List, [], ◌++◌, length, take, drop, if◌then◌else◌}
+use Rattle.std.specs.Prelude.{◌≡◌, ℕ, ◌+◌, ◌-◌, ◌<◌, ◌≤◌, ◌==◌, nat_lt, Bool, true, false, ◌||◌, List, [], ◌++◌, length, take, drop, if◌then◌else◌}
 use Rattle.httparse.specs.Grammar.{RequestHead}
 use Rattle.http_wire.specs.Framing.{ends_connection, method_kind, wants_interim}
 use Rattle.http_wire.specs.Heads.{IsHead, more, refused, span_text, whole}
@@ -182,3 +182,13 @@ StepsTo old step new = AnswersBy old.stage old step new
 abbrev pub IsInterimDue : List ℕ → Type 0
 IsInterimDue bytes =
     (head : RequestHead) × (n : ℕ) × IsHead bytes (whole head n) × (wants_interim head ≡ true)
+
+-- After `More` a byte of a piece that isn't empty is taken.
+abbrev pub WaitsWithRoom : Type 0
+WaitsWithRoom = (old new : Fed) → Waits old new → kept_count new < feed_room
+
+-- After a head one is taken too, once the unread bytes were handed on.
+abbrev pub HeadHasRoom : Type 0
+HeadHasRoom =
+    (old new : Fed) (shown : Head) → GivesHead old new shown
+    → kept_count (handed_on new (length new.unread)) < feed_room

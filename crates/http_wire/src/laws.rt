@@ -1,6 +1,7 @@
 //! Laws of what a connection's bytes spell. By them a feed's answers, given piece by piece, are those of the
 //! whole list of bytes.
 ghost use Rattle.http_wire.specs.Agreeing.{AgreesAtStart, AgreesOnBody, AgreesOnHead, AgreesOnPush, AgreesOnRefusal, AgreesOnWait, AgreesOnWhole};
+ghost use Rattle.http_wire.specs.Feeds.{HeadHasRoom, WaitsWithRoom};
 ghost use Rattle.http_wire.specs.Hearing.{EndsLast, EndsLastMedia, HearsOn, HearsOnMedia, IsOneHearing, StaysDecided, StaysRefused};
 
 /// A list of bytes spells one thing. What stands at the front of some bytes stands there whatever follows,
@@ -24,4 +25,10 @@ pub fn feed_agrees()
     ensures whole { AgreesOnWhole }
     ensures head { AgreesOnHead }
     ensures body { AgreesOnBody }
+{}
+
+/// A feed that waits takes a byte more: behind `More`, and behind a head once all bytes were handed on.
+pub fn a_byte_more_is_taken()
+    ensures more { WaitsWithRoom }
+    ensures head { HeadHasRoom }
 {}
