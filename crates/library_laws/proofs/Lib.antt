@@ -1,8 +1,8 @@
 pub mod ListLemmas
 mod AnswerLemmas
 mod CircleLemmas
-mod KeptLemmas
-mod OutboxKept
+pub mod KeptLemmas
+pub mod OutboxKept
 mod RequestLemmas
 mod ObjectsKept
 mod NewObjectsKept
@@ -12,7 +12,7 @@ mod CatalogKept
 mod SettingsKept
 mod PostsKept
 mod DeletionKept
-mod ChangesKept
+pub mod ChangesKept
 mod BoundLemmas
 mod FirstBytes
 mod PageLemmas
@@ -23,8 +23,8 @@ mod FollowLemmas
 mod ListsFollow
 mod RowOrder
 mod RowLibrary
-mod ChangeFacts
-mod ObjectsCome
-mod SoundLemmas
+pub mod ChangeFacts
+pub mod ObjectsCome
+pub mod SoundLemmas
 mod ReplyLemmas
-mod MediaKept
+pub mod MediaKept

@@ -75,7 +75,7 @@ along_step true first row rows f rest is here h = ap f (same_text first.id row.i
 along_step false first row rows f rest is (inl same) h = absurd (false≢true (sym is ∙ ap (λ (r : ObjectRow). bytes_eq first.id r.id) same ∙ text_same first.id))
 along_step false first row rows f rest is (inr there) h = h there
 
-bytes_along : (rows : List ObjectRow) (f : List ℕ → List ℕ) (row : ObjectRow) → In row rows → bytes_of row.id rows (map (λ row. f row.id) rows) ≡ f row.id
+pub bytes_along : (rows : List ObjectRow) (f : List ℕ → List ℕ) (row : ObjectRow) → In row rows → bytes_of row.id rows (map (λ row. f row.id) rows) ≡ f row.id
 bytes_along [] f row here = absurd here
 bytes_along (first ∷ rows) f row here =
     along_step (bytes_eq first.id row.id) first row rows f (bytes_of row.id rows (map (λ row. f row.id) rows)) refl here (λ there. bytes_along rows f row there)

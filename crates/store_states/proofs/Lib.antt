@@ -1,0 +1,9 @@
+pub mod Snapshots
+pub mod Folding
+pub mod Standing
+pub mod Bytes
+pub mod Agreeing
+pub mod Appending
+pub mod Checking
+pub mod Held
+pub mod Making

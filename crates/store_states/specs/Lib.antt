@@ -1,0 +1,4 @@
+pub mod States
+pub mod Kept
+pub mod Held
+pub mod Laws

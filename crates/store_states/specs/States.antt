@@ -1,0 +1,105 @@
+-- The state for which an image of the file stands: its active half has the rows of a good library
+-- and records whose changes apply one after another, and each stored object's bytes are those at
+-- its extent. Our own format.
+use Rattle.std.specs.Prelude.{◌≡◌, ◌+◌, ◌-◌, ◌*◌, ℕ, Bool, true, false, List, [], ◌∷◌, map, Some, IsTrue}
+use Rattle.std.specs.List.{AllByRecursion, flat_map, list_any}
+use Rattle.media_rows.specs.declared.change.Change.{Change}
+use Rattle.media_rows.specs.declared.object.ObjectRow.{ObjectRow}
+use Rattle.media_rows.specs.declared.object.ObjectState.{ObjectState}
+use Rattle.media_rows.specs.declared.object.ObjectState.TheVariants.{Allocated, Stored}
+use Rattle.media_rows.specs.declared.row.Row.{Row}
+use Rattle.media_rows.specs.declared.row.Row.TheVariants.{Numbers}
+use Rattle.media_rows.specs.Apply.{applied}
+use Rattle.media_rows.specs.Good.{is_good}
+use Rattle.media_rows.specs.Library.{Library}
+use Rattle.media_rows.specs.Lists.{rises}
+use Rattle.media_rows.specs.Media.{Archive}
+use Rattle.media_rows.specs.Snapshot.{library_of, row_before}
+use Rattle.change_codec.specs.Codec.{SpellsChange}
+use Rattle.change_codec.specs.Rows.{row_spelling}
+use Rattle.object_blobs.specs.Extents.{extent_bytes}
+use Rattle.media_journal.specs.declared.header.Header.{Header}
+use Rattle.media_journal.specs.declared.header.TheConstants.{BLOCK}
+use Rattle.media_journal.specs.declared.record.Record.{Record}
+use Rattle.media_journal.specs.File.{Reads, active_start}
+
+-- ---- the bytes of objects
+
+-- the blocks before the media blocks: the header's, the selector's, and those of two halves
+abbrev pub blocks_before : ℕ → ℕ
+blocks_before half = 2 * half + 2
+
+-- where the media blocks begin
+abbrev pub media_start : ℕ → ℕ
+media_start half = BLOCK * blocks_before half
+
+-- the bytes of an object in this state, where the media blocks begin at this place: those at its
+-- extent, and none where it isn't stored
+abbrev pub state_bytes : List ℕ → ℕ → ObjectState → List ℕ
+state_bytes image area Allocated = []
+state_bytes image area (Stored start size) =
+    extent_bytes area (record { start = start; length = size }) image
+
+-- the bytes of objects, a list along them
+abbrev pub held_in : List ℕ → ℕ → List ObjectRow → List (List ℕ)
+held_in image area objects = map (λ row. state_bytes image area row.state) objects
+
+-- ---- rows
+
+-- the row of numbers
+abbrev pub is_numbers : Row → Bool
+is_numbers (Numbers next) = true
+is_numbers _ = false
+
+-- The text spells rows in their order, that of numbers among them, and the library of these rows,
+-- with the header's id and its media blocks, is good.
+pub record IsSnapshot (h : Header) (text : List ℕ) (library : Library) : Type 0 where
+  pub rows : List Row
+  pub fit : AllByRecursion row_spelling.meaning.fits rows
+  pub spelled : text ≡ flat_map row_spelling.meaning.spell rows
+  pub rising : IsTrue (rises row_before rows)
+  pub numbered : IsTrue (list_any is_numbers rows)
+  pub made : library ≡ library_of h.id (h.blocks - blocks_before h.half) rows
+  pub good : IsTrue (is_good library)
+
+-- ---- records
+
+-- a payload is a change that makes one library of another
+pub record StepOf (payload : List ℕ) (from next : Library) : Type 0 where
+  pub change : Change
+  pub spells : SpellsChange payload change
+  pub made : applied change from ≡ Some next
+
+-- the payloads of records make one library of another, in their order
+abbrev pub Folds : List Record → Library → Library → Type 0
+Folds [] from to = to ≡ from
+Folds (r ∷ records) from to =
+    (next : Library) × StepOf r.payload from next × Folds records next to
+
+-- a half's rows and records make a library
+pub record Makes (h : Header) (text : List ℕ) (records : List Record)
+    (library : Library) : Type 0 where
+  pub first : Library
+  pub snapshot : IsSnapshot h text first
+  pub folds : Folds records first library
+
+-- ---- states
+
+-- a state: the library with the bytes of its objects, the bytes that are left in the journal's
+-- half, and the bytes of a half
+pub record StoreState : Type 0 where
+  pub archive : Archive
+  pub room : ℕ
+  pub half : ℕ
+
+-- the image stands for a state
+pub record StandsFor (image : List ℕ) (s : StoreState) : Type 0 where
+  pub header : Header
+  pub gate : ℕ
+  pub text : List ℕ
+  pub records : List Record
+  pub reads : Reads image header gate text records
+  pub makes : Makes header text records s.archive.library
+  pub held : s.archive.held ≡ held_in image (media_start header.half) s.archive.library.objects
+  pub room : gate + s.room ≡ active_start image header.half + BLOCK * header.half
+  pub half : s.half ≡ BLOCK * header.half
