@@ -129,7 +129,7 @@ impl Kind<EventKind> for EventNameKind {
 
 /// Whether no event stands twice. Among nine one does, so few are compared with all others.
 fn are_distinct(kinds: &[EventKind]) -> bool
-    ensures { result ≡ spec.are_distinct kinds.now }
+    ensures { result ≡ spec.are_kinds_distinct kinds.now }
 {
     match kinds {
         [] => true,

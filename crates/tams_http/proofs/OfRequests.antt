@@ -82,7 +82,7 @@ request : (store : ℕ) (path : List ℕ) → IsOfRequests (request_at store pat
 request store path = found refusals.NoRequest (paths.named_request store path) refl
 
 tag : (path : List ℕ) → IsOfRequests (tag_at path)
-tag path = found (refusals.NotSet (codes "tags")) (paths.named_tag path) refl
+tag path = found (refusals.NotSet (codes "tags")) (paths.tag_named path) refl
 
 -- ---- parts
 

@@ -28,4 +28,4 @@ request_at store path = named_or NoRequest (paths.named_request store path)
 
 -- the name of a tag
 abbrev pub tag_at : List ℕ → Result (List ℕ) Refusal
-tag_at path = named_or (NotSet (codes "tags")) (paths.named_tag path)
+tag_at path = named_or (NotSet (codes "tags")) (paths.tag_named path)
