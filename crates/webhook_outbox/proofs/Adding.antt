@@ -18,7 +18,7 @@ use Rattle.shared_tree.proofs.Rising.{all_map, filter_all, filter_none}
 use Rattle.shared_tree.proofs.Rows.{keyed_with}
 use Rattle.webhook_outbox.specs.declared.outbox.Slot.{Slot}
 use Rattle.webhook_outbox.specs.Delivered.{IsBehind}
-use Rattle.webhook_outbox.specs.Within.Slots.{AreSlots, HasFailedWhenFull, event_key, has_slot, hook_serial, hooks_of, is_for, marked_by, outbox_of, slot_key}
+use Rattle.webhook_outbox.specs.Within.Slots.{AreSlots, HasFailedWhenFull, event_key, has_slot, hook_serial, hooks_of, is_for, marked_by, seen_outbox, slot_key}
 use Rattle.webhook_outbox.proofs.Found.{at_split}
 use Rattle.webhook_outbox.proofs.Waiting.{Events, Slots, found_waiting, none_serial, same_serials, waiting_is}
 
@@ -74,11 +74,11 @@ other_same hook row events apart = filter-append (is_for hook) events ((pos row.
     (append-nil (filter (is_for hook) events))
 
 -- a hook whose events wait, and which is marked as it is
-record Stays (all : Events) (p : ℤ × Slot) : Type 0 where
-  waits : p.1.waiting ≡ filter (is_for (hook_serial p.1)) all
-  full : HasFailedWhenFull p.1
+pub record Stays (all : Events) (p : ℤ × Slot) : Type 0 where
+  pub waits : p.1.waiting ≡ filter (is_for (hook_serial p.1)) all
+  pub full : HasFailedWhenFull p.1
 
-marked_same : (all : Events) (p : ℤ × Slot) → Stays all p → marked (values all) p.1.row.value ≡ p.1.row.value
+pub marked_same : (all : Events) (p : ℤ × Slot) → Stays all p → marked (values all) p.1.row.value ≡ p.1.row.value
 marked_same all p h =
     ap (λ b. record p.1.row.value { failed = b })
     (or_implied p.1.row.value.failed (nat_le most_waiting (waiting_count (hook_serial p.1) (values all)))
@@ -200,7 +200,7 @@ added_kept row slot more slots new_slots events new_events has d es ee =
 
 pub added_is : (row : EventRow) (slot more : Slot) (slots new_slots : Slots) (events new_events : Events) → Adds row slot more slots events
     → new_slots ≡ with_pair (pos row.hook, more) slots → new_events ≡ with_pair (event_key row, row) events
-    → outbox_of new_slots new_events ≡ with_events (row ∷ []) (outbox_of slots events)
+    → seen_outbox new_slots new_events ≡ with_events (row ∷ []) (seen_outbox slots events)
 added_is row slot more slots new_slots events new_events d es ee =
     let rows : values new_events ≡ values events ++ row ∷ [] = ap values (ee ∙ at_end (pos row.serial) row events d.last) ∙ map-append (λ p. p.1) events
     ((pos row.serial, row) ∷ []) in
@@ -245,7 +245,7 @@ hooked_slots serial slot slots new_slots events kept own empty last e =
     not_full waiting none most = absurd (let is = ap (λ (l : Events). nat_le most_waiting (length l)) none in grind (arith, sym is ∙ most))
 
 pub hooked_is : (serial : ℕ) (slot : Slot) (slots new_slots : Slots) (events : Events) → AllByRecursion (λ p. p.0 <ℤ pos serial) slots
-    → new_slots ≡ with_pair (pos serial, slot) slots → outbox_of new_slots events ≡ record (outbox_of slots events)
+    → new_slots ≡ with_pair (pos serial, slot) slots → seen_outbox new_slots events ≡ record (seen_outbox slots events)
     { hooks = hooks_of slots ++ slot.row.value ∷ [] }
 hooked_is serial slot slots new_slots events last e =
     ap (λ l. record { hooks = l; events = values events }) (ap hooks_of (e ∙ at_end (pos serial) slot slots last) ∙ joined_hooks slots)

@@ -1,4 +1,10 @@
 mod Adding
+mod Addresses
+mod Dropping
 mod Found
 mod Listing
+mod Placing
+mod Posting
+mod Restoring
+mod StandardFacts
 mod Waiting

@@ -15,7 +15,7 @@ use Rattle.shared_tree.proofs.Rising.{all_map, fewer, filter_all}
 use Rattle.shared_tree.proofs.Rows.{keyed_with, keyed_without, left_out_is, others_are, values_kept}
 use Rattle.webhook_outbox.specs.declared.outbox.Slot.{Slot}
 use Rattle.webhook_outbox.specs.Delivered.{IsFirst, after_delivered}
-use Rattle.webhook_outbox.specs.Within.Slots.{AreSlots, HasFailedWhenFull, event_key, has_slot, hook_serial, hooks_of, outbox_of, is_for, slot_key}
+use Rattle.webhook_outbox.specs.Within.Slots.{AreSlots, HasFailedWhenFull, event_key, has_slot, hook_serial, hooks_of, seen_outbox, is_for, slot_key}
 use Rattle.webhook_outbox.proofs.Found.{at_is, at_split, first_value, found_pair, kept_without, none_at, without_kept}
 
 abbrev pub Slots : Type 0
@@ -226,7 +226,7 @@ delivered_slots event row slot left slots events d =
 
 pub delivered_is : (event : ℕ) (row : EventRow) (slot left : Slot) (slots : Slots) (events : Events) (new_slots : Slots) (new_events : Events)
     → Delivers event row slot left slots events → new_slots ≡ with_pair (pos row.hook, left) slots → new_events ≡ without_key (pos event) events
-    → outbox_of new_slots new_events ≡ after_delivered event (outbox_of slots events)
+    → seen_outbox new_slots new_events ≡ after_delivered event (seen_outbox slots events)
 delivered_is event row slot left slots events new_slots new_events d es ee =
     ap (λ l. record { hooks = hooks_of l; events = values new_events }) es
     ∙ ap (λ l. record { hooks = l; events = values new_events }) (delivered_hooks event row slot left slots events d)

@@ -1,5 +1,5 @@
 -- Events that were delivered to their hooks. Our own profile of the Time-addressable Media Store.
-use Rattle.std.specs.Prelude.{◌≡◌, ◌<◌, ℕ, ◌-◌, ◌^◌, ◌==◌, List, [], ◌∷◌, ◌++◌, not, Some, filter, length, min}
+use Rattle.std.specs.Prelude.{◌≡◌, ◌<◌, ℕ, ◌-◌, ◌^◌, ◌==◌, List, not, Some, filter, length, min}
 use Rattle.std.specs.List.{AllByRecursion}
 use Rattle.media_rows.specs.declared.event.EventRow.{EventRow}
 use Rattle.media_rows.specs.declared.hook.HookRow.{HookRow}
@@ -20,10 +20,6 @@ after_delivered event outbox =
 -- a serial is above those of all hooks
 abbrev pub IsBehindHooks : ℕ → List HookRow → Type 0
 IsBehindHooks serial hooks = AllByRecursion (λ row. row.serial < serial) hooks
-
--- the outbox with a hook at the end
-abbrev pub after_hook : HookRow → Outbox → Outbox
-after_hook row outbox = record outbox { hooks = outbox.hooks ++ row ∷ [] }
 
 -- a serial is above those of all events
 abbrev pub IsBehind : ℕ → List EventRow → Type 0

@@ -32,6 +32,17 @@ pub(crate) fn with_slot(
     slots.with(alloc, key_of(serial), Rc::new(alloc, slot)?)
 }
 
+/// The hooks without the one of this serial.
+pub(crate) fn without_slot(
+    alloc: Global,
+    slots: &Version<Slot>,
+    serial: u64,
+) -> Result<Version<Slot>, Memory>
+    ensures { IfOk result (λ next. next ≡ without_key (pos serial) slots.now) }
+{
+    slots.without(alloc, key_of(serial))
+}
+
 /// The events without the one of this serial.
 pub(crate) fn without_event(
     alloc: Global,

@@ -3,9 +3,13 @@
 #![tactic(auto)]
 
 mod changes;
+mod drops;
 mod lists;
+mod looks;
 mod outbox;
+mod posts;
+mod restores;
 #[cfg(test)]
 mod tests;
 
-pub use crate::outbox::Outbox;
+pub use crate::outbox::{Outbox, Posted};

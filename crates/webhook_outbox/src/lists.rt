@@ -1,38 +1,15 @@
 //! Lists of the rows of an outbox.
-ghost use Rattle.std.specs.Prelude.{◌≡◌, ◌<◌, IfOk};
+ghost use Rattle.std.specs.Prelude.{◌≡◌, IfOk, map};
 ghost use Rattle.shared_tree.specs.Pairs.{values, values_of};
 ghost use Rattle.shared_tree.specs.Rows.{IsKeyedBy};
-ghost use Rattle.webhook_outbox.specs.Within.Slots.{HasSerials, event_key, hook_rows, hooks_of, slot_key};
+ghost use Rattle.webhook_outbox.specs.Within.Slots.{event_key, hook_rows, hooks_of, shown_slot, slot_key};
 
+use crate::looks::all_values;
 use crate::outbox::Slot;
 use disk_trait::{Duplicate, Memory};
-use media_rows::{EventRow, EventRowList, HookList};
-use shared_tree::{Steps, Version};
+use media_rows::{EventRow, EventRowList, HookList, HookShown, HookShownList};
+use shared_tree::Version;
 use std::alloc::Global;
-use std::marker::Brand;
-use std::sync::ledger::{Blank, Ledger};
-
-/// All values by rising key, where each key is that of a serial. The steps aren't anybody's.
-fn all_values<V: Drop, L: Ledger>(
-    alloc: Global,
-    rows: &Version<V>,
-    blank: Blank,
-) -> Result<Vec<&V>, Memory>
-    requires serials { HasSerials rows.now }
-    requires name { blank.name ≡ L.name }
-    requires parts { blank.parts ≡ L.parts }
-    requires one { 0 < L.parts }
-    ensures { IfOk result (λ list. values_of list.items ≡ values rows.now) }
-{
-    let count = rows.len();
-    if count == u64::MAX {
-        return Err(Memory);
-    }
-    let mut steps = Steps::<L>::new(blank);
-    let mut list = Vec::with_capacity(alloc, count as usize)?;
-    rows.walk_from(0, count as usize, false, &mut list, &mut steps);
-    Ok(list)
-}
 
 /// Copies of these events.
 fn events_copied(alloc: Global, rows: &[&EventRow]) -> Result<EventRowList, Memory>
@@ -61,10 +38,7 @@ pub(crate) fn event_list(alloc: Global, events: &Version<EventRow>) -> Result<Ev
     requires keyed { IsKeyedBy event_key events.now }
     ensures { IfOk result (λ list. list ≡ values events.now) }
 {
-    events_copied(
-        alloc,
-        &all_values::<EventRow, Brand>(alloc, events, Blank::new(1))?,
-    )
+    events_copied(alloc, &all_values(alloc, events)?)
 }
 
 /// The hooks by rising serial.
@@ -72,8 +46,37 @@ pub(crate) fn hook_list(alloc: Global, slots: &Version<Slot>) -> Result<HookList
     requires keyed { IsKeyedBy slot_key slots.now }
     ensures { IfOk result (λ list. list ≡ hooks_of slots.now) }
 {
-    hooks_copied(
-        alloc,
-        &all_values::<Slot, Brand>(alloc, slots, Blank::new(1))?,
-    )
+    hooks_copied(alloc, &all_values(alloc, slots)?)
+}
+
+/// Copies of the rows of these hooks, each with the number of its events.
+fn shown_hooks(alloc: Global, slots: &[&Slot]) -> Result<HookShownList, Memory>
+    ensures { IfOk result (λ list. list ≡ map shown_slot (values_of slots.now)) }
+{
+    let mut list = HookShownList::new(alloc);
+    for slot in slots {
+        list.push(shown_slot(alloc, slot)?)?;
+    }
+    Ok(list)
+}
+
+fn shown_slot(alloc: Global, slot: &Slot) -> Result<HookShown, Memory>
+    ensures { IfOk result (λ shown. shown ≡ shown_slot slot.now) }
+{
+    let waiting = slot.waiting.len();
+    if waiting == u64::MAX {
+        return Err(Memory);
+    }
+    Ok(HookShown {
+        row: slot.row.duplicate(alloc)?,
+        waiting,
+    })
+}
+
+/// The hooks by rising serial, each with the number of its events.
+pub(crate) fn shown_list(alloc: Global, slots: &Version<Slot>) -> Result<HookShownList, Memory>
+    requires keyed { IsKeyedBy slot_key slots.now }
+    ensures { IfOk result (λ list. list ≡ map shown_slot (values slots.now)) }
+{
+    shown_hooks(alloc, &all_values(alloc, slots)?)
 }

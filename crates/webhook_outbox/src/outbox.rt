@@ -1,21 +1,26 @@
 //! The outbox and its public calls.
-ghost use Rattle.std.specs.Prelude.{◌≡◌, ◌<◌, [], ◌∷◌, IfOk, IsTrue, option_copied, pos};
-ghost use Rattle.media_rows.specs.Outbox.{hook_row, waiting_for, with_events};
+ghost use Rattle.std.specs.Prelude.{◌≡◌, [], ◌∷◌, IfOk, IsTrue, map, option_copied};
+ghost use Rattle.media_rows.specs.Outbox.{after_drop_hook, after_post, after_put_hook, hook_of, hook_row, waiting_for, with_events};
 ghost use Rattle.media_rows.specs.Good.{has_hook};
-ghost use Rattle.shared_tree.specs.Pairs.{first, value_at, values};
-ghost use Rattle.shared_tree.specs.Rows.{IsKeyedBy};
-ghost use Rattle.webhook_outbox.specs.Delivered.{IsBehind, IsBehindHooks, IsFirst, after_hook, after_delivered, counted};
-ghost use Rattle.webhook_outbox.specs.Within.Slots.{event_key};
+ghost use Rattle.media_rows.specs.Refusals.{Restores};
+ghost use Rattle.media_rows.specs.Restoring.{can_restore_outbox, outbox_of};
+ghost use Rattle.shared_tree.specs.Pairs.{first};
+ghost use Rattle.webhook_outbox.specs.Delivered.{IsBehind, IsBehindHooks, IsFirst, after_delivered, counted};
+ghost use Rattle.webhook_outbox.specs.Within.Slots.{with_last_hook};
+ghost use Rattle.webhook_outbox.specs.Posting.{posted_within, shown_in};
 
-use crate::changes::{key_of, marked_row, with_row, with_slot, without_event};
-use crate::lists::{event_list, hook_list};
-use disk_trait::{Duplicate, Memory};
-use media_rows::{EventRow, EventRowList, Hook, HookList, HookRow};
-use shared_tree::{Steps, Version};
+use crate::changes::{marked_row, with_row, with_slot, without_event};
+use crate::drops::drop_all;
+use crate::lists::{event_list, hook_list, shown_list};
+use crate::looks::{all_slots, first_waiting, hook_of, value_at};
+use crate::posts::post_all;
+use crate::restores::{are_urls_distinct, events_gathered, hooks_gathered};
+use disk_trait::{Duplicate, Memory, Text};
+use media_rows::{ApplyFault, EventRow, EventRowList, HappenedList, Hook, HookList, HookRow, HookShownList};
+use shared_tree::Version;
 use std::alloc::Global;
-use std::marker::{Brand, Model};
+use std::marker::Model;
 use std::rc::Rc;
-use std::sync::ledger::{Blank, Ledger};
 
 /// A hook, and the events that wait for it by their serials.
 #[derive(Drop)]
@@ -28,8 +33,16 @@ pub(crate) struct Slot {
 /// library. A change makes a new outbox and leaves this one as it is.
 #[derive(Drop)]
 pub struct Outbox {
-    slots: Version<Slot>,
-    events: Version<EventRow>,
+    pub(crate) slots: Version<Slot>,
+    pub(crate) events: Version<EventRow>,
+}
+
+/// What posting gives: the serial behind those of the new events, and the outbox in which they wait. There
+/// is no such serial where serials would end, and then the outbox is as it was.
+#[derive(Drop)]
+pub struct Posted {
+    pub outbox: Outbox,
+    pub next: Option<u64>,
 }
 
 impl Model for Outbox {
@@ -53,6 +66,26 @@ impl Outbox {
         Outbox {
             slots: Version::empty(),
             events: Version::empty(),
+        }
+    }
+
+    /// The outbox of these hooks and events, each in any order. It is refused exactly where addresses or serials
+    /// repeat, where the hook of an event isn't there, or where too many events wait for a hook: more than
+    /// 1,000, or so many and the hook hasn't failed.
+    pub fn from_rows(
+        alloc: Global,
+        hooks: &HookList,
+        events: &EventRowList,
+    ) -> Result<Outbox, ApplyFault>
+        ensures { Restores (can_restore_outbox hooks.now events.now)
+            (outbox_of hooks.now events.now) result }
+    {
+        if !are_urls_distinct(alloc, hooks.items())? {
+            return Err(ApplyFault::Refused);
+        }
+        match hooks_gathered(alloc, hooks.items()) {
+            Ok(bare) => events_gathered(alloc, &bare, events.items()),
+            Err(fault) => Err(fault),
         }
     }
 
@@ -94,18 +127,84 @@ impl Outbox {
         event_list(alloc, &self.events)
     }
 
+    /// All hooks by rising serial, each with the number of its events.
+    pub fn shown_hooks(&self, alloc: Global) -> Result<HookShownList, Memory>
+        ensures { IfOk result (λ list. list ≡ map (shown_in self.now) self.now.hooks) }
+    {
+        shown_list(alloc, &self.slots)
+    }
+
+    /// The hook of an address.
+    pub fn find_hook(&self, alloc: Global, url: &Text) -> Result<Option<&HookRow>, Memory>
+        ensures { IfOk result
+            (λ row. option_copied row ≡ hook_of url.now self.now.hooks) }
+    {
+        Ok(hook_of(&all_slots(alloc, &self.slots)?, url))
+    }
+
     /// The event of least serial that waits for the hook of this serial.
     pub fn first_of(&self, hook: u64) -> Option<&EventRow>
         ensures { option_copied result ≡ first (waiting_for hook self.now.events) }
     {
-        let slot = value_at::<Slot, Brand>(&self.slots, hook, Blank::new(1))?;
-        first_waiting::<Brand>(&slot.waiting, Blank::new(1))
+        let slot = value_at(&self.slots, hook)?;
+        first_waiting(&slot.waiting)
+    }
+
+    /// Adds a hook behind all hooks, in place of the one of its address, whose events go. The new one hasn't
+    /// failed, and nothing waits for it.
+    pub fn add_hook(&self, alloc: Global, hook: &Hook, serial: u64) -> Result<Outbox, Memory>
+        requires last { IsBehindHooks serial self.now.hooks }
+        ensures { IfOk result (λ outbox. outbox ≡ after_put_hook hook.now serial self.now) }
+    {
+        self.drop_hook(alloc, &hook.url)?
+            .with_hook(alloc, hook, serial)
+    }
+
+    /// Leaves out the hook of an address with its events. Where there is none, the outbox is the same.
+    pub fn drop_hook(&self, alloc: Global, url: &Text) -> Result<Outbox, Memory>
+        ensures { IfOk result (λ outbox. outbox ≡ after_drop_hook url.now self.now) }
+    {
+        self.slots.keys_rise();
+        drop_all(alloc, self, &all_slots(alloc, &self.slots)?, url)
+    }
+
+    /// Adds the events of what happened at a moment, in seconds since 1970-01-01T00:00:00Z: happening by
+    /// happening, each for the hooks that take it by rising serial, with serials from this one on. A hook for
+    /// which the most events wait has failed, and takes no more.
+    pub fn post_events(
+        &self,
+        alloc: Global,
+        happened: &HappenedList,
+        serial: u64,
+        now: u64,
+    ) -> Result<Posted, Memory>
+        requires last { IsBehind serial self.now.events }
+        ensures { IfOk result (λ posted. posted ≡ posted_within self.now
+            (after_post happened.now now (record { outbox = self.now; next = serial }))) }
+    {
+        match post_all(alloc, self, happened.items(), serial, now)? {
+            Some(reached) => Ok(Posted {
+                outbox: reached.outbox,
+                next: Some(reached.next),
+            }),
+            None => Ok(Posted {
+                outbox: self.share()?,
+                next: None,
+            }),
+        }
+    }
+
+    /// Tells what holds of each outbox: hooks for which the most events wait have failed.
+    pub(crate) fn full_have_failed(&self)
+        ensures { with_events [] self.now ≡ self.now }
+    {
+        let _ = &self.slots;
     }
 
     /// Adds a hook, which hasn't failed and for which nothing waits, behind all hooks.
-    pub fn with_hook(&self, alloc: Global, hook: &Hook, serial: u64) -> Result<Outbox, Memory>
+    pub(crate) fn with_hook(&self, alloc: Global, hook: &Hook, serial: u64) -> Result<Outbox, Memory>
         requires last { IsBehindHooks serial self.now.hooks }
-        ensures { IfOk result (λ outbox. outbox ≡ after_hook (hook_row hook.now serial) self.now) }
+        ensures { IfOk result (λ outbox. outbox ≡ with_last_hook (hook_row hook.now serial) self.now) }
     {
         let row = HookRow {
             serial,
@@ -123,14 +222,14 @@ impl Outbox {
     }
 
     /// Adds an event for a kept hook, behind all events. A hook for which the most events wait has failed.
-    pub fn with_event(&self, alloc: Global, row: EventRow) -> Result<Outbox, Memory>
+    pub(crate) fn with_event(&self, alloc: Global, row: EventRow) -> Result<Outbox, Memory>
         requires hook { IsTrue (has_hook self.now.hooks row) }
         requires last { IsBehind row.serial self.now.events }
         ensures { IfOk result (λ outbox. outbox ≡ with_events (row ∷ []) self.now) }
     {
         self.slots.keys_rise();
         self.events.keys_rise();
-        let Some(slot) = value_at::<Slot, Brand>(&self.slots, row.hook, Blank::new(1)) else {
+        let Some(slot) = value_at(&self.slots, row.hook) else {
             unreachable!()
         };
         let more = Slot {
@@ -150,10 +249,10 @@ impl Outbox {
     {
         self.slots.keys_rise();
         self.events.keys_rise();
-        let Some(row) = value_at::<EventRow, Brand>(&self.events, event, Blank::new(1)) else {
+        let Some(row) = value_at(&self.events, event) else {
             unreachable!()
         };
-        let Some(slot) = value_at::<Slot, Brand>(&self.slots, row.hook, Blank::new(1)) else {
+        let Some(slot) = value_at(&self.slots, row.hook) else {
             unreachable!()
         };
         let left = Slot {
@@ -164,31 +263,5 @@ impl Outbox {
             slots: with_slot(alloc, &self.slots, row.hook, left)?,
             events: without_event(alloc, &self.events, event)?,
         })
-    }
-}
-
-/// The value of a serial. The steps aren't anybody's.
-fn value_at<V: Drop, L: Ledger>(rows: &Version<V>, serial: u64, blank: Blank) -> Option<&V>
-    requires name { blank.name ≡ L.name }
-    requires parts { blank.parts ≡ L.parts }
-    requires one { 0 < L.parts }
-    ensures { option_copied result ≡ value_at (pos serial) rows.now }
-{
-    let mut steps = Steps::<L>::new(blank);
-    rows.get(key_of(serial), &mut steps)
-}
-
-/// The first of these events. The steps aren't anybody's.
-fn first_waiting<L: Ledger>(events: &Version<EventRow>, blank: Blank) -> Option<&EventRow>
-    requires keyed { IsKeyedBy event_key events.now }
-    requires name { blank.name ≡ L.name }
-    requires parts { blank.parts ≡ L.parts }
-    requires one { 0 < L.parts }
-    ensures { option_copied result ≡ first (values events.now) }
-{
-    let mut steps = Steps::<L>::new(blank);
-    match events.after(-1, &mut steps) {
-        Some((_, row)) => Some(row),
-        None => None,
     }
 }

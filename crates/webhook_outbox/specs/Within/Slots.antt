@@ -1,8 +1,9 @@
 -- Hooks with the events that wait for them, and all events, at the keys of their serials.
-use Rattle.std.specs.Prelude.{◌≡◌, ℕ, ◌==◌, nat_le, ℤ, ◌≤ℤ◌, pos, List, Bool, ◌||◌, IsTrue, filter, length, map}
+use Rattle.std.specs.Prelude.{◌≡◌, ◌+◌, ℕ, ◌==◌, nat_le, nat_lt, ◌&&◌, ℤ, ◌≤ℤ◌, pos, List, [], ◌∷◌, ◌++◌, Bool, ◌||◌, IsTrue, filter, length, map}
 use Rattle.std.specs.List.{AllByRecursion, list_any}
 use Rattle.media_rows.specs.declared.event.EventRow.{EventRow}
 use Rattle.media_rows.specs.declared.hook.HookRow.{HookRow}
+use Rattle.media_rows.specs.declared.reply.HookShown.{HookShown}
 use Rattle.media_rows.specs.Outbox.{Outbox, most_waiting}
 use Rattle.shared_tree.specs.Pairs.{values}
 use Rattle.shared_tree.specs.Rows.{IsKeyedBy}
@@ -28,8 +29,12 @@ abbrev pub hooks_of : List (ℤ × Slot) → List HookRow
 hooks_of slots = hook_rows (values slots)
 
 -- the outbox of these hooks and events
-abbrev pub outbox_of : List (ℤ × Slot) → List (ℤ × EventRow) → Outbox
-outbox_of slots events = record { hooks = hooks_of slots; events = values events }
+abbrev pub seen_outbox : List (ℤ × Slot) → List (ℤ × EventRow) → Outbox
+seen_outbox slots events = record { hooks = hooks_of slots; events = values events }
+
+-- the outbox with a hook at the end
+abbrev pub with_last_hook : HookRow → Outbox → Outbox
+with_last_hook row outbox = record outbox { hooks = outbox.hooks ++ row ∷ [] }
 
 -- no key is below that of serial 0
 abbrev pub HasSerials : {V : Type 0} → List (ℤ × V) → Type 0
@@ -46,6 +51,16 @@ has_slot slots pair = list_any (λ p. hook_serial p.1 == pair.1.hook) slots
 -- a hook for which so many events wait, once it is marked where they are too many
 abbrev pub marked_by : ℕ → HookRow → HookRow
 marked_by count row = record row { failed = row.failed || nat_le most_waiting count }
+
+-- a hook with the number of its events
+abbrev pub shown_slot : Slot → HookShown
+shown_slot slot = record { row = slot.row.value; waiting = length slot.waiting }
+
+-- one more event may wait for a hook
+abbrev pub slot_has_room : Slot → Bool
+slot_has_room slot =
+    nat_lt (length slot.waiting) most_waiting
+    && (nat_lt (length slot.waiting + 1) most_waiting || slot.row.value.failed)
 
 -- a hook for which the most events wait has failed
 abbrev pub HasFailedWhenFull : Slot → Type 0

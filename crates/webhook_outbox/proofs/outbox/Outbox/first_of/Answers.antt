@@ -14,10 +14,13 @@ returns-in_err-slot c =
     ∙ sym (ap first (ap (λ (o : Outbox). waiting_for c.args.hook o.events) (sym c.self.view_is) ∙ none_waiting c.args.hook c.self.inside.slots
     c.self.inside.events c.self.invariant c.in_err-slot.ensures))
 
-pub first_waiting-requires-clause-keyed : goal.first_waiting-requires-clause-keyed
-first_waiting-requires-clause-keyed c =
+pub first_waiting-requires : goal.first_waiting-requires
+first_waiting-requires c =
     let own = found_waiting c.args.hook c.self.inside.slots c.self.inside.events c.in_ok-slot.slot.now c.self.invariant c.in_ok-slot.ensures in
-    subst (IsKeyedBy event_key) (sym own.1) (all_kept (λ p. p.0 ≡ event_key p.1) (is_for c.args.hook) c.self.inside.events c.self.invariant.events_keyed)
+    record {
+      keyed = subst (IsKeyedBy event_key) (sym own.1) (all_kept (λ p. p.0 ≡ event_key p.1) (is_for c.args.hook) c.self.inside.events
+          c.self.invariant.events_keyed);
+    }
 
 -- the hook has just its events
 pub returns : goal.returns

@@ -2,8 +2,8 @@ use Rattle.std.proofs.Common.{◌≡◌, sym, ap, subst, ◌∙◌}
 use Rattle.media_rows.specs.declared.hook.HookRow.{HookRow}
 use Rattle.media_rows.specs.Outbox.{Outbox, hook_row}
 use Rattle.webhook_outbox.specs.declared.outbox.Slot.{Slot}
-use Rattle.webhook_outbox.specs.Delivered.{IsBehindHooks, after_hook}
-use Rattle.webhook_outbox.specs.Within.Slots.{AreSlots, hook_serial, outbox_of}
+use Rattle.webhook_outbox.specs.Delivered.{IsBehindHooks}
+use Rattle.webhook_outbox.specs.Within.Slots.{AreSlots, hook_serial, seen_outbox, with_last_hook}
 use Rattle.webhook_outbox.proofs.Adding.{behind_hooks, hooked_is, hooked_slots}
 use Rattle.webhook_outbox.proofs.outbox.Outbox.with_hook.Goals as goal
 
@@ -25,7 +25,7 @@ returns c =
     (subst (λ (o : Outbox). IsBehindHooks c.args.serial o.hooks) (sym c.self.view_is) c.requires.last) in
     let row : c.in_ok-new.field-0.value ≡ hook_row c.args.hook.now c.args.serial = c.in_ok-new.ensures.ok ∙ ap (λ h. hook_row h c.args.serial)
     c.in_ok-duplicate.ensures in
-    ap (outbox_of c.in_ok-with_slot.field-0) c.in_ok-share.ensures
+    ap (seen_outbox c.in_ok-with_slot.field-0) c.in_ok-share.ensures
     ∙ hooked_is c.args.serial slot c.self.inside.slots c.in_ok-with_slot.field-0 c.self.inside.events last c.in_ok-with_slot.ensures
-    ∙ ap (λ r. after_hook r (outbox_of c.self.inside.slots c.self.inside.events)) row
-    ∙ ap (after_hook (hook_row c.args.hook.now c.args.serial)) c.self.view_is
+    ∙ ap (λ r. with_last_hook r (seen_outbox c.self.inside.slots c.self.inside.events)) row
+    ∙ ap (with_last_hook (hook_row c.args.hook.now c.args.serial)) c.self.view_is

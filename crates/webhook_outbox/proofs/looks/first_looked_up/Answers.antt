@@ -1,6 +1,6 @@
 use Rattle.std.proofs.Common.{Some, None}
 use Rattle.webhook_outbox.proofs.Waiting.{first_event}
-use Rattle.webhook_outbox.proofs.outbox.first_waiting.Goals as goal
+use Rattle.webhook_outbox.proofs.looks.first_looked_up.Goals as goal
 
 -- each serial is above the key
 pub returns-in-Some : goal.returns-in-Some

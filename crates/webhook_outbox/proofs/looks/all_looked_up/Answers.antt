@@ -1,7 +1,7 @@
 use Rattle.std.proofs.Common.{◌≡◌, arith, length, ap}
 use Rattle.shared_tree.specs.Pairs.{values_of}
 use Rattle.webhook_outbox.proofs.Listing.{walked_all}
-use Rattle.webhook_outbox.proofs.lists.all_values.Goals as goal
+use Rattle.webhook_outbox.proofs.looks.all_looked_up.Goals as goal
 
 -- the walk passes all rows
 pub returns : goal.returns
