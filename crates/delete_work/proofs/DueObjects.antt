@@ -1,10 +1,8 @@
 -- The objects that a sweep takes, one after the other.
-use Rattle.std.proofs.Common.{◌≡◌, ℕ, zero, suc, ◌≤◌, ◌<◌, ◌+◌, ◌-◌, ◌==◌, nat_lt, Bool, true, false, not, ◌&&◌, ◌||◌, cond, if◌then◌else◌, List, [], ◌∷◌, ◌++◌, Option, Some, None, bytes_eq, filter, map, take, drop, length, refl, sym, ap, subst, ◌∙◌, arith}
+use Rattle.std.proofs.Common.{◌≡◌, ℕ, zero, suc, ◌≤◌, ◌<◌, ◌+◌, ◌-◌, ◌==◌, nat_lt, Bool, true, false, not, ◌&&◌, ◌||◌, cond, List, [], ◌∷◌, ◌++◌, Some, None, bytes_eq, filter, map, take, drop, length, refl, sym, ap, subst, ◌∙◌, arith}
 use Rattle.std.specs.List.{AllByRecursion, list_all, list_any}
-use Rattle.std.proofs.lemmas.Slice.Eq.{bytes_eq-Decides}
 use Rattle.std.proofs.lemmas.Bool.Decides.{nat_tests}
 use Rattle.media_rows.specs.declared.object.ObjectRow.{ObjectRow}
-use Rattle.media_rows.specs.declared.segment.SegmentRow.{SegmentRow}
 use Rattle.media_rows.specs.Good.{are_object_ids_distinct, rises_by}
 use Rattle.media_rows.specs.Lists.{in_order, inserted}
 use Rattle.media_rows.specs.Objects.{due_objects, idles_before, is_due, is_named, sweep_size, without_objects}
@@ -17,9 +15,9 @@ use Rattle.object_refs.proofs.Theorems.{due_unnamed}
 use Rattle.id_index.proofs.Pairs.{filter_swap}
 use Rattle.delete_work.specs.Work.{without_swept}
 use Rattle.delete_work.specs.Within.Seeking.{Sweeping}
-use Rattle.delete_work.proofs.Lists.{agreed, append_nothing, append_one, both, each_is, filter_twice, not_true, number_same, number_turn, parts, some_same}
+use Rattle.delete_work.proofs.Lists.{agreed, append_nothing, append_one, each_is, filter_twice, not_true, number_same, number_turn, parts, some_same}
 use Rattle.delete_work.proofs.Ordered.{Orders, all_inserted, all_ordered, ordered_kept}
-use Rattle.delete_work.proofs.Released.{bytes_are, bytes_turn, same_bytes}
+use Rattle.delete_work.proofs.Released.{bytes_turn, same_bytes}
 
 -- the order of sweeps
 abbrev pair_before : ℕ → ℕ → ℕ → ℕ → Bool

@@ -1,11 +1,11 @@
 -- Requests at the keys of their serials: what a change of them makes of those that stand apart.
-use Rattle.std.proofs.Common.{◌≡◌, ℕ, suc, length, ◌+◌, ◌-◌, ◌^◌, ◌≤◌, ◌==◌, ℤ, negsuc, ◌≤ℤ◌, FitsSigned, ◌<ℤ◌, int_eq, int_lt, nat_lt, Bool, true, false, not, ◌&&◌, ◌||◌, cond, if◌then◌else◌, List, [], ◌∷◌, ◌++◌, Option, Some, None, filter, find, map, option_map, refl, sym, ap, subst, ◌∙◌, arith}
-use Rattle.std.specs.List.{AllByRecursion, list_any}
+use Rattle.std.proofs.Common.{◌≡◌, ℕ, suc, length, ◌-◌, ◌^◌, ◌≤◌, ◌==◌, ℤ, negsuc, ◌≤ℤ◌, FitsSigned, ◌<ℤ◌, int_eq, int_lt, Bool, true, false, not, ◌&&◌, cond, if◌then◌else◌, List, [], ◌∷◌, ◌++◌, Some, None, filter, find, map, option_map, refl, sym, ap, subst, ◌∙◌, arith}
+use Rattle.std.specs.List.{AllByRecursion}
 use Rattle.std.proofs.lemmas.List.Elements.{filter-append}
 use Rattle.std.proofs.lemmas.Int.{ints}
 use Rattle.media_rows.specs.declared.request.DeleteRow.{DeleteRow}
 use Rattle.media_rows.specs.Lists.{has_number, placed}
-use Rattle.media_rows.specs.Requests.{done_count, first_unfinished, is_deleting, is_done, is_unfinished, request_of}
+use Rattle.media_rows.specs.Requests.{done_count, is_deleting, is_done, is_unfinished, request_of}
 use Rattle.media_rows.specs.Views.{id_key}
 use Rattle.shared_tree.specs.Pairs.{AreKeys, IsRising, first, is_above, is_at, is_below, value_at, values, with_pair, without_key}
 use Rattle.shared_tree.specs.Rows.{IsKeyedBy}

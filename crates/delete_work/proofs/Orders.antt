@@ -1,11 +1,11 @@
 -- Requests by rising serial: one that is put at its place, and those that are ended one after the other.
-use Rattle.std.proofs.Common.{◌≡◌, ℕ, ◌<◌, ◌==◌, nat_lt, Bool, true, false, not, ◌&&◌, ◌||◌, cond, if◌then◌else◌, List, [], ◌∷◌, ◌++◌, Option, Some, None, filter, find, map, refl, sym, ap, subst, ◌∙◌, arith}
-use Rattle.std.specs.List.{AllByRecursion, list_all, list_any}
+use Rattle.std.proofs.Common.{◌≡◌, ℕ, ◌==◌, nat_lt, Bool, true, false, ◌||◌, cond, if◌then◌else◌, List, [], ◌∷◌, ◌++◌, Some, filter, find, map, refl, sym, ap, subst, ◌∙◌, arith}
+use Rattle.std.specs.List.{AllByRecursion, list_all}
 use Rattle.std.proofs.lemmas.Bool.Decides.{nat_tests}
 use Rattle.media_rows.specs.declared.request.DeleteRow.{DeleteRow}
 use Rattle.media_rows.specs.Good.{rises_by}
 use Rattle.media_rows.specs.Lists.{inserted, placed}
-use Rattle.media_rows.specs.Requests.{ended_row, is_done, is_unfinished}
+use Rattle.media_rows.specs.Requests.{ended_row, is_unfinished}
 use Rattle.shared_tree.specs.Pairs.{IsRising, values}
 use Rattle.shared_tree.specs.Rows.{IsKeyedBy}
 use Rattle.shared_tree.proofs.Counted.{all_append}
@@ -14,7 +14,7 @@ use Rattle.id_index.proofs.Ids.{below_key}
 use Rattle.delete_work.specs.Work.{are_requests_below}
 use Rattle.delete_work.specs.Within.Keeping.{done_row, ended_by, has_request, request_before, request_key, request_serial}
 use Rattle.delete_work.proofs.Kept.{Rows}
-use Rattle.delete_work.proofs.Lists.{all_two, append_one, both, each_is, found_has, not_true, number_same, parts, some_same}
+use Rattle.delete_work.proofs.Lists.{append_one, both, each_is, found_has, number_same, parts, some_same}
 use Rattle.std.proofs.lemmas.Int.{ints}
 use Rattle.std.proofs.Common.{◌<ℤ◌, ℤ, int_lt}
 

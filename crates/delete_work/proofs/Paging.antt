@@ -1,13 +1,13 @@
 -- Pages of the segments that have a point in a request's range.
-use Rattle.std.proofs.Common.{◌≡◌, ℕ, ◌<◌, ◌≤◌, ◌+◌, ℤ, Bool, true, false, List, [], ◌∷◌, ◌++◌, Option, Some, None, IfSome, is_some, filter, take, drop, length, option_map, refl, sym, ap, subst, ◌∙◌, arith}
-use Rattle.std.specs.List.{AllByRecursion, list_all, slice_get}
+use Rattle.std.proofs.Common.{◌≡◌, ◌<◌, ◌≤◌, ℤ, true, false, [], ◌∷◌, ◌++◌, Option, Some, None, IfSome, is_some, filter, take, drop, length, option_map, refl, sym, ap, subst, ◌∙◌, arith}
+use Rattle.std.specs.List.{list_all, slice_get}
 use Rattle.std.proofs.lemmas.List.{take-append-drop}
 use Rattle.std.proofs.lemmas.List.Elements.{filter-append}
 use Rattle.media_rows.specs.declared.request.DeleteRow.{DeleteRow}
 use Rattle.media_rows.specs.declared.segment.SegmentRow.{SegmentRow}
 use Rattle.media_rows.specs.Lists.{rises}
 use Rattle.media_rows.specs.Segments.{first_point}
-use Rattle.segment_index.specs.Answers.{begins_before, is_bounded, met}
+use Rattle.segment_index.specs.Answers.{begins_before, is_bounded}
 use Rattle.delete_work.specs.Within.Seeking.{ahead, is_wanted_by, left_behind, looks_left}
 use Rattle.delete_work.proofs.Lists.{append_nothing, each_is, take_front}
 use Rattle.delete_work.proofs.Wanted.{Segments, all_ahead, met_wanted, page_all, page_fewer, page_rest, starts}

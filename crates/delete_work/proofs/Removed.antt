@@ -1,5 +1,5 @@
 -- Segments that are left out by their first points, and by their serials.
-use Rattle.std.proofs.Common.{◌≡◌, ℕ, ◌==◌, ℤ, int_eq, int_lt, Bool, true, false, not, ◌&&◌, ◌||◌, List, [], ◌∷◌, filter, refl, sym, ap, ◌∙◌, arith}
+use Rattle.std.proofs.Common.{◌≡◌, ◌==◌, ℤ, int_eq, int_lt, Bool, true, false, not, ◌&&◌, ◌||◌, [], ◌∷◌, filter, refl, sym, ap, ◌∙◌, arith}
 use Rattle.std.specs.List.{AllByRecursion, list_any}
 use Rattle.std.proofs.lemmas.Int.{ints}
 use Rattle.media_rows.specs.declared.segment.SegmentRow.{SegmentRow}

@@ -1,12 +1,12 @@
 -- Rows in any order: when their serials are distinct, and what book they make.
-use Rattle.std.proofs.Common.{◌≡◌, ℕ, zero, suc, ◌<◌, ◌≤◌, ◌+◌, ◌-◌, ◌==◌, nat_lt, nat_le, min, ◌^◌, Bool, true, false, not, ◌&&◌, ◌||◌, cond, if◌then◌else◌, List, [], ◌∷◌, Result, Ok, Err, map, filter, drop, get_or, length, refl, sym, ap, subst, ◌∙◌, arith}
+use Rattle.std.proofs.Common.{◌≡◌, ℕ, zero, suc, ◌<◌, ◌≤◌, ◌+◌, ◌-◌, ◌==◌, nat_le, Bool, true, false, not, ◌&&◌, ◌||◌, cond, List, [], ◌∷◌, Result, Ok, Err, map, filter, drop, get_or, length, refl, sym, ap, subst, ◌∙◌, arith}
 use Rattle.std.specs.List.{list_all, list_any}
 use Rattle.std.proofs.Math.Seq.{drop-cons}
 use Rattle.std.proofs.lemmas.Bool.Decides.{nat_tests}
 use Rattle.media_rows.specs.declared.refusal.ApplyFault.{ApplyFault}
 use Rattle.media_rows.specs.declared.refusal.ApplyFault.TheVariants as faults
 use Rattle.media_rows.specs.declared.request.DeleteRow.{DeleteRow}
-use Rattle.media_rows.specs.Lists.{are_distinct, in_order, inserted}
+use Rattle.media_rows.specs.Lists.{are_distinct, inserted}
 use Rattle.media_rows.specs.Refusals.{Restores}
 use Rattle.media_rows.specs.Requests.{done_count, done_kept, is_done}
 use Rattle.media_rows.specs.Restoring.{can_restore_requests, requests_of}

@@ -1,10 +1,9 @@
 -- What a step removes of what was found, and whether anything is left.
-use Rattle.std.proofs.Common.{◌≡◌, ℕ, ◌≤◌, ◌<◌, ◌+◌, ◌-◌, ◌==◌, nat_le, min, Bool, true, false, not, List, [], ◌∷◌, Option, Some, None, is_some, filter, find, take, drop, length, map, if◌then◌else◌, refl, sym, ap, subst, ◌∙◌, arith}
+use Rattle.std.proofs.Common.{◌≡◌, ℕ, ◌≤◌, ◌-◌, ◌==◌, nat_le, min, Bool, true, false, List, [], ◌∷◌, Option, Some, None, is_some, filter, take, drop, length, refl, sym, ap, subst, ◌∙◌, arith}
 use Rattle.std.specs.List.{AllByRecursion, list_all}
 use Rattle.std.proofs.lemmas.Bool.Decides.{nat_tests}
 use Rattle.std.proofs.lemmas.List.{length-drop, length-take}
 use Rattle.media_rows.specs.declared.request.DeleteRow.{DeleteRow}
-use Rattle.media_rows.specs.declared.segment.SegmentRow.{SegmentRow}
 use Rattle.media_rows.specs.Lists.{rises}
 use Rattle.media_rows.specs.Requests.{first_unfinished, is_finished_by_step, left_by_step, removed_by_step, requested, step_size}
 use Rattle.media_rows.specs.Segments.{without_segments}

@@ -1,6 +1,6 @@
 -- Laws for callers: a step of a request on the segments of its flow, by rising first point, is one on all segments.
-use Rattle.std.proofs.Common.{◌≡◌, ℕ, ◌==◌, ℤ, int_lt, nat_lt, Bool, true, false, not, ◌&&◌, ◌||◌, cond, List, [], ◌∷◌, Option, Some, None, filter, length, take, refl, sym, ap, ◌∙◌, arith}
-use Rattle.std.specs.List.{AllByRecursion, list_any}
+use Rattle.std.proofs.Common.{◌≡◌, ℕ, ◌==◌, ℤ, int_lt, nat_lt, Bool, true, false, not, ◌&&◌, ◌||◌, List, Option, Some, None, filter, length, take, refl, sym, ap, ◌∙◌, arith}
+use Rattle.std.specs.List.{list_any}
 use Rattle.std.proofs.lemmas.Int.{ints}
 use Rattle.std.proofs.lemmas.Bool.Decides.{nat_tests}
 use Rattle.time_range.specs.Points.{low_of}
@@ -8,8 +8,8 @@ use Rattle.media_rows.specs.declared.request.DeleteRow.{DeleteRow}
 use Rattle.media_rows.specs.declared.segment.SegmentRow.{SegmentRow}
 use Rattle.media_rows.specs.Lists.{in_order}
 use Rattle.media_rows.specs.Ranges.{covers}
-use Rattle.media_rows.specs.Requests.{is_finished_by_step, left_by_step, removed_by_step, requested, step_size}
-use Rattle.media_rows.specs.Segments.{covered, low_before, segments_of, starts_before, without_segments}
+use Rattle.media_rows.specs.Requests.{is_finished_by_step, removed_by_step, requested, step_size}
+use Rattle.media_rows.specs.Segments.{low_before, segments_of, starts_before, without_segments}
 use Rattle.id_index.proofs.Pairs.{filter_swap, filter_within}
 use Rattle.delete_work.proofs.Ordered.{Orders, ordered_again, ordered_kept}
 

@@ -1,24 +1,22 @@
 -- The segments on which a request works, among those of one flow by rising first point.
-use Rattle.std.proofs.Common.{◌≡◌, ℕ, zero, suc, ◌≤◌, ◌<◌, ◌+◌, ◌==◌, ℤ, ◌≤ℤ◌, int_eq, int_le, int_lt, nat_lt, nat_le, pos, Bool, true, false, not, ◌&&◌, ◌||◌, cond, if◌then◌else◌, List, [], ◌∷◌, ◌++◌, Option, Some, None, is_some, filter, map, take, drop, length, option_map, unwrap_or, refl, sym, ap, subst, ◌∙◌, arith}
+use Rattle.std.proofs.Common.{◌≡◌, ℕ, zero, suc, ◌<◌, ◌==◌, ℤ, int_le, int_lt, nat_lt, pos, Bool, true, false, not, ◌&&◌, ◌||◌, cond, List, [], ◌∷◌, Option, Some, None, is_some, filter, map, take, drop, length, unwrap_or, refl, sym, ap, subst, ◌∙◌, arith}
 use Rattle.std.specs.List.{AllByRecursion, list_all, list_any, slice_get}
 use Rattle.std.proofs.lemmas.Int.{ints}
-use Rattle.std.proofs.lemmas.Bool.Decides.{nat_tests}
 use Rattle.time_range.specs.declared.ranges.Span.{Span}
 use Rattle.time_range.specs.Ends.{are_ordered}
 use Rattle.time_range.specs.Points.{low_of}
 use Rattle.media_rows.specs.declared.request.DeleteRow.{DeleteRow}
 use Rattle.media_rows.specs.declared.segment.SegmentRow.{SegmentRow}
-use Rattle.media_rows.specs.Lists.{are_distinct, each_pair, in_order, inserted, is_past, items_past, page_items, rises}
+use Rattle.media_rows.specs.Lists.{are_distinct, in_order, inserted, is_past, page_items, rises}
 use Rattle.media_rows.specs.Ranges.{covers, has_both_ends, overlaps, reaches_down, reaches_up}
-use Rattle.media_rows.specs.Requests.{left_by_step, removed_by_step, requested}
-use Rattle.media_rows.specs.Segments.{covered, first_point, low_before, segments_of, starts_before, without_segments}
+use Rattle.media_rows.specs.Requests.{requested}
+use Rattle.media_rows.specs.Segments.{first_point, segments_of, starts_before, without_segments}
 use Rattle.shared_tree.proofs.Counted.{all_kept, each_passes}
-use Rattle.shared_tree.proofs.Rising.{all_map, filter_all, filter_none}
+use Rattle.shared_tree.proofs.Rising.{all_map, filter_all}
 use Rattle.id_index.proofs.Pairs.{filter_swap, filter_within}
 use Rattle.segment_index.specs.Answers.{begins_before, is_bounded, met}
-use Rattle.delete_work.specs.Work.{AreOfFlow}
 use Rattle.delete_work.specs.Within.Seeking.{ahead, is_wanted_by}
-use Rattle.delete_work.proofs.Lists.{agreed, all_taken, all_two, always, both, each_is, filter_inner, filter_twice, not_true, number_same, number_turn, parts, some_same}
+use Rattle.delete_work.proofs.Lists.{agreed, always, both, each_is, filter_inner, filter_twice, not_true, number_same, parts, some_same}
 
 abbrev pub Segments : Type 0
 Segments = List SegmentRow

@@ -1,6 +1,6 @@
 -- Delete requests at the keys of their serials, those unfinished and those done apart, and the
 -- flows that requests delete.
-use Rattle.std.specs.Prelude.{◌≡◌, ℕ, ◌==◌, nat_lt, ℤ, List, [], ◌∷◌, Bool, ◌&&◌, if◌then◌else◌, filter, map, not, true}
+use Rattle.std.specs.Prelude.{◌≡◌, ℕ, ◌==◌, nat_lt, ℤ, List, [], ◌∷◌, Bool, ◌&&◌, if◌then◌else◌, filter, map, true}
 use Rattle.std.specs.List.{list_any}
 use Rattle.media_rows.specs.declared.request.DeleteRow.{DeleteRow}
 use Rattle.media_rows.specs.declared.request.DeleteStatus.TheVariants.{Done}

@@ -1,4 +1,4 @@
-use Rattle.std.proofs.Common.{◌≡◌, ap, ◌∙◌, option_map, sym}
+use Rattle.std.proofs.Common.{ap, ◌∙◌, option_map}
 use Rattle.std.specs.List.{slice_get}
 use Rattle.std.proofs.Common.{◌++◌, filter}
 use Rattle.media_rows.specs.Segments.{first_point}

@@ -1,7 +1,7 @@
-use Rattle.std.proofs.Common.{◌≡◌, ◌++◌, ap, arith, filter, length, sym, ◌∙◌}
+use Rattle.std.proofs.Common.{◌++◌, ap, arith, filter, sym, ◌∙◌}
 use Rattle.std.proofs.lemmas.List.{length-map}
 use Rattle.shared_tree.specs.Pairs.{values_of}
-use Rattle.delete_work.specs.Within.Seeking.{is_wanted_by, left_behind}
+use Rattle.delete_work.specs.Within.Seeking.{is_wanted_by}
 use Rattle.delete_work.proofs.Paging.{behind_some, enough, looked_all, looks_fewer, pages_start}
 use Rattle.delete_work.proofs.requested.collect.Goals as goal
 

@@ -1,4 +1,4 @@
-use Rattle.std.proofs.Common.{◌≡◌, ◌∷◌, ◌++◌, [], ap, arith, sym, ◌∙◌}
+use Rattle.std.proofs.Common.{◌∷◌, ◌++◌, [], ap, arith, sym, ◌∙◌}
 use Rattle.object_refs.specs.References.{objects_in, references_in}
 use Rattle.object_refs.proofs.Theorems.{due_unnamed}
 use Rattle.delete_work.proofs.DueObjects.{sweeping_done, sweeping_few, sweeping_full, sweeping_more, sweeping_rows, sweeping_starts}

@@ -1,6 +1,5 @@
-use Rattle.std.proofs.Common.{◌≡◌, ◌≤◌, IsTrue, ap, arith, is_some, length, map, nat_le, sym, subst, take, ◌∙◌}
+use Rattle.std.proofs.Common.{◌≡◌, ◌≤◌, ap, arith, length, nat_le, sym, subst, ◌∙◌}
 use Rattle.std.proofs.lemmas.List.{length-map, take-map}
-use Rattle.media_rows.specs.declared.segment.SegmentRow.{SegmentRow}
 use Rattle.media_rows.specs.Requests.{after_step, is_finished_by_step, removed_by_step, step_size}
 use Rattle.shared_tree.specs.Pairs.{values_of}
 use Rattle.delete_work.proofs.Stepping.{IsFor, due_is, few_removed, finished_is, removed_is, some_due}

@@ -1,7 +1,6 @@
-use Rattle.std.proofs.Common.{◌≡◌, ap, sym, subst, ◌∙◌}
-use Rattle.media_rows.specs.Segments.{without_segments}
-use Rattle.delete_work.specs.Work.{HasReferences, released_by}
-use Rattle.delete_work.specs.Within.Seeking.{are_of, without_starts}
+use Rattle.std.proofs.Common.{ap, sym, ◌∙◌}
+use Rattle.delete_work.specs.Work.{released_by}
+use Rattle.delete_work.specs.Within.Seeking.{without_starts}
 use Rattle.delete_work.proofs.Stepping.{IsFor, index_is, own_removed, references_removed, some_due}
 use Rattle.delete_work.proofs.book.DeleteBook.step.Goals as goal
 

@@ -1,4 +1,4 @@
-use Rattle.std.proofs.Common.{◌≡◌, ◌≤◌, ap, sym, subst, ◌∙◌}
+use Rattle.std.proofs.Common.{◌≤◌, ap, sym, subst, ◌∙◌}
 use Rattle.media_rows.specs.Requests.{done_count}
 use Rattle.shared_tree.specs.Pairs.{first, values}
 use Rattle.delete_work.specs.Within.Keeping.{without_first_done}
