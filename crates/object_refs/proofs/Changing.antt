@@ -10,9 +10,9 @@ use Rattle.shared_tree.specs.Rows.{IsKeyedBy}
 use Rattle.shared_tree.proofs.Rows.{left_out_is, replaced_is}
 use Rattle.object_refs.specs.declared.kept.Kept.{Kept}
 use Rattle.object_refs.specs.declared.names.Named.{Named}
-use Rattle.object_refs.specs.References.{changed_at, flows_in, kept_of, less_one, objects_in, reference_of, references_in, references_to, refers, released, without_id}
+use Rattle.object_refs.specs.References.{changed_at, flows_in, kept_of, less_one, objects_in, reference_of, references_in, references_to, refers, released, without_id, idle_row, released_at}
 use Rattle.object_refs.specs.Within.Names.{Renames, id_number}
-use Rattle.object_refs.specs.Within.Books.{IsBook, idle_entered, idle_key_of, idle_left, idle_row, kept_key, released_at}
+use Rattle.object_refs.specs.Within.Books.{IsBook, idle_entered, idle_key_of, idle_left, kept_key}
 use Rattle.object_refs.proofs.Found.{all_looked, found_seen, tests_at}
 use Rattle.object_refs.proofs.Inverse.{some_same}
 use Rattle.object_refs.proofs.Looks.{above_differs, looked_here, looked_past, same_is}

@@ -85,6 +85,16 @@ less_one flow (f ∷ fs) = if f == flow then fs else f ∷ less_one flow fs
 abbrev pub released : ℕ → Kept → Kept
 released flow k = record { row = k.row; flows = less_one flow k.flows }
 
+-- an object idle since this moment where nothing refers to it, and otherwise as it was
+abbrev pub idle_row : List ℕ → ℕ → ObjectRow → ObjectRow
+idle_row [] moment row = record row { idle_since = moment }
+idle_row (flow ∷ flows) moment row = row
+
+-- an object with one reference of a flow less, idle since this moment where it was the last one
+abbrev pub released_at : ℕ → ℕ → Kept → Kept
+released_at flow moment k =
+    record { row = idle_row (less_one flow k.flows) moment k.row; flows = less_one flow k.flows }
+
 -- the flows that refer to the objects, in the objects' order
 abbrev pub flows_in : List Kept → List (List ℕ)
 flows_in kept = map (λ k. k.flows) kept

@@ -7,7 +7,7 @@ ghost use Rattle.media_rows.specs.Refusals.{IsChange, Restores, when};
 ghost use Rattle.media_rows.specs.Restoring.{can_restore_objects};
 ghost use Rattle.media_rows.specs.declared.refusal.Refusal.TheVariants.{IdTaken, NoObject};
 ghost use Rattle.shared_tree.specs.Pairs.{first, values_of};
-ghost use Rattle.object_refs.specs.References.{are_below, book_of, changed_at, flows_in, kept_of, objects_in, references_in, referred, refers, released, stored_at, with_new, without_id};
+ghost use Rattle.object_refs.specs.References.{are_below, book_of, changed_at, flows_in, kept_of, objects_in, references_in, referred, refers, released, released_at, stored_at, with_new, without_id};
 ghost use Rattle.object_refs.specs.Within.Books.{has_serial, stored_of};
 
 use crate::changes::{is_stored, referred_kept, released_kept, stored_kept};
@@ -179,6 +179,8 @@ impl ObjectBook {
             ≡ idled (references_in self.now) (references_in next) now (objects_in self.now)) }
         ensures flows { IfOk result
             (λ next. flows_in next ≡ flows_in (changed_at id.now (released flow) self.now)) }
+        ensures book { IfOk result
+            (λ next. next ≡ changed_at id.now (released_at flow now) self.now) }
     {
         self.rows.keys_rise();
         let Some(old) = self.kept(id) else {

@@ -1,8 +1,8 @@
 //! What makes a book of another one: an object that comes, is changed or goes.
 ghost use Rattle.std.specs.Prelude.{◌≡◌, ◌<◌, ◌^◌, IfOk, IsFalse, IsTrue, None, Some};
 ghost use Rattle.media_rows.specs.Objects.{is_stored};
-ghost use Rattle.object_refs.specs.References.{are_below, changed_at, kept_of, referred, stored_at, with_new, without_id};
-ghost use Rattle.object_refs.specs.Within.Books.{has_serial, idle_entered, idle_left, released_at, with_row};
+ghost use Rattle.object_refs.specs.References.{are_below, changed_at, kept_of, referred, released_at, stored_at, with_new, without_id};
+ghost use Rattle.object_refs.specs.Within.Books.{has_serial, idle_entered, idle_left, with_row};
 ghost use Rattle.object_refs.specs.declared.kept.Kept.{Kept};
 
 use crate::ObjectBook;

@@ -73,16 +73,6 @@ abbrev pub stored_of : Option Kept → Option Kept
 stored_of None = None
 stored_of (Some k) = if is_stored k.row.state then Some k else None
 
--- an object idle since this moment where nothing refers to it, and otherwise as it was
-abbrev pub idle_row : List ℕ → ℕ → ObjectRow → ObjectRow
-idle_row [] moment row = record row { idle_since = moment }
-idle_row (flow ∷ flows) moment row = row
-
--- an object with one reference of a flow less, idle since this moment where it was the last one
-abbrev pub released_at : ℕ → ℕ → Kept → Kept
-released_at flow moment k =
-    record { row = idle_row (less_one flow k.flows) moment k.row; flows = less_one flow k.flows }
-
 -- some object has this serial
 abbrev pub has_serial : ℕ → List Kept → Bool
 has_serial serial kept = list_any (λ k. k.row.serial == serial) kept

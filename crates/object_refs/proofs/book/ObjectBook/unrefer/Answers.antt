@@ -1,7 +1,6 @@
 use Rattle.std.proofs.Common.{◌≡◌, true, ap, sym, subst, ◌∙◌, arith}
 use Rattle.media_rows.specs.Objects.{idled}
-use Rattle.object_refs.specs.References.{changed_at, kept_of, objects_in, references_in, refers}
-use Rattle.object_refs.specs.Within.Books.{released_at}
+use Rattle.object_refs.specs.References.{changed_at, kept_of, objects_in, references_in, refers, released_at}
 use Rattle.object_refs.proofs.Changing.{none_refer, released_flows, released_objects}
 use Rattle.object_refs.proofs.Lists.{if_ok}
 use Rattle.object_refs.proofs.Refusing.{changed_by, found_again}
@@ -38,4 +37,12 @@ returns-clause-flows c =
     if_ok c.with_kept.result
     (λ next is. released_flows c.args.id.now c.args.flow c.args.now c.args.self.now next
     (changed_by c.args.id.now c.args.self.now next c.in-Some.old.now change (sym c.in-Some.ensures) is))
+    (c.with_kept.ensures change c.in_ok-new.ensures)
+
+-- just that object is changed
+pub returns-clause-book : goal.returns-clause-book
+returns-clause-book c =
+    let change = released_at c.args.flow c.args.now in
+    if_ok c.with_kept.result
+    (λ next is. changed_by c.args.id.now c.args.self.now next c.in-Some.old.now change (sym c.in-Some.ensures) is)
     (c.with_kept.ensures change c.in_ok-new.ensures)
