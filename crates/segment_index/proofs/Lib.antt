@@ -4,3 +4,4 @@ mod Changed
 mod Hull
 mod PageWalks
 mod Starts
+mod Order

@@ -1,12 +1,12 @@
 -- What the calls of an index say of its segments, which stand by rising first point. Our own
 -- profile of the Time-addressable Media Store.
-use Rattle.std.specs.Prelude.{◌≡◌, ℕ, ℤ, Bool, not, List, Option, Some, None, Result, Ok, Err, filter}
+use Rattle.std.specs.Prelude.{◌≡◌, ℕ, ℤ, int_lt, Bool, not, List, Option, Some, None, Result, Ok, Err, filter}
 use Rattle.std.proofs.Common.{int_eq}
 use Rattle.time_range.specs.declared.ranges.Span.{Span}
 use Rattle.media_rows.specs.declared.command.Page.{Page}
 use Rattle.media_rows.specs.declared.segment.SegmentRow.{SegmentRow}
 use Rattle.media_rows.specs.Lists.{page_items, placed}
-use Rattle.media_rows.specs.Ranges.{overlaps}
+use Rattle.media_rows.specs.Ranges.{overlaps, has_both_ends}
 use Rattle.media_rows.specs.Segments.{first_point, ranges_of, starts_before}
 use Rattle.shared_tree.specs.Pairs.{first}
 use Rattle.segment_index.specs.declared.fault.AddFault.{AddFault}
@@ -44,3 +44,15 @@ page_of after limit backwards = record { after = after; limit = limit; reverse =
 -- the segments of a page of those that have a point in a range, by the library's pages
 abbrev pub met_page : List SegmentRow → Option Span → Page → List SegmentRow
 met_page rows range page = page_items first_point page (met rows range)
+
+-- a segment begins before another
+abbrev pub begins_before : SegmentRow → SegmentRow → Bool
+begins_before a b = int_lt (first_point a) (first_point b)
+
+-- a segment is bounded at both ends, and isn't never
+abbrev pub is_bounded : SegmentRow → Bool
+is_bounded row = has_both_ends row.segment.range
+
+-- two segments have no point in common
+abbrev pub are_disjoint : SegmentRow → SegmentRow → Bool
+are_disjoint a b = not (overlaps a.segment.range b.segment.range)

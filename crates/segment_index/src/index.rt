@@ -1,9 +1,11 @@
 //! The index and its public calls.
 ghost use Rattle.std.specs.Prelude.{◌≡◌, ◌+◌, ◌-◌, ◌*◌, ◌^◌, ◌≤◌, ◌++◌, [], IfOk, IsTrue, length, min, option_copied, vec_capacity, vec_len};
+ghost use Rattle.std.specs.List.{list_all};
+ghost use Rattle.media_rows.specs.Lists.{each_pair, rises};
 ghost use Rattle.media_rows.specs.Ranges.{has_both_ends};
 ghost use Rattle.media_rows.specs.Segments.{hull_of_segments};
 ghost use Rattle.shared_tree.specs.Pairs.{digits, values_of};
-ghost use Rattle.segment_index.specs.Answers.{Adds, met_page, page_of, without_start};
+ghost use Rattle.segment_index.specs.Answers.{Adds, are_disjoint, begins_before, is_bounded, met_page, page_of, without_start};
 ghost use Rattle.segment_index.specs.Within.Keyed.{segment_or};
 
 use crate::AddFault;
@@ -122,6 +124,15 @@ impl SegmentIndex {
                 rows: self.rows.with(alloc, low, row)?,
             }),
         }
+    }
+
+    /// A law: segments stand by rising first points, each is bounded at both ends, and no two overlap.
+    pub fn is_in_order(&self)
+        ensures starts { IsTrue (rises begins_before self.now) }
+        ensures bounded { IsTrue (list_all is_bounded self.now) }
+        ensures disjoint { IsTrue (each_pair are_disjoint self.now) }
+    {
+        self.rows.keys_rise();
     }
 
     /// Leaves out the segment that begins at this point, if there is one.
