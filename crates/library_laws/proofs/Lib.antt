@@ -1,7 +1,7 @@
 pub mod ListLemmas
 mod AnswerLemmas
 mod CircleLemmas
-mod KeptLemmas
+pub mod KeptLemmas
 mod OutboxKept
 mod RequestLemmas
 mod ObjectsKept
@@ -15,10 +15,10 @@ mod DeletionKept
 mod ChangesKept
 mod BoundLemmas
 mod FirstBytes
-mod PageLemmas
+pub mod PageLemmas
 mod AppliesLemmas
 mod PlaceLemmas
-mod RestoreLemmas
+pub mod RestoreLemmas
 mod FollowLemmas
 mod ListsFollow
 mod RowOrder
