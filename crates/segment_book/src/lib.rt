@@ -3,5 +3,7 @@
 #![tactic(auto)]
 
 mod book;
+#[cfg(test)]
+mod tests;
 
 pub use crate::book::SegmentBook;
