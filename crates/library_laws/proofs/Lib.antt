@@ -15,10 +15,10 @@ mod DeletionKept
 pub mod ChangesKept
 mod BoundLemmas
 mod FirstBytes
-mod PageLemmas
+pub mod PageLemmas
 mod AppliesLemmas
 mod PlaceLemmas
-mod RestoreLemmas
+pub mod RestoreLemmas
 mod FollowLemmas
 mod ListsFollow
 mod RowOrder

@@ -1,0 +1,5 @@
+pub mod Ordered
+mod Serials
+pub mod Gaining
+mod FlowRows
+mod Views

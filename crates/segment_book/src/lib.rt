@@ -1,0 +1,9 @@
+//! All segments of a library as a value that each change makes anew, with an index for each flow. Which flows
+//! there are and which objects are named is left to the callers.
+#![tactic(auto)]
+
+mod book;
+#[cfg(test)]
+mod tests;
+
+pub use crate::book::SegmentBook;
