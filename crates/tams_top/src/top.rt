@@ -59,10 +59,12 @@ pub fn run<X: Site, C: Clock, N: Sink>(
     // `format` writes nothing. Elsewhere a run ends for want of memory only before it waits for a peer, or
     // with a request of the one connection.
     ensures nobody { IsNoCommand words.now
-        → ServesNobody (X.device site.old) (X.device site.new) (C.given clock.old) (C.given clock.new) }
+        → ServesNobody (X.device site.old) (X.device site.new) (C.given clock.old)
+        (C.given clock.new) }
     ensures nobody_formats { (path : List ℕ) (blocks half id : ℕ)
         → IsCommand words.now (Format path blocks half id)
-        → ServesNobody (X.device site.old) (X.device site.new) (C.given clock.old) (C.given clock.new) }
+        → ServesNobody (X.device site.old) (X.device site.new) (C.given clock.old)
+        (C.given clock.new) }
     ensures starved_format { (path : List ℕ) (blocks half id : ℕ)
         → IsCommand words.now (Format path blocks half id) → result ≡ 4
         → Untouched (X.device site.old) (X.device site.new) }
