@@ -12,28 +12,28 @@ use Rattle.run_history.specs.Laws.{StagesCount, StepsGrow, TracesGrow, under_way
 
 -- ---- steps
 
-pieces-push : {State Request : Type 0} (m : Machine State Request) (at : Stage State) (steps : List (Step Request)) (step : Step Request)
+pub pieces-push : {State Request : Type 0} (m : Machine State Request) (at : Stage State) (steps : List (Step Request)) (step : Step Request)
     → pieces_of m at (steps ++ step ∷ []) ≡ pieces_of m at steps ++ (effect m (after_steps m at steps) step).pieces
 pieces-push m at [] step = append-nil (effect m at step).pieces
 pieces-push m at (x ∷ steps) step =
     ap (λ l. (effect m at x).pieces ++ l) (pieces-push m (after_step m at x) steps step)
     ∙ sym (append_assoc (effect m at x).pieces (pieces_of m (after_step m at x) steps) (effect m (after_steps m at (x ∷ steps)) step).pieces)
 
-changes-push : {State Request : Type 0} (m : Machine State Request) (at : Stage State) (steps : List (Step Request)) (step : Step Request)
+pub changes-push : {State Request : Type 0} (m : Machine State Request) (at : Stage State) (steps : List (Step Request)) (step : Step Request)
     → changes_of m at (steps ++ step ∷ []) ≡ changes_of m at steps ++ (effect m (after_steps m at steps) step).changes
 changes-push m at [] step = append-nil (effect m at step).changes
 changes-push m at (x ∷ steps) step =
     ap (λ l. (effect m at x).changes ++ l) (changes-push m (after_step m at x) steps step)
     ∙ sym (append_assoc (effect m at x).changes (changes_of m (after_step m at x) steps) (effect m (after_steps m at (x ∷ steps)) step).changes)
 
-moments-push : {State Request : Type 0} (m : Machine State Request) (at : Stage State) (steps : List (Step Request)) (step : Step Request)
+pub moments-push : {State Request : Type 0} (m : Machine State Request) (at : Stage State) (steps : List (Step Request)) (step : Step Request)
     → moments_of m at (steps ++ step ∷ []) ≡ moments_of m at steps ++ (effect m (after_steps m at steps) step).moments
 moments-push m at [] step = append-nil (effect m at step).moments
 moments-push m at (x ∷ steps) step =
     ap (λ l. (effect m at x).moments ++ l) (moments-push m (after_step m at x) steps step)
     ∙ sym (append_assoc (effect m at x).moments (moments_of m (after_step m at x) steps) (effect m (after_steps m at (x ∷ steps)) step).moments)
 
-stage-push : {State Request : Type 0} (m : Machine State Request) (at : Stage State) (steps : List (Step Request)) (step : Step Request)
+pub stage-push : {State Request : Type 0} (m : Machine State Request) (at : Stage State) (steps : List (Step Request)) (step : Step Request)
     → after_steps m at (steps ++ step ∷ []) ≡ after_step m (after_steps m at steps) step
 stage-push m at [] step = refl
 stage-push m at (x ∷ steps) step = stage-push m (after_step m at x) steps step
@@ -63,13 +63,13 @@ stages_count State Request m at (x ∷ steps) =
 
 -- ---- connections
 
-scripts-push : {State Request : Type 0} (m : Machine State Request) (at : Stage State) (finished : List (Session Request)) (session : Session Request)
+pub scripts-push : {State Request : Type 0} (m : Machine State Request) (at : Stage State) (finished : List (Session Request)) (session : Session Request)
     → scripts_of m at (finished ++ session ∷ []) ≡ scripts_of m at finished ++ pieces_of m (after_sessions m at finished) session.steps ∷ []
 scripts-push m at [] session = refl
 scripts-push m at (x ∷ finished) session =
     ap (λ l. pieces_of m at x.steps ∷ l) (scripts-push m (after_steps m at x.steps) finished session)
 
-all_changes-push : {State Request : Type 0} (m : Machine State Request) (at : Stage State) (finished : List (Session Request)) (session : Session Request)
+pub all_changes-push : {State Request : Type 0} (m : Machine State Request) (at : Stage State) (finished : List (Session Request)) (session : Session Request)
     → all_changes m at (finished ++ session ∷ []) ≡ all_changes m at finished ++ changes_of m (after_sessions m at finished) session.steps
 all_changes-push m at [] session = append-nil (changes_of m at session.steps)
 all_changes-push m at (x ∷ finished) session =
@@ -77,7 +77,7 @@ all_changes-push m at (x ∷ finished) session =
     ∙ sym (append_assoc (changes_of m at x.steps) (all_changes m (after_steps m at x.steps) finished)
     (changes_of m (after_sessions m at (x ∷ finished)) session.steps))
 
-all_moments-push : {State Request : Type 0} (m : Machine State Request) (at : Stage State) (finished : List (Session Request)) (session : Session Request)
+pub all_moments-push : {State Request : Type 0} (m : Machine State Request) (at : Stage State) (finished : List (Session Request)) (session : Session Request)
     → all_moments m at (finished ++ session ∷ []) ≡ all_moments m at finished ++ moments_of m (after_sessions m at finished) session.steps
 all_moments-push m at [] session = append-nil (moments_of m at session.steps)
 all_moments-push m at (x ∷ finished) session =
@@ -86,17 +86,17 @@ all_moments-push m at (x ∷ finished) session =
     (moments_of m (after_sessions m at (x ∷ finished)) session.steps))
 
 -- the trace of a state, scripts and changes
-abbrev trace-by : {State : Type 0} → State → List (List Piece) → List State → Trace State
+abbrev pub trace-by : {State : Type 0} → State → List (List Piece) → List State → Trace State
 trace-by first scripts changes = record { scripts = scripts; first = first; changes = changes }
 
 -- two traces from one state are the same by their parts
-trace-same : {State : Type 0} (first : State) (scripts scripts_too : List (List Piece)) (changes changes_too : List State) → scripts ≡ scripts_too
+pub trace-same : {State : Type 0} (first : State) (scripts scripts_too : List (List Piece)) (changes changes_too : List State) → scripts ≡ scripts_too
     → changes ≡ changes_too
     → trace-by first scripts changes ≡ trace-by first scripts_too changes_too
 trace-same first scripts scripts_too changes changes_too one two =
     ap (λ s. trace-by first s changes) one ∙ ap (trace-by first scripts_too) two
 
-trace-opened : {State Request : Type 0} (m : Machine State Request) (from : State) (finished : List (Session Request)) (link : LinkEnd)
+pub trace-opened : {State Request : Type 0} (m : Machine State Request) (from : State) (finished : List (Session Request)) (link : LinkEnd)
     → trace_of m from (finished ++ under_way [] link ∷ []) ≡ with_connection (trace_of m from finished)
 trace-opened m from finished link =
     let at = start_of from in

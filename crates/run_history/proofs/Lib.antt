@@ -2,3 +2,6 @@ pub mod Pieces
 pub mod Pairs
 pub mod Invariant
 pub mod Growth
+pub mod Ends
+pub mod Going
+pub mod Answering

@@ -5,3 +5,4 @@ pub mod Traces
 pub mod Runs
 pub mod Laws
 pub mod Worked
+pub mod Serving

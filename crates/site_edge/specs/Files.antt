@@ -65,7 +65,28 @@ file_site_device s = record (file_device s.file) {
       };
 }
 
--- both are devices, of which nothing is told that a crash leaves
+-- A site over a file whose peers come over the network: the file, the counts of the faults of its
+-- links and of waiting for peers, and whether a connection is under way.
+pub record NetSiteState : Type 0 where
+  pub file : FileState
+  pub link_faults : ℕ
+  pub peer_faults : ℕ
+  pub under_way : Bool
+
+-- the device that such a site is: its file, and its link
+abbrev pub net_site_device : NetSiteState → Device
+net_site_device s = record (file_device s.file) {
+  link =
+      record {
+        faults = s.link_faults;
+        peer_faults = s.peer_faults;
+        under_way = s.under_way;
+        connections = [];
+        closed = false;
+      };
+}
+
+-- all are devices, of which nothing is told that a crash leaves
 pub file_device_is_sound : (f : FileState) → IsDevice (file_device f)
 file_device_is_sound f = record {
   images = λ honest _ _ _. cc;
@@ -77,6 +98,15 @@ file_device_is_sound f = record {
 
 pub file_site_device_is_sound : (s : FileSiteState) → IsDevice (file_site_device s)
 file_site_device_is_sound s = record {
+  images = λ honest _ _ _. cc;
+  length = λ shows. cc;
+  earlier = λ t u p _ _ left. left;
+  itself = λ honest _ _. cc;
+  told = λ honest _ _ _. cc;
+}
+
+pub net_site_device_is_sound : (s : NetSiteState) → IsDevice (net_site_device s)
+net_site_device_is_sound s = record {
   images = λ honest _ _ _. cc;
   length = λ shows. cc;
   earlier = λ t u p _ _ left. left;

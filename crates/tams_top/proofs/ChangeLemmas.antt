@@ -1,10 +1,8 @@
 -- Laws of changes in bytes: each can be written, each has 58 bytes, and bytes spell one change.
-use Rattle.std.proofs.Common.{◌≡◌, ◌<◌, ◌^◌, ℕ, List, length, refl, sym, ap, ◌∙◌, arith, length-append}
-use Rattle.disk_trait.specs.Numbers.{u32_bytes, u64_bytes, u128_bytes}
+use Rattle.std.proofs.Common.{◌≡◌, ◌<◌, ◌^◌, ℕ, List, length, refl, ap, ◌∙◌, arith, length-append}
 use Rattle.disk_trait.proofs.NumberLemmas.{length-u32_bytes, length-u64_bytes, length-u128_bytes}
-use Rattle.media_rows.specs.declared.change.Change as media
 use Rattle.media_rows.specs.declared.flow.FlowBody.{FlowBody}
-use Rattle.field_codec.specs.Leaves.{u8_spelling, u32_spelling, u64_spelling, u128_spelling, bool_spelling, text_spelling}
+use Rattle.field_codec.specs.Leaves.{u8_spelling, u32_spelling, u64_spelling, u128_spelling, bool_spelling}
 use Rattle.field_codec.proofs.Wholes.{one_value}
 use Rattle.change_codec.specs.Values.{kind_spelling, tags_spelling, flow_head_spelling, flow_texts_spelling, flow_rest_spelling, flow_spelling}
 use Rattle.change_codec.specs.Changes.{change_spelling}

@@ -31,6 +31,8 @@ module _ (old new : Device) (o : Outcome) (counts : FaultCounts old new o) (none
     heard = served.heard;
     told = served.whole (unfailed ending served is);
     given = refl;
+    valid = served.valid;
+    few = served.few;
     ends = ends ending served is;
   }
     where
@@ -43,8 +45,8 @@ module _ (old new : Device) (o : Outcome) (counts : FaultCounts old new o) (none
       unfailed endings.Unlinked served is = absurd (no_link is)
 
       ends : (ending : Ending) → (s : IsServed from c h ending) → OutcomeIs from h ending o → EndsByInput c h s.rest (status_of o)
-      ends endings.Complete s is = inl (ap status_of is, s.ends.0, s.ends.2, s.ends.3)
-      ends endings.Cut s is = inr (inl (ap status_of is, s.ends.0, s.ends.2, s.ends.3, s.ends.4))
+      ends endings.Complete s is = inl (ap status_of is, s.ends.0, s.ends.2, s.ends.3, s.ends.4)
+      ends endings.Cut s is = inr (inl (ap status_of is, s.ends.0, s.ends.2, s.ends.3, s.ends.4, s.ends.5))
       ends endings.Closed s is = inr (inr (ap status_of is, s.ends.1))
       ends endings.Starved s is = absurd (fed (ap status_of is))
       ends endings.Stopped s is = absurd (no_disk is)

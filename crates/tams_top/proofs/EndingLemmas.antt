@@ -12,7 +12,7 @@ use Rattle.tams_top.specs.Words.{IsCommand}
 use Rattle.tams_top.specs.Store.{State, StandsFor, empty_rows}
 use Rattle.tams_top.specs.Opening.{StandsForNone}
 use Rattle.tams_top.specs.Moments.{IsSettled}
-use Rattle.tams_top.specs.Running.{CommandEnds, FormatRunEnds, IsReplayFrom, RefusedFor, ReplayCause, Replayed, ReplayEnds, RunEnds, Untouched, beginning, formatted_state, status_of}
+use Rattle.tams_top.specs.Running.{CommandEnds, FormatRunEnds, IsNoCommand, IsReplayFrom, OnePeer, RefusedFor, ReplayCause, Replayed, ReplayEnds, RunEnds, ServesNobody, Untouched, beginning, formatted_state, status_of}
 use Rattle.tams_top.proofs.FormattingLemmas.{untouched_bare}
 use Rattle.tams_top.proofs.RunningLemmas.{no_store, unopened}
 use Rattle.tams_top.proofs.WordTheorems.{one_command}
@@ -30,6 +30,11 @@ module _ (old new : Device) (h : Header) where
   format_done (Formatted blocks half media) ends s = ends.stands
   format_done (Served requests changes) ends s = absurd ends
   format_done _ ends s = absurd (omega (arith, s))
+
+  format_starved : (o : Outcome) → FormatRunEnds old new h o → status_of o ≡ 4 → Untouched old new
+  format_starved NoMemory ends s = ends
+  format_starved LinkFault ends s = absurd ends
+  format_starved _ ends s = absurd (omega (arith, s))
 
   format_only : (o : Outcome) → FormatRunEnds old new h o → old.shows ≡ true → HasOpenHeader old.seen ⊎ ¬ (FitsStore h (length old.seen) empty_rows)
       → (status_of o ≡ 2) ⊎ ((status_of o ≡ 3) ⊎ (status_of o ≡ 4))
@@ -144,3 +149,61 @@ module _ (words : List (List ℕ)) (old new : Device) (clock : Bool) (begun give
           ends.history replay.tells replay.settled from replay.stands
     ]
   ]
+
+  -- nobody is served for words that are no command
+  pub run_bad : IsNoCommand words → ServesNobody old new begun given
+  run_bad no_command = elim run.cause [
+    | inl starved ↦ record { link = starved.2.link; given_is = starved.1 }
+    | inr other ↦ elim other [ inl bad ↦ record { link = bad.2.link; given_is = bad.3 } | inr did ↦ absurd (no_command did.0 did.1) ]
+  ]
+
+  -- nor by `format`
+  pub run_formats : (path : List ℕ) (blocks half id : ℕ) → IsCommand words (Format path blocks half id) → ServesNobody old new begun given
+  run_formats path blocks half id is = elim run.cause [
+    | inl starved ↦ record { link = starved.2.link; given_is = starved.1 }
+    | inr other ↦ elim other [
+      | inl bad ↦ absurd (bad.1 (Format path blocks half id) is)
+      | inr did ↦
+          let ends = subst (CommandEnds old new clock begun given o) (one_command words did.0 (Format path blocks half id) did.1 is) did.2 in
+          ends.2
+    ]
+  ]
+
+  -- which writes nothing where there is no memory
+  pub run_starved_format : (path : List ℕ) (blocks half id : ℕ) → IsCommand words (Format path blocks half id) → status_of o ≡ 4 → Untouched old new
+  run_starved_format path blocks half id is s = elim run.cause [
+    | inl starved ↦ starved.2
+    | inr other ↦ elim other [
+      | inl bad ↦ absurd (bad.1 (Format path blocks half id) is)
+      | inr did ↦
+          let ends = subst (CommandEnds old new clock begun given o) (one_command words did.0 (Format path blocks half id) did.1 is) did.2 in
+          format_starved old new (record { blocks = blocks; half = half; id = id }) o ends.0 s
+    ]
+  ]
+
+  -- a run that ended for want of memory
+  pub run_starved : status_of o ≡ 4 → ServesNobody old new begun given
+      ⊎ ((from : State) → IsReplayFrom from words old clock → OnePeer (beginning from old begun) new given NoMemory)
+  run_starved s = elim run.cause [
+    | inl starved ↦ inl (record { link = starved.2.link; given_is = starved.1 })
+    | inr other ↦ elim other [
+      | inl bad ↦ inl (record { link = bad.2.link; given_is = bad.3 })
+      | inr did ↦ command_starved did.0 did.2 s
+    ]
+  ]
+    where
+      is_no_memory : (p : Outcome) → status_of p ≡ 4 → p ≡ NoMemory
+      is_no_memory NoMemory e = refl
+      is_no_memory _ e = absurd (omega (arith, e))
+
+      command_starved : (command : Command) → CommandEnds old new clock begun given o command → status_of o ≡ 4 → ServesNobody old new begun given
+          ⊎ ((from : State) → IsReplayFrom from words old clock → OnePeer (beginning from old begun) new given NoMemory)
+      command_starved (Format path blocks half id) ends s = inl ends.2
+      command_starved (Replay path base) ends s =
+          let is = is_no_memory o s in
+          elim (ends.starved is) [
+            | inl nobody ↦ inl nobody
+            | inr served ↦
+                inr (λ from replay.
+                subst (OnePeer (beginning from old begun) new given) is (served replay.tells replay.settled from replay.stands))
+          ]

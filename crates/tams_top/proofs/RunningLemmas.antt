@@ -15,7 +15,7 @@ use Rattle.tams_top.specs.Opening.{Keeps, StandsForNone, state_of}
 use Rattle.tams_top.specs.History.{Session, session_of}
 use Rattle.tams_top.specs.Moments.{AllRight, Beginning, EachKeeps, IsRight, IsSettled, TellsAll}
 use Rattle.tams_top.specs.Serving.{Counts, CountsAt, Ended}
-use Rattle.tams_top.specs.Running.{ConnectEnds, EndsWithoutPeer, IsOfOpened, NoPeer, OnePeer, OutcomeBy, OutcomeIs, Replayed, ReplayCause, StandsForOne, beginning}
+use Rattle.tams_top.specs.Running.{ConnectEnds, EndsWithoutPeer, IsOfOpened, NoPeer, OnePeer, OutcomeBy, OutcomeIs, Replayed, ReplayCause, StandsForOne, StarvedAs, beginning}
 use Rattle.tams_top.specs.Library.{IsGood}
 use Rattle.tams_top.proofs.GoingLemmas.{tells_later}
 use Rattle.tams_top.proofs.GoodLemmas.{all_good, stands_good}
@@ -128,6 +128,12 @@ no_peer b old new s given o sound new_sound honest shows tells state keeps right
       good = stands_good new.seen b.state stands;
     }
 
+-- what serving a connection gives, wherever the run began
+abbrev pub OneServed : Store → Device → Device → Bool → List ℕ → List ℕ → Outcome → Type 0
+OneServed store old new clock begun given o =
+    TellsAll old clock → EachKeeps old store → (b : Beginning) → b.state ≡ state_of store → b.before ≡ old.link.connections → b.given ≡ begun
+    → AllRight b (session_of []) old → OnePeer b new given o
+
 -- the outcome of a connection is one of a store that was opened
 pub of_opened : (n : Counts) (ending : Ending) (o : Outcome) → OutcomeBy ending n o → IsOfOpened o
 of_opened n endings.Complete o by = rw by tt
@@ -185,3 +191,13 @@ cause_opened old new NotStore is stood = absurd is
 cause_opened old new AlreadyStore is stood = absurd is
 cause_opened old new TooSmall is stood = absurd is
 cause_opened old new (Damaged at) is stood = absurd is
+
+-- the store was opened, and a request of its connection wanted memory
+pub starved_opened : (old opened new : Device) (clock : Bool) (begun given : List ℕ) (s : Store) (o : Outcome) → IsDevice old → DiskReads true old opened
+    → (old.shows ≡ true → Keeps old.seen s) → OneServed s opened new clock begun given o → StarvedAs old new clock begun given o
+starved_opened old opened new clock begun given s o sound reads keeps served =
+    inr (λ all settled from stands.
+    served (tells_later old opened clock reads.calls.same all) (opened_keeps old opened s settled (keeps all.shows) reads.time) (beginning from old begun)
+    (one_state old.seen (state_of s) from (stands_of old.seen s (keeps all.shows)) stands)
+    (ap (λ (l : Link). l.connections) (sym reads.calls.link)) refl
+    (opened_right old opened from begun sound all.honest all.tells settled stands reads.time))

@@ -13,7 +13,7 @@ use Rattle.tams_top.specs.Change.{IsPutChange}
 use Rattle.tams_top.specs.Request.{IsFront}
 use Rattle.tams_top.specs.Store.{State, StandsFor}
 use Rattle.tams_top.specs.Opening.{state_of}
-use Rattle.tams_top.specs.History.{Session, Taken, answers_of, changes_in, changes_of, change_of, end_of, most_requests, moments_of, taken_of, script_of, session_of, texts_of}
+use Rattle.tams_top.specs.History.{Session, Taken, answers_in, answers_of, changes_in, changes_of, change_of, end_of, most_requests, moments_of, taken_of, script_of, session_of, texts_of}
 use Rattle.tams_top.specs.Moments.{AllRight, Beginning, EachKeeps, IsEarlier, IsRight, told_first}
 use Rattle.tams_top.specs.Serving.{AreCounts, Counts, CountsAt, Ended, EndsAs, HeardMore, Reached, StandsAt, connection_of}
 use Rattle.tams_top.proofs.HistoryLemmas.{begun_bound, prefix_itself, script-session}
@@ -103,7 +103,7 @@ keeps_said ok bytes mid new s keeps call = record {
 pub ended_with : (b : Beginning) (d : Device) (given rest : List ℕ) (n : Counts) (ending : Ending) (h : Session) (c : Connection)
     → d.link.connections ≡ b.before ++ c ∷ [] → given ≡ b.given ++ moments_of (taken_of h) → c.heard ≡ texts_of (taken_of h) ++ rest
     → IsPrefix c.told (script_of b.state h) → (c.failed ≡ false → c.told ≡ script_of b.state h) → All (λ t. IsPutChange (change_of t)) (taken_of h)
-    → length h.taken ≤ most_requests → EndsAs b.state c h rest ending → CountsAt b.state h n ending → StandsAt d.seen b.state h ending → AllRight b h d
+    → answers_in h ≤ most_requests → EndsAs b.state c h rest ending → CountsAt b.state h n ending → StandsAt d.seen b.state h ending → AllRight b h d
     → Ended b d given n ending
 ended_with b d given rest n ending h c connections given_is heard told whole valid few ends counts stands right = record {
   session = h;
@@ -123,7 +123,7 @@ heard_end old new before left count none heard = subst (HeardMore old new before
 
 -- What hearing leaves of a connection that has come so far.
 module _ (b : Beginning) (old new : Device) (given unread : List ℕ) (store : Store) (n : Counts) (r : Reached b old given unread store n)
-    (few : n.requests ≤ most_requests) (sound : IsDevice old) (after_sound : IsDevice new) (honest : new.honest ≡ true) (shows : new.shows ≡ true)
+    (few : n.requests < most_requests) (sound : IsDevice old) (after_sound : IsDevice new) (honest : new.honest ≡ true) (shows : new.shows ≡ true)
     (tells : new.tells ≡ true) (time : Elapses Unchanged Unchanged old new) where
   -- more bytes
   pub reached_more : (bytes left : List ℕ) → left ≡ unread ++ bytes → new.link.connections ≡ change_last (λ c. record c { heard = c.heard ++ bytes })
@@ -179,12 +179,12 @@ module _ (b : Beginning) (old new : Device) (given unread : List ℕ) (store : S
 
   pub ended_complete : unread ≡ [] → new.link.connections ≡ change_last (λ c. record c { ended = true }) old.link.connections → Ended b new given n Complete
   ended_complete none connections =
-      ended_unanswered Complete true false (λ n. n) (ended_heard connections) (refl, refl, refl, none) (λ stands. stands)
+      ended_unanswered Complete true false (λ n. n) (ended_heard connections) (refl, refl, refl, none, omega (arith, few, r.requests)) (λ stands. stands)
 
   pub ended_cut : unread ≢ [] → IsFront unread More → new.link.connections ≡ change_last (λ c. record c { ended = true }) old.link.connections
       → Ended b new given n Cut
   ended_cut some front connections =
-      ended_unanswered Cut true false (λ _. tt) (ended_heard connections) (refl, refl, refl, some, front) (λ stands. stands)
+      ended_unanswered Cut true false (λ _. tt) (ended_heard connections) (refl, refl, refl, some, front, omega (arith, few, r.requests)) (λ stands. stands)
 
   pub ended_unheard : new.link.connections ≡ change_last (λ c. record c { failed = true }) old.link.connections → Ended b new given n Unlinked
   ended_unheard connections =

@@ -71,6 +71,11 @@ pub record Untouched (old new : Device) : Type 0 where
   pub link : new.link ≡ old.link
   pub time : Elapses Unchanged Unchanged old new
 
+-- nobody was served: no peer was waited for, heard or told, and the clock wasn't read
+pub record ServesNobody (old new : Device) (begun given : List ℕ) : Type 0 where
+  pub link : new.link ≡ old.link
+  pub given_is : given ≡ begun
+
 -- the outcome of a connection, by its history and how it ended
 abbrev pub OutcomeIs : State → Session → Ending → Outcome → Type 0
 OutcomeIs from h endings.Complete o = o ≡ Served (answers_in h) (changes_in from h)
@@ -168,6 +173,13 @@ ReplayCause old new BadWords = ⊥
 ReplayCause old new AlreadyStore = ⊥
 ReplayCause old new TooSmall = ⊥
 
+-- Where a run of `replay` ended for want of memory nobody was served, or a request of the one
+-- connection wanted it.
+abbrev pub StarvedAs : Device → Device → Bool → List ℕ → List ℕ → Outcome → Type 0
+StarvedAs old new clock begun given o = ServesNobody old new begun given
+    ⊎ (TellsAll old clock → IsSettled old → (from : State) → StandsFor old.seen from
+    → OnePeer (beginning from old begun) new given o)
+
 -- the ends of `replay`, each with its cause, and the one history of all that was heard, told and
 -- left
 pub record ReplayEnds (old new : Device) (clock : Bool) (begun given : List ℕ)
@@ -175,6 +187,7 @@ pub record ReplayEnds (old new : Device) (clock : Bool) (begun given : List ℕ)
   pub cause : ReplayCause old new o
   pub history : TellsAll old clock → IsSettled old → (from : State) → StandsFor old.seen from
       → Replayed (beginning from old begun) new given o
+  pub starved : o ≡ NoMemory → StarvedAs old new clock begun given o
 
 -- the outcomes of a store that was opened
 abbrev pub IsOfOpened : Outcome → Type 0
@@ -197,6 +210,9 @@ pub record ConnectEnds (store : Store) (old new : Device) (clock : Bool) (begun 
   pub history : TellsAll old clock → EachKeeps old store → (b : Beginning)
       → b.state ≡ state_of store → b.before ≡ old.link.connections → b.given ≡ begun
       → AllRight b (session_of []) old → Replayed b new given o
+  pub starved : o ≡ NoMemory → TellsAll old clock → EachKeeps old store → (b : Beginning)
+      → b.state ≡ state_of store → b.before ≡ old.link.connections → b.given ≡ begun
+      → AllRight b (session_of []) old → OnePeer b new given o
 
 -- the state of a store that was formatted with these numbers
 abbrev pub formatted_state : Header → State
@@ -220,7 +236,7 @@ FormatRunEnds old new h TooSmall =
     (old.shows ≡ true → (¬ (HasOpenHeader old.seen))
     × (¬ (FitsStore h (length old.seen) empty_rows))) × Untouched old new
 FormatRunEnds old new h DiskFault = Unit {0}
-FormatRunEnds old new h NoMemory = Unit {0}
+FormatRunEnds old new h NoMemory = Untouched old new
 FormatRunEnds old new h (Served requests changes) = ⊥
 FormatRunEnds old new h Cut = ⊥
 FormatRunEnds old new h BadWords = ⊥
@@ -241,6 +257,7 @@ abbrev pub CommandEnds : Device → Device → Bool → List ℕ → List ℕ �
 CommandEnds old new clock begun given o (Format path blocks half id) =
     FormatRunEnds old new record { blocks = blocks; half = half; id = id } o
     × FormatMoments old new record { blocks = blocks; half = half; id = id } o
+    × ServesNobody old new begun given
 CommandEnds old new clock begun given o (Replay path base) = ReplayEnds old new clock begun given o
 
 -- no call of the disk failed
@@ -286,7 +303,7 @@ IsNoCommand words = (command : Command) → IsCommand words command → ⊥
 abbrev pub EndCause : List (List ℕ) → Device → Device → Bool → List ℕ → List ℕ → Outcome → Type 0
 EndCause words old new clock begun given o =
     ((o ≡ NoMemory) × (given ≡ begun) × Untouched old new)
-    ⊎ (((o ≡ BadWords) × IsNoCommand words × Untouched old new)
+    ⊎ (((o ≡ BadWords) × IsNoCommand words × Untouched old new × (given ≡ begun))
     ⊎ ((command : Command) × IsCommand words command
     × CommandEnds old new clock begun given o command))
 

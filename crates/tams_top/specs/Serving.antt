@@ -39,13 +39,16 @@ IsClosed h rest =
     ⊎ ((h.last ≡ None) × (length h.taken ≡ most_requests))
 
 -- What stands behind the requests of a connection, its marks, and its last answer, by how it ended.
--- It ended behind a whole request; within one; with an answer; for want of memory; with a disk
+-- It ended behind a whole request or within one, each time before the last answer that it may have;
+-- with an answer; for want of memory; with a disk
 -- fault while a record was written; or with a link fault.
 abbrev pub EndsAs : State → Connection → Session → List ℕ → Ending → Type 0
 EndsAs from c h rest Complete =
     (c.ended ≡ true) × (c.failed ≡ false) × (h.last ≡ None) × (rest ≡ [])
+    × (length h.taken < most_requests)
 EndsAs from c h rest Cut =
     (c.ended ≡ true) × (c.failed ≡ false) × (h.last ≡ None) × (rest ≢ []) × IsFront rest More
+    × (length h.taken < most_requests)
 EndsAs from c h rest Closed = (c.failed ≡ false) × IsClosed h rest
 EndsAs from c h rest Starved = (t : Taken) × (h.last ≡ Some (history.Starved t))
 EndsAs from c h rest Stopped =
@@ -63,7 +66,7 @@ pub record IsServed (from : State) (c : Connection) (h : Session) (ending : Endi
   pub told : IsPrefix c.told (script_of from h)
   pub whole : c.failed ≡ false → c.told ≡ script_of from h
   pub valid : All (λ t. IsPutChange (change_of t)) (taken_of h)
-  pub few : length h.taken ≤ most_requests
+  pub few : answers_in h ≤ most_requests
   pub ends : EndsAs from c h rest ending
 
 -- The state for which the file stands when a connection has ended: the last one of its history.

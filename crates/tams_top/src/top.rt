@@ -5,7 +5,7 @@ ghost use Rattle.disk_trait.specs.Device.{Left};
 ghost use Rattle.media_journal.specs.File.{HasOpenHeader};
 ghost use Rattle.tams_top.specs.Completeness.{IsServedWhole, NoneRose};
 ghost use Rattle.tams_top.specs.Moments.{IsSettled};
-ghost use Rattle.tams_top.specs.Running.{ConnectEnds, FaultCounts, FormatRunEnds, FormatMoments, IsNoCommand, IsReplayFrom, OutcomeBy, beginning, RefusedFor, ReplayEnds, Replayed, RunEnds, TakesPart, Untouched, formatted_state, line_of, status_of};
+ghost use Rattle.tams_top.specs.Running.{ConnectEnds, FaultCounts, FormatRunEnds, FormatMoments, IsNoCommand, IsReplayFrom, OnePeer, OutcomeBy, beginning, RefusedFor, ReplayEnds, Replayed, RunEnds, ServesNobody, TakesPart, Untouched, formatted_state, line_of, status_of};
 ghost use Rattle.tams_top.specs.Store.{State, StandsFor};
 ghost use Rattle.tams_top.specs.Words.{IsCommand};
 ghost use Rattle.tams_top.specs.declared.outcome.Outcome.{Outcome};
@@ -54,6 +54,25 @@ pub fn run<X: Site, C: Clock, N: Sink>(
         → Rose (X.device site.old).link.faults (X.device site.new).link.faults }
     ensures link_only { (X.device site.old).link.faults < (X.device site.new).link.faults
         → (result ≡ 3) ⊎ ((result ≡ 4) ⊎ (result ≡ 5)) }
+
+    // Words that are no command and `format` wait for no peer and read no clock; where there is no memory
+    // `format` writes nothing. Elsewhere a run ends for want of memory only before it waits for a peer, or
+    // with a request of the one connection.
+    ensures nobody { IsNoCommand words.now
+        → ServesNobody (X.device site.old) (X.device site.new) (C.given clock.old)
+        (C.given clock.new) }
+    ensures nobody_formats { (path : List ℕ) (blocks half id : ℕ)
+        → IsCommand words.now (Format path blocks half id)
+        → ServesNobody (X.device site.old) (X.device site.new) (C.given clock.old)
+        (C.given clock.new) }
+    ensures starved_format { (path : List ℕ) (blocks half id : ℕ)
+        → IsCommand words.now (Format path blocks half id) → result ≡ 4
+        → Untouched (X.device site.old) (X.device site.new) }
+    ensures starved { result ≡ 4 → ServesNobody (X.device site.old) (X.device site.new)
+        (C.given clock.old) (C.given clock.new)
+        ⊎ ((from : State) → IsReplayFrom from words.now (X.device site.old) (C.tells clock.new)
+        → OnePeer (beginning from (X.device site.old) (C.given clock.old)) (X.device site.new)
+        (C.given clock.new) Outcome.NoMemory) }
 
     ensures formatted { result ≡ 0 → (X.device site.old).shows ≡ true
         → (path : List ℕ) (blocks half id : ℕ) → IsCommand words.now (Format path blocks half id)
@@ -137,6 +156,7 @@ fn format<X: Site>(alloc: Global, site: &mut X, blocks: u64, half: u64, id: u128
     requires half { half ≤ MOST_HALF }
     requires blocks { blocks ≤ MOST_BLOCKS }
     ensures counts { FaultCounts (X.device site.old) (X.device site.new) result }
+    ensures nobody { (X.device site.new).link ≡ (X.device site.old).link }
     ensures ends { FormatRunEnds (X.device site.old) (X.device site.new)
         record { blocks = blocks; half = half; id = id } result }
     ensures moments { FormatMoments (X.device site.old) (X.device site.new)

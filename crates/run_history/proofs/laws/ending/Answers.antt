@@ -1,4 +1,4 @@
-use Rattle.std.proofs.Common.{◌≡◌, ℕ, List, [], ◌∷◌, get_or, refl, ap, inl, inr, arith}
+use Rattle.std.proofs.Common.{ℕ, List, get_or, refl, ap, inl, inr, arith}
 use Rattle.std.proofs.lemmas.Bool.{false≢true}
 use Rattle.run_history.proofs.laws.ending.Goals as goal
 

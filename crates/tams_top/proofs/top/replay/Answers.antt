@@ -1,7 +1,7 @@
-use Rattle.std.proofs.Common.{◌≡◌, true}
+use Rattle.std.proofs.Common.{◌≡◌, true, refl, inl}
 use Rattle.media_journal.specs.Opening.{IsStore}
 use Rattle.tams_top.specs.Opening.{StandsForNone, state_of}
-use Rattle.tams_top.proofs.RunningLemmas.{cause_opened, no_store, refused_none, replayed, stands_of, unopened}
+use Rattle.tams_top.proofs.RunningLemmas.{cause_opened, no_store, refused_none, replayed, stands_of, starved_opened, unopened}
 use Rattle.tams_top.proofs.top.replay.Goals as goal
 
 -- The file is no store.
@@ -15,6 +15,7 @@ returns-in-Err-NotStore-clause-ends g c =
     record {
       cause = (none, record { seen = reads.seen; handed = reads.handed; link = reads.calls.link; time = reads.time });
       history = refused_none old _ _ _ _ (λ shows. no_store old.seen (none shows));
+      starved = λ e. absurd cc;
     }
 
 -- It stands for no state.
@@ -28,6 +29,7 @@ returns-in-Err-Damaged-clause-ends g c =
     record {
       cause = (none, record { seen = reads.seen; handed = reads.handed; link = reads.calls.link; time = reads.time });
       history = refused_none old _ _ _ _ (λ shows. (none shows).1);
+      starved = λ e. absurd cc;
     }
 
 -- Reading it failed, or there was no memory.
@@ -38,6 +40,7 @@ returns-in-Err-Disk-clause-ends g c =
       cause = tt;
       history = unopened (g.X.Disk.device c.args.site.now) (g.X.Disk.device c.open_store.new.disk) _ _ _ (g.met.X.Disk.sound c.args.site.now) reads.seen
           reads.calls.link reads.time tt;
+      starved = λ e. absurd cc;
     }
 
 pub returns-in-Err-Memory-clause-ends : goal.returns-in-Err-Memory-clause-ends
@@ -47,6 +50,7 @@ returns-in-Err-Memory-clause-ends g c =
       cause = tt;
       history = unopened (g.X.Disk.device c.args.site.now) (g.X.Disk.device c.open_store.new.disk) _ _ _ (g.met.X.Disk.sound c.args.site.now) reads.seen
           reads.calls.link reads.time tt;
+      starved = λ e. inl (record { link = reads.calls.link; given_is = refl });
     }
 
 pub returns-clause-ends : goal.returns-clause-ends
@@ -56,6 +60,7 @@ returns-clause-ends g c =
       cause = tt;
       history = unopened (g.X.Disk.device c.args.site.now) (g.X.Disk.device c.open_store.new.disk) _ _ _ (g.met.X.Disk.sound c.args.site.now) reads.seen
           reads.calls.link reads.time tt;
+      starved = λ e. inl (record { link = reads.calls.link; given_is = refl });
     }
 
 -- The store was opened, and its connection served.
@@ -69,4 +74,8 @@ returns-in-Ok-new-clause-ends g c =
           replayed old (g.X.Disk.device c.open_store.new.disk) (g.X.Disk.device c.connect.new.site) (g.C.Clock.tells c.connect.new.clock)
           (g.C.Clock.given c.args.clock.now) (g.C.Clock.given c.connect.new.clock) c.in-Ok.store _ (g.met.X.Disk.sound c.args.site.now)
           c.in-Ok.ensures.reads (c.in-Ok.ensures.answer all.shows) connect all settled from stands;
+      starved = λ e.
+          starved_opened old (g.X.Disk.device c.open_store.new.disk) (g.X.Disk.device c.connect.new.site) (g.C.Clock.tells c.connect.new.clock)
+          (g.C.Clock.given c.args.clock.now) (g.C.Clock.given c.connect.new.clock) c.in-Ok.store _ (g.met.X.Disk.sound c.args.site.now)
+          c.in-Ok.ensures.reads c.in-Ok.ensures.answer (connect.starved e);
     }

@@ -1,6 +1,6 @@
 use Rattle.std.proofs.Common.{sym, ◌∙◌}
 use Rattle.tams_top.proofs.CompletenessLemmas.{formatted_whole, served_whole}
-use Rattle.tams_top.proofs.EndingLemmas.{run_formatted, run_formatting, run_only, run_refused, run_replayed}
+use Rattle.tams_top.proofs.EndingLemmas.{run_bad, run_formats, run_formatted, run_formatting, run_only, run_refused, run_replayed, run_starved, run_starved_format}
 use Rattle.tams_top.proofs.top.run.Goals as goal
 
 pub returns-clause-refused : goal.returns-clause-refused
@@ -30,3 +30,16 @@ returns-clause-complete g c = λ from replay none fed.
 pub returns-clause-complete_format : goal.returns-clause-complete_format
 returns-clause-complete_format g c = λ path blocks half id is none.
     rw c.status.ensures (formatted_whole _ _ _ _ _ _ _ c.outcome_of-outcome.ensures path blocks half id is none)
+
+pub returns-clause-nobody : goal.returns-clause-nobody
+returns-clause-nobody g c = λ no_command. run_bad _ _ _ _ _ _ _ c.outcome_of-outcome.ensures no_command
+
+pub returns-clause-nobody_formats : goal.returns-clause-nobody_formats
+returns-clause-nobody_formats g c = λ path blocks half id is. run_formats _ _ _ _ _ _ _ c.outcome_of-outcome.ensures path blocks half id is
+
+pub returns-clause-starved_format : goal.returns-clause-starved_format
+returns-clause-starved_format g c = λ path blocks half id is s.
+    run_starved_format _ _ _ _ _ _ _ c.outcome_of-outcome.ensures path blocks half id is (sym c.status.ensures ∙ s)
+
+pub returns-clause-starved : goal.returns-clause-starved
+returns-clause-starved g c = λ s. run_starved _ _ _ _ _ _ _ c.outcome_of-outcome.ensures (sym c.status.ensures ∙ s)

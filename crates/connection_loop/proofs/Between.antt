@@ -1,0 +1,260 @@
+-- Connections one behind another: what waiting for one, serving it and closing it leave.
+use Rattle.std.proofs.Common.{◌≡◌, ◌≤◌, ◌<◌, ◌+◌, ℕ, Bool, true, false, List, [], ◌∷◌, ◌++◌, length, Some, if◌then◌else◌, refl, sym, ap, ◌∙◌, arith}
+use Rattle.std.proofs.lemmas.Bool.{false≢true}
+use Rattle.std.proofs.lemmas.List.{length-append}
+use Rattle.disk_trait.specs.Device.{Device, Left}
+use Rattle.disk_trait.specs.Calls.{Elapses, IsCounted, Rose, Unchanged}
+use Rattle.disk_trait.proofs.Theorems.{counted_twice, same_device_twice}
+use Rattle.site_edge.specs.Links.{AddsConnection, Closed, LinkCall}
+use Rattle.run_history.specs.Machine.{Machine}
+use Rattle.run_history.specs.Sessions.{Session, has_failed, stops}
+use Rattle.run_history.specs.Runs.{Beginning}
+use Rattle.run_history.specs.Serving.{Counts, Held, is_cut, starves}
+use Rattle.run_history.proofs.Ends.{run_stops-push}
+use Rattle.run_history.proofs.Going.{served_quiet}
+use Rattle.connection_loop.specs.declared.ending.Ending.{Ending}
+use Rattle.connection_loop.specs.declared.ending.Ending.TheVariants.{Complete, Cut, Unlinked, Starved, Stopped}
+use Rattle.connection_loop.specs.declared.connection.Next.TheVariants as next
+use Rattle.connection_loop.specs.declared.run.RunEnd.TheVariants as run
+use Rattle.connection_loop.specs.Turns.{EndsAs, IsBetween, LinkCount, SameImages, SiteCalls, TellsAll, disk_held, ending_of, is_stopped}
+use Rattle.connection_loop.specs.Loops.{GoesOnBetween, HasEnded, HasServedSo, NextCalls, NextLeads, RunCalls}
+use Rattle.connection_loop.proofs.Turning.{tells_later}
+
+-- ---- images
+
+pub same_unchanged : (old new : Device) → Elapses Unchanged Unchanged old new → SameImages old new
+same_unchanged old new time =
+    record { images = λ p could. let from = time.now p could in (from.0, from.1, ap (λ (l : Left). l.image) from.2) }
+
+pub same_connected : (old new : Device) → Elapses AddsConnection AddsConnection old new → SameImages old new
+same_connected old new time =
+    record { images = λ p could. let from = time.now p could in (from.0, from.1, from.2.image) }
+
+-- ---- one connection
+
+-- It was closed.
+pub ends_closed : {State Request : Type 0} (m : Machine State Request) (b : Beginning State) (old new : Device) (given : List ℕ) (held : Held State)
+    (keeps keeps_now : Type 0) (finished : List (Session Request)) (n : Counts) (ending : Ending) → EndsAs m b old given held keeps finished n ending
+    → Elapses Unchanged Unchanged old new → new.link.connections ≡ old.link.connections → (keeps → keeps_now)
+    → EndsAs m b new given held keeps_now finished n ending
+ends_closed m b old new given held keeps keeps_now finished n ending e time same kept = record {
+  session = e.session;
+  served = served_quiet m b old new given _ n e.served time same;
+  unstopped = e.unstopped;
+  ending_is = e.ending_is;
+  state = e.state;
+  kept = λ on. kept (e.kept on);
+}
+
+-- None came.
+pub between_quiet : {State Request : Type 0} (m : Machine State Request) (b : Beginning State) (old new : Device) (given : List ℕ) (held : Held State)
+    (keeps keeps_now : Type 0) (sessions : List (Session Request)) (n : Counts) → IsBetween m b old given held keeps sessions n
+    → Elapses Unchanged Unchanged old new → new.link.connections ≡ old.link.connections → (keeps → keeps_now)
+    → IsBetween m b new given held keeps_now sessions n
+between_quiet m b old new given held keeps keeps_now sessions n i time same kept = record {
+  served = served_quiet m b old new given sessions n i.served time same;
+  unstopped = i.unstopped;
+  state = i.state;
+  kept = kept i.kept;
+}
+
+-- the calls for a connection that came, was served and was closed
+pub ended_calls : (ending : Ending) (within ended within_too ended_too : Left → Left → Type 0) (old came served new : Device)
+    → LinkCall within ended true old came → IsCounted true old.link.peer_faults came.link.peer_faults → SiteCalls (Some ending) came served
+    → LinkCall within_too ended_too true served new → Closed served new → NextCalls (next.Ended ending) old new
+ended_calls ending within ended within_too ended_too old came served new waits peers calls closes closed = record {
+  same = same_device_twice old served new (same_device_twice old came served waits.same calls.same) closes.same;
+  faults = rw (closes.faults, ← waits.faults) calls.faults;
+  link_faults = rw (closes.counted.stays refl, ← waits.counted.stays refl) calls.link_faults;
+  peer_faults = rw (closed.peers.peer_faults, calls.peer_faults) peers;
+  closed = λ idle. closed.under_way;
+}
+
+counted_none : (before now : ℕ) → now ≡ before → IsCounted true before now
+counted_none before now same = record {
+  never_falls = omega (arith, same);
+  stays = λ _. same;
+  rises = λ no. absurd (false≢true (sym no));
+}
+
+-- the call that found that no more will come
+pub no_more_calls : (within ended : Left → Left → Type 0) (old new : Device) → LinkCall within ended true old new
+    → IsCounted true old.link.peer_faults new.link.peer_faults → new.link.under_way ≡ false → NextCalls next.NoMore old new
+no_more_calls within ended old new call peers closed = record {
+  same = call.same;
+  faults = counted_none old.faults new.faults call.faults;
+  link_faults = call.counted.stays refl;
+  peer_faults = peers;
+  closed = λ idle. closed;
+}
+
+-- the call that failed
+pub unlinked_calls : (within ended : Left → Left → Type 0) (old new : Device) → LinkCall within ended false old new
+    → IsCounted false old.link.peer_faults new.link.peer_faults → new.link.under_way ≡ old.link.under_way → NextCalls next.Unlinked old new
+unlinked_calls within ended old new call peers same = record {
+  same = call.same;
+  faults = counted_none old.faults new.faults call.faults;
+  link_faults = (call.counted.never_falls, call.counted.rises refl);
+  peer_faults = peers;
+  closed = λ idle. same ∙ idle;
+}
+
+-- ---- many
+
+-- whether the disk failed shows in how a connection ended
+pub stopped-ending : {Request : Type 0} (session : Session Request) → is_stopped (ending_of session) ≡ stops session.steps
+stopped-ending session = by_flags (stops session.steps) (starves session.steps) (has_failed session.link) (is_cut session.steps)
+  where
+    by_flags : (a b c d : Bool) → is_stopped (if a then Stopped else if b then Starved else if c then Unlinked else if d then Cut else Complete) ≡ a
+    by_flags true b c d = refl
+    by_flags false true c d = refl
+    by_flags false false true d = refl
+    by_flags false false false true = refl
+    by_flags false false false false = refl
+
+stops-by : {Request : Type 0} (session : Session Request) (ending : Ending) (b : Bool) → ending ≡ ending_of session → is_stopped ending ≡ b
+    → stops session.steps ≡ b
+stops-by session ending b is by = sym (ap is_stopped is ∙ stopped-ending session) ∙ by
+
+-- a connection more
+pub between_more : {State Request : Type 0} (m : Machine State Request) (b : Beginning State) (d : Device) (given : List ℕ) (held : Held State) (keeps : Type 0)
+    (sessions : List (Session Request)) (n : Counts) (ending : Ending) (counter : ℕ) → EndsAs m b d given held keeps sessions n ending
+    → is_stopped ending ≡ false → length sessions ≡ counter → GoesOnBetween m b d given held keeps n (counter + 1)
+between_more m b d given held keeps sessions n ending counter e on count =
+    let going = stops-by e.session ending false e.ending_is on in
+    record {
+      sessions = sessions ++ e.session ∷ [];
+      between = record {
+        served = e.served;
+        unstopped = run_stops-push sessions e.session e.unstopped ∙ going;
+        state = e.state going;
+        kept = e.kept going;
+      };
+      count = omega (arith, count, length-append sessions (e.session ∷ []));
+    }
+
+-- the disk failed in it
+pub ended_stopped : {State Request : Type 0} (m : Machine State Request) (b : Beginning State) (d : Device) (given : List ℕ) (held : Held State)
+    (keeps : Type 0) (sessions : List (Session Request)) (n : Counts) (ending : Ending) (counter connections : ℕ)
+    → EndsAs m b d given held keeps sessions n ending → is_stopped ending ≡ true → length sessions ≡ counter → counter < connections
+    → HasEnded m b d given n connections run.Stopped
+ended_stopped m b d given held keeps sessions n ending counter connections e on count few = record {
+  sessions = sessions ++ e.session ∷ [];
+  served = e.served;
+  ends = (
+    omega (arith, count, few, length-append sessions (e.session ∷ [])),
+    run_stops-push sessions e.session e.unstopped ∙ stops-by e.session ending true e.ending_is on,
+  );
+}
+
+-- the calls of a run that goes on, and those for the next connection
+held_by : (ending : Ending) → is_stopped ending ≡ false → disk_held (Some ending) ≡ true
+held_by Complete e = refl
+held_by Cut e = refl
+held_by Unlinked e = refl
+held_by Starved e = refl
+held_by Stopped e = absurd (false≢true (sym e))
+
+failed_by : (ending : Ending) → is_stopped ending ≡ true → disk_held (Some ending) ≡ false
+failed_by Complete e = absurd (false≢true e)
+failed_by Cut e = absurd (false≢true e)
+failed_by Unlinked e = absurd (false≢true e)
+failed_by Starved e = absurd (false≢true e)
+failed_by Stopped e = refl
+
+link_least : (ending : Ending) (before now : ℕ) → LinkCount (Some ending) before now → before ≤ now
+link_least Complete before now count = omega (arith, count)
+link_least Cut before now count = omega (arith, count)
+link_least Unlinked before now count = count.0
+link_least Starved before now count = count
+link_least Stopped before now count = count
+
+pub calls_on : (ending : Ending) (a b c : Device) → RunCalls run.Complete a b → NextCalls (next.Ended ending) b c → is_stopped ending ≡ false
+    → RunCalls run.Complete a c
+calls_on ending a b c first second on = record {
+  same = same_device_twice a b c first.same second.same;
+  faults = counted_twice true a.faults b.faults c.faults first.faults (rw (held_by ending on) at second.faults);
+  peer_faults = counted_twice true a.link.peer_faults b.link.peer_faults c.link.peer_faults first.peer_faults second.peer_faults;
+  link_faults = let least = link_least ending b.link.faults c.link.faults second.link_faults in omega (arith, first.link_faults, least);
+  unlinked = λ e. absurd cc;
+  closed = λ idle. second.closed (first.closed idle);
+}
+
+pub calls_stopped : (ending : Ending) (a b c : Device) → RunCalls run.Complete a b → NextCalls (next.Ended ending) b c → is_stopped ending ≡ true
+    → RunCalls run.Stopped a c
+calls_stopped ending a b c first second on = record {
+  same = same_device_twice a b c first.same second.same;
+  faults = counted_twice false a.faults b.faults c.faults first.faults (rw (failed_by ending on) at second.faults);
+  peer_faults = counted_twice true a.link.peer_faults b.link.peer_faults c.link.peer_faults first.peer_faults second.peer_faults;
+  link_faults = let least = link_least ending b.link.faults c.link.faults second.link_faults in omega (arith, first.link_faults, least);
+  unlinked = λ e. absurd cc;
+  closed = λ idle. second.closed (first.closed idle);
+}
+
+pub calls_no_more : (a b c : Device) → RunCalls run.Complete a b → NextCalls next.NoMore b c → RunCalls run.NoMore a c
+calls_no_more a b c first second = record {
+  same = same_device_twice a b c first.same second.same;
+  faults = counted_twice true a.faults b.faults c.faults first.faults second.faults;
+  peer_faults = counted_twice true a.link.peer_faults b.link.peer_faults c.link.peer_faults first.peer_faults second.peer_faults;
+  link_faults = omega (arith, first.link_faults, second.link_faults);
+  unlinked = λ e. absurd cc;
+  closed = λ idle. second.closed (first.closed idle);
+}
+
+pub calls_unlinked : (a b c : Device) → RunCalls run.Complete a b → NextCalls next.Unlinked b c → RunCalls run.Unlinked a c
+calls_unlinked a b c first second = record {
+  same = same_device_twice a b c first.same second.same;
+  faults = counted_twice true a.faults b.faults c.faults first.faults second.faults;
+  peer_faults = counted_twice false a.link.peer_faults b.link.peer_faults c.link.peer_faults first.peer_faults second.peer_faults;
+  link_faults = omega (arith, first.link_faults, second.link_faults.0);
+  unlinked = λ e small.
+      let rose = second.link_faults.1 in
+      rose_over a.link.faults b.link.faults c.link.faults first.link_faults second.link_faults.0 rose small;
+  closed = λ idle. second.closed (first.closed idle);
+}
+  where
+    rose_over : (x y z : ℕ) → x ≤ y → y ≤ z → Rose y z → Rose x z
+    rose_over x y z one two rose = λ small. grind (arith, one, two, rose, small)
+
+pub no_run_calls : (d : Device) → RunCalls run.Complete d d
+no_run_calls d = record {
+  same = record { size = refl; honest = refl; shows = refl; tells = refl };
+  faults = record { never_falls = omega arith; stays = λ _. refl; rises = λ no. absurd (false≢true (sym no)) };
+  peer_faults = record { never_falls = omega arith; stays = λ _. refl; rises = λ no. absurd (false≢true (sym no)) };
+  link_faults = omega arith;
+  unlinked = λ e. absurd cc;
+  closed = λ idle. idle;
+}
+
+-- before the first connection
+pub served_first : {State Request : Type 0} (m : Machine State Request) (d : Device) (tells : Bool) (given : List ℕ) (held : Held State) (keeps : Type 0)
+    (n : Counts) (size : ℕ) → n.answers ≡ 0 → HasServedSo m d d tells tells given given held held keeps keeps n n size size 0
+served_first m d tells given held keeps n size none = record {
+  calls = no_run_calls d;
+  size_is = refl;
+  clock = λ t. t;
+  answers = omega (arith, none);
+  reached = λ all b between. record { sessions = []; between = between; count = refl };
+}
+
+-- a connection more
+pub served_more : {State Request : Type 0} (m : Machine State Request) (first now last : Device) (tells_first tells_now tells_next : Bool)
+    (given_first given more : List ℕ) (held_first held later : Held State) (keeps_first keeps keeps_next : Type 0) (n_first n n_next : Counts)
+    (size_first size size_next counter : ℕ) (ending : Ending)
+    → HasServedSo m first now tells_first tells_now given_first given held_first held keeps_first keeps n_first n size_first size counter
+    → NextCalls (next.Ended ending) now last → is_stopped ending ≡ false → size_next ≡ size → (tells_next ≡ true → tells_now ≡ true)
+    → n_next.answers ≤ n.answers + 1000000
+    → (TellsAll now tells_next → (b : Beginning State) → (sessions : List (Session Request)) → IsBetween m b now given held keeps sessions n
+    → NextLeads m b last more later keeps_next sessions n_next (next.Ended ending))
+    → HasServedSo m first last tells_first tells_next given_first more held_first later keeps_first keeps_next n_first n_next size_first size_next (counter + 1)
+served_more m first now last tells_first tells_now tells_next given_first given more held_first held later keeps_first keeps keeps_next n_first n n_next
+    size_first size size_next counter ending h calls on size_is clock answers leads = record {
+      calls = calls_on ending first now last h.calls calls on;
+      size_is = size_is ∙ h.size_is;
+      clock = λ yes. h.clock (clock yes);
+      answers = omega (arith, answers, h.answers);
+      reached = λ all b between.
+          let so_far = h.reached (record { honest = all.honest; shows = all.shows; tells = all.tells; clock_tells = clock all.clock_tells }) b between in
+          between_more m b last more later keeps_next so_far.sessions n_next ending counter
+          (leads (tells_later first now tells_next h.calls.same all) b so_far.sessions so_far.between) on so_far.count;
+    }

@@ -1,0 +1,92 @@
+-- Turns of a connection, one behind another, and connections one behind another.
+use Rattle.std.proofs.Common.{◌≡◌, ◌<◌, ◌+◌, ◌-◌, ◌^◌, ℕ, Bool, true, List, [], Option, Some, None, refl, sym, ◌∙◌, arith}
+use Rattle.std.proofs.lemmas.Bool.{false≢true}
+use Rattle.disk_trait.specs.Device.{Device}
+use Rattle.disk_trait.specs.Calls.{SameDevice}
+use Rattle.disk_trait.proofs.Theorems.{counted_twice, same_device_twice}
+use Rattle.run_history.specs.Machine.{Machine}
+use Rattle.run_history.specs.Steps.{Step}
+use Rattle.run_history.specs.Sessions.{Session}
+use Rattle.run_history.specs.Runs.{Beginning}
+use Rattle.run_history.specs.Serving.{Counts, Going, Held}
+use Rattle.connection_loop.specs.declared.ending.Ending.{Ending}
+use Rattle.connection_loop.specs.declared.ending.Ending.TheVariants.{Complete, Cut, Unlinked, Starved, Stopped}
+use Rattle.connection_loop.specs.Turns.{GoesOn, LinkCount, SiteCalls, TellsAll, disk_held}
+use Rattle.connection_loop.specs.Loops.{HasTurned}
+
+-- nothing was called
+pub no_calls : (d : Device) → SiteCalls None d d
+no_calls d = record {
+  same = record { size = refl; honest = refl; shows = refl; tells = refl };
+  faults = record { never_falls = omega arith; stays = λ _. refl; rises = λ no. absurd (false≢true (sym no)) };
+  link_faults = refl;
+  peer_faults = refl;
+  under_way = refl;
+}
+
+-- calls that go on and others behind them
+pub link_more : (ending : Option Ending) (a b c : ℕ) → b ≡ a → LinkCount ending b c → LinkCount ending a c
+link_more None a b c same count = count ∙ same
+link_more (Some Complete) a b c same count = count ∙ same
+link_more (Some Cut) a b c same count = count ∙ same
+link_more (Some Starved) a b c same count = omega (arith, same, count)
+link_more (Some Stopped) a b c same count = omega (arith, same, count)
+link_more (Some Unlinked) a b c same count = (omega (arith, same, count.0), λ small. let rose = count.1 in omega (arith, same, rose))
+
+pub calls_more : (ending : Option Ending) (a b c : Device) → SiteCalls None a b → SiteCalls ending b c → SiteCalls ending a c
+calls_more ending a b c first second = record {
+  same = same_device_twice a b c first.same second.same;
+  faults = counted_twice (disk_held ending) a.faults b.faults c.faults first.faults second.faults;
+  link_faults = link_more ending a.link.faults b.link.faults c.link.faults first.link_faults second.link_faults;
+  peer_faults = second.peer_faults ∙ first.peer_faults;
+  under_way = second.under_way ∙ first.under_way;
+}
+
+-- what is told stays so
+pub tells_later : (a b : Device) (clock : Bool) → SameDevice a b → TellsAll a clock → TellsAll b clock
+tells_later a b clock same all = record {
+  honest = same.honest ∙ all.honest;
+  shows = same.shows ∙ all.shows;
+  tells = same.tells ∙ all.tells;
+  clock_tells = all.clock_tells;
+}
+
+-- before the first turn
+pub turned_first : {State Request : Type 0} (m : Machine State Request) (d : Device) (tells : Bool) (given : List ℕ) (held : Held State) (keeps : Type 0)
+    (n : Counts) (size turns : ℕ) → held.taken ≡ 0 → turns ≡ 0 → HasTurned m d d tells tells given given held held keeps keeps n n size size turns 0
+turned_first m d tells given held keeps n size turns none zero = record {
+  calls = no_calls d;
+  size_is = refl;
+  clock = λ t. t;
+  few = omega (arith, none);
+  answers = omega (arith, none);
+  moved = omega arith;
+  most = omega (arith, zero);
+  reached = λ all b finished kept going. record { steps = []; kept = kept; going = going };
+}
+
+-- a turn that goes on
+pub turned_more : {State Request : Type 0} (m : Machine State Request) (first now next : Device) (tells_first tells_now tells_next : Bool)
+    (given_first given more : List ℕ) (held_first held later : Held State) (keeps_first keeps keeps_next : Type 0) (n_first n n_next : Counts)
+    (size_first size size_next turns turns_next counter : ℕ)
+    → HasTurned m first now tells_first tells_now given_first given held_first held keeps_first keeps n_first n size_first size turns counter
+    → SiteCalls None now next → size_next ≡ size → (tells_next ≡ true → tells_now ≡ true) → later.taken < 1000000
+    → n_next.answers + held.taken ≡ n.answers + later.taken → turns < turns_next → turns_next < 2 ^ 64 - 1
+    → (TellsAll now tells_next → (b : Beginning State) → (finished : List (Session Request)) (steps : List (Step Request)) → keeps
+    → Going m b now given held finished steps n → GoesOn m b next more later keeps_next finished n_next)
+    → HasTurned m first next tells_first tells_next given_first more held_first later keeps_first keeps_next n_first n_next size_first size_next turns_next
+    (counter + 1)
+turned_more m first now next tells_first tells_now tells_next given_first given more held_first held later keeps_first keeps keeps_next n_first n n_next
+    size_first size size_next turns turns_next counter h calls size_is clock few counted moves most goes = record {
+      calls = calls_more None first now next h.calls calls;
+      size_is = size_is ∙ h.size_is;
+      clock = λ yes. h.clock (clock yes);
+      few = few;
+      answers = omega (arith, counted, h.answers);
+      moved = omega (arith, moves, h.moved);
+      most = most;
+      reached = λ all b finished kept going.
+          let so_far =
+          h.reached (record { honest = all.honest; shows = all.shows; tells = all.tells; clock_tells = clock all.clock_tells }) b finished kept going in
+          goes (tells_later first now tells_next h.calls.same all) b finished so_far.steps so_far.kept so_far.going;
+    }

@@ -1,0 +1,63 @@
+use Rattle.std.proofs.Common.{refl, ◌∙◌, arith}
+use Rattle.connection_loop.proofs.Turning.{calls_more, tells_later, turned_first, turned_more}
+use Rattle.connection_loop.proofs.connection.serve_connection.Goals as goal
+
+pub loop-init : goal.loop-init
+loop-init g c = turned_first _ _ _ _ _ _ _ _ _ c.requires.none c.requires.turns
+
+pub take_turn-requires-clause-few : goal.take_turn-requires-clause-few
+take_turn-requires-clause-few g c = c.loop.invariant.few
+
+pub take_turn-requires-clause-room : goal.take_turn-requires-clause-room
+take_turn-requires-clause-room g c =
+    let so_far = c.loop.invariant in
+    let few = so_far.few in
+    let answers = so_far.answers in
+    omega (arith, few, answers, c.requires.room)
+
+pub take_turn-requires-clause-device : goal.take_turn-requires-clause-device
+take_turn-requires-clause-device g c =
+    let so_far = c.loop.invariant in rw (so_far.size_is, so_far.calls.same.size) c.requires.device
+
+pub take_turn-requires-clause-under_way : goal.take_turn-requires-clause-under_way
+take_turn-requires-clause-under_way g c = c.loop.invariant.calls.under_way ∙ c.requires.under_way
+
+pub returns-in-Some-clause-calls : goal.returns-in-Some-clause-calls
+returns-in-Some-clause-calls g c = calls_more _ _ _ _ c.loop.invariant.calls c.in-Some.ensures.calls
+
+pub returns-in-Some-clause-size : goal.returns-in-Some-clause-size
+returns-in-Some-clause-size g c = c.in-Some.ensures.size ∙ c.loop.invariant.size_is
+
+pub returns-in-Some-clause-clock : goal.returns-in-Some-clause-clock
+returns-in-Some-clause-clock g c = λ tells. c.loop.invariant.clock (c.in-Some.ensures.clock tells)
+
+pub returns-in-Some-clause-answers : goal.returns-in-Some-clause-answers
+returns-in-Some-clause-answers g c =
+    let so_far = c.loop.invariant in
+    let few = so_far.few in
+    let answers = so_far.answers in
+    omega (arith, few, answers, c.in-Some.ensures.counted_last)
+
+-- The last turn ended what the turns before it had reached.
+pub returns-in-Some-clause-served : goal.returns-in-Some-clause-served
+returns-in-Some-clause-served g c = λ all b finished kept going.
+    let so_far = c.loop.invariant in
+    let before =
+    so_far.reached (record { honest = all.honest; shows = all.shows; tells = all.tells; clock_tells = c.in-Some.ensures.clock all.clock_tells }) b finished
+    kept going in
+    c.in-Some.ensures.goes (tells_later _ _ _ so_far.calls.same all) b finished before.steps before.kept before.going
+
+pub loop-preserved : goal.loop-preserved
+loop-preserved g c =
+    let turn = c.in_default.ensures in
+    turned_more g.V.Service.machine (g.X.Disk.device c.args.site.now) (g.X.Disk.device c.loop.site) (g.X.Disk.device c.take_turn.new.site)
+    _ _ _ _ _ _ _ _ _ _ _ _ _ _ _ _ _ _ _ _ c.loop.counter
+    c.loop.invariant turn.calls turn.size turn.clock (turn.few refl) (turn.counted refl) (turn.turns refl) turn.most turn.goes
+
+-- More turns than a connection has.
+pub unreachable-requires : goal.unreachable-requires
+unreachable-requires g c =
+    let so_far = c.loop.invariant in
+    let moved = so_far.moved in
+    let most = so_far.most in
+    absurd (omega (arith, moved, most, c.loop-test.false))

@@ -1,0 +1,134 @@
+-- What the next connection leads to, and what serving connections one after another comes to.
+use Rattle.std.specs.Prelude.{◌≡◌, ◌≤◌, ◌<◌, ◌+◌, ◌-◌, ◌*◌, ◌^◌, ℕ, Bool, true, false, List, [], length, Some, None}
+use Rattle.disk_trait.specs.Device.{Device}
+use Rattle.disk_trait.specs.Calls.{IsCounted, Rose, SameDevice}
+use Rattle.run_history.specs.Machine.{Machine}
+use Rattle.run_history.specs.Sessions.{Session}
+use Rattle.run_history.specs.Runs.{Beginning}
+use Rattle.run_history.specs.Serving.{Counts, Going, HasServed, Held, run_stops}
+use Rattle.connection_loop.specs.declared.connection.Next.{Next}
+use Rattle.connection_loop.specs.declared.connection.Next.TheVariants.{NoMore, Unlinked, Ended}
+use Rattle.connection_loop.specs.declared.run.RunEnd.{RunEnd}
+use Rattle.connection_loop.specs.declared.run.RunEnd.TheVariants.{Complete}
+use Rattle.connection_loop.specs.declared.run.RunEnd.TheVariants as run
+use Rattle.connection_loop.specs.Turns.{EndsAs, GoesOn, IsBetween, LinkCount, SiteCalls, TellsAll, disk_held}
+
+-- Turns of a connection so far: no call failed, each turn was counted, and the connection has come
+-- so far from wherever it had come at first.
+pub record HasTurned {State Request : Type 0} (m : Machine State Request) (first now : Device)
+    (tells_first tells_now : Bool) (given_first given : List ℕ) (held_first held : Held State)
+    (keeps_first keeps : Type 0) (n_first n : Counts) (size_first size turns counter : ℕ) : Type 0
+  where
+    pub calls : SiteCalls None first now
+    pub size_is : size ≡ size_first
+    pub clock : tells_now ≡ true → tells_first ≡ true
+    pub few : held.taken < 1000000
+    pub answers : n.answers ≡ n_first.answers + held.taken
+    pub moved : counter ≤ turns
+    pub most : turns < 2 ^ 64 - 1
+    pub reached : TellsAll first tells_now → (b : Beginning State)
+        → (finished : List (Session Request)) → keeps_first
+        → Going m b first given_first held_first finished [] n_first
+        → GoesOn m b now given held keeps finished n
+
+-- no call of the disk failed
+abbrev pub next_disk_held : Next → Bool
+next_disk_held NoMore = true
+next_disk_held Unlinked = true
+next_disk_held (Ended ending) = disk_held (Some ending)
+
+-- waiting for the peer succeeded
+abbrev pub next_peer_held : Next → Bool
+next_peer_held NoMore = true
+next_peer_held Unlinked = false
+next_peer_held (Ended ending) = true
+
+-- the count of link faults over the next connection
+abbrev pub NextLinkCount : Next → ℕ → ℕ → Type 0
+NextLinkCount NoMore before now = now ≡ before
+NextLinkCount Unlinked before now = (before ≤ now) × Rose before now
+NextLinkCount (Ended ending) before now = LinkCount (Some ending) before now
+
+-- What the calls for the next connection leave of a site: a connection that began has been closed.
+pub record NextCalls (next : Next) (old new : Device) : Type 0 where
+  pub same : SameDevice old new
+  pub faults : IsCounted (next_disk_held next) old.faults new.faults
+  pub link_faults : NextLinkCount next old.link.faults new.link.faults
+  pub peer_faults : IsCounted (next_peer_held next) old.link.peer_faults new.link.peer_faults
+  pub closed : old.link.under_way ≡ false → new.link.under_way ≡ false
+
+-- What waiting for the next connection and serving it leads to: no more will come; waiting for one
+-- failed; or one has ended.
+abbrev pub NextLeads : {State Request : Type 0} → Machine State Request → Beginning State → Device
+    → List ℕ → Held State → Type 0 → List (Session Request) → Counts → Next → Type 0
+NextLeads m b d given held keeps sessions n NoMore =
+    IsBetween m b d given held keeps sessions n × (d.link.closed ≡ true)
+NextLeads m b d given held keeps sessions n Unlinked =
+    IsBetween m b d given held keeps sessions n
+NextLeads m b d given held keeps sessions n (Ended ending) =
+    EndsAs m b d given held keeps sessions n ending
+
+-- ---- connections one after another
+
+-- no call of the disk failed in a run
+abbrev pub run_disk_held : RunEnd → Bool
+run_disk_held Complete = true
+run_disk_held run.NoMore = true
+run_disk_held run.Unlinked = true
+run_disk_held run.Stopped = false
+
+-- waiting for each peer succeeded
+abbrev pub run_peers_held : RunEnd → Bool
+run_peers_held Complete = true
+run_peers_held run.NoMore = true
+run_peers_held run.Unlinked = false
+run_peers_held run.Stopped = true
+
+-- What the calls of a run leave of a site. The count of link faults may rise on any connection.
+pub record RunCalls (end : RunEnd) (old new : Device) : Type 0 where
+  pub same : SameDevice old new
+  pub faults : IsCounted (run_disk_held end) old.faults new.faults
+  pub peer_faults : IsCounted (run_peers_held end) old.link.peer_faults new.link.peer_faults
+  pub link_faults : old.link.faults ≤ new.link.faults
+  pub unlinked : end ≡ run.Unlinked → Rose old.link.faults new.link.faults
+  pub closed : old.link.under_way ≡ false → new.link.under_way ≡ false
+
+-- How many connections there were by how a run ended: so many as it was told; fewer, where no more
+-- came or waiting for one failed; or up to the one in which the disk failed.
+abbrev pub RunEnds : {Request : Type 0} → Device → List (Session Request) → ℕ → RunEnd → Type 0
+RunEnds d sessions connections Complete =
+    (length sessions ≡ connections) × (run_stops sessions ≡ false)
+RunEnds d sessions connections run.NoMore =
+    (length sessions < connections) × (run_stops sessions ≡ false) × (d.link.closed ≡ true)
+RunEnds d sessions connections run.Unlinked =
+    (length sessions < connections) × (run_stops sessions ≡ false)
+RunEnds d sessions connections run.Stopped =
+    (length sessions ≤ connections) × (run_stops sessions ≡ true)
+
+-- Connections were served one after another, and the run has ended so.
+pub record HasEnded {State Request : Type 0} (m : Machine State Request) (b : Beginning State)
+    (d : Device) (given : List ℕ) (n : Counts) (connections : ℕ) (end : RunEnd) : Type 0 where
+  pub sessions : List (Session Request)
+  pub served : HasServed m b d given sessions n
+  pub ends : RunEnds d sessions connections end
+
+-- Connections so far, none of which stopped the run.
+pub record GoesOnBetween {State Request : Type 0} (m : Machine State Request) (b : Beginning State)
+    (d : Device) (given : List ℕ) (held : Held State) (keeps : Type 0) (n : Counts)
+    (counter : ℕ) : Type 0 where
+  pub sessions : List (Session Request)
+  pub between : IsBetween m b d given held keeps sessions n
+  pub count : length sessions ≡ counter
+
+-- the same from wherever the run had come at first
+pub record HasServedSo {State Request : Type 0} (m : Machine State Request) (first now : Device)
+    (tells_first tells_now : Bool) (given_first given : List ℕ) (held_first held : Held State)
+    (keeps_first keeps : Type 0) (n_first n : Counts) (size_first size counter : ℕ) : Type 0
+  where
+    pub calls : RunCalls Complete first now
+    pub size_is : size ≡ size_first
+    pub clock : tells_now ≡ true → tells_first ≡ true
+    pub answers : n.answers ≤ 1000000 * counter
+    pub reached : TellsAll first tells_now → (b : Beginning State)
+        → IsBetween m b first given_first held_first keeps_first [] n_first
+        → GoesOnBetween m b now given held keeps n counter

@@ -1,0 +1,111 @@
+-- What a turn of a connection leads to, and what its calls leave of a site.
+use Rattle.std.specs.Prelude.{◌≡◌, ◌≤◌, ℕ, Bool, true, false, List, [], ◌∷◌, ◌++◌, Option, Some, None, if◌then◌else◌}
+use Rattle.disk_trait.specs.Device.{Device, Left, may_leave}
+use Rattle.disk_trait.specs.Calls.{IsCounted, Rose, SameDevice}
+use Rattle.run_history.specs.Machine.{Machine}
+use Rattle.run_history.specs.Steps.{Step}
+use Rattle.run_history.specs.Sessions.{Session, after_sessions, has_failed, stops}
+use Rattle.run_history.specs.Traces.{start_of}
+use Rattle.run_history.specs.Runs.{Beginning}
+use Rattle.run_history.specs.Serving.{Counts, Going, HasServed, Held, is_cut, run_stops, starves}
+use Rattle.connection_loop.specs.declared.ending.Ending.{Ending}
+use Rattle.connection_loop.specs.declared.ending.Ending.TheVariants.{Complete, Cut, Unlinked, Starved, Stopped}
+
+-- The outside is as the model says: the disk is honest, the site shows its bytes and tells its
+-- links, and the clock tells its moments.
+pub record TellsAll (d : Device) (clock : Bool) : Type 0 where
+  pub honest : d.honest ≡ true
+  pub shows : d.shows ≡ true
+  pub tells : d.tells ≡ true
+  pub clock_tells : clock ≡ true
+
+-- each image that a crash may leave now is one that it might have left before
+pub record SameImages (old new : Device) : Type 0 where
+  pub images : (p : Left) → may_leave new p
+      → (q : Left) × may_leave old q × (p.image ≡ q.image)
+
+-- how a connection ended, by its history
+abbrev pub ending_of : {Request : Type 0} → Session Request → Ending
+ending_of session =
+    if stops session.steps then Stopped
+    else if starves session.steps then Starved
+    else if has_failed session.link then Unlinked
+    else if is_cut session.steps then Cut
+    else Complete
+
+-- whether a connection's end is the run's
+abbrev pub is_stopped : Ending → Bool
+is_stopped Complete = false
+is_stopped Cut = false
+is_stopped Unlinked = false
+is_stopped Starved = false
+is_stopped Stopped = true
+
+-- A connection behind others has ended so, and the service keeps the state to which it led, unless
+-- the disk failed.
+pub record EndsAs {State Request : Type 0} (m : Machine State Request) (b : Beginning State)
+    (d : Device) (given : List ℕ) (held : Held State) (keeps : Type 0)
+    (finished : List (Session Request)) (n : Counts) (ending : Ending) : Type 0 where
+  pub session : Session Request
+  pub served : HasServed m b d given (finished ++ session ∷ []) n
+  pub unstopped : run_stops finished ≡ false
+  pub ending_is : ending ≡ ending_of session
+  pub state : stops session.steps ≡ false → held.state
+      ≡ (after_sessions m (start_of b.state) (finished ++ session ∷ [])).state
+  pub kept : stops session.steps ≡ false → keeps
+
+-- A connection goes on.
+pub record GoesOn {State Request : Type 0} (m : Machine State Request) (b : Beginning State)
+    (d : Device) (given : List ℕ) (held : Held State) (keeps : Type 0)
+    (finished : List (Session Request)) (n : Counts) : Type 0 where
+  pub steps : List (Step Request)
+  pub kept : keeps
+  pub going : Going m b d given held finished steps n
+
+-- what a turn leads to: the connection goes on, or it has ended
+abbrev pub TurnLeads : {State Request : Type 0} → Machine State Request → Beginning State → Device
+    → List ℕ → Held State → Type 0 → List (Session Request) → Counts → Option Ending → Type 0
+TurnLeads m b d given held keeps finished n None = GoesOn m b d given held keeps finished n
+TurnLeads m b d given held keeps finished n (Some ending) =
+    EndsAs m b d given held keeps finished n ending
+
+-- What a connection that goes on or ended in some way leaves of the count of link faults. Where it
+-- ended for want of memory or with a disk fault, its last answer may have failed to be said.
+abbrev pub LinkCount : Option Ending → ℕ → ℕ → Type 0
+LinkCount None before now = now ≡ before
+LinkCount (Some Complete) before now = now ≡ before
+LinkCount (Some Cut) before now = now ≡ before
+LinkCount (Some Unlinked) before now = (before ≤ now) × Rose before now
+LinkCount (Some Starved) before now = before ≤ now
+LinkCount (Some Stopped) before now = before ≤ now
+
+-- no call of the disk failed
+abbrev pub disk_held : Option Ending → Bool
+disk_held None = true
+disk_held (Some Complete) = true
+disk_held (Some Cut) = true
+disk_held (Some Unlinked) = true
+disk_held (Some Starved) = true
+disk_held (Some Stopped) = false
+
+-- what the calls of a connection leave of a site by how it ended
+pub record SiteCalls (ending : Option Ending) (old new : Device) : Type 0 where
+  pub same : SameDevice old new
+  pub faults : IsCounted (disk_held ending) old.faults new.faults
+  pub link_faults : LinkCount ending old.link.faults new.link.faults
+  pub peer_faults : new.link.peer_faults ≡ old.link.peer_faults
+  pub under_way : new.link.under_way ≡ old.link.under_way
+
+-- the state stays, and nothing was heard of the next connection
+abbrev pub held_afresh : {State : Type 0} → Held State → Held State
+held_afresh held = record { state = held.state; unread = []; taken = 0 }
+
+-- Connections were served one after another, none of which stopped the run, and the service keeps
+-- the state to which they led.
+pub record IsBetween {State Request : Type 0} (m : Machine State Request) (b : Beginning State)
+    (d : Device) (given : List ℕ) (held : Held State) (keeps : Type 0)
+    (sessions : List (Session Request)) (n : Counts) : Type 0 where
+  pub served : HasServed m b d given sessions n
+  pub unstopped : run_stops sessions ≡ false
+  pub state : held.state ≡ (after_sessions m (start_of b.state) sessions).state
+  pub kept : keeps

@@ -1,0 +1,84 @@
+//! What answers the requests of a connection.
+ghost use Rattle.std.specs.Prelude.{◌≡◌, ◌≤◌, ◌<◌, ◌+◌, ◌-◌, ◌^◌, ℕ, List, Bool, true, None, Some, IsNone};
+ghost use Rattle.disk_trait.specs.Device.{Device};
+ghost use Rattle.run_history.specs.Machine.{Machine};
+ghost use Rattle.run_history.specs.Sessions.{Session};
+ghost use Rattle.run_history.specs.Steps.{Step};
+ghost use Rattle.run_history.specs.Runs.{Beginning};
+ghost use Rattle.run_history.specs.Serving.{Going, Held};
+ghost use Rattle.connection_loop.specs.Turns.{SameImages, SiteCalls, TellsAll, TurnLeads, held_afresh};
+
+use crate::{Ending, Tally};
+use site_edge::{Clock, Site};
+use std::alloc::Global;
+
+/// A connection has at most so many answers: the last one ends it.
+pub const MOST_ANSWERS: u64 = 1_000_000;
+
+/// What answers requests: it keeps a state, and the bytes of the connection under way that were heard and
+/// not yet taken.
+pub trait Service {
+    ghost State: { Type 0 };
+
+    ghost Request: { Type 0 };
+
+    /// What it answers to each request, and what changes with it.
+    ghost machine: { Machine State Request };
+
+    /// The state, the unread bytes, and the number of requests of the connection under way.
+    ghost held: { Self → Held State };
+
+    /// What it keeps beside: where the device has the state, say.
+    ghost Store: { Type 0 };
+
+    ghost store: { Self → Store };
+
+    /// Each image that a crash now may leave of this device gives what is kept.
+    ghost keeps: { Store → Device → Type 0 };
+
+    /// The bytes of the least device that it can serve on.
+    ghost size: { Self → ℕ };
+
+    /// At least the number of turns of the connection under way so far.
+    ghost turns: { Self → ℕ };
+
+    /// That hangs on the images alone.
+    ghost kept: { (kept : Store) (old new : Device) → keeps kept old → SameImages old new
+        → keeps kept new };
+
+    /// Forgets what was heard of the last connection.
+    fn begin(&mut self)
+        ensures held { held self.new ≡ held_afresh (held self.old) }
+        ensures store { store self.new ≡ store self.old }
+        ensures size { size self.new ≡ size self.old }
+        ensures turns { turns self.new ≡ 0 };
+
+    /// One turn of the connection under way: a request is answered, or more bytes are heard.
+    fn take_turn<X: Site, C: Clock>(
+        &mut self,
+        alloc: Global,
+        site: &mut X,
+        clock: &mut C,
+        tally: &mut Tally,
+    ) -> Option<Ending>
+        requires few { (held self.old).taken < MOST_ANSWERS }
+        requires room { tally.old.answers < 2 ^ 60 }
+        requires device { size self.old ≤ (X.device site.old).size }
+        requires under_way { (X.device site.old).link.under_way ≡ true }
+        ensures calls { SiteCalls result (X.device site.old) (X.device site.new) }
+        ensures size { size self.new ≡ size self.old }
+        ensures clock { C.tells clock.new ≡ true → C.tells clock.old ≡ true }
+        ensures few { IsNone result → (held self.new).taken < MOST_ANSWERS }
+        ensures counted { IsNone result → tally.new.answers + (held self.old).taken
+            ≡ tally.old.answers + (held self.new).taken }
+        ensures counted_last { tally.new.answers ≤ tally.old.answers + 1 }
+        ensures turns { IsNone result → turns self.old < turns self.new }
+        ensures most { turns self.new < 2 ^ 64 - 1 }
+        ensures goes { TellsAll (X.device site.old) (C.tells clock.new) → (b : Beginning State)
+            → (finished : List (Session Request)) (steps : List (Step Request))
+            → keeps (store self.old) (X.device site.old)
+            → Going machine b (X.device site.old) (C.given clock.old) (held self.old) finished steps
+            tally.old
+            → TurnLeads machine b (X.device site.new) (C.given clock.new) (held self.new)
+            (keeps (store self.new) (X.device site.new)) finished tally.new result };
+}

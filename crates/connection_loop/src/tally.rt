@@ -1,0 +1,71 @@
+//! The numbers of a run: its answers, its changes and the turns that it skipped.
+ghost use Rattle.std.specs.Prelude.{◌≡◌, ◌≤◌, ◌<◌, ◌+◌, ◌^◌, if◌then◌else◌};
+ghost use Rattle.run_history.specs.Serving.{Counts};
+
+use std::marker::Model;
+
+/// How many answers a run gave, how many changes it made, and how many turns it skipped.
+#[derive(Drop)]
+pub struct Tally {
+    answers: u64,
+    changes: u64,
+    skipped: u64,
+}
+
+impl Model for Tally {
+    ghost use Rattle.std.specs.Prelude.{◌≤◌, ◌*◌};
+    ghost use Rattle.run_history.specs.Serving.{Counts};
+    ghost use Rattle.connection_loop.specs.Tallies.{IsTally};
+
+    ghost Value = { Counts };
+
+    ghost view = { λ t. record { answers = t.answers; changes = t.changes; skipped = t.skipped } };
+
+    ghost invariant = { λ t. IsTally t.answers t.changes t.skipped };
+}
+
+impl Tally {
+    ghost use Rattle.connection_loop.specs.Tallies.{counted, nothing_counted};
+
+    /// The numbers of a run that hasn't begun.
+    pub fn new() -> Tally
+        ensures { result ≡ nothing_counted }
+    {
+        Tally {
+            answers: 0,
+            changes: 0,
+            skipped: 0,
+        }
+    }
+
+    /// Counts an answer, with so many changes, and whether the turn behind it was skipped.
+    pub fn count(&mut self, changes: u64, skipped: bool)
+        requires room { self.old.answers < 2 ^ 60 }
+        requires few { changes ≤ 2 }
+        ensures { self.new ≡ counted changes skipped self.old }
+    {
+        self.answers += 1;
+        self.changes += changes;
+        if skipped {
+            self.skipped += 1;
+        }
+    }
+
+    pub fn answers(&self) -> u64
+        ensures { result ≡ self.now.answers }
+    {
+        self.answers
+    }
+
+    pub fn changes(&self) -> u64
+        ensures { result ≡ self.now.changes }
+    {
+        self.changes
+    }
+
+    pub fn skipped(&self) -> u64
+        ensures { result ≡ self.now.skipped }
+    {
+        self.skipped
+    }
+}
