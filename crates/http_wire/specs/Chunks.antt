@@ -155,4 +155,5 @@ coded_front bytes = take 8388609 bytes
 
 -- the chunked body at the front of bytes
 abbrev pub chunked : List ℕ → Front (List ℕ)
-chunked bytes = capped_data (length (coded_front bytes)) (chunks_within max_body (coded_front bytes))
+chunked bytes =
+    capped_data (length (coded_front bytes)) (chunks_within max_body (coded_front bytes))

@@ -42,20 +42,23 @@ ends_with left head = ends_connection head || left == 0
 
 -- a request, and what is heard of the bytes behind it unless it ends the connection
 abbrev pub GoesOn
-    : Bool → (List ℕ → HeardRequests → Type 0) → RequestHead → List ℕ → List ℕ → HeardRequests → Type 0
+    : Bool → (List ℕ → HeardRequests → Type 0) → RequestHead → List ℕ → List ℕ
+    → HeardRequests → Type 0
 GoesOn true later head body bytes heard = heard ≡ and_then head body (nothing_heard bytes)
 GoesOn false later head body bytes heard =
     (tail : HeardRequests) × later bytes tail × (heard ≡ and_then head body tail)
 
 -- the same of a media PUT, whose body may not be whole
 abbrev pub MediaGoesOn
-    : Bool → Bool → (List ℕ → HeardRequests → Type 0) → RequestHead → ℕ → List ℕ → List ℕ → HeardRequests → Type 0
+    : Bool → Bool → (List ℕ → HeardRequests → Type 0) → RequestHead → ℕ → List ℕ → List ℕ
+    → HeardRequests → Type 0
 MediaGoesOn true ends later head size all bytes heard = heard ≡ nothing_heard all
 MediaGoesOn false ends later head size all bytes heard =
     GoesOn ends later head (take size bytes) (drop size bytes) heard
 
 -- what is heard, by what stands at the front
-abbrev pub HeardFrom : ℕ → (List ℕ → HeardRequests → Type 0) → List ℕ → Front Got → HeardRequests → Type 0
+abbrev pub HeardFrom
+    : ℕ → (List ℕ → HeardRequests → Type 0) → List ℕ → Front Got → HeardRequests → Type 0
 HeardFrom left later bytes more heard = heard ≡ nothing_heard bytes
 HeardFrom left later bytes (refused fault) heard = heard ≡ stopped_by fault bytes
 HeardFrom left later bytes (whole (given head body) n) heard =
@@ -97,7 +100,8 @@ StaysRefused =
 -- behind a request that was given, the rest is heard as a list of its own
 abbrev pub HearsOn : Type 0
 HearsOn =
-    (left : ℕ) (bytes later : List ℕ) (head : RequestHead) (body : List ℕ) (n : ℕ) (tail : HeardRequests)
+    (left : ℕ) (bytes later : List ℕ) (head : RequestHead) (body : List ℕ) (n : ℕ)
+    (tail : HeardRequests)
     → IsNext bytes (whole (given head body) n) → n ≤ length bytes → ends_with left head ≡ false
     → IsHeard left (drop n bytes ++ later) tail
     → IsHeard (suc left) (bytes ++ later) (and_then head body tail)
@@ -115,7 +119,8 @@ abbrev pub EndsLast : Type 0
 EndsLast =
     (left : ℕ) (bytes later : List ℕ) (head : RequestHead) (body : List ℕ) (n : ℕ)
     → IsNext bytes (whole (given head body) n) → n ≤ length bytes → ends_with left head ≡ true
-    → IsHeard (suc left) (bytes ++ later) (and_then head body (nothing_heard (drop n bytes ++ later)))
+    → IsHeard (suc left) (bytes ++ later)
+    (and_then head body (nothing_heard (drop n bytes ++ later)))
 
 -- and so where it is a media PUT, once its body is whole
 abbrev pub EndsLastMedia : Type 0

@@ -71,7 +71,8 @@ are_kinds_distinct kinds = each_pair is_other_event kinds
 
 -- a list of names of events, of which none stands twice
 abbrev pub events : Data → Result (List EventKind) Breach
-events value = of_kind (option_and_then (tested are_kinds_distinct) (items_of_value event_kind_of value))
+events value =
+    of_kind (option_and_then (tested are_kinds_distinct) (items_of_value event_kind_of value))
 
 -- ---- the hook
 

@@ -27,7 +27,8 @@ items_of_value kind value = option_and_then (each_item kind) (as_array value)
 
 -- a list with as many items as are allowed
 abbrev pub counted_items : {X : Type 0} → (Data → Option X) → ℕ → ℕ → Data → Result (List X) Breach
-counted_items kind least most value = judged is_any (has_between least most) (items_of_value kind value)
+counted_items kind least most value =
+    judged is_any (has_between least most) (items_of_value kind value)
 
 -- what passes a test
 abbrev pub tested : {X : Type 0} → (X → Bool) → X → Option X

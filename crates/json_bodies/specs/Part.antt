@@ -30,14 +30,16 @@ part_from (names.Tag name) value =
     named_result (codes "tags") (tag_rule name value) >>= λ tag. Ok (parts.Tag name (Some tag))
 part_from names.Tags value = Err (refusals.WrongKind (codes "tags"))
 part_from names.Label value =
-    named_result (codes "label") (text longest_text value) >>= λ label. Ok (parts.Label (Some label))
+    named_result (codes "label") (text longest_text value)
+    >>= λ label. Ok (parts.Label (Some label))
 part_from names.Description value =
     named_result (codes "description") (text longest_description value)
     >>= λ description. Ok (parts.Description (Some description))
 part_from names.ReadOnly value =
     named_result (codes "read_only") (truth value) >>= λ mark. Ok (parts.ReadOnly mark)
 part_from names.Collection value =
-    named_result (codes "flow_collection") (collection value) >>= λ members. Ok (parts.Collection members)
+    named_result (codes "flow_collection") (collection value)
+    >>= λ members. Ok (parts.Collection members)
 part_from names.MaxBitRate value =
     rate (codes "max_bit_rate") value >>= λ rate. Ok (parts.MaxBitRate (Some rate))
 part_from names.AvgBitRate value =

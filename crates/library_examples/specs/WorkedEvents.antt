@@ -55,7 +55,8 @@ pub record EventsAreTold : Type 0 where
   pub asked_for : kinds (after ask_for_all at_work) ≡ []
   pub last_step : kinds (after_all (ask_for_all ∷ changes.DeleteStep 0 ∷ []) at_work)
       ≡ 5 ∷ 3 ∷ 8 ∷ []
-  pub bare_step : kinds (after_all (ask_for_all ∷ changes.DeleteStep 0 ∷ []) hook_alone) ≡ 3 ∷ 8 ∷ []
+  pub bare_step :
+      kinds (after_all (ask_for_all ∷ changes.DeleteStep 0 ∷ []) hook_alone) ≡ 3 ∷ 8 ∷ []
   pub allocated : kinds (after (allocate (codes "b")) at_work) ≡ []
   pub stored_one :
       kinds (after (changes.Store 0 (codes "b") 1 1) (after (allocate (codes "b")) at_work))

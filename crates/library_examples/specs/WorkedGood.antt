@@ -77,8 +77,9 @@ pub record BadReferences : Type 0 where
   pub fine : are_references_good studio.objects studio.segments ≡ true
   pub unkept : are_references_good studio.objects (naming_object (codes "z") ∷ []) ≡ false
   pub unstored : are_references_good studio.objects (naming_object (codes "c") ∷ []) ≡ false
-  pub last_one : are_references_good studio.objects (naming_object (codes "a") ∷ naming_object (codes "c") ∷ [])
-      ≡ false
+  pub last_one :
+      are_references_good studio.objects
+      (naming_object (codes "a") ∷ naming_object (codes "c") ∷ []) ≡ false
   pub no_good_library : is_good (with_segments (naming_object (codes "c") ∷ [])) ≡ false
 
 -- an object at a place
@@ -196,10 +197,11 @@ with_flow_body new = with_flows (record main_flow { body = new } ∷ sound_flow 
 pub record BadTexts : Type 0 where
   pub fine : are_texts_good studio ≡ true
   pub codec : are_texts_good (with_flow_body (record main_body { codec = Some no_text })) ≡ false
-  pub container : are_texts_good (with_flow_body (record main_body { container = Some no_text })) ≡ false
+  pub container :
+      are_texts_good (with_flow_body (record main_body { container = Some no_text })) ≡ false
   pub label : are_texts_good (with_flow_body (record main_body { label = Some no_text })) ≡ false
-  pub description : are_texts_good (with_flow_body (record main_body { description = Some no_text }))
-      ≡ false
+  pub description :
+      are_texts_good (with_flow_body (record main_body { description = Some no_text })) ≡ false
   pub tag_name :
       are_texts_good
       (with_flow_body (record main_body { tags = record take_tag { name = no_text } ∷ [] }))
@@ -210,9 +212,10 @@ pub record BadTexts : Type 0 where
       ≡ false
   pub role :
       are_texts_good
-      (with_flow_body (record main_body { members = record { flow = 242; role = Some no_text } ∷ [] }))
-      ≡ false
-  pub essence : are_texts_good (with_flow_body (record main_body { essence = Some no_text })) ≡ false
+      (with_flow_body
+      (record main_body { members = record { flow = 242; role = Some no_text } ∷ [] })) ≡ false
+  pub essence :
+      are_texts_good (with_flow_body (record main_body { essence = Some no_text })) ≡ false
   pub created : are_texts_good (with_flows (record main_flow { created = too_late } ∷ [])) ≡ false
   pub metadata : are_texts_good (with_flows (record main_flow { metadata_updated = too_late } ∷ []))
       ≡ false

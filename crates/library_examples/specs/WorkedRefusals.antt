@@ -298,7 +298,8 @@ pub record IdsAreTaken : Type 0 where
   pub free : allocating (codes "d" ∷ codes "e" ∷ []) ≡ None
   pub counted : refused (commands.Allocate first_flow (Count 2)) ≡ None
   pub repeated :
-      first_taken (is_kept_object empty_store) [] (codes "a" ∷ codes "b" ∷ codes "b" ∷ codes "a" ∷ [])
+      first_taken (is_kept_object empty_store) []
+      (codes "a" ∷ codes "b" ∷ codes "b" ∷ codes "a" ∷ [])
       ≡ Some (codes "b")
 
 -- Bytes are kept once, of an object that is allocated.

@@ -123,8 +123,10 @@ two_made = changes.Allocate 205 first_flow (codes "00000000-0000-0000-0000-00000
 -- may name none that begins so, but one that begins with another store's id.
 pub record IdsAreMade : Type 0 where
   pub first : made_id 1 1 ≡ codes "00000000-0000-0000-0000-000000000001-1"
-  pub like_it : is_taken empty_store (Named []) (codes "00000000-0000-0000-0000-000000000001-x") ≡ true
-  pub other : is_taken empty_store (Named []) (codes "00000000-0000-0000-0000-000000000002-1") ≡ false
+  pub like_it :
+      is_taken empty_store (Named []) (codes "00000000-0000-0000-0000-000000000001-x") ≡ true
+  pub other :
+      is_taken empty_store (Named []) (codes "00000000-0000-0000-0000-000000000002-1") ≡ false
   pub counted : studio_answer (commands.Allocate first_flow (Count 2))
       ≡ gives (replies.CreatedObjects (codes "00000000-0000-0000-0000-000000000001-15"
       ∷ codes "00000000-0000-0000-0000-000000000001-16" ∷ [])) two_made

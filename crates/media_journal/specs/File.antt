@@ -52,7 +52,8 @@ pub record AreSizes (h : Header) (size : ℕ) : Type 0 where
 -- where the half begins that the selector names: A at block 2 where its byte is even, and B behind
 -- A
 abbrev pub active_start : List ℕ → ℕ → ℕ
-active_start image half = if slice_index image SELECTOR % 2 == 0 then HALVES else HALVES + BLOCK * half
+active_start image half =
+    if slice_index image SELECTOR % 2 == 0 then HALVES else HALVES + BLOCK * half
 
 -- the rows of a half with their length before them
 unfoldable pub rows_text : List ℕ → List ℕ

@@ -52,4 +52,5 @@ seconds_in_day = 86400
 
 -- the text of a moment
 unfoldable pub moment_text : ℕ → List ℕ
-moment_text moment = date_text (civil_date (moment / seconds_in_day)) ++ clock_text (moment % seconds_in_day)
+moment_text moment =
+    date_text (civil_date (moment / seconds_in_day)) ++ clock_text (moment % seconds_in_day)

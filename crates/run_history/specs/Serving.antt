@@ -106,7 +106,8 @@ pub record Going {State Request : Type 0} (m : Machine State Request) (b : Begin
   pub answers : answers_in (pieces_of m (after_sessions m (start_of b.state) finished) steps)
       ≡ length steps
   pub few : length steps < most_answers
-  pub state : held.state ≡ (after_steps m (after_sessions m (start_of b.state) finished) steps).state
+  pub state :
+      held.state ≡ (after_steps m (after_sessions m (start_of b.state) finished) steps).state
   pub counts : n ≡ counts_of m b.state (finished ++ under_way steps Whole ∷ [])
   pub reached : Reached m b (trace_of m b.state (finished ++ under_way steps Whole ∷ [])) true
       false d

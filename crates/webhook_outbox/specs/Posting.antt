@@ -1,5 +1,5 @@
--- Events that are posted, and hooks as they are shown. Our own profile of the Time-addressable Media
--- Store.
+-- Events that are posted, and hooks as they are shown. Our own profile of the Time-addressable
+-- Media Store.
 use Rattle.std.specs.Prelude.{nat_le, Option, Some, None, if◌then◌else◌}
 use Rattle.media_rows.specs.declared.hook.HookRow.{HookRow}
 use Rattle.media_rows.specs.declared.reply.HookShown.{HookShown}
