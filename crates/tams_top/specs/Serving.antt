@@ -54,8 +54,8 @@ pub data Unlinks (from : State) (c : Connection) (h : Session) (rest : List ℕ)
 
 -- What stands behind the requests of a connection, its marks, and its last answer, by how it ended.
 -- It ended behind a whole request or within one, each time before the last answer that it may have;
--- with an answer; for want of memory; with a disk
--- fault while a record was written; or with a link fault.
+-- with an answer; for want of memory; with a disk fault while a record was written; or with a link
+-- fault.
 abbrev pub EndsAs : State → Connection → Session → List ℕ → Ending → Type 0
 EndsAs from c h rest Complete =
     (c.ended ≡ true) × (c.failed ≡ false) × (h.last ≡ None) × (rest ≡ [])
