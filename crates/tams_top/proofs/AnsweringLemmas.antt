@@ -21,7 +21,7 @@ use Rattle.tams_top.specs.Opening.{state_of}
 use Rattle.tams_top.specs.History as history
 use Rattle.tams_top.specs.History.{Last, Session, Taken, state_after_all, answer_text, put_answer, answers_of, with_put, changes_in, changes_of, change_of, count_of, end_of, is_changing, most_requests, moments_of, taken_of, script_of, session_of, state_after, texts_of}
 use Rattle.tams_top.specs.Moments.{AllRight, Beginning, EachKeeps, Handles, told_first}
-use Rattle.tams_top.specs.Serving.{AreCounts, Counts, CountsAt, Ended, EndsAs, HandledAs, Reached, StandsAt, TurnAnswer, connection_of, ending_after, machine_ending}
+use Rattle.tams_top.specs.Serving.{AreCounts, Counts, CountsAt, Ended, EndsAs, HandledAs, IsAnsweredTo, Reached, StandsAt, TurnAnswer, connection_of, ending_after, machine_ending, unrefused, unsaid}
 use Rattle.tams_top.proofs.HistoryLemmas.{after-push, answers-push, begun-push, begun_bound, changes-push, earlier_itself, flat_map-push, map-push, prefix_itself, prefix_longer, script-session}
 use Rattle.tams_top.proofs.RequestLemmas.{length-request_text}
 use Rattle.tams_top.proofs.RightLemmas.{all_last, all_over, all_push_right, all_quiet, handles_right, stands_now, told_now}
@@ -161,8 +161,8 @@ module _ (b : Beginning) (old mid new : Device) (given unread : List ℕ) (store
     keeps_new : EachKeeps new next
     keeps_new = keeps_said said (response a last) mid new next keeps call
 
-    told_new : Told b new (texts_of with_this ++ drop 167 unread) (script_of b.state (session_of with_this)) said
-    told_new = subst (λ (text : List ℕ). Told b new (texts_of with_this ++ drop 167 unread) text said) (sym script_now)
+    told_new : Told b new (texts_of with_this ++ drop 167 unread) (answers_of 0 b.state so_far) (script_of b.state (session_of with_this)) said
+    told_new = subst (λ (text : List ℕ). Told b new (texts_of with_this ++ drop 167 unread) (answers_of 0 b.state so_far) text said) (sym script_now)
         (told_more said (response a last) b mid new _ (answers_of 0 b.state so_far) told_so_far mid_tells saying)
 
     stands_new : StandsFor new.seen (end_of b.state (session_of with_this))
@@ -218,7 +218,8 @@ module _ (b : Beginning) (old mid new : Device) (given unread : List ℕ) (store
       → EachKeeps mid next → LinkCall (Tells false (response a last)) (Tells said (response a last)) said mid new → Said said (response a last) mid new
       → TurnAnswer b new (given ++ t.moment ∷ []) (drop 167 unread) next m (machine_ending said last)
   machine_goes a false last new_sound answer_is last_is changes state_is keeps call saying =
-      ended_machine a false last new_sound answer_is last_is changes state_is keeps call saying Unlinked (λ _. tt) (refl, inl refl) (λ stands. stands)
+      ended_machine a false last new_sound answer_is last_is changes state_is keeps call saying Unlinked (λ _. tt)
+      (refl, unsaid refl so_far t refl (told_new a false last new_sound answer_is last_is changes state_is keeps call saying).begins) (λ stands. stands)
   machine_goes a true true new_sound answer_is last_is changes state_is keeps call saying =
       let full : m.requests ≡ most_requests = eq_of (m.requests) most_requests last_is in
       ended_machine a true true new_sound answer_is last_is changes state_is keeps call saying Closed (λ n. n)
@@ -240,13 +241,14 @@ module _ (b : Beginning) (old mid new : Device) (given unread : List ℕ) (store
     right_last = all_said said b (record { taken = so_far; last = Some h_last }) (answers_of 0 b.state so_far) (response a last) mid new right_mid told_mid
         stands_mid script_other call
 
-    told_last : Told b new (texts_of with_this ++ drop 167 unread) (script_of b.state (record { taken = so_far; last = Some h_last })) said
-    told_last = subst (λ (text : List ℕ). Told b new (texts_of with_this ++ drop 167 unread) text said) (sym script_other)
+    told_last : Told b new (texts_of with_this ++ drop 167 unread) (answers_of 0 b.state so_far) (script_of b.state (record { taken = so_far; last = Some h_last })) said
+    told_last = subst (λ (text : List ℕ). Told b new (texts_of with_this ++ drop 167 unread) (answers_of 0 b.state so_far) text said) (sym script_other)
         (told_more said (response a last) b mid new _ (answers_of 0 b.state so_far) told_so_far mid_tells saying)
 
     ended_other : (ending : Ending) → CountsAt b.state (record { taken = so_far; last = Some h_last }) m ending
+        → (IsAnsweredTo b.state so_far told_last.told
         → EndsAs b.state (connection_of (texts_of with_this ++ drop 167 unread) told_last.told false (not said)) (record { taken = so_far; last = Some h_last })
-        (drop 167 unread) ending → StandsAt new.seen b.state (record { taken = so_far; last = Some h_last }) ending
+        (drop 167 unread) ending) → StandsAt new.seen b.state (record { taken = so_far; last = Some h_last }) ending
         → Ended b new (given ++ t.moment ∷ []) m ending
     ended_other ending count ends stands =
         ended_with b new (given ++ t.moment ∷ []) (drop 167 unread) m ending (record { taken = so_far; last = Some h_last })
@@ -257,7 +259,7 @@ module _ (b : Beginning) (old mid new : Device) (given unread : List ℕ) (store
         (λ unfailed. told_last.whole (not_false said unfailed))
         (rw with_request all_valid)
         (omega (arith, few, r.requests))
-        ends
+        (ends told_last.begins)
         count
         stands
         right_last
@@ -278,7 +280,7 @@ module _ (b : Beginning) (old mid new : Device) (given unread : List ℕ) (store
       ended_other answers.NoMemory said last (history.Starved t) (final_response answers.NoMemory last refl) refl
       (all_quiet b starved old mid sound (all_last b so_far (history.Starved t) old r.right) done.2)
       (λ q could. record { earlier = starved; is_earlier = inl refl; stands = stands q could; all_made = omega arith })
-      call saying Starved tt (t, refl) read
+      call saying Starved tt (λ begins. (t, refl, begins)) read
 
   stopped : Session
   stopped = record { taken = so_far; last = Some (history.Stopped t true) }
@@ -306,7 +308,7 @@ module _ (b : Beginning) (old mid new : Device) (given unread : List ℕ) (store
         }
         | inr made ↦ record { earlier = stopped; is_earlier = inl refl; stands = made.1; all_made = omega arith }
       ])
-      call saying Stopped tt (t, refl, changing)
+      call saying Stopped tt (λ begins. (t, refl, changing, begins))
       (elim image [
         | inl before ↦ inr (rw read.2.image before)
         | inr made ↦ inl (rw read.2.image made.1)
@@ -350,7 +352,7 @@ module _ (b : Beginning) (old new : Device) (given unread : List ℕ) (store : S
       })
       refl call
 
-  refused_ends : (ending : Ending) (told : Told b new (texts_of r.taken ++ unread) (script_of b.state refused) said)
+  refused_ends : (ending : Ending) (told : Told b new (texts_of r.taken ++ unread) (answers_of 0 b.state r.taken) (script_of b.state refused) said)
       → EndsAs b.state (connection_of (texts_of r.taken ++ unread) told.told false (not said)) refused unread ending
       → (AreCounts b.state refused m → CountsAt b.state refused m ending)
       → (StandsFor new.seen (end_of b.state refused) → StandsAt new.seen b.state refused ending) → Ended b new given m ending
@@ -370,7 +372,7 @@ module _ (b : Beginning) (old new : Device) (given unread : List ℕ) (store : S
       (keeps_said said (response answers.NotBuilt true) old new store r.keeps call))))
       refused_right
 
-  refused_told : Told b new (texts_of r.taken ++ unread) (script_of b.state refused) said
+  refused_told : Told b new (texts_of r.taken ++ unread) (answers_of 0 b.state r.taken) (script_of b.state refused) said
   unfolding refused
   refused_told = told_more said (response answers.NotBuilt true) b old new _ (answers_of 0 b.state r.taken) r.connections tells saying
 
@@ -386,5 +388,7 @@ refuse_goes b old new given unread store n m true sound new_sound honest shows t
     (refl, inl (refl, front)) (λ counts. counts) (λ stands. stands)
 refuse_goes b old new given unread store n m false sound new_sound honest shows tells r front few requests changes call saying =
     refused_ends b old new given unread store n m false sound new_sound honest shows tells r front few requests changes call saying Unlinked
-    (refused_told b old new given unread store n m false sound new_sound honest shows tells r front few requests changes call saying)
-    (refl, inr (refl, front)) (λ _. tt) (λ stands. stands)
+    (refused_told b old new given unread store n m false sound new_sound honest shows tells r front few requests changes call saying) (
+      refl,
+      unrefused refl front (refused_told b old new given unread store n m false sound new_sound honest shows tells r front few requests changes call saying).begins,
+    ) (λ _. tt) (λ stands. stands)

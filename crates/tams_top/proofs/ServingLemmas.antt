@@ -15,7 +15,7 @@ use Rattle.tams_top.specs.Store.{State, StandsFor}
 use Rattle.tams_top.specs.Opening.{state_of}
 use Rattle.tams_top.specs.History.{Session, Taken, answers_in, answers_of, changes_in, changes_of, change_of, end_of, most_requests, moments_of, taken_of, script_of, session_of, texts_of}
 use Rattle.tams_top.specs.Moments.{AllRight, Beginning, EachKeeps, IsEarlier, IsRight, told_first}
-use Rattle.tams_top.specs.Serving.{AreCounts, Counts, CountsAt, Ended, EndsAs, HeardMore, Reached, StandsAt, connection_of}
+use Rattle.tams_top.specs.Serving.{unheard, AreCounts, Counts, CountsAt, Ended, EndsAs, HeardMore, Reached, StandsAt, connection_of}
 use Rattle.tams_top.proofs.HistoryLemmas.{begun_bound, prefix_itself, script-session}
 use Rattle.tams_top.proofs.RightLemmas.{all_over, all_quiet, change_last-push, keeps_quiet, stands_now}
 
@@ -39,20 +39,22 @@ pub stands_read : (d : Device) (s : Store) → IsDevice d → d.honest ≡ true 
 stands_read d s sound honest shows tells keeps = stands_now d s (as_read d) keeps (sound.itself honest shows tells)
 
 -- The connection was told the script, or a prefix of it where its last part wasn't said whole.
-pub record Told (b : Beginning) (d : Device) (heard script : List ℕ) (said : Bool) : Type 0 where
+pub record Told (b : Beginning) (d : Device) (heard answers script : List ℕ) (said : Bool) : Type 0 where
   pub told : List ℕ
   pub connections : d.link.connections ≡ b.before ++ connection_of heard told false (not said) ∷ []
+  pub begins : IsPrefix answers told
   pub prefix : IsPrefix told script
   pub whole : said ≡ true → told ≡ script
 
 -- one answer more was said
 pub told_more : (ok : Bool) (bytes : List ℕ) (b : Beginning) (mid new : Device) (heard answers : List ℕ)
     → mid.link.connections ≡ b.before ++ connection_of heard answers false false ∷ [] → mid.tells ≡ true → Said ok bytes mid new
-    → Told b new heard (answers ++ bytes) ok
+    → Told b new heard answers (answers ++ bytes) ok
 told_more ok bytes b mid new heard answers connections tells said =
     let s = said.connections tells in
     record {
       told = answers ++ s.0;
+      begins = (s.0, refl);
       connections = s.2 ∙ ap (change_last (after_say ok s.0)) connections ∙ change_last-push (after_say ok s.0) b.before _;
       prefix = (s.1.prefix.0, ap (λ xs. answers ++ xs) s.1.prefix.1 ∙ sym (append_assoc answers s.0 s.1.prefix.0));
       whole = λ yes. ap (λ xs. answers ++ xs) (s.1.whole yes);
@@ -186,9 +188,9 @@ module _ (b : Beginning) (old new : Device) (given unread : List ℕ) (store : S
   ended_cut some front connections =
       ended_unanswered Cut true false (λ _. tt) (ended_heard connections) (refl, refl, refl, some, front, omega (arith, few, r.requests)) (λ stands. stands)
 
-  pub ended_unheard : new.link.connections ≡ change_last (λ c. record c { failed = true }) old.link.connections → Ended b new given n Unlinked
-  ended_unheard connections =
+  pub ended_unheard : IsFront unread More → new.link.connections ≡ change_last (λ c. record c { failed = true }) old.link.connections → Ended b new given n Unlinked
+  ended_unheard front connections =
       ended_unanswered Unlinked false true (λ _. tt)
       (connections ∙ ap (change_last (λ (c : Connection). record c { failed = true })) r.connections ∙ change_last-push
       (λ (c : Connection). record c { failed = true }) b.before _)
-      (refl, inl refl) (λ stands. stands)
+      (refl, unheard refl front (sym (script-session b.state r.taken)) (omega (arith, few, r.requests))) (λ stands. stands)

@@ -38,10 +38,24 @@ IsClosed h rest =
     ((h.last ≡ Some history.Refused) × IsFront rest Unbuilt)
     ⊎ ((h.last ≡ None) × (length h.taken ≡ most_requests))
 
+-- Of a connection that was told this each answer of these requests was said whole.
+abbrev pub IsAnsweredTo : State → List Taken → List ℕ → Type 0
+IsAnsweredTo from ts told = IsPrefix (answers_of 0 from ts) told
+
+-- A call of the link failed: hearing more behind all answers, where no whole request was left; or
+-- saying the answer to the last request; or saying that what stands there isn't built.
+pub data Unlinks (from : State) (c : Connection) (h : Session) (rest : List ℕ) : Type 0 where
+  unheard : h.last ≡ None → IsFront rest More → c.told ≡ script_of from h
+      → length h.taken < most_requests → Unlinks from c h rest
+  unsaid : h.last ≡ None → (front : List Taken) (t : Taken) → h.taken ≡ front ++ t ∷ []
+      → IsAnsweredTo from front c.told → Unlinks from c h rest
+  unrefused : h.last ≡ Some history.Refused → IsFront rest Unbuilt
+      → IsAnsweredTo from h.taken c.told → Unlinks from c h rest
+
 -- What stands behind the requests of a connection, its marks, and its last answer, by how it ended.
 -- It ended behind a whole request or within one, each time before the last answer that it may have;
--- with an answer; for want of memory; with a disk
--- fault while a record was written; or with a link fault.
+-- with an answer; for want of memory; with a disk fault while a record was written; or with a link
+-- fault.
 abbrev pub EndsAs : State → Connection → Session → List ℕ → Ending → Type 0
 EndsAs from c h rest Complete =
     (c.ended ≡ true) × (c.failed ≡ false) × (h.last ≡ None) × (rest ≡ [])
@@ -51,11 +65,12 @@ EndsAs from c h rest Cut =
     × (length h.taken < most_requests)
 EndsAs from c h rest Closed = (c.failed ≡ false) × IsClosed h rest
 EndsAs from c h rest Starved = (t : Taken) × (h.last ≡ Some (history.Starved t))
+    × IsAnsweredTo from h.taken c.told
 EndsAs from c h rest Stopped =
     (t : Taken) × (h.last ≡ Some (history.Stopped t true))
     × (is_changing (put_answer (state_after_all from h.taken) (change_of t)) ≡ true)
-EndsAs from c h rest Unlinked =
-    (c.failed ≡ true) × ((h.last ≡ None) ⊎ ((h.last ≡ Some history.Refused) × IsFront rest Unbuilt))
+    × IsAnsweredTo from h.taken c.told
+EndsAs from c h rest Unlinked = (c.failed ≡ true) × Unlinks from c h rest
 
 -- A connection was served, from a state, by this history: it heard the texts of its requests and a
 -- rest, and was told the script of their answers, or a prefix of it where a call of its link

@@ -13,7 +13,7 @@ returns-in_default-clause-goes g c = λ clock all b given store r.
     let call = c.in_default.ensures.call in
     ended_unheard b _ _ given c.args.unread.now store c.args.tally.now r (omega (arith, c.requires.few)) (g.met.X.Disk.sound c.args.site.now)
     (g.met.X.Disk.sound c.hear.new.site) (call.same.honest ∙ all.honest) (call.same.shows ∙ all.shows) (call.same.tells ∙ all.tells) call.time
-    (c.in_default.ensures.failed all.tells)
+    c.requires.more (c.in_default.ensures.failed all.tells)
 
 -- More bytes were heard.
 pub returns-then-count-gt0-clause-goes : goal.returns-then-count-gt0-clause-goes
