@@ -1,6 +1,6 @@
 -- What is left once a hook went with its events, and once all of an address did.
-use Rattle.std.proofs.Common.{◌≡◌, ◌≤◌, length, inl, inr, ℕ, ℤ, pos, ◌<ℤ◌, Bool, true, false, not, ◌||◌, cond, List, [], ◌∷◌, ◌++◌, Option, Some, None, filter, map, refl, sym, ap, subst, ◌∙◌, arith}
-use Rattle.std.specs.Prelude.{◌==◌, IsTrue, if◌then◌else◌}
+use Rattle.std.proofs.Common.{◌≡◌, inl, inr, ℕ, ℤ, pos, ◌<ℤ◌, Bool, true, false, not, ◌||◌, cond, List, [], ◌∷◌, ◌++◌, Some, None, filter, refl, sym, ap, subst, ◌∙◌, arith}
+use Rattle.std.specs.Prelude.{◌==◌}
 use Rattle.std.specs.List.{AllByRecursion, list_any}
 use Rattle.std.proofs.lemmas.Bool.{eq-eqb, eqb-true, ne_eqb, or_cases, or_left, or_right}
 use Rattle.std.proofs.lemmas.Int.{ints}
@@ -297,7 +297,7 @@ gone_are url (p ∷ ps) rising keyed =
         subst (λ s. AllByRecursion (λ r. has_number r.serial s ≡ has_url url r) (p.1.row.value ∷ hooks_of ps)) (sym (with_own true e)) (
           or_left (hook_serial p.1 == hook_serial p.1) (has_number (hook_serial p.1) (gone_serials url (hooks_of ps)))
               (eq-eqb (hook_serial p.1) (hook_serial p.1) refl)
-          ∙ sym e,
+              ∙ sym e,
           more (hooks_of ps) apart later,
         )
     by false e apart later =

@@ -1,18 +1,17 @@
 -- Hooks and events that come at their places.
-use Rattle.std.proofs.Common.{◌≡◌, ◌≤◌, ◌<◌, ◌+◌, nat_le, nat_lt, length, inl, inr, ℕ, suc, ℤ, pos, ◌<ℤ◌, int_lt, int_eq, Bool, true, false, not, ◌&&◌, ◌||◌, cond, List, [], ◌∷◌, ◌++◌, Option, Some, None, is_some, option_copied, Bor, filter, map, option_map, refl, sym, ap, subst, ◌∙◌, arith, length-append}
+use Rattle.std.proofs.Common.{◌≡◌, ◌<◌, ◌+◌, nat_le, nat_lt, length, inl, inr, ℕ, suc, ℤ, pos, ◌<ℤ◌, int_lt, int_eq, Bool, true, false, not, ◌&&◌, ◌||◌, cond, List, [], ◌∷◌, ◌++◌, Option, Some, None, is_some, option_copied, Bor, filter, option_map, refl, sym, ap, subst, ◌∙◌, arith}
 use Rattle.std.specs.Prelude.{◌==◌}
 use Rattle.std.specs.List.{AllByRecursion, list_all, list_any}
 use Rattle.std.specs.Cmp.{signed_Decides}
-use Rattle.std.proofs.lemmas.Bool.{and_parts, and_from, eq-eqb, eqb-true, ne_eqb, le-leb, leb-true, lt-ltb, ltb-true, or_cases, or_left, or_right}
+use Rattle.std.proofs.lemmas.Bool.{and_parts, and_from, eq-eqb, ne_eqb, le-leb, leb-true, lt-ltb, ltb-true, or_cases, or_left, or_right}
 use Rattle.std.proofs.lemmas.Int.{ints}
-use Rattle.std.proofs.lemmas.List.{map-append}
 use Rattle.std.proofs.lemmas.List.Elements.{filter-append}
 use Rattle.std.proofs.lemmas.List.Folds.{list_any-append}
 use Rattle.media_rows.specs.declared.event.EventRow.{EventRow}
 use Rattle.media_rows.specs.declared.hook.HookRow.{HookRow}
-use Rattle.media_rows.specs.Good.{has_hook, is_hook_good}
+use Rattle.media_rows.specs.Good.{is_hook_good}
 use Rattle.media_rows.specs.Lists.{inserted}
-use Rattle.media_rows.specs.Outbox.{Outbox, most_waiting, waiting_count, waiting_for}
+use Rattle.media_rows.specs.Outbox.{most_waiting, waiting_count, waiting_for}
 use Rattle.shared_tree.specs.Pairs.{IsRising, first, is_above, is_at, is_below, value_at, values, with_pair, without_key}
 use Rattle.shared_tree.specs.Rows.{IsKeyedBy}
 use Rattle.shared_tree.proofs.Counted.{all_append, all_kept, length_with}

@@ -1,5 +1,5 @@
 -- Events of what happened, hook by hook and happening by happening.
-use Rattle.std.proofs.Common.{◌≡◌, ◌≤◌, ◌<◌, ◌+◌, nat_le, length, ℕ, ℤ, suc, Bor, Bool, true, false, ◌||◌, List, [], ◌∷◌, ◌++◌, Option, Some, None, filter, map, drop, get_or, drop-cons, refl, sym, ap, subst, ◌∙◌, arith, append-nil, length-append}
+use Rattle.std.proofs.Common.{◌≡◌, ◌≤◌, ◌<◌, ◌+◌, nat_le, length, ℕ, suc, Bor, Bool, true, false, ◌||◌, List, [], ◌∷◌, ◌++◌, Some, None, filter, map, drop, get_or, drop-cons, refl, sym, ap, subst, ◌∙◌, arith, append-nil, length-append}
 use Rattle.std.specs.Prelude.{◌==◌}
 use Rattle.std.specs.List.{AllByRecursion, list_any}
 use Rattle.std.proofs.lemmas.Bool.{eq-eqb, le-leb, leb-true, or_left, or_right}
@@ -9,12 +9,11 @@ use Rattle.media_rows.specs.declared.event.EventRow.{EventRow}
 use Rattle.media_rows.specs.declared.event.Happened.{Happened}
 use Rattle.media_rows.specs.declared.hook.HookRow.{HookRow}
 use Rattle.media_rows.specs.Library.{last_serial}
-use Rattle.media_rows.specs.Outbox.{Outbox, after_post, event_row, events_for, marked, most_waiting, new_events, takes, waiting_count, waiting_for, with_events}
+use Rattle.media_rows.specs.Outbox.{Outbox, after_post, event_row, events_for, marked, most_waiting, takes, waiting_count, waiting_for, with_events}
 use Rattle.media_rows.specs.Outbox.{Posted as Made}
 use Rattle.shared_tree.specs.Pairs.{values, values_of}
 use Rattle.shared_tree.proofs.Counted.{all_append, all_kept}
 use Rattle.shared_tree.proofs.Rising.{all_map}
-use Rattle.webhook_outbox.specs.declared.outbox.Posted.{Posted}
 use Rattle.webhook_outbox.specs.declared.outbox.Slot.{Slot}
 use Rattle.webhook_outbox.specs.declared.posts.Reached.{Reached}
 use Rattle.webhook_outbox.specs.Delivered.{IsBehind}
@@ -209,9 +208,10 @@ some_made made reached e = by (nat_le made.next last_serial) refl
 
     by : (b : Bool) → nat_le made.next last_serial ≡ b → (made ≡ record { outbox = reached.outbox; next = reached.next }) × (reached.next ≤ last_serial)
     by true le =
-        let own : reached ≡ record { outbox = made.outbox; next = made.next } = same (e ∙ rw le refl) in
-        (ap (λ (r : Reached). record { outbox = r.outbox; next = r.next }) (sym own),
-        subst (λ (r : Reached). r.next ≤ last_serial) (sym own) (leb-true made.next last_serial le))
+        let own : reached ≡ record { outbox = made.outbox; next = made.next } = same (e ∙ rw le refl) in (
+          ap (λ (r : Reached). record { outbox = r.outbox; next = r.next }) (sym own),
+          subst (λ (r : Reached). r.next ≤ last_serial) (sym own) (leb-true made.next last_serial le),
+        )
     by false le = absurd (let none : Some reached ≡ None = e ∙ rw le refl in grind (arith, none))
 
 pub comes_more : (all : List Happened) (one : Happened) (rest : List Happened) (now : ℕ) (outbox : Outbox) (serial : ℕ) (reached next : Reached)

@@ -1,9 +1,9 @@
 -- Rows that come to an outbox one after the other: which are refused, and what they make.
-use Rattle.std.proofs.Common.{◌≡◌, ◌≤◌, ◌<◌, ◌+◌, ◌-◌, nat_le, nat_lt, length, ℕ, zero, suc, ℤ, pos, ◌<ℤ◌, int_lt, int_eq, Bool, true, false, not, ◌&&◌, ◌||◌, cond, List, [], ◌∷◌, ◌++◌, Option, Some, None, is_some, Result, Ok, Err, filter, map, drop, get_or, refl, sym, ap, subst, ◌∙◌, arith}
+use Rattle.std.proofs.Common.{◌≡◌, ◌≤◌, ◌<◌, ◌+◌, ◌-◌, nat_le, nat_lt, length, ℕ, zero, suc, Bool, true, false, not, ◌&&◌, ◌||◌, cond, List, [], ◌∷◌, ◌++◌, Result, Ok, Err, filter, map, drop, get_or, refl, sym, ap, ◌∙◌, arith}
 use Rattle.std.specs.Prelude.{◌==◌, ⊤}
 use Rattle.std.specs.List.{AllByRecursion, list_all, list_any}
 use Rattle.std.proofs.Math.Seq.{drop-cons}
-use Rattle.std.proofs.lemmas.Bool.{and_parts, and_from, eq-eqb, eqb-true, ne_eqb, le-leb, leb-true, lt-ltb, ltb-true, or_cases, or_left, or_right}
+use Rattle.std.proofs.lemmas.Bool.{and_parts, and_from, eq-eqb, eqb-true, le-leb, leb-true, lt-ltb, or_left, or_right}
 use Rattle.media_rows.specs.declared.refusal.ApplyFault.{ApplyFault}
 use Rattle.media_rows.specs.declared.refusal.ApplyFault.TheVariants as faults
 use Rattle.media_rows.specs.declared.event.EventRow.{EventRow}
@@ -457,8 +457,7 @@ pub both_restore : (hooks : List HookRow) (events : List EventRow) (bare : Outbo
     → Restores (all_fit may_wait waits events bare) (folded waits events bare) result
     → Restores (can_restore_outbox hooks events) (outbox_of hooks events) result
 both_restore hooks events bare (Ok outbox) urls was h =
-    let start : bare ≡ start_of (by_serial (λ row. row.serial) hooks) = was.1 ∙ hooks_joined hooks in
-    (
+    let start : bare ≡ start_of (by_serial (λ row. row.serial) hooks) = was.1 ∙ hooks_joined hooks in (
       fit_can hooks events urls (sym (hooks_fit hooks) ∙ was.0) (ap (all_fit may_wait waits events) (sym start) ∙ h.0),
       h.1 ∙ ap (folded waits events) start ∙ events_wait events (by_serial (λ row. row.serial) hooks),
     )

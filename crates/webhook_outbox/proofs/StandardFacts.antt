@@ -1,8 +1,7 @@
 -- Worked values of the crate's own definitions.
-use Rattle.std.proofs.Common.{◌≡◌, ℕ, [], ◌∷◌, List, None, Some, false, refl}
+use Rattle.std.proofs.Common.{◌≡◌, ℕ, [], ◌∷◌, None, Some, false, refl}
 use Rattle.media_rows.specs.declared.event.EventKind.TheVariants.{FlowCreated}
 use Rattle.media_rows.specs.declared.event.EventRow.{EventRow}
-use Rattle.media_rows.specs.declared.hook.Hook.{Hook}
 use Rattle.media_rows.specs.declared.hook.HookRow.{HookRow}
 use Rattle.media_rows.specs.Outbox.{Outbox}
 use Rattle.webhook_outbox.specs.Delivered.{IsFirst, after_delivered}

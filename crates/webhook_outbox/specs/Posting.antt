@@ -1,6 +1,6 @@
 -- Events that are posted, and hooks as they are shown. Our own profile of the Time-addressable
 -- Media Store.
-use Rattle.std.specs.Prelude.{nat_le, Option, Some, None, if◌then◌else◌}
+use Rattle.std.specs.Prelude.{nat_le, Some, None, if◌then◌else◌}
 use Rattle.media_rows.specs.declared.hook.HookRow.{HookRow}
 use Rattle.media_rows.specs.declared.reply.HookShown.{HookShown}
 use Rattle.media_rows.specs.Library.{last_serial}

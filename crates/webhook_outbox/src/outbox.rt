@@ -16,7 +16,9 @@ use crate::looks::{all_slots, first_waiting, hook_of, value_at};
 use crate::posts::post_all;
 use crate::restores::{are_urls_distinct, events_gathered, hooks_gathered};
 use disk_trait::{Duplicate, Memory, Text};
-use media_rows::{ApplyFault, EventRow, EventRowList, HappenedList, Hook, HookList, HookRow, HookShownList};
+use media_rows::{
+    ApplyFault, EventRow, EventRowList, HappenedList, Hook, HookList, HookRow, HookShownList,
+};
 use shared_tree::Version;
 use std::alloc::Global;
 use std::marker::Model;
@@ -202,7 +204,12 @@ impl Outbox {
     }
 
     /// Adds a hook, which hasn't failed and for which nothing waits, behind all hooks.
-    pub(crate) fn with_hook(&self, alloc: Global, hook: &Hook, serial: u64) -> Result<Outbox, Memory>
+    pub(crate) fn with_hook(
+        &self,
+        alloc: Global,
+        hook: &Hook,
+        serial: u64,
+    ) -> Result<Outbox, Memory>
         requires last { IsBehindHooks serial self.now.hooks }
         ensures { IfOk result (λ outbox. outbox ≡ with_last_hook (hook_row hook.now serial) self.now) }
     {

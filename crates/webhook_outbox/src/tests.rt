@@ -1,58 +1,106 @@
-//! Two events of one hook, of which the first one is delivered.
-ghost use Rattle.std.specs.Prelude.{◌≡◌};
+//! Each call that takes memory, once with ample memory: a hook, and an event that waits for it.
+ghost use Rattle.std.specs.Prelude.{◌≡◌, [], IfOk};
 
 use super::*;
 use disk_trait::{Memory, Text};
-use media_rows::{EventKind, EventList, EventRow, Hook};
+use media_rows::{ApplyFault, EventKind, EventList, Happened, HappenedList, Hook};
 use std::alloc::Global;
 use std::test::Fail;
 
-/// An event for the hook of serial 1.
-fn event(serial: u64) -> EventRow
-    ensures serial { result.serial ≡ serial }
-    ensures hook { result.hook ≡ 1 }
-{
-    EventRow {
-        serial,
-        hook: 1,
-        kind: EventKind::FlowCreated,
-        subject: 7,
-        range: None,
-        moment: 0,
-    }
-}
-
-/// An outbox in which two events wait, and the one without the first of them.
-fn two_outboxes(alloc: Global, hook: &Hook) -> Result<(Outbox, Outbox), Memory> {
-    let hooked = Outbox::empty().with_hook(alloc, hook, 1)?;
-    let first = hooked.with_event(alloc, event(3))?;
-    let both = first.with_event(alloc, event(5))?;
-    let left = both.delivered(alloc, 3)?;
-    Ok((both, left))
-}
-
-/// The serial of the first event that waits for the hook of serial 1.
-fn first_serial(outbox: &Outbox) -> Option<u64> {
-    outbox.first_of(1).map(|row| row.serial)
-}
-
-#[test]
-fn an_event_waits_until_it_is_delivered(rt: HostRuntime) -> Result<(), Fail> {
-    let alloc = rt.alloc();
-    let hook = Hook {
+/// A hook that takes new flows.
+fn hook(alloc: Global) -> Result<Hook, Memory> {
+    let mut events = EventList::new(alloc);
+    events.push(EventKind::FlowCreated)?;
+    Ok(Hook {
         url: Text::from_bytes(alloc, b"http://127.0.0.1:9/h")?,
-        events: EventList::new(alloc),
+        events,
         key_name: None,
         key_value: None,
         flow_ids: None,
         source_ids: None,
-    };
-    let (both, left) = two_outboxes(alloc, &hook)?;
-    assert_eq!(rt; (first_serial(&both), both.event_count()), (Some(3), 2));
-    assert_eq!(rt; (first_serial(&left), left.event_count()), (Some(5), 1));
-    assert_eq!(rt;
-        (left.share()?.hook_count(), left.first_of(2).is_none()),
-        (1, true)
-    );
+    })
+}
+
+/// A flow came.
+fn happened(alloc: Global) -> Result<HappenedList, Memory> {
+    let mut list = HappenedList::new(alloc);
+    list.push(Happened {
+        kind: EventKind::FlowCreated,
+        subject: 7,
+        source: 3,
+        range: None,
+    })?;
+    Ok(list)
+}
+
+/// An outbox with a hook, for which nothing waits.
+fn hooked(alloc: Global, hook: &Hook) -> Result<Outbox, Memory>
+    ensures { IfOk result (λ outbox. outbox.events ≡ []) }
+{
+    Outbox::empty().add_hook(alloc, hook, 1)
+}
+
+/// What posting gives.
+fn posted(alloc: Global, outbox: &Outbox, happened: &HappenedList) -> Result<Posted, Memory>
+    requires { outbox.now.events ≡ [] }
+{
+    outbox.post_events(alloc, happened, 2, 0)
+}
+
+/// The number of events once the first one was delivered.
+fn after_delivery(alloc: Global, outbox: &Outbox) -> Result<u64, Memory> {
+    match outbox.first_of(1) {
+        Some(row) if row.hook == 1 => Ok(outbox.delivered(alloc, row.serial)?.event_count()),
+        _ => Ok(outbox.event_count()),
+    }
+}
+
+/// The number of events that the first hook is shown with.
+fn shown(alloc: Global, outbox: &Outbox) -> Result<u64, Memory> {
+    match outbox.shown_hooks(alloc)?.items() {
+        [first, ..] => Ok(first.waiting),
+        [] => Ok(0),
+    }
+}
+
+/// The numbers of hooks and events once the hook of an address was dropped.
+fn after_drop(alloc: Global, outbox: &Outbox, url: &Text) -> Result<u64, Memory> {
+    let left = outbox.drop_hook(alloc, url)?;
+    Ok(left.hook_count().saturating_add(left.event_count()))
+}
+
+/// The number of events of the outbox that is made from the rows of another.
+fn restored(alloc: Global, outbox: &Outbox) -> Result<u64, ApplyFault> {
+    let hooks = outbox.hooks(alloc)?;
+    let events = outbox.waiting(alloc)?;
+    Ok(
+        Outbox::from_rows(alloc, &hooks, &events)?
+            .share()?
+            .event_count(),
+    )
+}
+
+/// What the calls give on an outbox in which an event waits.
+fn answers(alloc: Global, outbox: &Outbox, url: &Text) -> Result<[u64; 5], ApplyFault> {
+    Ok([
+        shown(alloc, outbox)?,
+        after_delivery(alloc, outbox)?,
+        after_drop(alloc, outbox, url)?,
+        restored(alloc, outbox)?,
+        outbox.find_hook(alloc, url)?.map_or(0, |row| row.serial),
+    ])
+}
+
+/// The serial behind the event, and those answers.
+fn all_answers(alloc: Global) -> Result<(Option<u64>, [u64; 5]), ApplyFault> {
+    let hook = hook(alloc)?;
+    let posted = posted(alloc, &hooked(alloc, &hook)?, &happened(alloc)?)?;
+    Ok((posted.next, answers(alloc, &posted.outbox, &hook.url)?))
+}
+
+#[test]
+fn an_event_waits_for_its_hook(rt: HostRuntime) -> Result<(), Fail> {
+    let expected = (Some(3), [1, 0, 0, 1, 1]);
+    assert_eq!(rt; all_answers(rt.alloc()).ok(), Some(expected));
     Ok(())
 }

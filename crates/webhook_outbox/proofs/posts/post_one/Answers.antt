@@ -1,5 +1,4 @@
-use Rattle.std.proofs.Common.{◌≡◌, ◌<◌, ◌≤◌, ◌+◌, filter, length, ap, sym, ◌∙◌, arith}
-use Rattle.std.proofs.lemmas.List.{length-map}
+use Rattle.std.proofs.Common.{◌≡◌, ◌<◌, ◌≤◌, ◌+◌, filter, length, ap, ◌∙◌, arith}
 use Rattle.media_rows.specs.Library.{last_serial}
 use Rattle.media_rows.specs.Outbox.{takes}
 use Rattle.shared_tree.specs.Pairs.{values_of}

@@ -1,4 +1,4 @@
-use Rattle.std.proofs.Common.{◌≡◌, ◌<◌, ◌+◌, [], ◌∷◌, drop, length, ap, sym, subst, ◌∙◌, arith}
+use Rattle.std.proofs.Common.{◌≡◌, ◌<◌, ◌+◌, [], ◌∷◌, drop, length, ap, subst, ◌∙◌, arith}
 use Rattle.media_rows.specs.Outbox.{event_row, with_events}
 use Rattle.shared_tree.specs.Pairs.{values_of}
 use Rattle.webhook_outbox.specs.Within.Slots.{hook_rows}

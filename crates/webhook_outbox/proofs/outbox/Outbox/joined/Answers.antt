@@ -1,5 +1,4 @@
 use Rattle.std.proofs.Common.{◌≡◌, true, ap, sym, subst, ◌∙◌}
-use Rattle.media_rows.specs.Outbox.{Outbox}
 use Rattle.webhook_outbox.specs.declared.outbox.Slot.{Slot}
 use Rattle.webhook_outbox.specs.Within.Restored.{joined, may_join}
 use Rattle.webhook_outbox.specs.Within.Slots.{AreSlots, seen_outbox}
