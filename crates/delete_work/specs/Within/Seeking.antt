@@ -1,5 +1,5 @@
 -- What a step and a sweep have done so far: segments on which a request works are looked for page
--- by -- page, references go one by one, and so do the objects that are due.
+-- by page, references go one by one, and so do the objects that are due.
 use Rattle.std.specs.Prelude.{◌≡◌, ℕ, suc, ◌-◌, ◌==◌, nat_lt, ℤ, List, [], ◌∷◌, ◌++◌, Bool, true, false, ◌&&◌, Option, Some, None, filter, length, take}
 use Rattle.std.specs.List.{list_all}
 use Rattle.media_rows.specs.declared.object.ObjectRow.{ObjectRow}
