@@ -3,3 +3,4 @@ mod Serials
 pub mod Gaining
 mod FlowRows
 mod Views
+mod Paging

@@ -1,20 +1,21 @@
 //! The book and its public calls.
 ghost use Rattle.std.specs.Prelude.{◌≡◌, ◌+◌, ◌++◌, ◌-◌, ◌<◌, ◌^◌, [], ◌∷◌, Contains, IfOk, IsTrue, None, false, length, min, option_map};
-ghost use Rattle.media_rows.specs.Lists.{inserted, placed};
+ghost use Rattle.media_rows.specs.Lists.{in_order, inserted, placed};
 ghost use Rattle.media_rows.specs.Ranges.{has_both_ends};
 ghost use Rattle.media_rows.specs.Refusals.{IsChange};
-ghost use Rattle.media_rows.specs.Segments.{first_point, hull_of_segments, segments_of, starts_before, without_segments};
+ghost use Rattle.media_rows.specs.Segments.{first_point, hull_of_segments, overlapping, segments_of, starts_before, without_segments};
 ghost use Rattle.media_rows.specs.Snapshot.{older};
-ghost use Rattle.media_rows.specs.Views.{id_key};
+ghost use Rattle.media_rows.specs.Views.{id_key, shown_segments};
 ghost use Rattle.media_rows.specs.declared.refusal.Refusal.TheVariants.{Overlap};
 ghost use Rattle.shared_tree.specs.Pairs.{values_of};
 ghost use Rattle.segment_index.specs.Answers.{first_met, met_page, page_of};
 ghost use Rattle.segment_book.specs.Answers.{are_older, is_flow_met, is_new, meeting_refusal};
 ghost use Rattle.segment_book.specs.Within.Flows.{IsFaultOf, flow_rows, with_rows};
 
+use crate::pages::{rows_past, shown};
 use disk_trait::Memory;
 use id_index::{row_at, with_row, without_row};
-use media_rows::{BookFault, Refusal, SegmentRow};
+use media_rows::{BookFault, Page, Refusal, SegmentFilter, SegmentRow, View};
 use segment_index::{AddFault, SegmentIndex};
 use shared_tree::{Steps, Version};
 use std::alloc::Global;
@@ -109,6 +110,33 @@ impl SegmentBook {
         }
     }
 
+    /// The segments of a flow by first point, as an index of their own.
+    pub fn index(&self, flow: u128) -> Result<SegmentIndex, Memory>
+        ensures { IfOk result
+            (λ index. index ≡ in_order starts_before (segments_of flow self.now)) }
+    {
+        self.flows.keys_rise();
+        index_of(&self.flows, flow)
+    }
+
+    /// A page of the segments of a flow that have a point in a range and name an object, where one is asked for.
+    /// Where one is, all of the flow's segments in the range are looked at.
+    pub fn page(
+        &self,
+        alloc: Global,
+        flow: u128,
+        wanted: &SegmentFilter,
+        page: &Page,
+    ) -> Result<View, Memory>
+        ensures { IfOk result (λ view. view ≡ shown_segments page.now
+            (overlapping self.now flow wanted.now.range wanted.now.object)) }
+    {
+        self.flows.keys_rise();
+        let index = index_of(&self.flows, flow)?;
+        let rows = rows_past::<Brand>(alloc, &index, wanted, page, Blank::new(1))?;
+        shown(alloc, &rows, page.limit)
+    }
+
     /// Adds a segment that is bounded at both ends, with a serial of its own. It is refused as `Overlap`
     /// exactly where a segment of its flow overlaps it, with the range of the first such by first point.
     pub fn insert(&self, alloc: Global, row: SegmentRow) -> Result<SegmentBook, BookFault>
@@ -158,7 +186,7 @@ impl SegmentBook {
 }
 
 /// The first point of a segment, in half nanoseconds.
-fn first_point(row: &SegmentRow) -> i128
+pub(crate) fn first_point(row: &SegmentRow) -> i128
     ensures { result ≡ first_point row.now }
 {
     row.segment.range.low().unwrap_or(0)

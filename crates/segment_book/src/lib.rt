@@ -3,6 +3,7 @@
 #![tactic(auto)]
 
 mod book;
+mod pages;
 #[cfg(test)]
 mod tests;
 
