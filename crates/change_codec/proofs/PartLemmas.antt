@@ -15,7 +15,8 @@ source_asks (parts.Collection members) h = absurd h
 source_asks (parts.MaxBitRate rate) h = absurd h
 source_asks (parts.AvgBitRate rate) h = absurd h
 
-pub source_wrote : (old new : List ℕ) (p : Part) → source_part_spelling.asks p → WritesValue flow_part_spelling old p new → WritesValue source_part_spelling old p new
+pub source_wrote : (old new : List ℕ) (p : Part) → source_part_spelling.asks p → WritesValue flow_part_spelling old p new
+    → WritesValue source_part_spelling old p new
 unfolding source_part_spelling flow_part_spelling
 source_wrote old new (parts.Tag name tag) h w = record { written = w.written; fits = w.fits }
 source_wrote old new (parts.Label text) h w = record { written = w.written; fits = w.fits }

@@ -104,7 +104,8 @@ any_append : {X : Type 0} (test : X → Bool) (l r : List X) → list_any test (
 any_append test [] r = refl
 any_append test (x ∷ l) r = by (test x) (any_append test l r)
   where
-    by : (t : Bool) → list_any test (l ++ r) ≡ (list_any test l || list_any test r) → (t || list_any test (l ++ r)) ≡ ((t || list_any test l) || list_any test r)
+    by : (t : Bool) → list_any test (l ++ r) ≡ (list_any test l || list_any test r)
+        → (t || list_any test (l ++ r)) ≡ ((t || list_any test l) || list_any test r)
     by true ih = refl
     by false ih = ih
 

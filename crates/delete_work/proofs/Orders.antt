@@ -209,7 +209,8 @@ ended_from flow moment front (row ∷ rest) rising ahead =
 
     by : (u f : Bool) → is_unfinished row ≡ u → (row.flow == flow) ≡ f
         → ((new : DeleteRow) → new.serial ≡ row.serial → ended_by flow moment (filter is_unfinished rest) ((front ++ new ∷ []) ++ rest)
-        ≡ (front ++ new ∷ []) ++ map (ended_row flow moment) rest) → ended_by flow moment (cond u (row ∷ filter is_unfinished rest) (filter is_unfinished rest)) (front ++ row ∷ rest)
+        ≡ (front ++ new ∷ []) ++ map (ended_row flow moment) rest)
+        → ended_by flow moment (cond u (row ∷ filter is_unfinished rest) (filter is_unfinished rest)) (front ++ row ∷ rest)
         ≡ front ++ map (ended_row flow moment) (row ∷ rest)
     by true true eu ef ih =
         ap (λ b. ended_by flow moment (filter is_unfinished rest) (if b then placed request_before (done_row moment row) (front ++ row ∷ rest) else front ++ row

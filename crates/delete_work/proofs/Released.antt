@@ -84,7 +84,8 @@ other_none flow own object (f ∷ flows) e = by (f == flow) (other_none flow own
     by false ih = ih
 
 -- no object of these has the id, so none is changed
-none_changed : (id : List ℕ) (change : Kept → Kept) (kept : List Kept) → list_all (λ other. not (bytes_eq id other)) (map (λ row. row.id) (objects_in kept)) ≡ true
+none_changed : (id : List ℕ) (change : Kept → Kept) (kept : List Kept)
+    → list_all (λ other. not (bytes_eq id other)) (map (λ row. row.id) (objects_in kept)) ≡ true
     → changed_at id change kept ≡ kept
 none_changed id change [] e = refl
 none_changed id change (k ∷ kept) e =
@@ -104,7 +105,8 @@ released_count id flow moment object (k ∷ kept) apart =
     one_less all here rest after left m e f le = omega (arith, e, f, le)
 
     by : (t : Bool) → bytes_eq k.row.id id ≡ t → list_all (λ other. not (bytes_eq k.row.id other)) (map (λ row. row.id) (objects_in kept)) ≡ true
-        → flow_count flow (references_in kept) object ≤ flow_count flow (references_in (changed_at id (released_at flow moment) kept)) object + one_if (bytes_eq id object)
+        → flow_count flow (references_in kept) object ≤ flow_count flow (references_in (changed_at id (released_at flow moment) kept)) object + one_if
+        (bytes_eq id object)
         → flow_count flow (references_to k ++ references_in kept) object
         ≤ flow_count flow (references_in ((if t then released_at flow moment k else k) ∷ changed_at id (released_at flow moment) kept)) object
         + one_if (bytes_eq id object)
@@ -141,7 +143,8 @@ any_append : {X : Type 0} (test : X → Bool) (l r : List X) → list_any test (
 any_append test [] r = refl
 any_append test (x ∷ l) r = by (test x) (any_append test l r)
   where
-    by : (t : Bool) → list_any test (l ++ r) ≡ (list_any test l || list_any test r) → (t || list_any test (l ++ r)) ≡ ((t || list_any test l) || list_any test r)
+    by : (t : Bool) → list_any test (l ++ r) ≡ (list_any test l || list_any test r)
+        → (t || list_any test (l ++ r)) ≡ ((t || list_any test l) || list_any test r)
     by true ih = refl
     by false ih = ih
 
@@ -150,7 +153,8 @@ less_named : (flow : ℕ) (own object : List ℕ) (flows : List ℕ) → is_name
 less_named flow own object [] e = e
 less_named flow own object (f ∷ flows) e = by (f == flow) (bytes_eq own object) refl e (less_named flow own object flows)
   where
-    by : (t b : Bool) → bytes_eq own object ≡ b → list_any (λ row. bytes_eq row.segment.object object) (map (reference_of own) (cond t flows (f ∷ less_one flow flows))) ≡ true
+    by : (t b : Bool) → bytes_eq own object ≡ b
+        → list_any (λ row. bytes_eq row.segment.object object) (map (reference_of own) (cond t flows (f ∷ less_one flow flows))) ≡ true
         → (is_named (map (reference_of own) (less_one flow flows)) object ≡ true → is_named (map (reference_of own) flows) object ≡ true)
         → (b || is_named (map (reference_of own) flows) object) ≡ true
     by t true eb h ih = refl

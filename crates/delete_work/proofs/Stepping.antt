@@ -82,7 +82,8 @@ module _ {request : DeleteRow} {index : Segments} (fits : IsFor request index) w
       → HasReferences request.flow removed kept
   references_removed kept removed refs e =
       subst (λ l. HasReferences request.flow l kept) (sym (e ∙ taken))
-      (λ object. let a = taken_count 32 wanted object in let b = kept_count (is_wanted_by request) index object in let c = refs object in omega (arith, a, b, c))
+      (λ object. let a = taken_count 32 wanted object in let b = kept_count (is_wanted_by request) index object in let c = refs object in omega
+      (arith, a, b, c))
 
 pub few_removed : (found : Segments) → length (take 32 found) ≤ step_size
 few_removed found = let e = length-take 32 found in omega (arith, e)

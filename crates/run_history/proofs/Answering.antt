@@ -241,7 +241,8 @@ module _ {State Request : Type 0} (m : Machine State Request) (b : Beginning Sta
       g.served g.unstopped
       (record {
         rest = rest;
-        steps = steps-push m 0 held.taken at_sessions steps step g.steps_are g.stay (omega (arith, g.taken)) (subst (λ s. IsStep m held.taken s step) g.state is);
+        steps = steps-push m 0 held.taken at_sessions steps step g.steps_are g.stay (omega (arith, g.taken))
+            (subst (λ s. IsStep m held.taken s step) g.state is);
         few = omega (arith, answers_now, g.few);
         heard = heard_now;
         rest_is = rest-push m 0 held.taken steps step link_after rest (omega (arith, g.taken)) rest_is;

@@ -241,7 +241,8 @@ module _ (b : Beginning) (old mid new : Device) (given unread : List ℕ) (store
     right_last = all_said said b (record { taken = so_far; last = Some h_last }) (answers_of 0 b.state so_far) (response a last) mid new right_mid told_mid
         stands_mid script_other call
 
-    told_last : Told b new (texts_of with_this ++ drop 167 unread) (answers_of 0 b.state so_far) (script_of b.state (record { taken = so_far; last = Some h_last })) said
+    told_last : Told b new (texts_of with_this ++ drop 167 unread) (answers_of 0 b.state so_far)
+        (script_of b.state (record { taken = so_far; last = Some h_last })) said
     told_last = subst (λ (text : List ℕ). Told b new (texts_of with_this ++ drop 167 unread) (answers_of 0 b.state so_far) text said) (sym script_other)
         (told_more said (response a last) b mid new _ (answers_of 0 b.state so_far) told_so_far mid_tells saying)
 

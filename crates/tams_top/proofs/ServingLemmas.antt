@@ -188,7 +188,8 @@ module _ (b : Beginning) (old new : Device) (given unread : List ℕ) (store : S
   ended_cut some front connections =
       ended_unanswered Cut true false (λ _. tt) (ended_heard connections) (refl, refl, refl, some, front, omega (arith, few, r.requests)) (λ stands. stands)
 
-  pub ended_unheard : IsFront unread More → new.link.connections ≡ change_last (λ c. record c { failed = true }) old.link.connections → Ended b new given n Unlinked
+  pub ended_unheard : IsFront unread More → new.link.connections ≡ change_last (λ c. record c { failed = true }) old.link.connections
+      → Ended b new given n Unlinked
   ended_unheard front connections =
       ended_unanswered Unlinked false true (λ _. tt)
       (connections ∙ ap (change_last (λ (c : Connection). record c { failed = true })) r.connections ∙ change_last-push

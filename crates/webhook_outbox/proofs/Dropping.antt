@@ -115,7 +115,8 @@ held [] events k w f = tt
 held (p ∷ ps) events k w f = (record { key = k.0; waits = w.0; full = f.0 }, held ps events k.1 w.1 f.1)
 
 -- another hook's events are left
-others_left : (serial hook : ℕ) (events : Events) → (hook == serial) ≡ false → filter (is_for hook) (filter (left_for serial) events) ≡ filter (is_for hook) events
+others_left : (serial hook : ℕ) (events : Events) → (hook == serial) ≡ false
+    → filter (is_for hook) (filter (left_for serial) events) ≡ filter (is_for hook) events
 others_left serial hook [] apart = refl
 others_left serial hook (p ∷ ps) apart = by (p.1.hook == serial) refl (others_left serial hook ps apart)
   where

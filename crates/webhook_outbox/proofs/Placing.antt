@@ -128,7 +128,8 @@ module _ {V : Type 0} where
       → filter test (with_pair (key, value) ps) ≡ with_pair (key, value) (filter test ps)
   with_kept test key value ps e =
       filter-append test (filter (is_below key) ps) ((key, value) ∷ filter (is_above key) ps)
-      ∙ ap (λ b. filter test (filter (is_below key) ps) ++ cond b ((key, value) ∷ filter test (filter (is_above key) ps)) (filter test (filter (is_above key) ps)))
+      ∙ ap (λ b. filter test (filter (is_below key) ps) ++ cond b ((key, value) ∷ filter test (filter (is_above key) ps))
+      (filter test (filter (is_above key) ps)))
       e
       ∙ ap (λ l. l ++ (key, value) ∷ filter test (filter (is_above key) ps)) (filter_swap test (is_below key) ps)
       ∙ ap (λ l. filter (is_below key) (filter test ps) ++ (key, value) ∷ l) (filter_swap test (is_above key) ps)
@@ -137,7 +138,8 @@ module _ {V : Type 0} where
       → filter test (with_pair (key, value) ps) ≡ filter test ps
   with_dropped test key value ps e rising none =
       filter-append test (filter (is_below key) ps) ((key, value) ∷ filter (is_above key) ps)
-      ∙ ap (λ b. filter test (filter (is_below key) ps) ++ cond b ((key, value) ∷ filter test (filter (is_above key) ps)) (filter test (filter (is_above key) ps)))
+      ∙ ap (λ b. filter test (filter (is_below key) ps) ++ cond b ((key, value) ∷ filter test (filter (is_above key) ps))
+      (filter test (filter (is_above key) ps)))
       e
       ∙ sym (filter-append test (filter (is_below key) ps) (filter (is_above key) ps)) ∙ ap (filter test) (without_none key ps rising none)
 
@@ -195,7 +197,8 @@ joined_slots row slot slots new_slots events d e =
     (record {
       slots_keyed = keyed_with slot_key key slot slots (ap pos (sym own)) d.kept.slots_keyed;
       events_keyed = d.kept.events_keyed;
-      waiting = all_append (λ p. p.1.waiting ≡ filter (is_for (hook_serial p.1)) events) (filter (is_below key) slots) ((key, slot) ∷ filter (is_above key) slots)
+      waiting = all_append (λ p. p.1.waiting ≡ filter (is_for (hook_serial p.1)) events) (filter (is_below key) slots)
+          ((key, slot) ∷ filter (is_above key) slots)
           (all_kept _ (is_below key) slots d.kept.waiting)
           (d.empty ∙ sym nothing ∙ ap (λ h. filter (is_for h) events) (sym own), all_kept _ (is_above key) slots d.kept.waiting);
       hooked = all_map (λ p. has_slot slots p ≡ true) (λ p. has_slot (with_pair (key, slot) slots) p ≡ true)
@@ -306,7 +309,8 @@ waits_slots row slot more slots new_slots events new_events d es ee =
           (all_kept _ (is_below key) slots d.kept.full) (own_full row slot more slots events d, all_kept _ (is_above key) slots d.kept.full);
     }))
   where
-    others : (p : ℤ × Slot) → Held events p → (p.0 ≡ pos row.hook → ⊥) → p.1.waiting ≡ filter (is_for (hook_serial p.1)) (with_pair (pos row.serial, row) events)
+    others : (p : ℤ × Slot) → Held events p → (p.0 ≡ pos row.hook → ⊥)
+        → p.1.waiting ≡ filter (is_for (hook_serial p.1)) (with_pair (pos row.serial, row) events)
     others p h apart =
         h.waits
         ∙ sym (with_dropped (is_for (hook_serial p.1)) (pos row.serial) row events
@@ -424,7 +428,8 @@ room_is row slot slots events kept rising e = by (slot_has_room slot) refl
     by false room = fails slots room kept.slots_keyed e ∙ sym room
 
 -- whether a serial is new, by looks
-pub is_new_is : (serial : ℕ) (slots : Slots) (events : Events) → IsKeyedBy slot_key slots → IsKeyedBy event_key events → is_new serial (seen_outbox slots events)
+pub is_new_is : (serial : ℕ) (slots : Slots) (events : Events) → IsKeyedBy slot_key slots → IsKeyedBy event_key events
+    → is_new serial (seen_outbox slots events)
     ≡ (not (is_some (value_at (pos serial) slots)) && not (is_some (value_at (pos serial) events)))
 is_new_is serial slots events slots_keyed events_keyed =
     ap (λ b. not b && not (list_any (λ row. row.serial == serial) (values events))) (sym (hook_seen serial slots slots_keyed))

@@ -92,7 +92,8 @@ pub told_start : (happened : Happened) (now : ℕ) (takers : List HookRow) (from
 told_start happened now takers from outbox e kept last within =
     subst (λ o. Told happened now takers takers from o from.next) (sym e) (record { done = refl; kept = kept; last = last; within = within })
 
-pub told_more : (happened : Happened) (now : ℕ) (takers : List HookRow) (row : HookRow) (rest : List HookRow) (from : Reached) (outbox next : Outbox) (serial : ℕ)
+pub told_more : (happened : Happened) (now : ℕ) (takers : List HookRow) (row : HookRow) (rest : List HookRow) (from : Reached) (outbox next : Outbox)
+    (serial : ℕ)
     → Told happened now takers (row ∷ rest) from outbox serial → next ≡ with_events (event_row happened now row serial ∷ []) outbox
     → Told happened now takers rest from next (serial + 1)
 told_more happened now takers row rest from outbox next serial d e =
@@ -152,7 +153,8 @@ behind_all happened now serial (row ∷ rows) events behind =
     (behind_more serial (event_row happened now row serial) events refl behind) in
     let count : serial + 1 + length rows ≡ serial + length (row ∷ rows) = omega arith in
     subst (λ n. IsBehind n (events ++ events_for happened now serial (row ∷ rows))) count
-    (subst (IsBehind (serial + 1 + length rows)) (append_assoc events (event_row happened now row serial ∷ []) (events_for happened now (serial + 1) rows)) more)
+    (subst (IsBehind (serial + 1 + length rows))
+    (append_assoc events (event_row happened now row serial ∷ []) (events_for happened now (serial + 1) rows)) more)
 
 -- what one happening comes to
 one_made : (happened : Happened) (now : ℕ) (from : Reached) (takers : List HookRow) → takers ≡ filter (takes happened) from.outbox.hooks

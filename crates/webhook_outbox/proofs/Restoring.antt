@@ -53,7 +53,8 @@ module _ {R T : Type 0} (fits : R → T → Bool) (step : R → T → T) where
     pub fit : all_fit fits step rows start ≡ true
     pub is : now ≡ folded step rows start
 
-  pub gathers_more : (row : R) (rows more : List R) (start now next : T) → Gathers rows start now → fits row now ≡ true → next ≡ step row now → more ≡ row ∷ rows
+  pub gathers_more : (row : R) (rows more : List R) (start now next : T) → Gathers rows start now → fits row now ≡ true → next ≡ step row now
+      → more ≡ row ∷ rows
       → Gathers more start next
   gathers_more row rows more start now next was fit is shape =
       rw shape (record {
@@ -463,5 +464,6 @@ both_restore hooks events bare (Ok outbox) urls was h =
     )
 both_restore hooks events bare (Err faults.Refused) urls was h =
     let start : bare ≡ start_of (by_serial (λ row. row.serial) hooks) = was.1 ∙ hooks_joined hooks in
-    implies_false (all_fit may_wait waits events bare) (can_restore_outbox hooks events) (λ can. ap (all_fit may_wait waits events) start ∙ can_fit hooks events can) h
+    implies_false (all_fit may_wait waits events bare) (can_restore_outbox hooks events)
+    (λ can. ap (all_fit may_wait waits events) start ∙ can_fit hooks events can) h
 both_restore hooks events bare (Err faults.Memory) urls was h = h

@@ -18,7 +18,8 @@ returns-in-None c =
     let within : i < length all = omega arith in
     let shape : drop i all ≡ one ∷ drop (i + 1) all = item_first all i one within c.one-item.is in
     comes_to_none all one (drop (i + 1) all) c.args.now c.args.outbox.now c.args.serial c.loop-one.reached
-    (subst (λ l. Comes all l c.args.now c.args.outbox.now c.args.serial c.loop-one.reached) shape c.loop-one.invariant) (sym c.in-None.is ∙ c.in_ok-next.ensures)
+    (subst (λ l. Comes all l c.args.now c.args.outbox.now c.args.serial c.loop-one.reached) shape c.loop-one.invariant)
+    (sym c.in-None.is ∙ c.in_ok-next.ensures)
 
 -- one happening more
 pub loop-one-preserved : goal.loop-one-preserved
@@ -29,4 +30,5 @@ loop-one-preserved c =
     let within : i < length all = omega arith in
     let shape : drop i all ≡ one ∷ drop (i + 1) all = item_first all i one within c.one-item.is in
     comes_more all one (drop (i + 1) all) c.args.now c.args.outbox.now c.args.serial c.loop-one.reached c.in-Some.next
-    (subst (λ l. Comes all l c.args.now c.args.outbox.now c.args.serial c.loop-one.reached) shape c.loop-one.invariant) (sym c.in-Some.is ∙ c.in_ok-next.ensures)
+    (subst (λ l. Comes all l c.args.now c.args.outbox.now c.args.serial c.loop-one.reached) shape c.loop-one.invariant)
+    (sym c.in-Some.is ∙ c.in_ok-next.ensures)

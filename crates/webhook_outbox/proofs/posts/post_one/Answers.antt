@@ -34,4 +34,5 @@ returns c =
     let from : Reached = record { outbox = c.args.outbox.now; next = c.args.serial } in
     let next : c.args.serial + length c.deref-takers.result.now ≡ c.args.serial + length rows = omega (arith, size) in
     let within : c.args.serial + length c.deref-takers.result.now ≤ last_serial = omega (arith, c.requires.within, c.if-count-serial.false) in
-    one_reached c.args.happened.now c.args.now from rows c.in_ok-post_to.field-0 (c.args.serial + length c.deref-takers.result.now) taken c.in_ok-post_to.ensures next within
+    one_reached c.args.happened.now c.args.now from rows c.in_ok-post_to.field-0
+    (c.args.serial + length c.deref-takers.result.now) taken c.in_ok-post_to.ensures next within

@@ -7,4 +7,5 @@ use Rattle.delete_work.proofs.book.DeleteBook.find.Goals as goal
 
 -- requests stand at the keys of their serials
 pub returns : goal.returns
-returns c = c.row_at.ensures ∙ ap (λ n. value_at (id_key n) c.self.inside.rows) c.as_id.ensures ∙ request_found c.args.serial c.self.inside.rows c.self.invariant.keyed ∙ ap (request_of c.args.serial) c.self.view_is
+returns c = c.row_at.ensures ∙ ap (λ n. value_at (id_key n) c.self.inside.rows) c.as_id.ensures
+    ∙ request_found c.args.serial c.self.inside.rows c.self.invariant.keyed ∙ ap (request_of c.args.serial) c.self.view_is

@@ -10,4 +10,5 @@ pub returns : goal.returns
 returns c =
     if_ok c.newest.result (λ next is. is ∙ ap newest_done (c.in_ok-put.ensures
     ∙ placed_changed (stepped_row c.args.finished c.args.now) c.args.request.now c.stepped_row-row.result c.args.self.now
-    (rises c.args.self.now c.is_in_order.ensures) c.requires.due c.stepped_row-row.ensures (ap (λ (r : DeleteRow). r.serial) c.stepped_row-row.ensures))) c.newest.ensures
+    (rises c.args.self.now c.is_in_order.ensures) c.requires.due c.stepped_row-row.ensures
+    (ap (λ (r : DeleteRow). r.serial) c.stepped_row-row.ensures))) c.newest.ensures

@@ -19,7 +19,8 @@ invariant_of-result c =
       row_is = c.in_ok-new.ensures.ok ∙ c.in_ok-duplicate.ensures;
       empty = c.empty.ensures;
     } in
-    subst (AreSlots c.in_ok-with_slot.field-0) (sym c.in_ok-share.ensures) (joined_slots row slot slots c.in_ok-with_slot.field-0 events d c.in_ok-with_slot.ensures)
+    subst (AreSlots c.in_ok-with_slot.field-0) (sym c.in_ok-share.ensures)
+    (joined_slots row slot slots c.in_ok-with_slot.field-0 events d c.in_ok-with_slot.ensures)
 
 -- the hook stands at its place
 pub returns : goal.returns
