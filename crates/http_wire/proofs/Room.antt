@@ -85,8 +85,11 @@ body_short : (framing : Framing) (bytes : List ℕ) → IsSmall framing → body
 body_short (Length n) bytes small waits =
     omega (arith, small, short_by n bytes (nat_lt (length bytes) n) refl waits)
 body_short Chunked bytes small waits =
-    omega (arith, length-take 8388609 bytes,
-    capped_by (length (take 8388609 bytes)) (chunks_within max_body (take 8388609 bytes)) waits)
+    omega (
+      arith,
+      length-take 8388609 bytes,
+      capped_by (length (take 8388609 bytes)) (chunks_within max_body (take 8388609 bytes)) waits,
+    )
 
 -- ---- requests
 
@@ -120,8 +123,13 @@ read_short : (bytes : List ℕ) (read : Front RequestHead) → IsHead bytes read
 read_short bytes more stands is = omega (arith, unended_small (head_end bytes) bytes stands)
 read_short bytes (refused fault) stands is = cc
 read_short bytes (whole head n) stands is =
-    omega (arith, head_small bytes head n stands, head_inside bytes head n stands, length-drop n bytes,
-    after_short head n (drop n bytes) (judge head) refl (sym is))
+    omega (
+      arith,
+      head_small bytes head n stands,
+      head_inside bytes head n stands,
+      length-drop n bytes,
+      after_short head n (drop n bytes) (judge head) refl (sym is),
+    )
 
 pub waits_with_room : WaitsWithRoom
 waits_with_room old new waits =

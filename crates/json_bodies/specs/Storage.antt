@@ -38,4 +38,3 @@ abbrev pub want_in : List ℕ → Result Want Refusal
 want_in [] = Ok (wants.Count usual_objects)
 want_in (byte ∷ bytes) =
     value_in (byte ∷ bytes) >>= λ value. checked_object value >>= λ _. want_of value
-

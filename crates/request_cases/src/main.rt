@@ -50,7 +50,9 @@ fn print_ask<R: Print + AllocGlobal>(
     match asked {
         Ok(ask) => println!(rt; "{method} {target} {}", ask_name(&ask)),
         Err(AskFault::Refused(refusal)) => println!(rt;
-            "{method} {target} {} {}", refusal.number(), detail_of(&refusal)
+            "{method} {target} {} {}",
+            refusal.number(),
+            detail_of(&refusal)
         ),
         Err(AskFault::Memory) => no_memory(rt),
     }
@@ -73,7 +75,10 @@ fn print_reply<R: Print + AllocGlobal>(rt: &R, routes: &Routes, words: &str) -> 
         how == "head",
     );
     match told {
-        Ok(text) => println!(rt; "{words}\n{}", str::from_utf8(text.bytes()).unwrap_or("no text")),
+        Ok(text) => println!(rt;
+            "{words}\n{}",
+            str::from_utf8(text.bytes()).unwrap_or("no text")
+        ),
         Err(_) => no_memory(rt),
     }
 }

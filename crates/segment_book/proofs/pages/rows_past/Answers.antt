@@ -17,8 +17,8 @@ returns g c =
     let range = c.args.wanted.now.range in
     let most = c.front_len-most.ensures ∙ ap (λ n. front_len n object limit) c.in_ok-count.ensures in
     let got = ap values_of c.deref.ensures.value ∙ c.range.ensures.page
-        ∙ ap (λ l. values_of l ++ met_page index range
-            (page_of c.args.page.now.after c.front_len-most.result c.args.page.now.reverse)) c.in_ok-rows.ensures.items in
+    ∙ ap (λ l. values_of l ++ met_page index range
+    (page_of c.args.page.now.after c.front_len-most.result c.args.page.now.reverse)) c.in_ok-rows.ensures.items in
     if_ok c.named.result
     (λ rows is. subst (λ l. IsFront limit l (items_past first_point c.args.page.now (filter (names_object object) (met index range)))) (sym is)
     (front_from object limit c.front_len-most.result c.args.page.now range index (values_of c.deref.result.now) most got)) c.named.ensures
