@@ -1,13 +1,10 @@
-//! Reads requests, one a line of standard input, and prints what each asks of a store; and prints the
-//! responses to replies that lines name.
+//! Reads requests, one a line of standard input, and prints what each asks of a store.
 #![tactic(auto)]
 
 mod asks;
-mod replies;
 
 use crate::asks::{ask_name, detail_of, method_of};
-use crate::replies::{base_text, named_reply};
-use std::{io, str};
+use std::io;
 use tams_http::{AskFault, Routes};
 
 /// The store's id.
@@ -25,7 +22,6 @@ fn print_all<R: Input + Print + AllocGlobal>(rt: &R, routes: &Routes) -> io::Res
     for line in rt.lines(rt.alloc()) {
         let line = line?;
         match line.as_str().split_once(' ') {
-            Some(("reply", words)) => print_reply(rt, routes, words)?,
             Some((method, rest)) => print_ask(rt, routes, method, rest)?,
             None => println!(rt; "{line}")?,
         }
@@ -55,31 +51,6 @@ fn print_ask<R: Print + AllocGlobal>(
             detail_of(&refusal)
         ),
         Err(AskFault::Memory) => no_memory(rt),
-    }
-}
-
-/// Prints the response to a reply: its name, the target, and then `head` or `close` where the request is a
-/// HEAD or ends the connection.
-fn print_reply<R: Print + AllocGlobal>(rt: &R, routes: &Routes, words: &str) -> io::Result<()> {
-    let (name, rest) = words.split_once(' ').unwrap_or((words, ""));
-    let (target, how) = rest.split_once(' ').unwrap_or((rest, ""));
-    let (Ok(base), Ok(Some(reply))) = (base_text(rt.alloc()), named_reply(rt.alloc(), name)) else {
-        return no_memory(rt);
-    };
-    let told = routes.response_of(
-        rt.alloc(),
-        &reply,
-        target.as_bytes(),
-        &base,
-        how == "close",
-        how == "head",
-    );
-    match told {
-        Ok(text) => println!(rt;
-            "{words}\n{}",
-            str::from_utf8(text.bytes()).unwrap_or("no text")
-        ),
-        Err(_) => no_memory(rt),
     }
 }
 
