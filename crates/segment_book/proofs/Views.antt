@@ -97,9 +97,9 @@ met_is flow range flows count rising book =
 pub refused_with : Option (Option Span) → Option Refusal
 refused_with range = option_map refusals.Overlap range
 
-first_refused : (rows : List SegmentRow) → overlap_refusal (slice_get rows 0) ≡ option_map refusals.Overlap (first (ranges_of rows))
+first_refused : (met : List SegmentRow) → overlap_refusal (slice_get met 0) ≡ option_map refusals.Overlap (first (ranges_of met))
 first_refused [] = refl
-first_refused (row ∷ rows) = refl
+first_refused (row ∷ more) = refl
 
 pub meeting_is : (row : SegmentRow) (flows : Flows) (count : ℕ) → IsRising flows → IsBook flows count
     → meeting_refusal (segments_in flows) row ≡ option_map refusals.Overlap (first_met (flow_rows row.flow flows) row.segment.range)
