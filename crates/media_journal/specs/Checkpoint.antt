@@ -3,7 +3,7 @@
 use Rattle.std.specs.Prelude.{◌≡◌, ◌+◌, ◌-◌, ◌*◌, ◌⊎◌, ◌==◌, ℕ, Bool, true, false, List, [], length, if◌then◌else◌}
 use Rattle.disk_trait.specs.Device.{Left}
 use Rattle.disk_trait.specs.Calls.{Torn}
-use Rattle.media_journal.specs.declared.header.TheConstants.{BLOCK, HALVES}
+use Rattle.media_journal.specs.declared.header.TheConstants.{BLOCK, HALVES, SELECTOR}
 use Rattle.media_journal.specs.Journal.{Contents, Gives, HasInHalf, Position}
 
 -- where the other half begins, where one of so many blocks begins here
@@ -34,7 +34,7 @@ with_rows rows held = record held { rows = rows; records = [] }
 pub record WritesOther (p : Position) (n : ℕ) (old new : List ℕ) : Type 0 where
   pub between : List ℕ
   pub half : Torn (other_start p) (9 + n) old between
-  pub selector : Torn BLOCK 1 between new
+  pub selector : Torn SELECTOR 1 between new
 
 -- the journal's half holds what it held, and the other one these rows and no record
 pub record HoldsBoth (image : List ℕ) (p : Position) (rows : List ℕ)

@@ -8,7 +8,7 @@ ghost use Rattle.media_journal.specs.JournalMoments.{EachGives};
 ghost use Rattle.media_journal.specs.Checkpoint.{CheckpointEnds, KeepsOrSwitches, WritesOther, after_checkpoint, other_of, selector_for, with_rows};
 ghost use Rattle.media_journal.specs.Within.Steps.{SyncedWriteEnds, WithinWrites, WritesEnd};
 
-use crate::header::{BLOCK, HALVES, MOST_HALF};
+use crate::header::{BLOCK, HALVES, MOST_HALF, SELECTOR};
 use crate::write::write_synced;
 use crate::{AppendFault, Journal};
 use disk_trait::numbers::u64_bytes;
@@ -109,7 +109,7 @@ fn switch_half<D: Disk>(disk: &mut D, start: u64, rows: &[u8]) -> Result<(), Fai
     ensures calls { DiskCalls (is_ok result) (D.device disk.old) (D.device disk.new) }
     ensures six_calls { (D.device disk.new).moment ≤ (D.device disk.old).moment + 6 }
     ensures written { (D.device disk.old).shows ≡ true → OnOk result
-        ((D.device disk.new).seen ≡ overwritten BLOCK (selector_for start ∷ [])
+        ((D.device disk.new).seen ≡ overwritten SELECTOR (selector_for start ∷ [])
         (overwritten start (half_text rows.now) (D.device disk.old).seen)) }
     ensures handed { (D.device disk.old).tells ≡ true → OnOk result
         ((D.device disk.new).handed ≡ (D.device disk.old).handed + (length rows.now + 10)) }
@@ -118,8 +118,8 @@ fn switch_half<D: Disk>(disk: &mut D, start: u64, rows: &[u8]) -> Result<(), Fai
     ensures durable { (D.device disk.old).honest ≡ true
         → OnOk result (LeavesOnly (D.device disk.new).seen (D.device disk.new)) }
     ensures moments { (D.device disk.old).honest ≡ true → (D.device disk.old).shows ≡ true
-        → Elapses (WithinWrites start (half_text rows.now) BLOCK (D.device disk.old).seen)
-        (WritesEnd (is_ok result) start (half_text rows.now) BLOCK (selector_for start)
+        → Elapses (WithinWrites start (half_text rows.now) SELECTOR (D.device disk.old).seen)
+        (WritesEnd (is_ok result) start (half_text rows.now) SELECTOR (selector_for start)
         (D.device disk.old).seen)
         (D.device disk.old) (D.device disk.new) }
 {
@@ -179,7 +179,7 @@ fn select_half<D: Disk>(disk: &mut D, start: u64) -> Result<(), Failed>
     ensures calls { DiskCalls (is_ok result) (D.device disk.old) (D.device disk.new) }
     ensures two_calls { (D.device disk.new).moment ≤ (D.device disk.old).moment + 2 }
     ensures written { (D.device disk.old).shows ≡ true → OnOk result ((D.device disk.new).seen
-        ≡ overwritten BLOCK (selector_for start ∷ []) (D.device disk.old).seen) }
+        ≡ overwritten SELECTOR (selector_for start ∷ []) (D.device disk.old).seen) }
     ensures handed { (D.device disk.old).tells ≡ true → OnOk result
         ((D.device disk.new).handed ≡ (D.device disk.old).handed + 1) }
     ensures handed_at_most { (D.device disk.old).tells ≡ true
@@ -187,10 +187,10 @@ fn select_half<D: Disk>(disk: &mut D, start: u64) -> Result<(), Failed>
     ensures durable { (D.device disk.old).honest ≡ true
         → OnOk result (LeavesOnly (D.device disk.new).seen (D.device disk.new)) }
     ensures moments { (D.device disk.old).honest ≡ true → (D.device disk.old).shows ≡ true
-        → Elapses (TornWrite BLOCK 1)
+        → Elapses (TornWrite SELECTOR 1)
         (SyncedWriteEnds (is_ok result) BLOCK (selector_for start ∷ []) (D.device disk.old).seen)
         (D.device disk.old) (D.device disk.new) }
 {
     let selector = if start == HALVES { 0 } else { 1 };
-    write_synced(disk, BLOCK, &[selector])
+    write_synced(disk, SELECTOR, &[selector])
 }
