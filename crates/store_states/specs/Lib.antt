@@ -2,3 +2,4 @@ pub mod States
 pub mod Kept
 pub mod Held
 pub mod Laws
+pub mod Worked

@@ -1,5 +1,6 @@
 //! Laws of states. Each function does nothing.
 ghost use Rattle.store_states.specs.Held.{BytesHaveTheirLengths, ChangesFindBytes};
+ghost use Rattle.store_states.specs.Worked.{BytesAsWorked, PlacesAsWorked, RowsAsWorked};
 ghost use Rattle.store_states.specs.Laws.{ClearWritesLeaveBytes, EarlyWritesLeaveBytes, IsOneState, LibrariesAreGood, StatesAreGood};
 
 /// An image of the file stands for one state at most.
@@ -25,4 +26,11 @@ pub fn images_have_the_bytes()
 pub fn states_are_good()
     ensures library { LibrariesAreGood }
     ensures state { StatesAreGood }
+{}
+
+/// Places, bytes and rows of a small store, by hand.
+pub fn states_as_worked()
+    ensures places { PlacesAsWorked }
+    ensures bytes { BytesAsWorked }
+    ensures rows { RowsAsWorked }
 {}

@@ -5,6 +5,6 @@
 mod laws;
 
 pub use crate::laws::{
-    an_image_stands_for_one_state, images_have_the_bytes, states_are_good,
+    an_image_stands_for_one_state, images_have_the_bytes, states_are_good, states_as_worked,
     writes_elsewhere_leave_bytes,
 };
