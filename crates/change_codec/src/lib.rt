@@ -10,8 +10,6 @@ mod lists;
 mod parts;
 mod rows;
 mod sized;
-#[cfg(test)]
-mod tests;
 mod values;
 mod whole;
 

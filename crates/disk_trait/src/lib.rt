@@ -12,8 +12,6 @@ mod listed;
 mod memory_disk;
 pub mod numbers;
 mod sure_disk;
-#[cfg(test)]
-mod tests;
 mod text;
 
 pub use crate::bytes::{copy_out, overwrite, same_bytes};

@@ -5,8 +5,6 @@
 mod cursor;
 mod fault;
 mod fields;
-#[cfg(test)]
-mod tests;
 mod writing;
 
 pub use crate::cursor::Cursor;

@@ -15,7 +15,5 @@ mod ranks;
 mod restores;
 mod sets;
 mod tags;
-#[cfg(test)]
-mod tests;
 
 pub use crate::book::FlowBook;

@@ -15,8 +15,6 @@ mod lines;
 mod response;
 mod seek;
 mod stage;
-#[cfg(test)]
-mod tests;
 
 pub use crate::feed::Feed;
 pub use crate::fields::read_length;

@@ -4,8 +4,6 @@
 
 mod index;
 mod rows;
-#[cfg(test)]
-mod tests;
 
 pub use crate::index::IdIndex;
 pub use crate::rows::{all_rows, id_key, row_at, rows_behind, with_row, without_row};

@@ -14,8 +14,6 @@ mod rules;
 mod segments;
 mod storage;
 mod tags;
-#[cfg(test)]
-mod tests;
 mod times;
 
 pub use crate::fault::BodyFault;

@@ -4,22 +4,14 @@
 #![tactic(auto)]
 
 mod checkpoint;
-#[cfg(test)]
-mod checkpoint_tests;
 mod fault;
 mod format;
 mod frame;
 mod header;
 mod journal;
 mod open;
-#[cfg(test)]
-mod opening_tests;
 mod record;
 mod scan;
-#[cfg(test)]
-mod stop_tests;
-#[cfg(test)]
-mod tests;
 mod window;
 mod write;
 

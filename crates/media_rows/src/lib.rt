@@ -20,8 +20,6 @@ mod request;
 mod row;
 mod segment;
 mod source;
-#[cfg(test)]
-mod tests;
 
 pub use crate::change::Change;
 pub use crate::command::{

@@ -6,8 +6,6 @@ mod changes;
 mod extent;
 mod looks;
 mod space;
-#[cfg(test)]
-mod tests;
 
 pub use crate::extent::{BLOCK, read_piece, write_piece};
 pub use crate::space::{Hole, Space};

@@ -9,7 +9,5 @@ mod kept;
 mod keys;
 mod names;
 mod restores;
-#[cfg(test)]
-mod tests;
 
 pub use crate::book::ObjectBook;

@@ -4,7 +4,5 @@
 
 mod book;
 mod pages;
-#[cfg(test)]
-mod tests;
 
 pub use crate::book::SegmentBook;

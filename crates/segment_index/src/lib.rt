@@ -6,8 +6,6 @@ mod fault;
 mod index;
 mod pages;
 mod points;
-#[cfg(test)]
-mod tests;
 
 pub use crate::fault::AddFault;
 pub use crate::index::SegmentIndex;

@@ -5,8 +5,6 @@
 mod changes;
 mod looks;
 mod steps;
-#[cfg(test)]
-mod tests;
 mod tree;
 mod version;
 mod walks;

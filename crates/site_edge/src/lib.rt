@@ -19,8 +19,6 @@ mod site;
 mod span;
 mod store_file;
 mod tally;
-#[cfg(test)]
-mod tests;
 
 pub use crate::clock::{Clock, LAST_MOMENT};
 pub use crate::fault::{FileFailed, LinkFailed, SinkFailed};

@@ -174,35 +174,3 @@ fn part(stream: &mut TcpStream) -> io::Result<()> {
     }
     Ok(())
 }
-
-#[cfg(test)]
-mod tests {
-    use super::*;
-    use disk_trait::Text;
-    use std::test::Fail;
-
-    #[test]
-    fn a_client_is_heard_and_told(rt: HostRuntime) -> Result<(), Fail> {
-        let path = Text::from_bytes(rt.alloc(), b"served")?;
-        let file = StoreFile::make(&rt, &path, 0)?;
-        let listener = TcpListener::bind(&rt, "127.0.0.1:0")?;
-        let mut client = TcpStream::connect(&rt, listener.local_addr()?)?;
-        client.write_all(b"GET")?;
-        client.shutdown(Shutdown::Write)?;
-
-        let mut site = NetSite::new(file, listener);
-        assert_eq!(rt; site.next_peer(), Ok(true));
-        let mut heard = [0; 5];
-        assert_eq!(rt; site.hear(&mut heard), Ok(3));
-        assert_eq!(rt; heard.as_slice(), b"GET\0\0".as_slice());
-        assert_eq!(rt; site.hear(&mut heard), Ok(0));
-        site.say(b"said")?;
-        site.close_peer();
-
-        let mut told = [0; 5];
-        assert_eq!(rt; client.read(&mut told)?, 4);
-        assert_eq!(rt; told.as_slice(), b"said\0".as_slice());
-        assert_eq!(rt; client.read(&mut told)?, 0);
-        Ok(())
-    }
-}

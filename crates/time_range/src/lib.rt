@@ -9,8 +9,6 @@ mod reading;
 mod scanning;
 mod spelling;
 mod stamp;
-#[cfg(test)]
-mod tests;
 
 pub use ends::End;
 pub use fault::{Memory, RangeFault};

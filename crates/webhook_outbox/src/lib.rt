@@ -9,7 +9,5 @@ mod looks;
 mod outbox;
 mod posts;
 mod restores;
-#[cfg(test)]
-mod tests;
 
 pub use crate::outbox::{Outbox, Posted};

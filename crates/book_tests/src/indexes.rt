@@ -3,9 +3,9 @@
 ghost use Rattle.std.specs.Prelude.{◌≡◌, ◌<◌};
 ghost use Rattle.media_rows.specs.Ranges.{has_both_ends};
 
-use crate::{AddFault, SegmentIndex};
 use disk_trait::{Memory, Text};
 use media_rows::{Segment, SegmentRow};
+use segment_index::{AddFault, SegmentIndex};
 use shared_tree::Steps;
 use std::alloc::Global;
 use std::marker::Brand;

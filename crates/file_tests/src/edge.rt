@@ -1,8 +1,8 @@
 //! The site in memory, call by call. What was heard and told is written by hand.
 ghost use Rattle.std.specs.Prelude.{◌≡◌, true};
 
-use super::*;
 use disk_trait::{Disk, MemoryDisk, NumberList, Text};
+use site_edge::*;
 use std::alloc::Global;
 use std::process::Abort;
 use std::test::Fail;

@@ -1,5 +1,5 @@
 //! Fields of each kind, one after the other.
-use super::*;
+use field_codec::*;
 use std::test::*;
 use time_range::TimeRange;
 

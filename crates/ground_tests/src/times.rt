@@ -1,6 +1,6 @@
-use crate::{Memory, RangeFault, TimeRange, Ts, print_range, print_ts, read_range, read_ts};
 use std::alloc::Global;
 use std::test::Fail;
+use time_range::{Memory, RangeFault, TimeRange, Ts, print_range, print_ts, read_range, read_ts};
 
 const LIMIT: i128 = 281_474_976_710_655_999_999_999;
 

@@ -1,8 +1,8 @@
 //! Stops within each write of a checkpoint, what each value of the selector names then, and a checkpoint
 //! back.
-use super::*;
-use crate::stop_tests::{append_payload, count, stopped, store_of};
+use crate::stops::{append_payload, count, stopped, store_of};
 use disk_trait::{Disk, MemoryDisk};
+use media_journal::*;
 use std::alloc::Global;
 use std::test::Fail;
 

@@ -1,8 +1,8 @@
 //! Heads and bodies as clients and attackers send them, with the answer to each (RFC 9112). Each is fed at
 //! once and byte by byte.
 
-use crate::{Feed, Field, FieldList, MethodKind, Step, write_response};
 use disk_trait::{Memory, Text};
+use http_wire::{Feed, Field, FieldList, MethodKind, Step, write_response};
 use std::alloc::Global;
 
 const MORE: u8 = 0;

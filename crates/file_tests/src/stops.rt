@@ -1,6 +1,6 @@
 //! Stops within each write of an append and of formatting, and what is found then.
-use super::*;
 use disk_trait::{Memory, MemoryDisk, NumberList, Text, same_bytes};
+use media_journal::*;
 use std::alloc::Global;
 use std::test::Fail;
 

@@ -1,7 +1,7 @@
 //! Bodies and their first refusals, and a flow with all that it spells. Worked values of JSON are those of
 //! RFC 8259, sections 7 and 13.
-use crate::*;
 use disk_trait::{Memory, Text, same_bytes};
+use json_bodies::*;
 use media_rows::{FlowBody, PartName, Refusal};
 use std::alloc::Global;
 

@@ -1,12 +1,10 @@
-//! Each call that takes memory, once with ample memory, and ids that have one number.
+//! Objects and what refers to them.
 ghost use Rattle.std.specs.Prelude.{IfOk, IsTrue};
 ghost use Rattle.object_refs.specs.References.{references_in, refers};
 
-use crate::ObjectBook;
-use crate::names::{Bucket, Named, serial_named, with_name, without_name};
 use disk_trait::{Memory, Text};
 use media_rows::{BookFault, Extent, ObjectList, Segment, SegmentList, SegmentRow};
-use shared_tree::Version;
+use object_refs::ObjectBook;
 use std::alloc::Global;
 use time_range::{TimeRange, Ts};
 
@@ -15,9 +13,6 @@ const FLOW: u128 = 7;
 
 /// A moment at which the object is due.
 const LATE: u64 = 100_000;
-
-/// The number of two ids.
-const NUMBER: u128 = 5;
 
 fn text(alloc: Global, letter: u8) -> Result<Text, Memory> {
     Text::from_bytes(alloc, &[letter])
@@ -143,45 +138,8 @@ fn all_answers(alloc: Global) -> Result<[u64; 5], BookFault> {
     answers(alloc, &stored(alloc, &id)?, &id)
 }
 
-/// An id with its serial.
-fn named(alloc: Global, letter: u8, serial: u64) -> Result<Named, Memory> {
-    Ok(Named {
-        id: text(alloc, letter)?,
-        serial,
-    })
-}
-
-/// The name `a`, and `b` beside it, which has the same number.
-fn both_named(alloc: Global) -> Result<Version<Bucket>, Memory> {
-    let one = with_name(alloc, &Version::empty(), NUMBER, named(alloc, b'a', 1)?)?;
-    with_name(alloc, &one, NUMBER, named(alloc, b'b', 2)?)
-}
-
-/// The serials of two names, and that of the second once the first was left out.
-fn serials(
-    alloc: Global,
-    names: &Version<Bucket>,
-    first: &Text,
-    second: &Text,
-) -> Result<[Option<u64>; 4], Memory> {
-    let other = without_name(alloc, names, NUMBER, first)?;
-    Ok([
-        serial_named(names, NUMBER, first),
-        serial_named(names, NUMBER, second),
-        serial_named(&other, NUMBER, first),
-        serial_named(&other, NUMBER, second),
-    ])
-}
-
-fn of_one_number(alloc: Global) -> Result<[Option<u64>; 4], Memory> {
-    let (first, second) = (text(alloc, b'a')?, text(alloc, b'b')?);
-    serials(alloc, &both_named(alloc)?, &first, &second)
-}
-
 #[test]
 fn each_call_gives_its_answer(rt: HostRuntime) {
     let alloc = rt.alloc();
     assert_eq!(rt; all_answers(alloc).ok(), Some([1, 0, 1, 0, 1]));
-    let serials = [Some(1), Some(2), None, Some(2)];
-    assert_eq!(rt; of_one_number(alloc).ok(), Some(serials));
 }

@@ -2,8 +2,8 @@
 ghost use Rattle.std.specs.Prelude.{◌≡◌, ◌+◌, ◌<◌, ◌≤◌, IfOk, IsTrue};
 ghost use Rattle.object_blobs.specs.Holes.{IsPlaceTaken, is_free_place, is_taken_place};
 
-use super::*;
 use disk_trait::{Disk, Memory, MemoryDisk, NumberList, Text, same_bytes};
+use object_blobs::*;
 use std::alloc::Global;
 use std::test::Fail;
 

@@ -1,6 +1,6 @@
 //! The journal over the device in memory. The bytes are written by hand.
-use super::*;
 use disk_trait::{Memory, MemoryDisk, NumberList, Text, same_bytes};
+use media_journal::*;
 use std::alloc::Global;
 use std::process::Abort;
 use std::test::Fail;

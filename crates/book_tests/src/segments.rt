@@ -2,9 +2,9 @@
 ghost use Rattle.std.specs.Prelude.{◌≡◌};
 ghost use Rattle.media_rows.specs.Ranges.{has_both_ends};
 
-use crate::SegmentBook;
 use disk_trait::Text;
 use media_rows::{BookFault, Segment, SegmentRow};
+use segment_book::SegmentBook;
 use std::alloc::Global;
 use time_range::{TimeRange, Ts, read_range};
 

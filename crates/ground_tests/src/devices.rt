@@ -1,5 +1,5 @@
 //! The device in memory, call by call. The images are written by hand.
-use super::*;
+use disk_trait::*;
 use std::alloc::Global;
 use std::process::Abort;
 use std::test::Fail;

@@ -1,5 +1,5 @@
 //! Bytes written out by hand, read and written again, and the places of faults.
-use super::*;
+use change_codec::*;
 use disk_trait::Text;
 use std::alloc::Global;
 use std::test::*;

@@ -1,11 +1,11 @@
 //! Each call that takes memory, once with ample memory: a hook, and an event that waits for it.
 ghost use Rattle.std.specs.Prelude.{◌≡◌, [], IfOk};
 
-use super::*;
 use disk_trait::{Memory, Text};
 use media_rows::{ApplyFault, EventKind, EventList, Happened, HappenedList, Hook};
 use std::alloc::Global;
 use std::test::Fail;
+use webhook_outbox::*;
 
 /// A hook that takes new flows.
 fn hook(alloc: Global) -> Result<Hook, Memory> {

@@ -1,6 +1,6 @@
 //! Each call once with ample memory, on small catalogs.
-use crate::FlowBook;
 use disk_trait::{Duplicate, Memory, Text, TextList};
+use flow_book::FlowBook;
 use media_rows::{
     ApplyFault, BookFault, FlowBody, FlowFilter, FlowList, FormatKind, Member, MemberList, Part,
     Refusal, SourceFilter, SourceList, Tag, TagList, TagTest, TagTests,

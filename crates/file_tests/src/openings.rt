@@ -1,8 +1,8 @@
 //! Opening journals over the device in memory: files that are damaged, and how a half is read.
-use crate::JournalFault::{Damaged, NotStore};
-use crate::tests::{ID, PAYLOAD, ROWS, append_once, device};
-use crate::{JournalFault, format_device, open_journal};
+use crate::journal::{ID, PAYLOAD, ROWS, append_once, device};
 use disk_trait::{Memory, MemoryDisk, NumberList, Text};
+use media_journal::JournalFault::{Damaged, NotStore};
+use media_journal::{JournalFault, format_device, open_journal};
 use std::alloc::Global;
 use std::process::Abort;
 use std::test::Fail;

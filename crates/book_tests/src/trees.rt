@@ -1,8 +1,8 @@
 //! Old versions stay, and a look finds what the clauses say, at sizes that only a shared tree can keep.
 ghost use Rattle.std.specs.Prelude.{◌≡◌, ◌<◌};
 
-use crate::{Steps, Version};
 use disk_trait::Memory;
+use shared_tree::{Steps, Version};
 use std::alloc::Global;
 use std::marker::Brand;
 use std::rc::Rc;

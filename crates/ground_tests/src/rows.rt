@@ -1,6 +1,6 @@
 //! Vectors from outside, and each call that takes memory once with ample memory.
-use crate::*;
 use disk_trait::{Duplicate, Memory, Text, TextList, same_bytes};
+use media_rows::*;
 use std::alloc::Global;
 use time_range::{TimeRange, Ts};
 

@@ -1,6 +1,6 @@
 //! Each call once with ample memory.
-use crate::{IdIndex, all_rows, row_at, rows_behind, with_row, without_row};
 use disk_trait::Memory;
+use id_index::{IdIndex, all_rows, row_at, rows_behind, with_row, without_row};
 use shared_tree::Version;
 use std::alloc::Global;
 
