@@ -19,7 +19,7 @@ use Rattle.library_laws.proofs.ChangesKept.{good_is_tested}
 use Rattle.library_laws.proofs.SoundLemmas.{applied_is_sound}
 use Rattle.store_states.specs.Held.{archive_in}
 use Rattle.store_states.specs.Laws.{IsUnder, LibrariesAreGood, StatesAreGood}
-use Rattle.store_states.specs.States.{Folds, Makes, StandsFor, StepOf, StoreState, blocks_before, held_in, media_start}
+use Rattle.store_states.specs.States.{Folds, IsSnapshot, IsTextOf, Makes, StandsFor, StepOf, StoreState, blocks_before, held_in, media_start}
 use Rattle.store_states.proofs.Held.{lengths_held}
 
 -- ---- one change
@@ -88,3 +88,13 @@ states_are_good image s stands =
       held = ap (λ (bytes : List (List ℕ)). is_held (record { library = s.archive.library; held = bytes })) stands.held
           ∙ lengths_held image (media_start stands.header.half) s.archive.library library.0 there;
     }
+
+-- ---- the text of what is kept
+
+-- the text of a library that a header's journal makes is one of that header
+pub text_under : (h : Header) (old rows : List ℕ) (records : List Record) (library : Library) → Makes h old records library
+    → IsTextOf library.id library.blocks rows library → IsSnapshot h rows library
+text_under h old rows records library makes text =
+    let under = (libraries_are_good h old records library makes).1 in
+    subst (λ (n : ℕ). IsTextOf n (h.blocks - blocks_before h.half) rows library) under.id
+    (subst (λ (n : ℕ). IsTextOf library.id n rows library) under.blocks text)

@@ -51,16 +51,20 @@ abbrev pub is_numbers : Row → Bool
 is_numbers (Numbers next) = true
 is_numbers _ = false
 
--- The text spells rows in their order, that of numbers among them, and the library of these rows,
--- with the header's id and its media blocks, is good.
-pub record IsSnapshot (h : Header) (text : List ℕ) (library : Library) : Type 0 where
+-- The text spells rows in their order, that of numbers among them, and they make the library, under
+-- this id and with so many media blocks. It is good.
+pub record IsTextOf (id blocks : ℕ) (text : List ℕ) (library : Library) : Type 0 where
   pub rows : List Row
   pub fit : AllByRecursion row_spelling.meaning.fits rows
   pub spelled : text ≡ flat_map row_spelling.meaning.spell rows
   pub rising : IsTrue (rises row_before rows)
   pub numbered : IsTrue (list_any is_numbers rows)
-  pub made : library ≡ library_of h.id (h.blocks - blocks_before h.half) rows
+  pub made : library ≡ library_of id blocks rows
   pub good : IsTrue (is_good library)
+
+-- the text of a library under a header: its id, and the media blocks of its file
+abbrev pub IsSnapshot : Header → List ℕ → Library → Type 0
+IsSnapshot h = IsTextOf h.id (h.blocks - blocks_before h.half)
 
 -- ---- records
 

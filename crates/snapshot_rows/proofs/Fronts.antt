@@ -1,0 +1,95 @@
+-- Rows that were read from the front of a text, and one more.
+use Rattle.std.proofs.Common.{◌≡◌, ◌≤◌, ◌<◌, ◌+◌, ℕ, Bool, true, false, List, [], ◌∷◌, ◌++◌, Option, Some, length, take, drop, refl, sym, ap, subst, ◌∙◌, arith}
+use Rattle.std.specs.List.{AllByRecursion, flat_map}
+use Rattle.std.proofs.lemmas.Bool.{false≢true}
+use Rattle.std.proofs.lemmas.List.{append-nil, append_assoc, length-append, take-append-drop}
+use Rattle.std.proofs.Math.Seq.{take-append_seam, take-append-add}
+use Rattle.field_codec.specs.Meaning.{SpellsFirst}
+use Rattle.media_rows.specs.declared.row.Row.{Row}
+use Rattle.change_codec.specs.Codec.{BeginsWithRow}
+use Rattle.change_codec.specs.Rows.{row_spelling}
+use Rattle.snapshot_rows.specs.declared.places.Place.{Place}
+use Rattle.snapshot_rows.specs.Texts.{Continues, IsDamagedAt, SpellsRows, text_of_rows}
+use Rattle.snapshot_rows.specs.Within.Fronts.{IsFrontRead, IsLastPlace, NoneFollows}
+use Rattle.snapshot_rows.specs.Within.Places.{IsPlaceOf, stands_behind}
+use Rattle.snapshot_rows.proofs.Orders.{behind_rising, last_place, rises_behind}
+
+-- bytes that begin with a row's spelling, by its length
+pub begins_by_length : (bytes : List ℕ) (row : Row) (later : List ℕ) → SpellsFirst row_spelling.meaning bytes row later
+    → BeginsWithRow bytes row (length (row_spelling.meaning.spell row))
+begins_by_length bytes row later first = record {
+  rest = later;
+  begins = first;
+  place = sym (length-append (row_spelling.meaning.spell row) later) ∙ ap length (sym first.parts);
+}
+
+taken_is : (bytes : List ℕ) (row : Row) (taken : ℕ) → BeginsWithRow bytes row taken → taken ≡ length (row_spelling.meaning.spell row)
+taken_is bytes row taken begins =
+    let whole : length bytes ≡ length (row_spelling.meaning.spell row) + length begins.rest =
+    ap length begins.begins.parts ∙ length-append (row_spelling.meaning.spell row) begins.rest in
+    omega (arith, whole, begins.place)
+
+pub taken_within : (bytes : List ℕ) (row : Row) (taken : ℕ) → BeginsWithRow bytes row taken → taken ≤ length bytes
+taken_within bytes row taken begins = omega (arith, begins.place)
+
+-- the bytes that a row at the front takes
+taken_are : (bytes : List ℕ) (row : Row) (taken : ℕ) → BeginsWithRow bytes row taken → take taken bytes ≡ row_spelling.meaning.spell row
+taken_are bytes row taken begins =
+    ap (λ (n : ℕ). take n bytes) (taken_is bytes row taken begins)
+    ∙ ap (take (length (row_spelling.meaning.spell row))) begins.begins.parts
+    ∙ take-append_seam (row_spelling.meaning.spell row) begins.rest
+
+text_of_more : (rows : List Row) (row : Row) → text_of_rows (rows ++ row ∷ []) ≡ text_of_rows rows ++ row_spelling.meaning.spell row
+text_of_more [] row = append-nil (row_spelling.meaning.spell row)
+text_of_more (x ∷ rows) row =
+    ap (λ (text : List ℕ). row_spelling.meaning.spell x ++ text) (text_of_more rows row)
+    ∙ sym (append_assoc (row_spelling.meaning.spell x) (text_of_rows rows) (row_spelling.meaning.spell row))
+
+fit_more : (rows : List Row) (row : Row) → AllByRecursion row_spelling.meaning.fits rows → row_spelling.meaning.fits row
+    → AllByRecursion row_spelling.meaning.fits (rows ++ row ∷ [])
+fit_more [] row fit fits = (fits, unit)
+fit_more (x ∷ rows) row (fit, more) fits = (fit, fit_more rows row more fits)
+
+-- one more row was read
+pub one_more : (text : List ℕ) (rows : List Row) (at : ℕ) (last : Option Place) (row : Row) (place : Place) (taken : ℕ) → IsFrontRead text rows at last
+    → BeginsWithRow (drop at text) row taken → IsPlaceOf place row → stands_behind last row ≡ true
+    → IsFrontRead text (rows ++ row ∷ []) (at + taken) (Some place)
+one_more text rows at last row place taken read begins is behind = record {
+  within = omega (arith, read.within, taken_within (drop at text) row taken begins, dropped);
+  front = record {
+    fit = fit_more rows row read.front.fit begins.begins.fits;
+    spelled = parts;
+    rising = rises_behind rows row read.front.rising (read.last row ∙ behind);
+  };
+  last = last_place rows row place is;
+}
+  where
+    front_length : length (take at text) ≡ at
+    front_length = auto (arith, read.within)
+    dropped : at + length (drop at text) ≡ length text
+    dropped =
+        let both = sym (length-append (take at text) (drop at text)) ∙ ap length (take-append-drop at text) in
+        omega (arith, both, front_length)
+    parts : take (at + taken) text ≡ text_of_rows (rows ++ row ∷ [])
+    parts =
+        ap (λ (n : ℕ). take (n + taken) text) (sym front_length)
+        ∙ ap (take (length (take at text) + taken)) (sym (take-append-drop at text))
+        ∙ take-append-add (take at text) (drop at text) taken
+        ∙ ap (λ (bytes : List ℕ). take at text ++ bytes) (taken_are (drop at text) row taken begins)
+        ∙ ap (λ (front : List ℕ). front ++ row_spelling.meaning.spell row) read.front.spelled
+        ∙ sym (text_of_more rows row)
+
+-- no further row was read
+pub none_more : (text : List ℕ) (rows : List Row) (at : ℕ) (last : Option Place) → IsFrontRead text rows at last → at < length text
+    → NoneFollows last (drop at text) → IsDamagedAt text at
+none_more text rows at last read before none = record {
+  front = rows;
+  before = take at text;
+  behind = drop at text;
+  parts = sym (take-append-drop at text);
+  rows = read.front;
+  place = auto (arith, read.within);
+  some = auto (arith, before);
+  none = λ next.
+      false≢true (sym (none next.row next.later next.begins) ∙ sym (read.last next.row) ∙ behind_rising rows next.row next.rising);
+}

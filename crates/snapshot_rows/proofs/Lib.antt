@@ -1,0 +1,4 @@
+pub mod Lists
+mod Orders
+mod Damage
+mod Fronts
