@@ -27,4 +27,6 @@ mod openings;
 #[cfg(test)]
 mod stops;
 #[cfg(test)]
+mod store_calls;
+#[cfg(test)]
 mod store_files;

@@ -12,7 +12,7 @@ const PUT_FLOW: [u8; 58] = [
 ];
 
 /// Bytes from sixteens' digits; blanks are skipped.
-fn bytes_of(alloc: Global, digits: &str) -> Option<Vec<u8>> {
+pub(crate) fn bytes_of(alloc: Global, digits: &str) -> Option<Vec<u8>> {
     let mut bytes = Vec::new(alloc);
     let mut high = None;
     for digit in digits.as_bytes() {

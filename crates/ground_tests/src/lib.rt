@@ -11,4 +11,6 @@ mod fields;
 #[cfg(test)]
 mod rows;
 #[cfg(test)]
+mod texts;
+#[cfg(test)]
 mod times;

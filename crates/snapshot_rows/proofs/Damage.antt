@@ -121,7 +121,7 @@ is_one_place text some other a b = elim (compare a.front b.front a.behind b.behi
 ]
 
 no_bytes : (bytes : List ℕ) → 0 < length bytes → bytes ≡ [] → ⊥
-no_bytes [] some is = absurd (omega some)
+no_bytes [] some is = absurd (omega (arith, some))
 no_bytes (byte ∷ bytes) some is = cc
 
 pub damage_is_no_text : DamageIsNoText

@@ -1,9 +1,9 @@
 -- Rows that were read from the front of a text, and one more.
-use Rattle.std.proofs.Common.{◌≡◌, ◌≤◌, ◌<◌, ◌+◌, ℕ, Bool, true, false, List, [], ◌∷◌, ◌++◌, Option, Some, length, take, drop, refl, sym, ap, subst, ◌∙◌, arith}
+use Rattle.std.proofs.Common.{◌≡◌, ◌≤◌, ◌<◌, ◌+◌, ◌-◌, ℕ, Bool, true, false, List, [], ◌∷◌, ◌++◌, Option, Some, length, take, drop, suc, refl, sym, ap, subst, ◌∙◌, arith}
 use Rattle.std.specs.List.{AllByRecursion, flat_map}
 use Rattle.std.proofs.lemmas.Bool.{false≢true}
-use Rattle.std.proofs.lemmas.List.{append-nil, append_assoc, length-append, take-append-drop}
-use Rattle.std.proofs.Math.Seq.{take-append_seam, take-append-add}
+use Rattle.std.proofs.lemmas.List.{append-nil, append_assoc, length-append, length-drop, length-take-le, take-append-drop}
+use Rattle.std.proofs.Math.Seq.{take-append_seam, take-append-add, take-length}
 use Rattle.field_codec.specs.Meaning.{SpellsFirst}
 use Rattle.media_rows.specs.declared.row.Row.{Row}
 use Rattle.change_codec.specs.Codec.{BeginsWithRow}
@@ -12,6 +12,7 @@ use Rattle.snapshot_rows.specs.declared.places.Place.{Place}
 use Rattle.snapshot_rows.specs.Texts.{Continues, IsDamagedAt, SpellsRows, text_of_rows}
 use Rattle.snapshot_rows.specs.Within.Fronts.{IsFrontRead, IsLastPlace, NoneFollows}
 use Rattle.snapshot_rows.specs.Within.Places.{IsPlaceOf, stands_behind}
+use Rattle.snapshot_rows.proofs.Lists.{some_byte}
 use Rattle.snapshot_rows.proofs.Orders.{behind_rising, last_place, rises_behind}
 
 -- bytes that begin with a row's spelling, by its length
@@ -32,6 +33,15 @@ taken_is bytes row taken begins =
 pub taken_within : (bytes : List ℕ) (row : Row) (taken : ℕ) → BeginsWithRow bytes row taken → taken ≤ length bytes
 taken_within bytes row taken begins = omega (arith, begins.place)
 
+pub taken_some : (bytes : List ℕ) (row : Row) (taken : ℕ) → BeginsWithRow bytes row taken → 0 < taken
+taken_some bytes row taken begins = by_length (row_spelling.meaning.spell row) refl
+  where
+    by_length : (spelling : List ℕ) → row_spelling.meaning.spell row ≡ spelling → 0 < taken
+    by_length [] is = absurd (some_byte row [] (append-nil (row_spelling.meaning.spell row) ∙ is))
+    by_length (byte ∷ rest) is =
+        let n : length (row_spelling.meaning.spell row) ≡ suc (length rest) = ap length is in
+        omega (arith, n, taken_is bytes row taken begins)
+
 -- the bytes that a row at the front takes
 taken_are : (bytes : List ℕ) (row : Row) (taken : ℕ) → BeginsWithRow bytes row taken → take taken bytes ≡ row_spelling.meaning.spell row
 taken_are bytes row taken begins =
@@ -47,8 +57,12 @@ text_of_more (x ∷ rows) row =
 
 fit_more : (rows : List Row) (row : Row) → AllByRecursion row_spelling.meaning.fits rows → row_spelling.meaning.fits row
     → AllByRecursion row_spelling.meaning.fits (rows ++ row ∷ [])
-fit_more [] row fit fits = (fits, unit)
+fit_more [] row fit fits = (fits, tt)
 fit_more (x ∷ rows) row (fit, more) fits = (fit, fit_more rows row more fits)
+
+-- the bytes from an offset on, as a part of the text
+pub rest_is : (text : List ℕ) (at : ℕ) → take (length text - at) (drop at text) ≡ drop at text
+rest_is text at = ap (λ (n : ℕ). take n (drop at text)) (sym (length-drop at text)) ∙ take-length (drop at text)
 
 -- one more row was read
 pub one_more : (text : List ℕ) (rows : List Row) (at : ℕ) (last : Option Place) (row : Row) (place : Place) (taken : ℕ) → IsFrontRead text rows at last
@@ -59,17 +73,19 @@ one_more text rows at last row place taken read begins is behind = record {
   front = record {
     fit = fit_more rows row read.front.fit begins.begins.fits;
     spelled = parts;
-    rising = rises_behind rows row read.front.rising (read.last row ∙ behind);
+    rising = rises_behind rows row read.front.rising (read.place row ∙ behind);
   };
-  last = last_place rows row place is;
+  place = last_place rows row place is;
 }
   where
     front_length : length (take at text) ≡ at
-    front_length = auto (arith, read.within)
+    front_length = length-take-le at text read.within
+
     dropped : at + length (drop at text) ≡ length text
     dropped =
         let both = sym (length-append (take at text) (drop at text)) ∙ ap length (take-append-drop at text) in
         omega (arith, both, front_length)
+
     parts : take (at + taken) text ≡ text_of_rows (rows ++ row ∷ [])
     parts =
         ap (λ (n : ℕ). take (n + taken) text) (sym front_length)
@@ -88,8 +104,8 @@ none_more text rows at last read before none = record {
   behind = drop at text;
   parts = sym (take-append-drop at text);
   rows = read.front;
-  place = auto (arith, read.within);
-  some = auto (arith, before);
+  place = sym (length-take-le at text read.within);
+  some = omega (arith, before, length-drop at text);
   none = λ next.
-      false≢true (sym (none next.row next.later next.begins) ∙ sym (read.last next.row) ∙ behind_rising rows next.row next.rising);
+      false≢true (sym (none next.row next.later next.begins) ∙ sym (read.place next.row) ∙ behind_rising rows next.row next.rising);
 }

@@ -1,4 +1,4 @@
 pub mod Lists
 mod Orders
-mod Damage
+pub mod Damage
 mod Fronts

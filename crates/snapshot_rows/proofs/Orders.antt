@@ -3,7 +3,8 @@ use Rattle.std.proofs.Common.{◌≡◌, ℕ, ℤ, Bool, true, false, ◌&&◌, 
 use Rattle.std.specs.Prelude.{◌==◌, int_lt}
 use Rattle.std.specs.List.{list_all}
 use Rattle.std.proofs.lemmas.Bool.{and_from, and_parts, false≢true}
-use Rattle.std.proofs.lemmas.Bool.Decides.{int_tests, nat_tests}
+use Rattle.std.proofs.lemmas.Bool.Decides.{nat_tests}
+use Rattle.std.proofs.lemmas.Int.{ints}
 use Rattle.media_rows.specs.declared.row.Row.{Row}
 use Rattle.media_rows.specs.Lists.{rises}
 use Rattle.media_rows.specs.Segments.{low_before}
@@ -18,7 +19,7 @@ by_points : (a b c : Option ℤ) → low_before a b ≡ true → low_before b c 
 by_points a b None before then = absurd (false≢true then)
 by_points None b (Some z) before then = refl
 by_points (Some x) None (Some z) before then = absurd (false≢true before)
-by_points (Some x) (Some y) (Some z) before then = grind (arith, int_tests)
+by_points (Some x) (Some y) (Some z) before then = grind (arith, ints)
 
 -- by a number, and behind it by another order
 by_numbers : (a b c : ℕ) (p q r : Bool) → (p ≡ true → q ≡ true → r ≡ true) → (nat_lt a b || ((a == b) && p)) ≡ true → (nat_lt b c || ((b == c) && q)) ≡ true
@@ -71,6 +72,7 @@ rises_behind (x ∷ rows) row rising last =
     reaches (y ∷ rows) all rising last =
         let both = and_parts (row_before x y) (list_all (row_before x) rows) all in
         behind_all x y rows row both.0 both.1 rising last
+
     behind_rest : (rows : List Row) → is_behind_last (x ∷ rows) row ≡ true → is_behind_last rows row ≡ true
     behind_rest [] last = refl
     behind_rest (y ∷ rows) last = last

@@ -1,4 +1,6 @@
 //! Why a text gives no rows.
+ghost use Rattle.std.specs.Prelude.{◌≡◌};
+
 use disk_trait::Memory;
 
 /// Why a text gives no rows.

@@ -1,5 +1,5 @@
 //! The rows that a text spells.
-ghost use Rattle.std.specs.Prelude.{◌≡◌, ◌≤◌, ◌<◌, ◌+◌, ℕ, List, length, drop, Some, None, IfOk, IfSome};
+ghost use Rattle.std.specs.Prelude.{◌≡◌, ◌≤◌, ◌<◌, ◌+◌, ℕ, List, length, drop, true, Some, None, IfOk, IfSome};
 ghost use Rattle.media_rows.specs.declared.row.Row.{Row};
 ghost use Rattle.change_codec.specs.Codec.{BeginsWithRow};
 ghost use Rattle.snapshot_rows.specs.Texts.{IsDamagedAt, OnDamaged, SpellsRows};
@@ -31,12 +31,14 @@ pub fn read_rows(alloc: Global, bytes: &[u8]) -> Result<RowList, RowsFault>
     let mut last = None;
     let mut at = 0;
     'rows: while at < bytes.len() {
-        let Some(found) = next_row(alloc, &bytes[at..], &last)? else {
-            return Err(RowsFault::Damaged(at as u64));
-        };
-        at += found.taken;
-        last = Some(found.place);
-        rows.push(found.row)?;
+        match next_row(alloc, &bytes[at..], &last)? {
+            Some(found) => {
+                at += found.taken;
+                last = Some(found.place);
+                rows.push(found.row)?;
+            }
+            None => return Err(RowsFault::Damaged(at as u64)),
+        }
     }
     Ok(rows)
 }

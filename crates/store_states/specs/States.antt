@@ -2,7 +2,7 @@
 -- and records whose changes apply one after another, and each stored object's bytes are those at
 -- its extent. Our own format.
 use Rattle.std.specs.Prelude.{◌≡◌, ◌+◌, ◌-◌, ◌*◌, ℕ, Bool, true, false, List, [], ◌∷◌, map, Some, IsTrue}
-use Rattle.std.specs.List.{AllByRecursion, flat_map, list_any}
+use Rattle.std.specs.List.{list_any}
 use Rattle.media_rows.specs.declared.change.Change.{Change}
 use Rattle.media_rows.specs.declared.object.ObjectRow.{ObjectRow}
 use Rattle.media_rows.specs.declared.object.ObjectState.{ObjectState}
@@ -12,11 +12,10 @@ use Rattle.media_rows.specs.declared.row.Row.TheVariants.{Numbers}
 use Rattle.media_rows.specs.Apply.{applied}
 use Rattle.media_rows.specs.Good.{is_good}
 use Rattle.media_rows.specs.Library.{Library}
-use Rattle.media_rows.specs.Lists.{rises}
 use Rattle.media_rows.specs.Media.{Archive}
-use Rattle.media_rows.specs.Snapshot.{library_of, row_before}
+use Rattle.media_rows.specs.Snapshot.{library_of}
 use Rattle.change_codec.specs.Codec.{SpellsChange}
-use Rattle.change_codec.specs.Rows.{row_spelling}
+use Rattle.snapshot_rows.specs.Texts.{SpellsRows}
 use Rattle.object_blobs.specs.Extents.{extent_bytes}
 use Rattle.media_journal.specs.declared.header.Header.{Header}
 use Rattle.media_journal.specs.declared.header.TheConstants.{BLOCK}
@@ -55,9 +54,7 @@ is_numbers _ = false
 -- this id and with so many media blocks. It is good.
 pub record IsTextOf (id blocks : ℕ) (text : List ℕ) (library : Library) : Type 0 where
   pub rows : List Row
-  pub fit : AllByRecursion row_spelling.meaning.fits rows
-  pub spelled : text ≡ flat_map row_spelling.meaning.spell rows
-  pub rising : IsTrue (rises row_before rows)
+  pub spells : SpellsRows text rows
   pub numbered : IsTrue (list_any is_numbers rows)
   pub made : library ≡ library_of id blocks rows
   pub good : IsTrue (is_good library)

@@ -29,4 +29,4 @@ pub record IsFrontRead (text : List ℕ) (rows : List Row) (at : ℕ)
     (last : Option Place) : Type 0 where
   pub within : at ≤ length text
   pub front : SpellsRows (take at text) rows
-  pub last : IsLastPlace last rows
+  pub place : IsLastPlace last rows
