@@ -13,6 +13,8 @@ mod outboxes;
 #[cfg(test)]
 mod references;
 #[cfg(test)]
+mod requests;
+#[cfg(test)]
 mod segments;
 #[cfg(test)]
 mod trees;

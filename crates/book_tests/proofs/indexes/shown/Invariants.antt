@@ -1,4 +1,4 @@
-use Rattle.segment_index.proofs.tests.shown.Given as goal
+use Rattle.book_tests.proofs.indexes.shown.Given as goal
 
 -- the steps of each page are counted from a ledger of its own
 abbrev pub ghosts-page : goal.ghosts-page

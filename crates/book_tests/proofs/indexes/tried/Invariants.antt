@@ -1,4 +1,4 @@
-use Rattle.segment_index.proofs.tests.tried.Given as goal
+use Rattle.book_tests.proofs.indexes.tried.Given as goal
 
 -- the steps of each look are counted from a ledger of its own
 abbrev pub ghosts-with_segment : goal.ghosts-with_segment

@@ -1,6 +1,6 @@
 use Rattle.media_rows.specs.declared.refusal.Refusal.TheVariants.{NoObject}
 use Rattle.object_refs.proofs.Theorems.{refer_refers}
-use Rattle.object_refs.proofs.tests.referred.Goals as goal
+use Rattle.book_tests.proofs.references.referred.Goals as goal
 
 -- the reference came just now
 pub returns-in-Ok : goal.returns-in-Ok

@@ -1,7 +1,7 @@
 use Rattle.std.proofs.Common.{sym}
 use Rattle.object_refs.specs.References.{objects_in, references_in}
 use Rattle.object_refs.proofs.Theorems.{due_unnamed}
-use Rattle.object_refs.proofs.tests.swept.Goals as goal
+use Rattle.book_tests.proofs.references.swept.Goals as goal
 
 -- an object that is due isn't named
 pub sweep-requires : goal.sweep-requires

@@ -1,4 +1,4 @@
-use Rattle.shared_tree.proofs.tests.is_as_grown.Given as goal
+use Rattle.book_tests.proofs.trees.is_as_grown.Given as goal
 
 -- the steps of the looks are counted from ledgers of their own
 abbrev pub ghosts-has : goal.ghosts-has

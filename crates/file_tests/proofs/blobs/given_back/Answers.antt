@@ -1,5 +1,5 @@
 use Rattle.object_blobs.proofs.Places.{free_is_apart, taken_apart, taken_is_taken, taken_stays}
-use Rattle.object_blobs.proofs.tests.given_back.Goals as goal
+use Rattle.file_tests.proofs.blobs.given_back.Goals as goal
 
 -- the first place stays taken while the second one is
 pub give-requires-clause-taken : goal.give-requires-clause-taken

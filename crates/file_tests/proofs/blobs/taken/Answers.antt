@@ -1,5 +1,5 @@
 use Rattle.object_blobs.proofs.Places.{place_is_free, place_is_inside, taken_is_taken}
-use Rattle.object_blobs.proofs.tests.taken.Goals as goal
+use Rattle.file_tests.proofs.blobs.taken.Goals as goal
 
 -- a place that was found is free
 pub take-requires : goal.take-requires

@@ -1,6 +1,6 @@
 use Rattle.std.proofs.Common.{◌≡◌, false}
 use Rattle.http_wire.specs.declared.stage.Stage.TheVariants.{Open}
-use Rattle.http_wire.proofs.tests.one_by_one.Given as goal
+use Rattle.wire_tests.proofs.feeds.one_by_one.Given as goal
 
 -- every answer so far was that nothing is whole
 abbrev pub invariant-loop-i : goal.invariant-loop-i
