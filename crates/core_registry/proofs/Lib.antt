@@ -1,0 +1,2 @@
+mod Happening
+mod Posting

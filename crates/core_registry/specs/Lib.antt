@@ -1,0 +1,5 @@
+pub mod Registry
+pub mod Going
+pub mod Laws
+pub mod Within
+pub use Rattle.media_rows.specs.Library

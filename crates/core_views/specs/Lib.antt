@@ -1,0 +1,2 @@
+pub mod Shown
+pub use Rattle.media_rows.specs.Views

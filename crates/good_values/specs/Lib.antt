@@ -1,0 +1,3 @@
+pub mod Within
+pub use Rattle.media_rows.specs.Good
+pub use Rattle.media_rows.specs.Sound
