@@ -7,6 +7,7 @@ pub mod Machine
 pub mod Opening
 pub mod Keeping
 pub mod KeepingLaws
+pub mod Laws
 pub mod Serving
 pub mod Within
 pub use Rattle.connection_loop.specs.Turns

@@ -5,6 +5,7 @@
 mod answer;
 mod change;
 mod fault;
+mod laws;
 mod library;
 mod request;
 mod service;
@@ -12,6 +13,7 @@ mod store;
 mod unread;
 
 pub use crate::change::PutChange;
+pub use crate::laws::{fronts_are_one, states_are_good, states_are_one};
 pub use crate::library::{Flow, FlowList, Library};
 pub use crate::request::FlowPut;
 pub use crate::service::PutService;
