@@ -1,0 +1,9 @@
+use Rattle.put_service.proofs.service.PutServiceService.take_turn.Goals as goal
+
+pub returns-in-Unbuilt-clause-goes : goal.returns-in-Unbuilt-clause-goes
+returns-in-Unbuilt-clause-goes g c = λ all b finished steps keeps going.
+    c.refuse.ensures.goes _ all _ b finished steps keeps going
+
+pub returns-in-More-clause-goes : goal.returns-in-More-clause-goes
+returns-in-More-clause-goes g c = λ all b finished steps keeps going.
+    c.hear_more.ensures.goes _ all _ _ b finished steps keeps going

@@ -1,0 +1,13 @@
+pub mod Request
+pub mod Change
+pub mod Library
+pub mod Store
+pub mod Answer
+pub mod Machine
+pub mod Opening
+pub mod Keeping
+pub mod KeepingLaws
+pub mod Laws
+pub mod Serving
+pub mod Within
+pub use Rattle.connection_loop.specs.Turns
