@@ -1,1 +1,2 @@
 mod References
+mod Naming

@@ -1,9 +1,10 @@
 -- Laws of objects whose references are those of the segments: what is said of references is said of
 -- segments, and it stays so with each call of a book of objects.
-use Rattle.std.specs.Prelude.{◌≡◌, ℕ, List, [], ◌∷◌, ◌++◌, Contains, IsFalse}
+use Rattle.std.specs.Prelude.{◌≡◌, ℕ, List, [], ◌∷◌, ◌++◌, Contains, IsFalse, IsTrue, is_some}
 use Rattle.media_rows.specs.declared.object.ObjectRow.{ObjectRow}
 use Rattle.media_rows.specs.declared.segment.SegmentRow.{SegmentRow}
-use Rattle.media_rows.specs.Objects.{due_objects, idled, is_named}
+use Rattle.media_rows.specs.Good.{are_object_ids_distinct}
+use Rattle.media_rows.specs.Objects.{due_objects, flows_naming, idled, is_named, object_of, reference_count}
 use Rattle.object_refs.specs.declared.kept.Kept.{Kept}
 use Rattle.object_refs.specs.References.{changed_at, flows_in, objects_in, references_in, referred, released, with_new, without_id}
 use Rattle.reference_laws.specs.Ties.{AreTied}
@@ -59,3 +60,17 @@ ObjectsChange = (segments : List SegmentRow) (id : List ℕ) (change : Kept → 
 abbrev pub ObjectsGo : Type 0
 ObjectsGo = (segments : List SegmentRow) (id : List ℕ) (kept : List Kept) → AreTied segments kept
     → AreTied segments (without_id id kept)
+
+-- an object that is kept is referred to by the flows whose segments name it
+abbrev pub FlowsAreSame : Type 0
+FlowsAreSame = (segments : List SegmentRow) (kept : List Kept) (id : List ℕ) → AreTied segments kept
+    → IsTrue (are_object_ids_distinct (objects_in kept))
+    → IsTrue (is_some (object_of id (objects_in kept)))
+    → flows_naming (references_in kept) id ≡ flows_naming segments id
+
+-- and as often as segments name it
+abbrev pub CountsAreSame : Type 0
+CountsAreSame = (segments : List SegmentRow) (kept : List Kept) (id : List ℕ)
+    → AreTied segments kept → IsTrue (are_object_ids_distinct (objects_in kept))
+    → IsTrue (is_some (object_of id (objects_in kept)))
+    → reference_count (references_in kept) id ≡ reference_count segments id

@@ -2,7 +2,7 @@
 //! segments are kept side by side, they stay so with each change. Nothing in it runs.
 #![tactic(auto)]
 
-ghost use Rattle.reference_laws.specs.Laws.{DueAreSame, NamesAreSame, ObjectsChange, ObjectsCome, ObjectsGo, ReferencesCome, ReferencesGo};
+ghost use Rattle.reference_laws.specs.Laws.{CountsAreSame, DueAreSame, FlowsAreSame, NamesAreSame, ObjectsChange, ObjectsCome, ObjectsGo, ReferencesCome, ReferencesGo};
 
 /// Of the objects that are kept, references name those that segments name.
 pub fn names_are_same()
@@ -37,4 +37,14 @@ pub fn objects_change()
 /// An object that goes leaves the references to others.
 pub fn objects_go()
     ensures { ObjectsGo }
+{}
+
+/// The flows that refer to a kept object are those whose segments name it.
+pub fn flows_are_same()
+    ensures { FlowsAreSame }
+{}
+
+/// There are as many references to it as segments that name it.
+pub fn counts_are_same()
+    ensures { CountsAreSame }
 {}
