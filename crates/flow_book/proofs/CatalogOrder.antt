@@ -6,7 +6,7 @@ use Rattle.media_rows.specs.declared.part.Part.TheVariants as parts
 use Rattle.media_rows.specs.declared.source.SourceRow.{SourceRow}
 use Rattle.media_rows.specs.Catalog.{body_with, source_with}
 use Rattle.media_rows.specs.Lists.{rises}
-use Rattle.flow_book.proofs.Orders.{rises_filter}
+use Rattle.library_laws.proofs.ListLemmas.{rises-filter}
 
 -- ---- ids stay
 
@@ -32,4 +32,4 @@ set_source_stays (parts.AvgBitRate new) row = refl
 
 -- what a filter leaves of rising rows rises
 pub listed_rise : {X : Type 0} (t : X → X → Bool) (p : X → Bool) (rows list : List X) → list ≡ filter p rows → rises t rows ≡ true → rises t list ≡ true
-listed_rise t p rows list same e = ap (rises t) same ∙ rises_filter t p rows e
+listed_rise t p rows list same e = ap (rises t) same ∙ rises-filter t p rows e

@@ -1,5 +1,3 @@
-mod Rounds
-mod Orders
 mod CatalogOrder
 mod Keys
 mod Kept
@@ -7,5 +5,6 @@ mod Changes
 mod DropSteps
 mod Gathering
 mod Indexed
-mod Closed
 mod Restored
+mod Ways
+mod Uncollected

@@ -18,7 +18,7 @@ use Rattle.flow_book.proofs.DropSteps.{has_flow_is}
 use Rattle.flow_book.specs.Within.Gathering.{GathersSources, are_placed, is_acyclic}
 use Rattle.flow_book.proofs.Gathering.{any_gathered, first_gathered, found_gathered, gathered_all, gathered_at}
 use Rattle.flow_book.proofs.Keys.{source_found}
-use Rattle.flow_book.proofs.Orders.{and_parts}
+use Rattle.std.proofs.lemmas.Bool.{and_parts}
 
 pub copied_there : {V : Type 0} (found : Option (Bor V)) → is_some (option_copied found) ≡ is_some found
 copied_there None = refl

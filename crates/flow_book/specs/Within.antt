@@ -2,4 +2,5 @@
 pub mod Answers
 pub mod Gathering
 pub mod Order
-pub mod Ranks
+pub mod Peeling
+pub mod Ways

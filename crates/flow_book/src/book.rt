@@ -7,7 +7,7 @@ ghost use Rattle.media_rows.specs.Refusals.{IsChange, Restores};
 ghost use Rattle.media_rows.specs.Restoring.{can_restore_catalog, catalog_of};
 ghost use Rattle.flow_book.specs.Listing.{cut_count, flows_listed, sources_listed};
 
-use crate::collections::{collectors_with, member_ids};
+use crate::collections::collectors_with;
 use crate::drops::{flows_after_drop, sources_after_drop};
 use crate::lists::{flows_listed, sources_listed};
 use crate::looks::{find_flow, find_source};
@@ -17,6 +17,7 @@ use crate::sets::{
     collectors_after_set, flows_after_set, flows_after_touch, set_refusal, source_refusal,
     sources_after_set,
 };
+use catalog_rows::member_ids;
 use disk_trait::Memory;
 use id_index::{IdIndex, all_rows};
 use media_rows::{
@@ -100,7 +101,7 @@ impl FlowBook {
         ensures { IsChange (put_refusal self.now body.now)
             (after_put body.now now self.now) result }
     {
-        let refusal = put_refusal(alloc, &self.sources, &self.flows, body)?;
+        let refusal = put_refusal(alloc, &self.sources, &self.flows, &self.collectors, body)?;
         if let Some(why) = refusal {
             return Err(BookFault::Refused(why));
         }
@@ -126,7 +127,7 @@ impl FlowBook {
         ensures { IsChange (set_refusal self.now flow part.now)
             (after_set flow part.now now self.now) result }
     {
-        if let Some(why) = set_refusal(alloc, &self.flows, flow, part)? {
+        if let Some(why) = set_refusal(alloc, &self.flows, &self.collectors, flow, part)? {
             return Err(BookFault::Refused(why));
         }
         self.flows.keys_rise();

@@ -1,17 +1,16 @@
 //! Flows that go, with their entries in collections, and sources that go with their last flow.
-ghost use Rattle.std.specs.Prelude.{◌≡◌, ◌==◌, IfOk, filter, if◌then◌else◌, not};
-ghost use Rattle.media_rows.specs.Collections.{without_entries};
+ghost use Rattle.std.specs.Prelude.{◌≡◌, IfOk, if◌then◌else◌};
 ghost use Rattle.media_rows.specs.Views.{flow_key, id_key};
 ghost use Rattle.shared_tree.specs.Pairs.{values, values_of, without_key};
 ghost use Rattle.shared_tree.specs.Rows.{IsKeyedBy};
 ghost use Rattle.id_index.specs.Index.{has_pairs, ids_at, naming};
-ghost use Rattle.flow_book.specs.Within.Answers.{Computes};
 ghost use Rattle.flow_book.specs.Within.Order.{IsByCollected, all_cleared, cleared, collects, flow_id, flows_named};
 
 use crate::looks::flows_at;
-use disk_trait::{Duplicate, Memory};
+use catalog_rows::without_entries;
+use disk_trait::Memory;
 use id_index::{IdIndex, with_row, without_row};
-use media_rows::{FlowRow, Member, MemberList, SourceRow};
+use media_rows::{FlowRow, Member, SourceRow};
 use shared_tree::Version;
 use std::alloc::Global;
 
@@ -71,26 +70,6 @@ fn collects(members: &[Member], id: u128) -> bool
     ensures { result ≡ collects id members.now }
 {
     members.iter().any(|member| member.flow == id)
-}
-
-fn without_entries(alloc: Global, row: &FlowRow, id: u128) -> Result<FlowRow, Memory>
-    ensures { Computes result (without_entries id row.now) }
-{
-    let mut next = row.duplicate(alloc)?;
-    next.body.members = members_without(alloc, row.body.members.items(), id)?;
-    Ok(next)
-}
-
-fn members_without(alloc: Global, members: &[Member], id: u128) -> Result<MemberList, Memory>
-    ensures { Computes result (filter (λ m. not (m.flow == id)) members.now) }
-{
-    let mut list = MemberList::new(alloc);
-    for member in members {
-        if member.flow != id {
-            list.push(member.duplicate(alloc)?)?;
-        }
-    }
-    Ok(list)
 }
 
 /// The sources without one that has no flow any more by the index. No row is copied.

@@ -5,15 +5,14 @@
 #![tactic(auto)]
 
 mod book;
+mod circles;
 mod collections;
 mod drops;
 mod lists;
 mod looks;
-mod parts;
+mod peeling;
 mod puts;
-mod ranks;
 mod restores;
 mod sets;
-mod tags;
 
 pub use crate::book::FlowBook;

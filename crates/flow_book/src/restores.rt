@@ -1,5 +1,5 @@
 //! Rows from which a book is made: whether they are good.
-ghost use Rattle.std.specs.Prelude.{◌≡◌, ◌∷◌, IfOk, List, Some, option_copied};
+ghost use Rattle.std.specs.Prelude.{◌≡◌, ◌∷◌, IfOk, List, Some};
 ghost use Rattle.std.specs.List.{list_all};
 ghost use Rattle.media_rows.specs.declared.flow.FlowRow.{FlowRow};
 ghost use Rattle.media_rows.specs.Catalog.{source_of};
@@ -7,19 +7,20 @@ ghost use Rattle.media_rows.specs.Collections.{is_kept, member_ids};
 ghost use Rattle.media_rows.specs.Good.{fits_kept};
 ghost use Rattle.media_rows.specs.Restoring.{can_restore_catalog};
 ghost use Rattle.media_rows.specs.Views.{flow_key, source_key};
-ghost use Rattle.shared_tree.specs.Pairs.{values, values_of};
+ghost use Rattle.shared_tree.specs.Pairs.{values};
 ghost use Rattle.shared_tree.specs.Rows.{IsKeyedBy};
 ghost use Rattle.id_index.specs.Index.{has_pairs, ids_at};
-ghost use Rattle.flow_book.specs.Within.Answers.{Computes};
+ghost use Rattle.catalog_rows.specs.Answers.{Computes};
 ghost use Rattle.flow_book.specs.Within.Gathering.{GathersFlows, GathersSources, are_placed, is_acyclic};
 ghost use Rattle.flow_book.specs.Within.Order.{AreGathered};
 
-use crate::collections::{collects_itself, is_kept, member_ids};
+use crate::collections::is_kept;
 use crate::looks::find_source;
-use crate::puts::fits_format;
-use crate::ranks::{are_ranked, ranks_of};
+use crate::peeling::{all_peeled, has_flows};
+use catalog_rows::{fits_kept, member_ids};
 use disk_trait::{Duplicate, Memory};
 use id_index::{IdIndex, row_at, with_row};
+use library_laws::circles_are_found;
 use media_rows::{FlowRow, Member, SourceRow};
 use shared_tree::Version;
 use std::alloc::Global;
@@ -40,8 +41,7 @@ pub(crate) fn are_good(
     if !are_placed(sources, kept_sources, flows, kept) {
         return Ok(false);
     }
-    let rows = flow_references(alloc, flows)?;
-    are_acyclic(alloc, &rows, &kept.collectors)
+    are_acyclic(alloc, flows, kept)
 }
 
 /// Whether each flow has its source and each source a flow, and each collected flow is there.
@@ -73,15 +73,6 @@ fn are_flows_under_sources(sources: &Version<SourceRow>, flows: &[FlowRow]) -> b
         }
     }
     true
-}
-
-fn fits_kept(source: Option<&SourceRow>, row: &FlowRow) -> bool
-    ensures { result ≡ fits_kept (option_copied source.entry) row.now }
-{
-    match source {
-        None => false,
-        Some(kept) => fits_format(kept.format, row.body.format),
-    }
 }
 
 /// Whether each source has a flow by the index.
@@ -118,32 +109,14 @@ fn are_kept(flows: &Version<FlowRow>, members: &[Member]) -> bool
     true
 }
 
-/// Whether no flow reaches itself. Where ranks show it, that is found without looking at ways; else each flow's
-/// ways are looked at.
-fn are_acyclic(alloc: Global, rows: &[&FlowRow], collectors: &IdIndex) -> Result<bool, Memory>
-    ensures { Computes result (list_all (is_acyclic (values_of rows.now)) (values_of rows.now)) }
+/// Whether no flow reaches itself: none is left once those that no other collects were left out.
+fn are_acyclic(alloc: Global, rows: &[FlowRow], kept: &Gathered) -> Result<bool, Memory>
+    requires { GathersFlows rows.now (Some kept.now) }
+    ensures { Computes result (list_all (is_acyclic rows.now) rows.now) }
 {
-    let ranks = ranks_of(alloc, rows, collectors)?;
-    if are_ranked(&ranks, rows) {
-        return Ok(true);
-    }
-    for row in rows {
-        if collects_itself(alloc, rows, row.body.id, row.body.members.items())? {
-            return Ok(false);
-        }
-    }
-    Ok(true)
-}
-
-/// References to rows.
-pub(crate) fn flow_references(alloc: Global, flows: &[FlowRow]) -> Result<Vec<&FlowRow>, Memory>
-    ensures { IfOk result (λ list. values_of list.items ≡ flows.now) }
-{
-    let mut list = Vec::new(alloc);
-    for row in flows {
-        list.push(row)?;
-    }
-    Ok(list)
+    circles_are_found();
+    let left = all_peeled(alloc, rows, &kept.flows, &kept.collectors)?;
+    Ok(!has_flows(&left.flows))
 }
 
 /// Copies of flows at the keys of their ids, with their indexes.

@@ -6,13 +6,15 @@ ghost use Rattle.media_rows.specs.Views.{flow_key, id_key, source_key};
 ghost use Rattle.shared_tree.specs.Pairs.{value_at, values};
 ghost use Rattle.shared_tree.specs.Rows.{IsKeyedBy};
 ghost use Rattle.id_index.specs.Index.{changed_row};
-ghost use Rattle.flow_book.specs.Within.Answers.{Computes};
+ghost use Rattle.catalog_rows.specs.Answers.{Computes};
 ghost use Rattle.flow_book.specs.Within.Order.{IsByCollected, collection_of};
 
 use crate::collections::{collection_refusal, collectors_with};
 use crate::looks::{find_flow, find_source};
-use crate::parts::{body_with, flow_part_unset, sets_mark, source_part_unset, source_with};
-use disk_trait::{Duplicate, Memory};
+use catalog_rows::{
+    flow_part_unset, set_row, set_source_row, sets_mark, source_part_unset, touched,
+};
+use disk_trait::Memory;
 use id_index::{IdIndex, with_row};
 use media_rows::{FlowRow, MemberList, Part, Refusal, SourceRow};
 use shared_tree::Version;
@@ -22,27 +24,31 @@ use std::alloc::Global;
 pub(crate) fn set_refusal(
     alloc: Global,
     flows: &Version<FlowRow>,
+    collectors: &IdIndex,
     id: u128,
     part: &Part,
 ) -> Result<Option<Refusal>, Memory>
     requires keyed { IsKeyedBy flow_key flows.now }
+    requires index { IsByCollected flows.now collectors.now }
     ensures { Computes result (first_refusal
         (set_refusals (flow_of id (values flows.now)) (values flows.now) id part.now)) }
 {
     match find_flow(flows, id) {
         None => Ok(Some(Refusal::NoFlow)),
-        Some(old) => kept_set_refusal(alloc, flows, old, id, part),
+        Some(old) => kept_set_refusal(alloc, flows, collectors, old, id, part),
     }
 }
 
 fn kept_set_refusal(
     alloc: Global,
     flows: &Version<FlowRow>,
+    collectors: &IdIndex,
     old: &FlowRow,
     id: u128,
     part: &Part,
 ) -> Result<Option<Refusal>, Memory>
     requires keyed { IsKeyedBy flow_key flows.now }
+    requires index { IsByCollected flows.now collectors.now }
     ensures { Computes result
         (first_refusal (set_refusals (Some old.now) (values flows.now) id part.now)) }
 {
@@ -52,20 +58,24 @@ fn kept_set_refusal(
     if let Some(unset) = flow_part_unset(alloc, &old.body, part)? {
         return Ok(Some(unset));
     }
-    part_refusal(alloc, flows, id, part)
+    part_refusal(alloc, flows, collectors, id, part)
 }
 
 fn part_refusal(
     alloc: Global,
     flows: &Version<FlowRow>,
+    collectors: &IdIndex,
     id: u128,
     part: &Part,
 ) -> Result<Option<Refusal>, Memory>
     requires keyed { IsKeyedBy flow_key flows.now }
+    requires index { IsByCollected flows.now collectors.now }
     ensures { Computes result (first_refusal (part_refusals (values flows.now) id part.now)) }
 {
     match part {
-        Part::Collection(members) => collection_refusal(alloc, flows, id, members.items()),
+        Part::Collection(members) => {
+            collection_refusal(alloc, flows, collectors, id, members.items())
+        }
         _ => Ok(None),
     }
 }
@@ -125,17 +135,6 @@ fn collection_of(part: &Part) -> Option<&MemberList>
     }
 }
 
-fn set_row(alloc: Global, row: &FlowRow, part: &Part, now: u64) -> Result<FlowRow, Memory>
-    ensures { Computes result (set_row part.now now row.now) }
-{
-    Ok(FlowRow {
-        body: body_with(alloc, part, &row.body)?,
-        created: row.created,
-        metadata_updated: now,
-        segments_updated: row.segments_updated,
-    })
-}
-
 /// The first refusal that stands of a part of a source.
 pub(crate) fn source_refusal(
     alloc: Global,
@@ -175,19 +174,6 @@ pub(crate) fn sources_after_set(
     }
 }
 
-fn set_source_row(
-    alloc: Global,
-    row: &SourceRow,
-    part: &Part,
-    now: u64,
-) -> Result<SourceRow, Memory>
-    ensures { Computes result (set_source_row part.now now row.now) }
-{
-    let mut next = source_with(alloc, part, row)?;
-    next.updated = now;
-    Ok(next)
-}
-
 /// The flows with one of them marked as having new segments, or fewer.
 pub(crate) fn flows_after_touch(
     alloc: Global,
@@ -207,12 +193,4 @@ pub(crate) fn flows_after_touch(
         None => flows.share(),
         Some(row) => with_row(alloc, flows, id, touched(alloc, row, now)?),
     }
-}
-
-fn touched(alloc: Global, row: &FlowRow, now: u64) -> Result<FlowRow, Memory>
-    ensures { Computes result (touched now row.now) }
-{
-    let mut next = row.duplicate(alloc)?;
-    next.segments_updated = Some(now);
-    Ok(next)
 }

@@ -1,9 +1,13 @@
-use Rattle.std.proofs.Common.{sym, ◌∙◌}
-use Rattle.shared_tree.specs.Pairs.{values_of}
-use Rattle.flow_book.specs.Within.Ranks.{rank_at}
-use Rattle.flow_book.proofs.Closed.{ranked_acyclic}
+use Rattle.std.proofs.Common.{not, ap, ◌∙◌}
+use Rattle.flow_book.proofs.Uncollected.{peeled_first, peeled_last}
 use Rattle.flow_book.proofs.restores.are_acyclic.Goals as goal
 
--- flows whose ranks are above those that they collect don't reach themselves
-pub returns-then-are_ranked : goal.returns-then-are_ranked
-returns-then-are_ranked c = sym (ranked_acyclic (rank_at c.in_ok-ranks.ranks) (values_of c.args.rows.now) (sym c.are_ranked.ensures ∙ c.if-are_ranked.true))
+-- at first all flows are left
+pub all_peeled-requires : goal.all_peeled-requires
+all_peeled-requires c = peeled_first c.args.rows.now c.args.kept.now.flows c.args.kept.now.by_source c.args.kept.now.collectors c.requires
+
+-- at last there is one exactly where one reaches itself
+pub returns : goal.returns
+returns c =
+    ap not c.has_flows.ensures
+    ∙ peeled_last c.args.rows.now c.in_ok-left.left.flows c.in_ok-left.left.collectors c.circles_are_found.ensures c.in_ok-left.ensures

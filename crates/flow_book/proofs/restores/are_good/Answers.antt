@@ -2,7 +2,6 @@ use Rattle.std.proofs.Common.{◌≡◌, true, false, ◌&&◌, sym, ap, ◌∙�
 use Rattle.std.specs.List.{list_all}
 use Rattle.std.proofs.lemmas.Grind.{common_steps}
 use Rattle.media_rows.specs.declared.source.SourceRow.{SourceRow}
-use Rattle.shared_tree.specs.Pairs.{values_of}
 use Rattle.id_index.proofs.Pairs.{if_ok}
 use Rattle.flow_book.specs.Within.Gathering.{is_acyclic}
 use Rattle.flow_book.specs.Within.Order.{flow_id}
@@ -25,8 +24,7 @@ returns-then-not-are_placed c =
 pub returns : goal.returns
 returns c =
     let yes : c.are_placed.result ≡ true = grind (arith, common_steps) in
-    let seen = ap values_of c.deref.ensures.value ∙ c.in_ok-rows.ensures in
-    if_ok c.are_acyclic.result (λ made is. is ∙ ap (λ l. list_all (is_acyclic l) l) seen ∙ sym
+    if_ok c.are_acyclic.result (λ made is. is ∙ sym
     (can_is c.args.sources.now c.args.flows.now c.args.kept_sources.now c.args.kept.now.flows c.args.kept.now.by_source c.args.kept.now.collectors
     c.requires.sources c.requires.flows ∙ ap (λ b. b && list_all (is_acyclic c.args.flows.now) c.args.flows.now) (sym c.are_placed.ensures ∙ yes)))
     c.are_acyclic.ensures

@@ -1,6 +1,0 @@
-use Rattle.std.proofs.Common.{◌≡◌, ◌==◌, ◌++◌, drop, filter, not}
-use Rattle.flow_book.proofs.drops.members_without.Given as goal
-
-abbrev pub invariant-loop-member : goal.invariant-loop-member
-invariant-loop-member l =
-    l.list ++ filter (λ m. not (m.flow == l.id)) (drop l.member-index l.members) ≡ filter (λ m. not (m.flow == l.id)) l.members
