@@ -1,0 +1,140 @@
+-- The media of a library, what its changes make of them, and which media can be made from rows. Our
+-- own rules.
+use Rattle.std.specs.Prelude.{◌≡◌, ℕ, ◌==◌, nat_lt, List, [], ◌∷◌, ◌++◌, Bool, ◌&&◌, ◌||◌, IsTrue, Contains, Option, is_some, map}
+use Rattle.std.specs.List.{AllByRecursion, list_all, sum}
+use Rattle.media_rows.specs.declared.object.Extent.{Extent}
+use Rattle.media_rows.specs.declared.object.ObjectRow.{ObjectRow}
+use Rattle.media_rows.specs.declared.object.ObjectState.{ObjectState}
+use Rattle.media_rows.specs.declared.object.ObjectState.TheVariants.{Allocated, Stored}
+use Rattle.media_rows.specs.declared.refusal.Refusal.{Refusal}
+use Rattle.media_rows.specs.declared.segment.Segment.{Segment}
+use Rattle.media_rows.specs.declared.segment.SegmentRow.{SegmentRow}
+use Rattle.media_rows.specs.Answer.{first_taken, posts_refusal, taken_refusal}
+use Rattle.media_rows.specs.Good.{are_compatible, are_extents_good}
+use Rattle.media_rows.specs.Library.{Library, empty_library}
+use Rattle.media_rows.specs.Lists.{are_distinct, each_pair}
+use Rattle.media_rows.specs.Objects.{allocated_rows, blocks_of, idled, is_free, object_of, stored_row, swept_objects, with_object, without_objects}
+use Rattle.media_rows.specs.Ranges.{has_both_ends}
+use Rattle.media_rows.specs.Restoring.{by_serial, can_restore_objects, objects_of}
+use Rattle.media_rows.specs.Segments.{posted, without_segments}
+
+-- the media of a library: how many media blocks there are, and its segments and its objects, each by
+-- rising serial
+pub record Media : Type 0 where
+  pub blocks : ℕ
+  pub segments : List SegmentRow
+  pub objects : List ObjectRow
+
+-- the media of a library
+abbrev pub media_of : Library → Media
+media_of library = record {
+  blocks = library.blocks;
+  segments = library.segments;
+  objects = library.objects;
+}
+
+-- a library that has these media and nothing else, with its next serial
+abbrev pub library_with : Media → ℕ → Library
+library_with media next_serial = record (empty_library 0 media.blocks) {
+  segments = media.segments;
+  objects = media.objects;
+  next_serial = next_serial;
+}
+
+-- neither a segment nor an object
+abbrev pub no_media : ℕ → Media
+no_media blocks = record { blocks = blocks; segments = []; objects = [] }
+
+-- ---- conditions
+
+-- each of these segments has a lower serial
+abbrev pub are_segments_below : ℕ → List SegmentRow → Bool
+are_segments_below serial segments = list_all (λ row. nat_lt row.serial serial) segments
+
+-- each of these objects has a lower serial
+abbrev pub are_objects_below : ℕ → List ObjectRow → Bool
+are_objects_below serial objects = list_all (λ row. nat_lt row.serial serial) objects
+
+-- these are some of the segments, each of them once
+pub record AreSome (rows segments : List SegmentRow) : Type 0 where
+  pub there : AllByRecursion (Contains segments) rows
+  pub once : IsTrue (are_distinct (map (λ row. row.serial) rows))
+
+-- the blocks of an extent are free, and one without bytes begins at block 0
+abbrev pub can_take : Media → Extent → Bool
+can_take media extent =
+    is_free media.objects media.blocks (blocks_of extent.length) extent.start
+    && (nat_lt 0 extent.length || (extent.start == 0))
+
+-- ---- refusals
+
+-- the refusal of an allocation: the first id that a kept object has, or that the list repeats
+abbrev pub allocation_refusal : Media → List (List ℕ) → Option Refusal
+allocation_refusal media ids =
+    taken_refusal (first_taken (λ id. is_some (object_of id media.objects)) [] ids)
+
+-- a post is refused by a library as by its media alone
+abbrev pub PostsAreRefusedAlike : Type 0
+PostsAreRefusedAlike = (library : Library) (flow : ℕ) (posts : List Segment)
+    → posts_refusal library flow posts
+    ≡ posts_refusal (library_with (media_of library) library.next_serial) flow posts
+
+-- ---- what changes make
+
+-- objects without bytes come, with rising serials from this one on, idle since this moment
+abbrev pub with_allocated : ℕ → ℕ → List (List ℕ) → Media → Media
+with_allocated serial moment ids media =
+    record media { objects = media.objects ++ allocated_rows serial moment ids }
+
+-- an object has its bytes at a place from now on
+abbrev pub with_stored : List ℕ → Extent → ℕ → Media → Media
+with_stored id extent moment media = record media {
+  objects = with_object id (stored_row extent.start extent.length moment) media.objects;
+}
+
+-- the segments of a post come, with rising serials from this one on
+abbrev pub with_posts : ℕ → ℕ → List Segment → Media → Media
+with_posts flow serial posts media =
+    record media { segments = media.segments ++ posted flow serial posts }
+
+-- segments go; an object that loses its last reference is idle since this moment
+abbrev pub without_rows : List SegmentRow → ℕ → Media → Media
+without_rows rows moment media = record media {
+  segments = without_segments rows media.segments;
+  objects = idled media.segments (without_segments rows media.segments) moment media.objects;
+}
+
+-- the first objects that are due go
+abbrev pub swept_at : ℕ → Media → Media
+swept_at moment media = record media {
+  objects = without_objects (swept_objects media.segments media.objects moment) media.objects;
+}
+
+-- ---- media from rows
+
+-- Segments are bounded and those of one flow don't overlap, each object that one names is kept and
+-- stored, ids and serials of objects are distinct, and extents lie apart within the blocks.
+abbrev pub can_restore_media : ℕ → List ObjectRow → List SegmentRow → Bool
+can_restore_media blocks objects segments =
+    (each_pair are_compatible segments && list_all (λ row. has_both_ends row.segment.range) segments)
+    && can_restore_objects objects segments
+    && are_extents_good blocks objects
+
+-- the media of rows: segments and objects by rising serial
+abbrev pub media_from : ℕ → List ObjectRow → List SegmentRow → Media
+media_from blocks objects segments = record {
+  blocks = blocks;
+  segments = by_serial (λ row. row.serial) segments;
+  objects = objects_of objects;
+}
+
+-- ---- numbers
+
+-- how many bytes an object in this state has
+abbrev pub stored_size : ObjectState → ℕ
+stored_size Allocated = 0
+stored_size (Stored start size) = size
+
+-- the bytes of all objects
+abbrev pub stored_bytes : List ObjectRow → ℕ
+stored_bytes objects = sum (map (λ row. stored_size row.state) objects)

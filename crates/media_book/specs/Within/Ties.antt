@@ -1,0 +1,108 @@
+-- How segments, objects and holes are kept side by side.
+use Rattle.std.specs.Prelude.{◌≡◌, ◌≤◌, ℕ, ◌+◌, ◌-◌, nat_le, List, true, not, ◌&&◌, Contains, Option, map}
+use Rattle.std.specs.List.{AllByRecursion, list_all, sum}
+use Rattle.media_rows.specs.declared.object.ObjectRow.{ObjectRow}
+use Rattle.media_rows.specs.declared.object.ObjectState.{ObjectState}
+use Rattle.media_rows.specs.declared.object.ObjectState.TheVariants.{Allocated, Stored}
+use Rattle.media_rows.specs.declared.refusal.Refusal.{Refusal}
+use Rattle.media_rows.specs.declared.refusal.Refusal.TheVariants.{NoObject}
+use Rattle.media_rows.specs.declared.segment.Segment.{Segment}
+use Rattle.media_rows.specs.declared.segment.SegmentRow.{SegmentRow}
+use Rattle.media_rows.specs.Answer.{posts_refusal}
+use Rattle.media_rows.specs.Good.{are_references_good, are_states_apart, is_extent_good, rises_by}
+use Rattle.media_rows.specs.Lists.{are_distinct, each_pair, or_else}
+use Rattle.media_rows.specs.Objects.{blocks_of, is_clear_of, is_stored_object, without_objects}
+use Rattle.media_rows.specs.Refusals.{when}
+use Rattle.media_rows.specs.Sound.{are_posts_good}
+use Rattle.object_blobs.specs.Holes.{Area, IsGiven, is_free_block, is_taken_place}
+use Rattle.object_refs.specs.declared.kept.Kept.{Kept}
+use Rattle.object_refs.specs.References.{objects_in}
+use Rattle.reference_laws.specs.Ties.{AreTied}
+use Rattle.segment_book.specs.Answers.{meeting_refusal}
+use Rattle.media_book.specs.Media.{AreSome, Media, allocation_refusal, are_objects_below, are_segments_below, library_with, stored_size, with_allocated, with_posts, without_rows}
+
+-- the states of objects
+abbrev pub states_of : List ObjectRow → List ObjectState
+states_of objects = map (λ row. row.state) objects
+
+-- Extents lie apart within the blocks of an area, the blocks that they leave are its free ones, and
+-- their bytes are so many.
+pub record AreHeld (states : List ObjectState) (area : Area) (bytes : ℕ) : Type 0 where
+  pub free : (block : ℕ) → is_free_block area.holes block
+      ≡ (nat_le (block + 1) area.blocks && list_all (is_clear_of block 1) states)
+  pub inside : list_all (is_extent_good area.blocks) states ≡ true
+  pub apart : each_pair are_states_apart states ≡ true
+  pub counted : bytes ≡ sum (map stored_size states)
+
+-- References are those of the segments, each object that a segment names is kept and stored, free
+-- blocks are those that the objects leave, and segments stand by rising serial.
+pub record IsMedia (segments : List SegmentRow) (kept : List Kept) (area : Area) (bytes : ℕ)
+    : Type 0 where
+  pub tied : AreTied segments kept
+  pub named : are_references_good (objects_in kept) segments ≡ true
+  pub held : AreHeld (states_of (objects_in kept)) area bytes
+  pub rising : rises_by (λ row. row.serial) segments ≡ true
+
+-- segments, objects and an area as media
+abbrev pub media_seen : List SegmentRow → List Kept → Area → Media
+media_seen segments kept area =
+    record { blocks = area.blocks; segments = segments; objects = objects_in kept }
+
+-- the refusal of one segment: its object isn't stored, or one of its flow overlaps it
+abbrev pub row_refusal : Media → SegmentRow → Option Refusal
+row_refusal media row =
+    or_else
+    (when (not (is_stored_object media.objects row.segment.object)) (NoObject row.segment.object))
+    (meeting_refusal media.segments row)
+
+-- ---- loops
+
+-- segments of a post came, and these are left to come, with serials from this one on
+pub record Adding (flow serial next : ℕ) (start media : Media) (all left : List Segment) : Type 0
+  where
+    pub rest : with_posts flow next left media ≡ with_posts flow serial all start
+    pub refusal : posts_refusal (library_with start serial) flow all
+        ≡ posts_refusal (library_with media next) flow left
+    pub below : are_segments_below next media.segments ≡ true
+    pub bounded : are_posts_good left ≡ true
+
+-- segments went, and these are left to go
+pub record Removing (moment : ℕ) (start media : Media) (all left : List SegmentRow) : Type 0 where
+  pub rest : without_rows left moment media ≡ without_rows all moment start
+  pub some : AreSome left media.segments
+
+-- objects came, and these are left to come, with serials from this one on
+pub record Allocating (serial next moment : ℕ) (start media : Media) (all left : List (List ℕ))
+    : Type 0 where
+  pub rest : with_allocated next moment left media ≡ with_allocated serial moment all start
+  pub refusal : allocation_refusal start all ≡ allocation_refusal media left
+  pub below : are_objects_below next media.objects ≡ true
+
+-- ---- objects that go
+
+-- these are some of the objects, each of them once
+pub record AreSomeObjects (rows objects : List ObjectRow) : Type 0 where
+  pub there : AllByRecursion (Contains objects) rows
+  pub once : are_distinct (map (λ row. row.serial) rows) ≡ true
+
+-- the blocks of an object in this state may be given back: they lie in the area, and none is free
+abbrev pub MayGive : ObjectState → Area → Type 0
+MayGive Allocated area = Unit {0}
+MayGive (Stored start size) area = (start + blocks_of size ≤ area.blocks) ×
+    (is_taken_place area.holes (blocks_of size) start ≡ true)
+
+-- an area and a number of bytes once an object in this state is gone
+abbrev pub HasGiven : ObjectState → Area → ℕ → Area → ℕ → Type 0
+HasGiven Allocated old bytes new left = (new ≡ old) × (left ≡ bytes)
+HasGiven (Stored start size) old bytes new left =
+    IsGiven start (blocks_of size) old new × (left ≡ bytes - size)
+
+-- blocks of objects were given back, and those of these are left to be
+pub record Freeing (blocks : ℕ) (start all left : List ObjectRow) (area : Area) (bytes : ℕ) : Type 0
+  where
+    pub now : List ObjectRow
+    pub rest : without_objects left now ≡ without_objects all start
+    pub some : AreSomeObjects left now
+    pub rising : rises_by (λ row. row.serial) now ≡ true
+    pub held : AreHeld (states_of now) area bytes
+    pub same : area.blocks ≡ blocks

@@ -1,0 +1,10 @@
+//! The media of a library as one value that each change makes anew: segments, objects and free blocks, which
+//! are kept side by side. Contracts see them in the library's own words.
+#![tactic(auto)]
+
+mod book;
+mod objects;
+mod segments;
+
+pub use crate::book::MediaBook;
+pub use crate::segments::posts_are_refused_alike;
