@@ -1,5 +1,5 @@
 -- Objects of an allocation that come one after the other, and their refusals.
-use Rattle.std.proofs.Common.{◌≡◌, ℕ, ◌+◌, Bool, true, false, List, [], ◌∷◌, ◌++◌, Option, Some, None, Err, bytes_eq, cond, refl, sym, ap, ap₂, subst, ◌∙◌, arith, append_assoc, append-nil}
+use Rattle.std.proofs.Common.{◌≡◌, ℕ, ◌+◌, Bool, true, false, List, [], ◌∷◌, Some, None, Err, refl, sym, ap, ◌∙◌, arith, append_assoc, append-nil}
 use Rattle.std.specs.Prelude.{is_some}
 use Rattle.media_rows.specs.declared.object.ObjectRow.{ObjectRow}
 use Rattle.media_rows.specs.declared.object.ObjectState.TheVariants.{Allocated}
@@ -7,7 +7,7 @@ use Rattle.media_rows.specs.declared.refusal.BookFault.{BookFault}
 use Rattle.media_rows.specs.declared.refusal.BookFault.TheVariants as books
 use Rattle.media_rows.specs.declared.refusal.Refusal.{Refusal}
 use Rattle.media_rows.specs.declared.refusal.Refusal.TheVariants.{IdTaken}
-use Rattle.media_rows.specs.Answer.{first_taken, taken_refusal}
+use Rattle.media_rows.specs.Answer.{taken_refusal}
 use Rattle.media_rows.specs.Objects.{allocated_rows, object_of}
 use Rattle.media_rows.specs.Refusals.{IsChange, when}
 use Rattle.media_book.specs.Media.{Media, allocation_refusal, are_objects_below, with_allocated}

@@ -1,8 +1,8 @@
 -- Extents and the blocks that they leave free, as an object comes, is stored or goes.
-use Rattle.std.proofs.Common.{◌≡◌, ◌⊎◌, inl, inr, ℕ, zero, suc, ◌+◌, ◌-◌, ◌<◌, ◌≤◌, nat_lt, nat_le, Bool, true, false, not, ◌&&◌, ◌||◌, cond, List, [], ◌∷◌, ◌++◌, map, refl, sym, ap, ap₂, subst, ◌∙◌, arith}
+use Rattle.std.proofs.Common.{◌≡◌, inl, inr, ℕ, zero, suc, ◌+◌, ◌-◌, ◌<◌, ◌≤◌, nat_lt, nat_le, Bool, true, false, not, ◌&&◌, ◌||◌, List, [], ◌∷◌, ◌++◌, map, refl, sym, ap, ap₂, ◌∙◌, arith}
 use Rattle.std.specs.Prelude.{◌==◌}
 use Rattle.std.specs.List.{list_all, sum, sum_by}
-use Rattle.std.proofs.lemmas.Bool.{and_from, and_parts, le-leb, leb-true, lt-ltb, not_from_false, or_left, or_right, or_cases, eqb-true}
+use Rattle.std.proofs.lemmas.Bool.{and_from, and_parts, le-leb, leb-true, lt-ltb, not_from_false, or_left, or_right, or_cases}
 use Rattle.std.proofs.lemmas.Bool.Decides.{nat_tests}
 use Rattle.std.proofs.lemmas.List.Folds.{list_all-append, list_all-map}
 use Rattle.std.proofs.lemmas.List.Sums.{sum-map, sum_by-append, sum_by-cons}
@@ -11,7 +11,7 @@ use Rattle.media_rows.specs.declared.object.ObjectState.{ObjectState}
 use Rattle.media_rows.specs.declared.object.ObjectState.TheVariants.{Allocated, Stored}
 use Rattle.media_rows.specs.Good.{are_states_apart, is_extent_good}
 use Rattle.media_rows.specs.Lists.{each_pair, numbers_below}
-use Rattle.media_rows.specs.Objects.{are_apart, blocks_of, is_clear_of, is_free}
+use Rattle.media_rows.specs.Objects.{are_apart, blocks_of, is_clear_of}
 use Rattle.object_blobs.specs.Holes.{Area, IsAllFree, IsGiven, IsPlaceTaken, LeavesFree, each_block, has_block, is_free_block, is_free_place, is_taken_place}
 use Rattle.media_book.specs.Media.{stored_size}
 use Rattle.media_book.specs.Within.Ties.{AreHeld, states_of}

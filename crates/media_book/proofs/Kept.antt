@@ -1,7 +1,7 @@
 -- What is kept of the media holds after each change of one object or of one segment.
-use Rattle.std.proofs.Common.{◌≡◌, ℕ, ◌+◌, ◌-◌, nat_le, nat_lt, Bool, true, false, not, ◌&&◌, ◌||◌, List, [], ◌∷◌, ◌++◌, Option, Some, None, Err, Contains, IsTrue, filter, map, refl, sym, ap, ap₂, subst, ◌∙◌, arith, append-nil}
+use Rattle.std.proofs.Common.{◌≡◌, ℕ, ◌+◌, nat_le, nat_lt, Bool, true, false, not, ◌||◌, List, [], ◌∷◌, ◌++◌, Option, None, Err, Contains, refl, sym, ap, ap₂, subst, ◌∙◌, arith, append-nil}
 use Rattle.std.specs.Prelude.{◌==◌, is_some}
-use Rattle.std.specs.List.{AllByRecursion, list_all}
+use Rattle.std.specs.List.{list_all}
 use Rattle.std.proofs.lemmas.Bool.{and_from, and_parts}
 use Rattle.std.proofs.lemmas.List.Folds.{list_all-append, list_all-map}
 use Rattle.media_rows.specs.declared.object.Extent.{Extent}
@@ -17,16 +17,16 @@ use Rattle.media_rows.specs.Good.{are_object_ids_distinct, are_references_good, 
 use Rattle.media_rows.specs.Objects.{allocated_rows, blocks_of, idled, is_clear_of, is_free, is_stored_object, object_of, stored_row, with_object}
 use Rattle.media_rows.specs.Refusals.{IsChange, when}
 use Rattle.media_rows.specs.Segments.{without_segments}
-use Rattle.object_blobs.specs.Holes.{Area, IsAllFree, IsPlaceTaken, LeavesFree, is_free_place}
+use Rattle.object_blobs.specs.Holes.{Area, IsAllFree, IsPlaceTaken, is_free_place}
 use Rattle.object_refs.specs.declared.kept.Kept.{Kept}
 use Rattle.object_refs.specs.References.{changed_at, flows_in, objects_in, referred, references_in, refers, released, stored_at, with_new}
-use Rattle.library_laws.proofs.ListLemmas.{In, In-from_Contains, list_all-In, list_all-filter, rises-filter}
+use Rattle.library_laws.proofs.ListLemmas.{In-from_Contains, list_all-In, list_all-filter, rises-filter}
 use Rattle.reference_laws.specs.Laws.{ObjectsChange, ObjectsCome, ReferencesCome, ReferencesGo}
 use Rattle.reference_laws.specs.Ties.{AreTied}
-use Rattle.media_book.specs.Media.{Media, are_segments_below, can_take, media_of, no_media, with_allocated, with_posts, with_stored, without_rows}
+use Rattle.media_book.specs.Media.{are_segments_below, can_take, no_media, with_allocated, with_posts, with_stored, without_rows}
 use Rattle.media_book.specs.Within.Ties.{AreHeld, IsMedia, media_seen, states_of}
 use Rattle.media_book.proofs.Held.{may_take, none_held, with_empty, with_extent, without_empty}
-use Rattle.media_book.proofs.ObjectRows.{IsFilled, filled, good_still, new_objects, referred_objects, states_append, stored_after, stored_behind, stored_objects, unkept_unnamed}
+use Rattle.media_book.proofs.ObjectRows.{filled, good_still, new_objects, referred_objects, states_append, stored_after, stored_behind, stored_objects, unkept_unnamed}
 use Rattle.media_book.proofs.Posts.{rises_last}
 use Rattle.media_book.proofs.Removals.{idled_states, idled_stored, row_refers, serial_of}
 use Rattle.media_book.proofs.Serials.{amid, left_out}

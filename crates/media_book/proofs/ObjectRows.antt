@@ -1,7 +1,7 @@
 -- Objects as a call changes them: which of them segments name, which states they have, and which ids are taken.
-use Rattle.std.proofs.Common.{◌≡◌, ℕ, ◌+◌, ◌<◌, nat_lt, Bool, true, false, not, ◌&&◌, ◌||◌, cond, List, [], ◌∷◌, ◌++◌, Option, Some, None, bytes_eq, find, length, map, refl, sym, ap, ap₂, subst, ◌∙◌, arith, append_assoc}
+use Rattle.std.proofs.Common.{◌≡◌, ℕ, ◌+◌, nat_lt, Bool, true, false, not, ◌&&◌, ◌||◌, cond, List, [], ◌∷◌, ◌++◌, Option, Some, None, bytes_eq, map, refl, sym, ap, ap₂, subst, ◌∙◌, arith}
 use Rattle.std.specs.Prelude.{is_some}
-use Rattle.std.specs.List.{AllByRecursion, list_all, list_any}
+use Rattle.std.specs.List.{list_all}
 use Rattle.std.proofs.lemmas.Bool.{and_from, and_parts}
 use Rattle.std.proofs.lemmas.Bool.Decides.{nat_tests}
 use Rattle.std.specs.Cmp.Lexicographic.{bytes_decides}
@@ -9,12 +9,11 @@ use Rattle.media_rows.specs.declared.object.Extent.{Extent}
 use Rattle.media_rows.specs.declared.object.ObjectRow.{ObjectRow}
 use Rattle.media_rows.specs.declared.object.ObjectState.{ObjectState}
 use Rattle.media_rows.specs.declared.object.ObjectState.TheVariants.{Allocated, Stored}
-use Rattle.media_rows.specs.declared.refusal.Refusal.{Refusal}
 use Rattle.media_rows.specs.declared.segment.SegmentRow.{SegmentRow}
 use Rattle.media_rows.specs.Answer.{first_taken, keep_refusal, keep_state}
 use Rattle.media_rows.specs.Good.{are_object_ids_distinct, are_references_good}
 use Rattle.media_rows.specs.Lists.{has_text}
-use Rattle.media_rows.specs.Objects.{allocated_rows, is_named, is_stored, is_stored_object, is_stored_row, object_of, stored_row, with_object}
+use Rattle.media_rows.specs.Objects.{allocated_rows, is_named, is_stored_object, is_stored_row, object_of, stored_row, with_object}
 use Rattle.object_refs.specs.declared.kept.Kept.{Kept}
 use Rattle.object_refs.specs.References.{are_below, changed_at, objects_in, referred, stored_at, with_new}
 use Rattle.media_book.specs.Media.{are_objects_below}

@@ -1,5 +1,5 @@
 -- Segments of a post that come one after the other, and their refusals.
-use Rattle.std.proofs.Common.{◌≡◌, ℕ, ◌+◌, ◌<◌, nat_lt, Bool, true, false, not, ◌&&◌, ◌||◌, cond, List, [], ◌∷◌, ◌++◌, Option, Some, None, Err, length, refl, sym, ap, ap₂, subst, ◌∙◌, arith, append_assoc, append-nil}
+use Rattle.std.proofs.Common.{◌≡◌, ℕ, ◌+◌, nat_lt, true, not, List, [], ◌∷◌, ◌++◌, Some, None, Err, refl, sym, ap, ap₂, subst, ◌∙◌, arith, append_assoc, append-nil}
 use Rattle.std.specs.Prelude.{slice_get}
 use Rattle.std.specs.List.{list_all}
 use Rattle.std.proofs.lemmas.Bool.{and_from, and_parts}
@@ -13,7 +13,7 @@ use Rattle.media_rows.specs.declared.segment.SegmentRow.{SegmentRow}
 use Rattle.media_rows.specs.Answer.{overlap_refusal, post_refusal, posts_refusal, refusals_behind}
 use Rattle.media_rows.specs.Good.{rises_by}
 use Rattle.media_rows.specs.Library.{Library}
-use Rattle.media_rows.specs.Lists.{or_else, rises}
+use Rattle.media_rows.specs.Lists.{or_else}
 use Rattle.media_rows.specs.Objects.{is_stored_object}
 use Rattle.media_rows.specs.Ranges.{has_both_ends}
 use Rattle.media_rows.specs.Refusals.{IsChange, first_refusal, when}

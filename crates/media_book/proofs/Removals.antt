@@ -1,18 +1,16 @@
 -- Segments that go one after the other, and the objects that lose their last references.
-use Rattle.std.proofs.Common.{◌≡◌, ◌⊎◌, inl, inr, ℕ, nat_lt, Bool, true, false, not, ◌&&◌, ◌||◌, cond, List, [], ◌∷◌, ◌++◌, Option, Some, None, Contains, bytes_eq, filter, find, map, refl, sym, ap, ap₂, subst, ◌∙◌, arith}
-use Rattle.std.specs.Prelude.{◌==◌, option_map}
+use Rattle.std.proofs.Common.{◌≡◌, inl, inr, ℕ, nat_lt, Bool, true, false, not, ◌&&◌, ◌||◌, cond, List, [], ◌∷◌, Some, Contains, bytes_eq, filter, map, refl, sym, ap, ap₂, subst, ◌∙◌, arith}
+use Rattle.std.specs.Prelude.{◌==◌}
 use Rattle.std.specs.List.{AllByRecursion, list_all, list_any}
-use Rattle.std.proofs.lemmas.Bool.{and_from, and_parts}
+use Rattle.std.proofs.lemmas.Bool.{and_parts}
 use Rattle.std.proofs.lemmas.Bool.Decides.{nat_tests}
 use Rattle.media_rows.specs.declared.object.ObjectRow.{ObjectRow}
 use Rattle.media_rows.specs.declared.segment.SegmentRow.{SegmentRow}
-use Rattle.media_rows.specs.Good.{are_references_good, rises_by}
-use Rattle.media_rows.specs.Lists.{are_distinct, in_order}
+use Rattle.media_rows.specs.Lists.{are_distinct}
 use Rattle.media_rows.specs.Objects.{idled, idled_row, is_named, is_stored_object, is_stored_row, object_of, references}
-use Rattle.media_rows.specs.Segments.{without_segments}
 use Rattle.object_refs.specs.declared.kept.Kept.{Kept}
 use Rattle.object_refs.specs.References.{objects_in, reference_of, references_in, references_to, refers}
-use Rattle.library_laws.proofs.ListLemmas.{Contains-from_In, In, In-back, In-from_Contains, In-front, filter-In, in_order-In, list_any-from_In, map-In}
+use Rattle.library_laws.proofs.ListLemmas.{In, In-back, In-front, filter-In, in_order-In, list_any-from_In, map-In}
 use Rattle.reference_laws.specs.Ties.{AreTied, flows_to}
 use Rattle.media_book.specs.Media.{AreSome, Media, without_rows}
 use Rattle.media_book.specs.Within.Ties.{Removing, states_of}

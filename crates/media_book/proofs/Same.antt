@@ -1,5 +1,5 @@
 -- What is kept of media holds of equal parts.
-use Rattle.std.proofs.Common.{◌≡◌, ℕ, List, ap, ap₂, sym, subst, ◌∙◌}
+use Rattle.std.proofs.Common.{◌≡◌, ℕ, List, ap, sym, subst, ◌∙◌}
 use Rattle.media_rows.specs.declared.segment.SegmentRow.{SegmentRow}
 use Rattle.object_blobs.specs.Holes.{Area}
 use Rattle.object_refs.specs.declared.kept.Kept.{Kept}

@@ -1,6 +1,6 @@
 -- The media of a library, what its changes make of them, and which media can be made from rows. Our
 -- own rules.
-use Rattle.std.specs.Prelude.{◌≡◌, ℕ, ◌==◌, nat_lt, List, [], ◌∷◌, ◌++◌, Bool, ◌&&◌, ◌||◌, IsTrue, Contains, Option, is_some, map}
+use Rattle.std.specs.Prelude.{◌≡◌, ℕ, ◌==◌, nat_lt, List, [], ◌++◌, Bool, ◌&&◌, ◌||◌, IsTrue, Contains, Option, is_some, map}
 use Rattle.std.specs.List.{AllByRecursion, list_all, sum}
 use Rattle.media_rows.specs.declared.object.Extent.{Extent}
 use Rattle.media_rows.specs.declared.object.ObjectRow.{ObjectRow}
@@ -10,12 +10,9 @@ use Rattle.media_rows.specs.declared.refusal.Refusal.{Refusal}
 use Rattle.media_rows.specs.declared.segment.Segment.{Segment}
 use Rattle.media_rows.specs.declared.segment.SegmentRow.{SegmentRow}
 use Rattle.media_rows.specs.Answer.{first_taken, posts_refusal, taken_refusal}
-use Rattle.media_rows.specs.Good.{are_compatible, are_extents_good}
 use Rattle.media_rows.specs.Library.{Library, empty_library}
-use Rattle.media_rows.specs.Lists.{are_distinct, each_pair}
-use Rattle.media_rows.specs.Objects.{allocated_rows, blocks_of, idled, is_free, object_of, stored_row, swept_objects, with_object, without_objects}
-use Rattle.media_rows.specs.Ranges.{has_both_ends}
-use Rattle.media_rows.specs.Restoring.{by_serial, can_restore_objects, objects_of}
+use Rattle.media_rows.specs.Lists.{are_distinct}
+use Rattle.media_rows.specs.Objects.{allocated_rows, blocks_of, idled, is_free, object_of, stored_row, with_object}
 use Rattle.media_rows.specs.Segments.{posted, without_segments}
 
 -- the media of a library: how many media blocks there are, and its segments and its objects, each by
@@ -102,30 +99,6 @@ abbrev pub without_rows : List SegmentRow → ℕ → Media → Media
 without_rows rows moment media = record media {
   segments = without_segments rows media.segments;
   objects = idled media.segments (without_segments rows media.segments) moment media.objects;
-}
-
--- the first objects that are due go
-abbrev pub swept_at : ℕ → Media → Media
-swept_at moment media = record media {
-  objects = without_objects (swept_objects media.segments media.objects moment) media.objects;
-}
-
--- ---- media from rows
-
--- Segments are bounded and those of one flow don't overlap, each object that one names is kept and
--- stored, ids and serials of objects are distinct, and extents lie apart within the blocks.
-abbrev pub can_restore_media : ℕ → List ObjectRow → List SegmentRow → Bool
-can_restore_media blocks objects segments =
-    (each_pair are_compatible segments && list_all (λ row. has_both_ends row.segment.range) segments)
-    && can_restore_objects objects segments
-    && are_extents_good blocks objects
-
--- the media of rows: segments and objects by rising serial
-abbrev pub media_from : ℕ → List ObjectRow → List SegmentRow → Media
-media_from blocks objects segments = record {
-  blocks = blocks;
-  segments = by_serial (λ row. row.serial) segments;
-  objects = objects_of objects;
 }
 
 -- ---- numbers

@@ -1,20 +1,19 @@
 -- How segments, objects and holes are kept side by side.
-use Rattle.std.specs.Prelude.{◌≡◌, ◌≤◌, ℕ, ◌+◌, ◌-◌, nat_le, List, true, not, ◌&&◌, Contains, Option, map}
-use Rattle.std.specs.List.{AllByRecursion, list_all, sum}
+use Rattle.std.specs.Prelude.{◌≡◌, ℕ, ◌+◌, nat_le, List, true, not, ◌&&◌, Option, map}
+use Rattle.std.specs.List.{list_all, sum}
 use Rattle.media_rows.specs.declared.object.ObjectRow.{ObjectRow}
 use Rattle.media_rows.specs.declared.object.ObjectState.{ObjectState}
-use Rattle.media_rows.specs.declared.object.ObjectState.TheVariants.{Allocated, Stored}
 use Rattle.media_rows.specs.declared.refusal.Refusal.{Refusal}
 use Rattle.media_rows.specs.declared.refusal.Refusal.TheVariants.{NoObject}
 use Rattle.media_rows.specs.declared.segment.Segment.{Segment}
 use Rattle.media_rows.specs.declared.segment.SegmentRow.{SegmentRow}
 use Rattle.media_rows.specs.Answer.{posts_refusal}
 use Rattle.media_rows.specs.Good.{are_references_good, are_states_apart, is_extent_good, rises_by}
-use Rattle.media_rows.specs.Lists.{are_distinct, each_pair, or_else}
-use Rattle.media_rows.specs.Objects.{blocks_of, is_clear_of, is_stored_object, without_objects}
+use Rattle.media_rows.specs.Lists.{each_pair, or_else}
+use Rattle.media_rows.specs.Objects.{is_clear_of, is_stored_object}
 use Rattle.media_rows.specs.Refusals.{when}
 use Rattle.media_rows.specs.Sound.{are_posts_good}
-use Rattle.object_blobs.specs.Holes.{Area, IsGiven, is_free_block, is_taken_place}
+use Rattle.object_blobs.specs.Holes.{Area, is_free_block}
 use Rattle.object_refs.specs.declared.kept.Kept.{Kept}
 use Rattle.object_refs.specs.References.{objects_in}
 use Rattle.reference_laws.specs.Ties.{AreTied}
@@ -79,30 +78,3 @@ pub record Allocating (serial next moment : ℕ) (start media : Media) (all left
   pub below : are_objects_below next media.objects ≡ true
 
 -- ---- objects that go
-
--- these are some of the objects, each of them once
-pub record AreSomeObjects (rows objects : List ObjectRow) : Type 0 where
-  pub there : AllByRecursion (Contains objects) rows
-  pub once : are_distinct (map (λ row. row.serial) rows) ≡ true
-
--- the blocks of an object in this state may be given back: they lie in the area, and none is free
-abbrev pub MayGive : ObjectState → Area → Type 0
-MayGive Allocated area = Unit {0}
-MayGive (Stored start size) area = (start + blocks_of size ≤ area.blocks) ×
-    (is_taken_place area.holes (blocks_of size) start ≡ true)
-
--- an area and a number of bytes once an object in this state is gone
-abbrev pub HasGiven : ObjectState → Area → ℕ → Area → ℕ → Type 0
-HasGiven Allocated old bytes new left = (new ≡ old) × (left ≡ bytes)
-HasGiven (Stored start size) old bytes new left =
-    IsGiven start (blocks_of size) old new × (left ≡ bytes - size)
-
--- blocks of objects were given back, and those of these are left to be
-pub record Freeing (blocks : ℕ) (start all left : List ObjectRow) (area : Area) (bytes : ℕ) : Type 0
-  where
-    pub now : List ObjectRow
-    pub rest : without_objects left now ≡ without_objects all start
-    pub some : AreSomeObjects left now
-    pub rising : rises_by (λ row. row.serial) now ≡ true
-    pub held : AreHeld (states_of now) area bytes
-    pub same : area.blocks ≡ blocks
