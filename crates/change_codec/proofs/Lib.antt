@@ -7,3 +7,4 @@ pub mod PartLemmas
 pub mod SizedLemmas
 pub mod CodecLemmas
 pub mod Fitting
+pub mod Asking

@@ -12,6 +12,7 @@ mod rows;
 mod sized;
 mod values;
 mod whole;
+mod writable;
 
 pub use crate::laws::{
     change_faults_have_one_place, changes_have_one_spelling, fits_as_worked,

@@ -5,6 +5,7 @@ ghost use Rattle.field_codec.specs.Reading.{GivesField, WritesValue};
 ghost use Rattle.change_codec.specs.Rows.{sized, row_spelling};
 
 use crate::field::Field;
+use crate::writable::Writable;
 use disk_trait::{Memory, Text};
 use field_codec::{BadField, Cursor, ReadFault, write_u32};
 use media_rows::Row;
@@ -32,7 +33,6 @@ pub(crate) fn read_row(alloc: Global, input: &mut Cursor) -> Result<Row, ReadFau
 
 #[tactic(auto, unfolding(crate::specs::Rows::row_spelling))]
 pub(crate) fn write_row(alloc: Global, row: &Row, out: &mut Text) -> Result<(), Memory>
-    requires { row_spelling.asks row.now }
     ensures { OnOk result (WritesValue row_spelling out.old row.now out.new) }
 {
     match row {
@@ -64,15 +64,26 @@ fn read_sized<T: Field>(alloc: Global, input: &mut Cursor) -> Result<T, ReadFaul
     Ok(value)
 }
 
-/// Writes a kind, and the fields behind their length.
-fn write_sized<T: Field>(alloc: Global, kind: u8, value: &T, out: &mut Text) -> Result<(), Memory>
-    requires lawful { Lawful T.spelling }
-    requires asks { (sized T.spelling).asks value.now }
+/// Writes a kind, and the fields behind their length. Fields that have no spelling, or too long a one, are
+/// want of memory.
+fn write_sized<T: Writable>(
+    alloc: Global,
+    kind: u8,
+    value: &T,
+    out: &mut Text,
+) -> Result<(), Memory>
+    requires { Lawful T.spelling }
     ensures { OnOk result (WritesValue (sized T.spelling) (out.old ++ kind ∷ []) value.now out.new) }
 {
+    if !value.can_write() {
+        return Err(Memory);
+    }
     let mut fields = Text::new(alloc);
     value.write_to(&mut fields)?;
     let bytes = fields.bytes();
+    if bytes.len() > u32::MAX as usize {
+        return Err(Memory);
+    }
     out.push(kind)?;
     write_u32(out, bytes.len() as u32)?;
     out.append(bytes)?;

@@ -107,7 +107,7 @@ pub(crate) fn write_tags(tags: &TagList, out: &mut Text) -> Result<(), Memory>
 }
 
 /// Whether each tag's name stands before the next one's.
-fn are_rising(tags: &[Tag]) -> bool
+pub(crate) fn are_rising(tags: &[Tag]) -> bool
     ensures { result ≡ is_rising tags.now }
 {
     for at in 1..tags.len() {

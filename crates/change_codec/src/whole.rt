@@ -3,7 +3,7 @@ ghost use Rattle.std.specs.Prelude.{◌≡◌, ℕ, IfOk, OnOk, OnErr};
 ghost use Rattle.field_codec.specs.Laws.{Lawful};
 ghost use Rattle.field_codec.specs.Reading.{ReadsWhole};
 ghost use Rattle.field_codec.specs.Answers.{OnBad};
-ghost use Rattle.change_codec.specs.Codec.{SpellsChange, CanWriteChange, ChangeFaultAt, BeginsWithRow, AppendsRow, CanWriteRow, RowFaultAt};
+ghost use Rattle.change_codec.specs.Codec.{CanWriteRow, SpellsChange, CanWriteChange, ChangeFaultAt, BeginsWithRow, AppendsRow, RowFaultAt};
 ghost use Rattle.media_rows.specs.declared.change.Change.{Change};
 ghost use Rattle.media_rows.specs.declared.row.Row.{Row};
 
@@ -56,9 +56,9 @@ fn read_all<T: Field>(alloc: Global, bytes: &[u8]) -> Result<T, ReadFault>
     Ok(value)
 }
 
-/// Adds the one spelling of a row at the end of `out`. After an error `out` is as it was.
+/// Adds the one spelling of a row at the end of `out`. A row that has none is want of memory. After an error
+/// `out` is as it was.
 pub fn encode_row(alloc: Global, row: &Row, out: &mut Text) -> Result<(), Memory>
-    requires { CanWriteRow row.now }
     ensures ok { OnOk result (AppendsRow out.old row.now out.new) }
     ensures err { OnErr result (out.new ≡ out.old) }
 {

@@ -1,0 +1,5 @@
+use Rattle.change_codec.proofs.Asking.{state_asks}
+use Rattle.change_codec.proofs.writable.ObjectStateWritable.can_write.Goals as goal
+
+pub returns : goal.returns
+returns c = λ told. state_asks _
