@@ -1,0 +1,93 @@
+//! Rows as text.
+ghost use Rattle.std.specs.Prelude.{◌≡◌, ◌++◌, ◌∷◌, [], OnOk, map};
+ghost use Rattle.media_rows.specs.declared.row.Row.{Row};
+ghost use Rattle.media_rows.specs.declared.row.Row.TheVariants as rows;
+ghost use Rattle.core_rows.specs.Texts.{text_of};
+
+use change_codec::encode_row;
+use disk_trait::{Duplicate, Memory, Text};
+use media_rows::{DeleteRow, EventRow, FlowRow, HookRow, ObjectRow, Row, SegmentRow, SourceRow};
+use std::alloc::Global;
+
+/// What is one kind of row.
+pub trait AnyRow: Duplicate {
+    ghost as_row: { Self → Row };
+
+    /// It as a row.
+    fn into_row(self) -> Row
+        ensures { result ≡ as_row self };
+}
+
+impl AnyRow for SourceRow {
+    ghost as_row = { rows.Source };
+
+    fn into_row(self) -> Row {
+        Row::Source(self)
+    }
+}
+
+impl AnyRow for FlowRow {
+    ghost as_row = { rows.Flow };
+
+    fn into_row(self) -> Row {
+        Row::Flow(self)
+    }
+}
+
+impl AnyRow for ObjectRow {
+    ghost as_row = { rows.Object };
+
+    fn into_row(self) -> Row {
+        Row::Object(self)
+    }
+}
+
+impl AnyRow for SegmentRow {
+    ghost as_row = { rows.Segment };
+
+    fn into_row(self) -> Row {
+        Row::Segment(self)
+    }
+}
+
+impl AnyRow for DeleteRow {
+    ghost as_row = { rows.Request };
+
+    fn into_row(self) -> Row {
+        Row::Request(self)
+    }
+}
+
+impl AnyRow for HookRow {
+    ghost as_row = { rows.Hook };
+
+    fn into_row(self) -> Row {
+        Row::Hook(self)
+    }
+}
+
+impl AnyRow for EventRow {
+    ghost as_row = { rows.Event };
+
+    fn into_row(self) -> Row {
+        Row::Event(self)
+    }
+}
+
+/// Adds the text of rows of one kind at the end. A row that has no spelling is want of memory.
+pub fn append_rows<T: AnyRow>(alloc: Global, list: &[T], text: &mut Text) -> Result<(), Memory>
+    ensures { OnOk result (text.new ≡ text.old ++ text_of (map T.as_row list.now)) }
+{
+    for item in list {
+        let row = item.duplicate(alloc)?.into_row();
+        encode_row(alloc, &row, text)?;
+    }
+    Ok(())
+}
+
+/// Adds the text of the row of numbers, the last one of a snapshot.
+pub fn append_next_serial(alloc: Global, next_serial: u64, text: &mut Text) -> Result<(), Memory>
+    ensures { OnOk result (text.new ≡ text.old ++ text_of (rows.Numbers next_serial ∷ [])) }
+{
+    encode_row(alloc, &Row::Numbers { next_serial }, text)
+}
