@@ -16,9 +16,9 @@ use Rattle.connection_loop.specs.declared.ending.Ending.{Ending}
 use Rattle.connection_loop.specs.declared.ending.Ending.TheVariants.{Complete, Cut, Unlinked, Starved, Stopped}
 use Rattle.connection_loop.specs.declared.connection.Next.TheVariants as next
 use Rattle.connection_loop.specs.declared.run.RunEnd.TheVariants as run
-use Rattle.connection_loop.specs.Turns.{EndsAs, IsBetween, LinkCount, SameImages, SiteCalls, TellsAll, disk_held, ending_of, is_stopped}
-use Rattle.connection_loop.specs.Loops.{GoesOnBetween, HasEnded, HasServedSo, NextCalls, NextLeads, RunCalls}
-use Rattle.connection_loop.proofs.Turning.{tells_later}
+use Rattle.connection_loop.specs.Turns.{EndsAs, GivesMore, IsBetween, LinkCount, SameImages, SiteCalls, TellsAll, disk_held, ending_of, is_stopped}
+use Rattle.connection_loop.specs.Loops.{AreCounted, GoesOnBetween, HasEnded, HasServedSo, NextCalls, NextLeads, RunCalls}
+use Rattle.connection_loop.proofs.Turning.{gives_none, gives_twice, tells_later}
 
 -- ---- images
 
@@ -116,11 +116,46 @@ stops-by : {Request : Type 0} (session : Session Request) (ending : Ending) (b :
     → stops session.steps ≡ b
 stops-by session ending b is by = sym (ap is_stopped is ∙ stopped-ending session) ∙ by
 
+link_least : (ending : Ending) (before now : ℕ) → LinkCount (Some ending) before now → before ≤ now
+link_least Complete before now count = omega (arith, count)
+link_least Cut before now count = omega (arith, count)
+link_least Unlinked before now count = count.0
+link_least Starved before now count = count
+link_least Stopped before now count = count
+
+-- a count that rose has risen from before and by now
+rose_over : (a b c d : ℕ) → a ≤ b → b ≤ c → c ≤ d → Rose b c → Rose a d
+rose_over a b c d one two three rose = λ small. grind (arith, one, two, three, rose, small)
+
+link_rose : (ending : Ending) (before now : ℕ) → LinkCount (Some ending) before now → ending ≡ Unlinked → Rose before now
+link_rose Complete before now count e = absurd cc
+link_rose Cut before now count e = absurd cc
+link_rose Unlinked before now count e = count.1
+link_rose Starved before now count e = absurd cc
+link_rose Stopped before now count e = absurd cc
+
+-- connections and one more, with what each left of the count of link faults
+counted_more : {Request : Type 0} (a b c : ℕ) (sessions : List (Session Request)) (session : Session Request) (ending : Ending)
+    → AreCounted a b sessions → a ≤ b → ending ≡ ending_of session → LinkCount (Some ending) b c → AreCounted a c (sessions ++ session ∷ [])
+counted_more a b c [] session ending so_far least is count =
+    ((λ e. rose_over a b c c least (link_least ending b c count) (omega arith) (link_rose ending b c count (is ∙ e))), tt)
+counted_more a b c (s ∷ sessions) session ending so_far least is count =
+    let more = link_least ending b c count in
+    ((λ e. rose_over a a b c (omega arith) least more (so_far.0 e)), counted_more a b c sessions session ending so_far.1 least is count)
+
+-- and over calls that fail between two connections
+pub counted_later : {Request : Type 0} (a b c : ℕ) (sessions : List (Session Request)) → AreCounted a b sessions → a ≤ b → b ≤ c → AreCounted a c sessions
+counted_later a b c [] so_far least more = tt
+counted_later a b c (s ∷ sessions) so_far least more =
+    ((λ e. rose_over a a b c (omega arith) least more (so_far.0 e)), counted_later a b c sessions so_far.1 least more)
+
 -- a connection more
-pub between_more : {State Request : Type 0} (m : Machine State Request) (b : Beginning State) (d : Device) (given : List ℕ) (held : Held State) (keeps : Type 0)
+pub between_more : {State Request : Type 0} (m : Machine State Request) (b : Beginning State) (first now d : Device) (given : List ℕ) (held : Held State) (keeps : Type 0)
     (sessions : List (Session Request)) (n : Counts) (ending : Ending) (counter : ℕ) → EndsAs m b d given held keeps sessions n ending
-    → is_stopped ending ≡ false → length sessions ≡ counter → GoesOnBetween m b d given held keeps n (counter + 1)
-between_more m b d given held keeps sessions n ending counter e on count =
+    → is_stopped ending ≡ false → length sessions ≡ counter → AreCounted first.link.faults now.link.faults sessions
+    → first.link.faults ≤ now.link.faults → LinkCount (Some ending) now.link.faults d.link.faults
+    → GoesOnBetween m b first d given held keeps n (counter + 1)
+between_more m b first now d given held keeps sessions n ending counter e on count counted least faults =
     let going = stops-by e.session ending false e.ending_is on in
     record {
       sessions = sessions ++ e.session ∷ [];
@@ -131,20 +166,23 @@ between_more m b d given held keeps sessions n ending counter e on count =
         kept = e.kept going;
       };
       count = omega (arith, count, length-append sessions (e.session ∷ []));
+      counted = counted_more first.link.faults now.link.faults d.link.faults sessions e.session ending counted least e.ending_is faults;
     }
 
 -- the disk failed in it
-pub ended_stopped : {State Request : Type 0} (m : Machine State Request) (b : Beginning State) (d : Device) (given : List ℕ) (held : Held State)
+pub ended_stopped : {State Request : Type 0} (m : Machine State Request) (b : Beginning State) (first now d : Device) (given : List ℕ) (held : Held State)
     (keeps : Type 0) (sessions : List (Session Request)) (n : Counts) (ending : Ending) (counter connections : ℕ)
     → EndsAs m b d given held keeps sessions n ending → is_stopped ending ≡ true → length sessions ≡ counter → counter < connections
-    → HasEnded m b d given n connections run.Stopped
-ended_stopped m b d given held keeps sessions n ending counter connections e on count few = record {
+    → AreCounted first.link.faults now.link.faults sessions → first.link.faults ≤ now.link.faults → LinkCount (Some ending) now.link.faults d.link.faults
+    → HasEnded m b first d given n connections run.Stopped
+ended_stopped m b first now d given held keeps sessions n ending counter connections e on count few counted least faults = record {
   sessions = sessions ++ e.session ∷ [];
   served = e.served;
   ends = (
     omega (arith, count, few, length-append sessions (e.session ∷ [])),
     run_stops-push sessions e.session e.unstopped ∙ stops-by e.session ending true e.ending_is on,
   );
+  counted = counted_more first.link.faults now.link.faults d.link.faults sessions e.session ending counted least e.ending_is faults;
 }
 
 -- the calls of a run that goes on, and those for the next connection
@@ -161,13 +199,6 @@ failed_by Cut e = absurd (false≢true e)
 failed_by Unlinked e = absurd (false≢true e)
 failed_by Starved e = absurd (false≢true e)
 failed_by Stopped e = refl
-
-link_least : (ending : Ending) (before now : ℕ) → LinkCount (Some ending) before now → before ≤ now
-link_least Complete before now count = omega (arith, count)
-link_least Cut before now count = omega (arith, count)
-link_least Unlinked before now count = count.0
-link_least Starved before now count = count
-link_least Stopped before now count = count
 
 pub calls_on : (ending : Ending) (a b c : Device) → RunCalls run.Complete a b → NextCalls (next.Ended ending) b c → is_stopped ending ≡ false
     → RunCalls run.Complete a c
@@ -209,12 +240,9 @@ calls_unlinked a b c first second = record {
   link_faults = omega (arith, first.link_faults, second.link_faults.0);
   unlinked = λ e small.
       let rose = second.link_faults.1 in
-      rose_over a.link.faults b.link.faults c.link.faults first.link_faults second.link_faults.0 rose small;
+      rose_over a.link.faults b.link.faults c.link.faults c.link.faults first.link_faults second.link_faults.0 (omega arith) rose small;
   closed = λ idle. second.closed (first.closed idle);
 }
-  where
-    rose_over : (x y z : ℕ) → x ≤ y → y ≤ z → Rose y z → Rose x z
-    rose_over x y z one two rose = λ small. grind (arith, one, two, rose, small)
 
 pub no_run_calls : (d : Device) → RunCalls run.Complete d d
 no_run_calls d = record {
@@ -233,8 +261,9 @@ served_first m d tells given held keeps n size none = record {
   calls = no_run_calls d;
   size_is = refl;
   clock = λ t. t;
+  moments = λ t. gives_none given;
   answers = omega (arith, none);
-  reached = λ all b between. record { sessions = []; between = between; count = refl };
+  reached = λ all b between. record { sessions = []; between = between; count = refl; counted = tt };
 }
 
 -- a connection more
@@ -243,18 +272,20 @@ pub served_more : {State Request : Type 0} (m : Machine State Request) (first no
     (size_first size size_next counter : ℕ) (ending : Ending)
     → HasServedSo m first now tells_first tells_now given_first given held_first held keeps_first keeps n_first n size_first size counter
     → NextCalls (next.Ended ending) now last → is_stopped ending ≡ false → size_next ≡ size → (tells_next ≡ true → tells_now ≡ true)
-    → n_next.answers ≤ n.answers + 1000000
+    → (tells_next ≡ true → GivesMore given more) → n_next.answers ≤ n.answers + 1000000
     → (TellsAll now tells_next → (b : Beginning State) → (sessions : List (Session Request)) → IsBetween m b now given held keeps sessions n
     → NextLeads m b last more later keeps_next sessions n_next (next.Ended ending))
     → HasServedSo m first last tells_first tells_next given_first more held_first later keeps_first keeps_next n_first n_next size_first size_next (counter + 1)
 served_more m first now last tells_first tells_now tells_next given_first given more held_first held later keeps_first keeps keeps_next n_first n n_next
-    size_first size size_next counter ending h calls on size_is clock answers leads = record {
+    size_first size size_next counter ending h calls on size_is clock gives answers leads = record {
       calls = calls_on ending first now last h.calls calls on;
       size_is = size_is ∙ h.size_is;
       clock = λ yes. h.clock (clock yes);
+      moments = λ yes. gives_twice given_first given more (h.moments (clock yes)) (gives yes);
       answers = omega (arith, answers, h.answers);
       reached = λ all b between.
           let so_far = h.reached (record { honest = all.honest; shows = all.shows; tells = all.tells; clock_tells = clock all.clock_tells }) b between in
-          between_more m b last more later keeps_next so_far.sessions n_next ending counter
-          (leads (tells_later first now tells_next h.calls.same all) b so_far.sessions so_far.between) on so_far.count;
+          between_more m b first now last more later keeps_next so_far.sessions n_next ending counter
+          (leads (tells_later first now tells_next h.calls.same all) b so_far.sessions so_far.between) on so_far.count so_far.counted h.calls.link_faults
+          calls.link_faults;
     }

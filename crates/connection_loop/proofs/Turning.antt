@@ -1,9 +1,12 @@
 -- Turns of a connection, one behind another, and connections one behind another.
-use Rattle.std.proofs.Common.{◌≡◌, ◌<◌, ◌+◌, ◌-◌, ◌^◌, ℕ, Bool, true, List, [], Option, Some, None, refl, sym, ◌∙◌, arith}
+use Rattle.std.proofs.Common.{◌≡◌, ◌<◌, ◌+◌, ◌-◌, ◌^◌, ℕ, Bool, true, List, [], ◌++◌, Option, Some, None, refl, sym, ap, ◌∙◌, arith}
 use Rattle.std.proofs.lemmas.Bool.{false≢true}
+use Rattle.std.proofs.lemmas.List.{append-nil, append_assoc}
+use Rattle.std.proofs.lemmas.List.Elements.{All-append, All-nil}
 use Rattle.disk_trait.specs.Device.{Device}
 use Rattle.disk_trait.specs.Calls.{SameDevice}
 use Rattle.disk_trait.proofs.Theorems.{counted_twice, same_device_twice}
+use Rattle.site_edge.specs.Clocks.{IsMoment}
 use Rattle.run_history.specs.Machine.{Machine}
 use Rattle.run_history.specs.Steps.{Step}
 use Rattle.run_history.specs.Sessions.{Session}
@@ -11,7 +14,7 @@ use Rattle.run_history.specs.Runs.{Beginning}
 use Rattle.run_history.specs.Serving.{Counts, Going, Held}
 use Rattle.connection_loop.specs.declared.ending.Ending.{Ending}
 use Rattle.connection_loop.specs.declared.ending.Ending.TheVariants.{Complete, Cut, Unlinked, Starved, Stopped}
-use Rattle.connection_loop.specs.Turns.{GoesOn, LinkCount, SiteCalls, TellsAll, disk_held}
+use Rattle.connection_loop.specs.Turns.{GivesMore, GoesOn, LinkCount, SiteCalls, TellsAll, disk_held}
 use Rattle.connection_loop.specs.Loops.{HasTurned}
 
 -- nothing was called
@@ -51,6 +54,20 @@ tells_later a b clock same all = record {
   clock_tells = all.clock_tells;
 }
 
+-- ---- moments
+
+-- none was given
+pub gives_none : (given : List ℕ) → GivesMore given given
+gives_none given = record { more = []; given_is = sym (append-nil given); moments = All-nil IsMoment }
+
+-- some were given, and then more
+pub gives_twice : (a b c : List ℕ) → GivesMore a b → GivesMore b c → GivesMore a c
+gives_twice a b c first second = record {
+  more = first.more ++ second.more;
+  given_is = second.given_is ∙ ap (λ xs. xs ++ second.more) first.given_is ∙ append_assoc a first.more second.more;
+  moments = All-append IsMoment first.more second.more first.moments second.moments;
+}
+
 -- before the first turn
 pub turned_first : {State Request : Type 0} (m : Machine State Request) (d : Device) (tells : Bool) (given : List ℕ) (held : Held State) (keeps : Type 0)
     (n : Counts) (size turns : ℕ) → held.taken ≡ 0 → turns ≡ 0 → HasTurned m d d tells tells given given held held keeps keeps n n size size turns 0
@@ -58,6 +75,7 @@ turned_first m d tells given held keeps n size turns none zero = record {
   calls = no_calls d;
   size_is = refl;
   clock = λ t. t;
+  moments = λ t. gives_none given;
   few = omega (arith, none);
   answers = omega (arith, none);
   moved = omega arith;
@@ -70,17 +88,19 @@ pub turned_more : {State Request : Type 0} (m : Machine State Request) (first no
     (given_first given more : List ℕ) (held_first held later : Held State) (keeps_first keeps keeps_next : Type 0) (n_first n n_next : Counts)
     (size_first size size_next turns turns_next counter : ℕ)
     → HasTurned m first now tells_first tells_now given_first given held_first held keeps_first keeps n_first n size_first size turns counter
-    → SiteCalls None now next → size_next ≡ size → (tells_next ≡ true → tells_now ≡ true) → later.taken < 1000000
+    → SiteCalls None now next → size_next ≡ size → (tells_next ≡ true → tells_now ≡ true)
+    → (tells_next ≡ true → GivesMore given more) → later.taken < 1000000
     → n_next.answers + held.taken ≡ n.answers + later.taken → turns < turns_next → turns_next < 2 ^ 64 - 1
     → (TellsAll now tells_next → (b : Beginning State) → (finished : List (Session Request)) (steps : List (Step Request)) → keeps
     → Going m b now given held finished steps n → GoesOn m b next more later keeps_next finished n_next)
     → HasTurned m first next tells_first tells_next given_first more held_first later keeps_first keeps_next n_first n_next size_first size_next turns_next
     (counter + 1)
 turned_more m first now next tells_first tells_now tells_next given_first given more held_first held later keeps_first keeps keeps_next n_first n n_next
-    size_first size size_next turns turns_next counter h calls size_is clock few counted moves most goes = record {
+    size_first size size_next turns turns_next counter h calls size_is clock gives few counted moves most goes = record {
       calls = calls_more None first now next h.calls calls;
       size_is = size_is ∙ h.size_is;
       clock = λ yes. h.clock (clock yes);
+      moments = λ yes. gives_twice given_first given more (h.moments (clock yes)) (gives yes);
       few = few;
       answers = omega (arith, counted, h.answers);
       moved = omega (arith, moves, h.moved);

@@ -1,5 +1,6 @@
 -- What the next connection leads to, and what serving connections one after another comes to.
 use Rattle.std.specs.Prelude.{◌≡◌, ◌≤◌, ◌<◌, ◌+◌, ◌-◌, ◌*◌, ◌^◌, ℕ, Bool, true, false, List, [], length, Some, None}
+use Rattle.std.specs.List.{AllByRecursion}
 use Rattle.disk_trait.specs.Device.{Device}
 use Rattle.disk_trait.specs.Calls.{IsCounted, Rose, SameDevice}
 use Rattle.run_history.specs.Machine.{Machine}
@@ -11,7 +12,8 @@ use Rattle.connection_loop.specs.declared.connection.Next.TheVariants.{NoMore, U
 use Rattle.connection_loop.specs.declared.run.RunEnd.{RunEnd}
 use Rattle.connection_loop.specs.declared.run.RunEnd.TheVariants.{Complete}
 use Rattle.connection_loop.specs.declared.run.RunEnd.TheVariants as run
-use Rattle.connection_loop.specs.Turns.{EndsAs, GoesOn, IsBetween, LinkCount, SiteCalls, TellsAll, disk_held}
+use Rattle.connection_loop.specs.declared.ending.Ending.TheVariants as endings
+use Rattle.connection_loop.specs.Turns.{EndsAs, GivesMore, GoesOn, IsBetween, LinkCount, SiteCalls, TellsAll, disk_held, ending_of}
 
 -- Turns of a connection so far: no call failed, each turn was counted, and the connection has come
 -- so far from wherever it had come at first.
@@ -22,6 +24,7 @@ pub record HasTurned {State Request : Type 0} (m : Machine State Request) (first
     pub calls : SiteCalls None first now
     pub size_is : size ≡ size_first
     pub clock : tells_now ≡ true → tells_first ≡ true
+    pub moments : tells_now ≡ true → GivesMore given_first given
     pub few : held.taken < 1000000
     pub answers : n.answers ≡ n_first.answers + held.taken
     pub moved : counter ≤ turns
@@ -105,20 +108,27 @@ RunEnds d sessions connections run.Unlinked =
 RunEnds d sessions connections run.Stopped =
     (length sessions ≤ connections) × (run_stops sessions ≡ true)
 
--- Connections were served one after another, and the run has ended so.
+-- Each of these connections that ended with a call of its link that failed raised the count.
+abbrev pub AreCounted : {Request : Type 0} → ℕ → ℕ → List (Session Request) → Type 0
+AreCounted before now =
+    AllByRecursion (λ session. ending_of session ≡ endings.Unlinked → Rose before now)
+
+-- Connections were served one after another since the first device, and the run has ended so.
 pub record HasEnded {State Request : Type 0} (m : Machine State Request) (b : Beginning State)
-    (d : Device) (given : List ℕ) (n : Counts) (connections : ℕ) (end : RunEnd) : Type 0 where
+    (first d : Device) (given : List ℕ) (n : Counts) (connections : ℕ) (end : RunEnd) : Type 0 where
   pub sessions : List (Session Request)
   pub served : HasServed m b d given sessions n
   pub ends : RunEnds d sessions connections end
+  pub counted : AreCounted first.link.faults d.link.faults sessions
 
 -- Connections so far, none of which stopped the run.
 pub record GoesOnBetween {State Request : Type 0} (m : Machine State Request) (b : Beginning State)
-    (d : Device) (given : List ℕ) (held : Held State) (keeps : Type 0) (n : Counts)
+    (first d : Device) (given : List ℕ) (held : Held State) (keeps : Type 0) (n : Counts)
     (counter : ℕ) : Type 0 where
   pub sessions : List (Session Request)
   pub between : IsBetween m b d given held keeps sessions n
   pub count : length sessions ≡ counter
+  pub counted : AreCounted first.link.faults d.link.faults sessions
 
 -- the same from wherever the run had come at first
 pub record HasServedSo {State Request : Type 0} (m : Machine State Request) (first now : Device)
@@ -128,7 +138,8 @@ pub record HasServedSo {State Request : Type 0} (m : Machine State Request) (fir
     pub calls : RunCalls Complete first now
     pub size_is : size ≡ size_first
     pub clock : tells_now ≡ true → tells_first ≡ true
+    pub moments : tells_now ≡ true → GivesMore given_first given
     pub answers : n.answers ≤ 1000000 * counter
     pub reached : TellsAll first tells_now → (b : Beginning State)
         → IsBetween m b first given_first held_first keeps_first [] n_first
-        → GoesOnBetween m b now given held keeps n counter
+        → GoesOnBetween m b first now given held keeps n counter

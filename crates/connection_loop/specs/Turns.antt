@@ -1,7 +1,8 @@
 -- What a turn of a connection leads to, and what its calls leave of a site.
-use Rattle.std.specs.Prelude.{◌≡◌, ◌≤◌, ℕ, Bool, true, false, List, [], ◌∷◌, ◌++◌, Option, Some, None, if◌then◌else◌}
+use Rattle.std.specs.Prelude.{◌≡◌, ◌≤◌, ℕ, Bool, true, false, List, [], ◌∷◌, ◌++◌, All, Option, Some, None, if◌then◌else◌}
 use Rattle.disk_trait.specs.Device.{Device, Left, may_leave}
 use Rattle.disk_trait.specs.Calls.{IsCounted, Rose, SameDevice}
+use Rattle.site_edge.specs.Clocks.{IsMoment}
 use Rattle.run_history.specs.Machine.{Machine}
 use Rattle.run_history.specs.Steps.{Step}
 use Rattle.run_history.specs.Sessions.{Session, after_sessions, has_failed, stops}
@@ -18,6 +19,12 @@ pub record TellsAll (d : Device) (clock : Bool) : Type 0 where
   pub shows : d.shows ≡ true
   pub tells : d.tells ≡ true
   pub clock_tells : clock ≡ true
+
+-- A clock that had given some moments has given more by now, each of which is one.
+pub record GivesMore (before now : List ℕ) : Type 0 where
+  pub more : List ℕ
+  pub given_is : now ≡ before ++ more
+  pub moments : All IsMoment more
 
 -- each image that a crash may leave now is one that it might have left before
 pub record SameImages (old new : Device) : Type 0 where

@@ -3,7 +3,7 @@ ghost use Rattle.std.specs.Prelude.{◌≡◌, ◌≤◌, ◌<◌, ◌+◌, ◌^
 ghost use Rattle.run_history.specs.Sessions.{Session};
 ghost use Rattle.run_history.specs.Runs.{Beginning};
 ghost use Rattle.run_history.specs.Serving.{Going};
-ghost use Rattle.connection_loop.specs.Turns.{EndsAs, IsBetween, SiteCalls, TellsAll};
+ghost use Rattle.connection_loop.specs.Turns.{EndsAs, GivesMore, IsBetween, SiteCalls, TellsAll};
 ghost use Rattle.connection_loop.specs.Loops.{NextCalls, NextLeads};
 
 use crate::{Ending, MOST_ANSWERS, Service, Tally};
@@ -37,6 +37,8 @@ fn serve_connection<V: Service, X: Site, C: Clock>(
     ensures calls { SiteCalls (Some result) (X.device site.old) (X.device site.new) }
     ensures size { V.size service.new ≡ V.size service.old }
     ensures clock { C.tells clock.new ≡ true → C.tells clock.old ≡ true }
+    ensures moments { C.tells clock.new ≡ true
+        → GivesMore (C.given clock.old) (C.given clock.new) }
     ensures answers { tally.new.answers ≤ tally.old.answers + MOST_ANSWERS }
     ensures served { TellsAll (X.device site.old) (C.tells clock.new) → (b : Beginning V.State)
         → (finished : List (Session V.Request)) → V.keeps (V.store service.old) (X.device site.old)
@@ -66,6 +68,8 @@ pub fn serve_next<V: Service, X: Site, C: Clock>(
     ensures calls { NextCalls result (X.device site.old) (X.device site.new) }
     ensures size { V.size service.new ≡ V.size service.old }
     ensures clock { C.tells clock.new ≡ true → C.tells clock.old ≡ true }
+    ensures moments { C.tells clock.new ≡ true
+        → GivesMore (C.given clock.old) (C.given clock.new) }
     ensures answers { tally.new.answers ≤ tally.old.answers + MOST_ANSWERS }
     ensures leads { TellsAll (X.device site.old) (C.tells clock.new) → (b : Beginning V.State)
         → (sessions : List (Session V.Request))

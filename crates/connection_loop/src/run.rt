@@ -1,7 +1,7 @@
 //! Connections one after another.
 ghost use Rattle.std.specs.Prelude.{◌≡◌, ◌≤◌, ◌<◌, ◌+◌, ◌*◌, ◌^◌, [], ℕ, List, Bool, true};
 ghost use Rattle.run_history.specs.Runs.{Beginning};
-ghost use Rattle.connection_loop.specs.Turns.{IsBetween, TellsAll};
+ghost use Rattle.connection_loop.specs.Turns.{GivesMore, IsBetween, TellsAll};
 ghost use Rattle.connection_loop.specs.Loops.{HasEnded, RunCalls};
 
 use crate::connection::{Next, serve_next};
@@ -40,10 +40,13 @@ pub fn serve<V: Service, X: Site, C: Clock>(
     requires device { V.size service.old ≤ (X.device site.old).size }
     ensures calls { RunCalls result (X.device site.old) (X.device site.new) }
     ensures clock { C.tells clock.new ≡ true → C.tells clock.old ≡ true }
+    ensures moments { C.tells clock.new ≡ true
+        → GivesMore (C.given clock.old) (C.given clock.new) }
     ensures ended { TellsAll (X.device site.old) (C.tells clock.new) → (b : Beginning V.State)
         → IsBetween V.machine b (X.device site.old) (C.given clock.old) (V.held service.old)
         (V.keeps (V.store service.old) (X.device site.old)) [] tally.old
-        → HasEnded V.machine b (X.device site.new) (C.given clock.new) tally.new connections result }
+        → HasEnded V.machine b (X.device site.old) (X.device site.new) (C.given clock.new) tally.new
+        connections result }
 {
     for _ in 0..connections {
         match serve_next(alloc, service, site, clock, tally) {

@@ -6,7 +6,7 @@ ghost use Rattle.run_history.specs.Sessions.{Session};
 ghost use Rattle.run_history.specs.Steps.{Step};
 ghost use Rattle.run_history.specs.Runs.{Beginning};
 ghost use Rattle.run_history.specs.Serving.{Going, Held};
-ghost use Rattle.connection_loop.specs.Turns.{SameImages, SiteCalls, TellsAll, TurnLeads, held_afresh};
+ghost use Rattle.connection_loop.specs.Turns.{GivesMore, SameImages, SiteCalls, TellsAll, TurnLeads, held_afresh};
 
 use crate::{Ending, Tally};
 use site_edge::{Clock, Site};
@@ -68,6 +68,8 @@ pub trait Service {
         ensures calls { SiteCalls result (X.device site.old) (X.device site.new) }
         ensures size { size self.new ≡ size self.old }
         ensures clock { C.tells clock.new ≡ true → C.tells clock.old ≡ true }
+        ensures moments { C.tells clock.new ≡ true
+            → GivesMore (C.given clock.old) (C.given clock.new) }
         ensures few { IsNone result → (held self.new).taken < MOST_ANSWERS }
         ensures counted { IsNone result → tally.new.answers + (held self.old).taken
             ≡ tally.old.answers + (held self.new).taken }

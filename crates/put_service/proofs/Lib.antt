@@ -1,5 +1,5 @@
 mod AnsweringLemmas
-mod BeginningLemmas
+pub mod BeginningLemmas
 pub mod ChangeLemmas
 mod FoldLemmas
 mod FrontLemmas

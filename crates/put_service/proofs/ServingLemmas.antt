@@ -15,7 +15,7 @@ use Rattle.run_history.proofs.Ends.{end_like-push, open-going, stage-sessions}
 use Rattle.run_history.proofs.Going.{after_end, cut_silently, ends_cut, ends_heard, goes_heard, last_changed}
 use Rattle.connection_loop.specs.declared.ending.Ending.{Ending}
 use Rattle.connection_loop.specs.declared.ending.Ending.TheVariants as endings
-use Rattle.connection_loop.specs.Turns.{EndsAs, GoesOn, ending_of}
+use Rattle.connection_loop.specs.Turns.{EndsAs, GivesMore, GoesOn, ending_of}
 use Rattle.put_service.specs.declared.request.Front.TheVariants.{More}
 use Rattle.put_service.specs.declared.store.Store.{Store}
 use Rattle.put_service.specs.Keeping.{EachKeeps}
@@ -28,6 +28,17 @@ use Rattle.put_service.proofs.AnsweringLemmas.{holds}
 use Rattle.put_service.proofs.FrontLemmas.{more_unrefused, more_unspelled}
 use Rattle.put_service.proofs.StoreLemmas.{keeps_unchanged}
 use Rattle.disk_trait.specs.Device.{Link}
+use Rattle.site_edge.specs.Clocks.{IsMoment}
+use Rattle.std.proofs.lemmas.List.{append-nil}
+use Rattle.std.proofs.lemmas.List.Elements.{All-cons, All-nil}
+
+-- no moment was given, and one was
+pub gives_none : (given : List ℕ) → GivesMore given given
+gives_none given = record { more = []; given_is = sym (append-nil given); moments = All-nil IsMoment }
+
+pub gives_one : (before now : List ℕ) (moment : ℕ) → now ≡ before ++ moment ∷ [] → IsMoment moment → GivesMore before now
+gives_one before now moment is fits =
+    record { more = moment ∷ []; given_is = is; moments = All-cons IsMoment moment [] fits (All-nil IsMoment) }
 
 -- where no whole request stands as yet, none begins there, and nothing that is refused
 pub unfinished : (n : ℕ) (bytes : List ℕ) → IsFront bytes More → IsUnfinished put_machine n bytes

@@ -6,7 +6,7 @@ ghost use Rattle.run_history.specs.Runs.{Beginning};
 ghost use Rattle.run_history.specs.Serving.{Counts, Going};
 ghost use Rattle.run_history.specs.Sessions.{Session};
 ghost use Rattle.run_history.specs.Steps.{Step};
-ghost use Rattle.connection_loop.specs.Turns.{SiteCalls, TellsAll, TurnLeads};
+ghost use Rattle.connection_loop.specs.Turns.{GivesMore, SiteCalls, TellsAll, TurnLeads};
 ghost use Rattle.put_service.specs.Keeping.{EachKeeps};
 ghost use Rattle.put_service.specs.Machine.{PutRequest, put_machine};
 ghost use Rattle.put_service.specs.Opening.{ServiceAnswer};
@@ -80,6 +80,8 @@ impl PutService {
         ensures calls { SiteCalls result (X.device site.old) (X.device site.new) }
         ensures size { size_of self.new ≡ size_of self.old }
         ensures clock { C.tells clock.new ≡ true → C.tells clock.old ≡ true }
+        ensures moments { C.tells clock.new ≡ true
+            → GivesMore (C.given clock.old) (C.given clock.new) }
         ensures few { IsNone result → self.new.taken < MOST_ANSWERS }
         ensures taken { self.new.taken ≡ self.old.taken + 1 }
         ensures unread { length self.new.unread + REQUEST ≡ length self.old.unread }

@@ -104,13 +104,16 @@ fn compare_opened(alloc: Global, run: &Run) -> Result<(), Problem> {
     )
 }
 
-/// What words open: `nothing`, `plain` and a path, or `fresh`, a length and a path.
+/// What words open: `nothing`, `plain` and a path, `fresh`, a length and a path, or `listen`, a port and a path.
 fn opened_by(alloc: Global, words: &TextList) -> Result<String, Problem> {
     Ok(match tams_top::devices(alloc, words)? {
         Wanted::Nothing => format!(in alloc; "nothing")?,
         Wanted::Plain(path) => format!(in alloc; "plain {}", path.bytes().escape_ascii())?,
         Wanted::Fresh(path, length) => {
             format!(in alloc; "fresh {length} {}", path.bytes().escape_ascii())?
+        }
+        Wanted::Listen(path, port) => {
+            format!(in alloc; "listen {port} {}", path.bytes().escape_ascii())?
         }
     })
 }

@@ -5,11 +5,14 @@
 ghost use Rattle.std.specs.Prelude.{◌≡◌};
 
 use disk_trait::{Memory, MemoryDisk, NumberList, Text, TextList};
-use site_edge::{FileFailed, FileSite, HostClock, HostSink, MemorySite, PeerList, Sink, StoreFile};
+use site_edge::{
+    FileFailed, FileSite, HostClock, HostSink, MemorySite, NetSite, PeerList, Sink, StoreFile,
+};
 use std::alloc::Global;
 use std::env;
 use std::fs::File;
 use std::io::{ErrorKind, Stderr, Stdin, Stdout};
+use std::net::{Ipv4Addr, Net, TcpListener, TcpStream};
 use std::process::ExitCode;
 use std::rt::{Clock, Env, Files};
 use tams_top::Wanted;
@@ -19,6 +22,9 @@ const DISK_FAULT: u8 = 3;
 
 /// The status where there is no memory for the words, what they name, or the site.
 const NO_MEMORY: u8 = 4;
+
+/// The status where the listener can't be made.
+const LINK_FAULT: u8 = 5;
 
 /// The three standard streams.
 #[derive(Clone, Copy)]
@@ -46,10 +52,13 @@ fn main(rt: HostRuntime) -> ExitCode {
 }
 
 /// The status of the command that the arguments ask for.
-fn status_of<R: Files<File = File> + Env + Clock + AllocGlobal>(
-    rt: &R,
-    streams: Streams,
-) -> Result<u8, Memory> {
+fn status_of<
+    R: Files<File = File>
+        + Env
+        + Clock
+        + Net<Stream = TcpStream, Listener = TcpListener>
+        + AllocGlobal,
+>(rt: &R, streams: Streams) -> Result<u8, Memory> {
     let words = words_of(rt)?;
     let wanted = tams_top::devices(rt.alloc(), &words)?;
     let mut clock = HostClock::new(rt);
@@ -61,6 +70,12 @@ fn status_of<R: Files<File = File> + Env + Clock + AllocGlobal>(
         }
         Wanted::Plain(path) => StoreFile::open(rt, path),
         Wanted::Fresh(path, length) => StoreFile::make(rt, path, *length),
+        Wanted::Listen(path, port) => {
+            return Ok(match StoreFile::open(rt, path) {
+                Ok(file) => serve(rt, &words, file, *port, &mut clock, &mut notes),
+                Err(FileFailed) => report(&mut notes, b"disk fault\n", DISK_FAULT),
+            });
+        }
     };
     Ok(match opened {
         Ok(file) => {
@@ -69,6 +84,24 @@ fn status_of<R: Files<File = File> + Env + Clock + AllocGlobal>(
         }
         Err(FileFailed) => report(&mut notes, b"disk fault\n", DISK_FAULT),
     })
+}
+
+/// The status of a command whose peers connect to this port.
+fn serve<R: Net<Stream = TcpStream, Listener = TcpListener> + AllocGlobal, C: site_edge::Clock>(
+    rt: &R,
+    words: &TextList,
+    file: StoreFile,
+    port: u16,
+    clock: &mut C,
+    notes: &mut HostSink,
+) -> u8 {
+    match TcpListener::bind(rt, (Ipv4Addr::LOCALHOST, port)) {
+        Ok(listener) => {
+            let mut site = NetSite::new(file, listener);
+            tams_top::run(rt.alloc(), words, &mut site, clock, notes)
+        }
+        Err(_) => report(notes, b"link fault\n", LINK_FAULT),
+    }
 }
 
 /// A site without bytes and peers, for what names no file.

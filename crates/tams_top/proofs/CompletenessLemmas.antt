@@ -1,87 +1,232 @@
--- What a run has done where nothing failed: one of `replay` by its history, one of `format` by its end.
-use Rattle.std.proofs.Common.{◌≡◌, ◌⊎◌, ℕ, Bool, true, false, List, refl, ap, subst, inl, inr}
-use Rattle.disk_trait.specs.Device.{Device, Connection}
+-- What a run has done where nothing failed: one that serves by its history, one of `format` by its end.
+use Rattle.std.proofs.Common.{◌≡◌, ◌≢◌, ◌⊎◌, ◌++◌, ◌∷◌, ◌||◌, ℕ, zero, suc, Bool, true, false, List, [], length, if◌then◌else◌, nat_lt, refl, sym, ap, ◌∙◌, subst, inl, inr, arith}
+use Rattle.std.proofs.lemmas.Bool.{false≢true, lt-ltb}
+use Rattle.std.proofs.lemmas.List.{append-nil}
+use Rattle.std.specs.List.{AllByRecursion}
+use Rattle.disk_trait.specs.Device.{Connection, Device}
+use Rattle.disk_trait.specs.Calls.{IsCounted, Rose}
 use Rattle.media_journal.specs.declared.header.Header.{Header}
-use Rattle.tams_top.specs.declared.connection.Ending.{Ending}
-use Rattle.tams_top.specs.declared.connection.Ending.TheVariants as endings
+use Rattle.run_history.specs.Sessions.{AreServed, Hearing, IsServed, IsTold, LinkEnd, Saying, Session, Whole, has_failed, pieces_of, skips_in, stops, stops_in_answer}
+use Rattle.run_history.specs.Serving.{Counts, counts_of, is_cut, run_stops, starves}
+use Rattle.run_history.specs.Steps.{Answered, Cut, Refused, Starved, Step, Stopped}
+use Rattle.run_history.specs.Traces.{start_of}
+use Rattle.connection_loop.specs.declared.ending.Ending.{Ending}
+use Rattle.connection_loop.specs.declared.ending.Ending.TheVariants as endings
+use Rattle.connection_loop.specs.declared.run.RunEnd.{RunEnd}
+use Rattle.connection_loop.specs.declared.run.RunEnd.TheVariants as run_ends
+use Rattle.connection_loop.specs.Loops.{AreCounted}
+use Rattle.connection_loop.specs.Loops as loops
+use Rattle.put_service.specs.Machine.{PutRequest, put_machine}
+use Rattle.put_service.specs.Serving.{beginning}
+use Rattle.put_service.specs.Store.{State}
 use Rattle.tams_top.specs.declared.outcome.Outcome.{Outcome}
-use Rattle.tams_top.specs.declared.outcome.Outcome.TheVariants.{Formatted, Served, Cut, BadWords, NotStore, AlreadyStore, TooSmall, Damaged, DiskFault, NoMemory, LinkFault}
+use Rattle.tams_top.specs.declared.outcome.Outcome.TheVariants.{Formatted, Served, BadWords, NotStore, AlreadyStore, TooSmall, Damaged, DiskFault, NoMemory, LinkFault}
+use Rattle.tams_top.specs.declared.outcome.Outcome.TheVariants as outcomes
 use Rattle.tams_top.specs.declared.words.Command.TheVariants.{Format}
 use Rattle.tams_top.specs.Words.{IsCommand}
-use Rattle.tams_top.specs.Completeness.{EndsByInput, IsAnswered, IsServedWhole, NoneRose}
-use Rattle.tams_top.specs.History.{Session, moments_of, taken_of}
-use Rattle.tams_top.specs.Running.{CommandEnds, EndsWithoutPeer, FaultCounts, FormatRunEnds, LinkFaults, OutcomeIs, Replayed, RunEnds, beginning, status_of}
-use Rattle.tams_top.specs.Serving.{IsServed}
-use Rattle.tams_top.specs.Store.{State}
+use Rattle.tams_top.specs.Completeness.{AreServedWhole, IsAnswered, IsServedWhole, NoneRose, OneAnswered}
+use Rattle.tams_top.specs.Histories.{EndsWithoutPeer, OnePeer, Replayed, ServedAll, replay_outcome, serve_outcome}
+use Rattle.tams_top.specs.Running.{CommandEnds, FormatRunEnds, RunEnds, no_disk_fault, status_of}
 use Rattle.tams_top.proofs.WordTheorems.{one_command}
 
-module _ (old new : Device) (o : Outcome) (counts : FaultCounts old new o) (none : NoneRose old new) where
-  no_disk : o ≡ DiskFault → ⊥
-  no_disk is = none.disk (counts.disk.rises (rw is refl))
+no_disk : (old new : Device) (o : Outcome) → IsCounted (no_disk_fault o) old.faults new.faults → NoneRose old new → o ≢ DiskFault
+no_disk old new o counts none is = none.disk (counts.rises (rw is refl))
 
-  no_link : o ≡ LinkFault → ⊥
-  no_link is = none.link ((subst (λ (p : Outcome). LinkFaults p old.link.faults new.link.faults) is counts.link).1)
+-- ---- how a connection ended where nothing failed
 
-  -- a connection by how it ended
-  answered : (from : State) (c : Connection) (h : Session) (ending : Ending) → (status_of o ≡ 4 → ⊥) → IsServed from c h ending → OutcomeIs from h ending o
-      → IsAnswered from c (moments_of (taken_of h)) (status_of o)
-  answered from c h ending fed served is = record {
-    session = h;
-    rest = served.rest;
-    heard = served.heard;
-    told = served.whole (unfailed ending served is);
-    given = refl;
-    valid = served.valid;
-    few = served.few;
-    ends = ends ending served is;
-  }
-    where
-      unfailed : (ending : Ending) → IsServed from c h ending → OutcomeIs from h ending o → c.failed ≡ false
-      unfailed endings.Complete served is = served.ends.1
-      unfailed endings.Cut served is = served.ends.1
-      unfailed endings.Closed served is = served.ends.0
-      unfailed endings.Starved served is = absurd (fed (ap status_of is))
-      unfailed endings.Stopped served is = absurd (no_disk is)
-      unfailed endings.Unlinked served is = absurd (no_link is)
+-- by what ended it
+pub record EndedWell (stopped starved failed cut : Bool) (skipped status : ℕ) : Type 0 where
+  pub on : stopped ≡ false
+  pub fed : starved ≡ false
+  pub linked : failed ≡ false
+  pub made : skipped ≡ 0
+  pub by_input : status ≡ (if cut then 6 else 0)
 
-      ends : (ending : Ending) → (s : IsServed from c h ending) → OutcomeIs from h ending o → EndsByInput c h s.rest (status_of o)
-      ends endings.Complete s is = inl (ap status_of is, s.ends.0, s.ends.2, s.ends.3, s.ends.4)
-      ends endings.Cut s is = inr (inl (ap status_of is, s.ends.0, s.ends.2, s.ends.3, s.ends.4, s.ends.5))
-      ends endings.Closed s is = inr (inr (ap status_of is, s.ends.1))
-      ends endings.Starved s is = absurd (fed (ap status_of is))
-      ends endings.Stopped s is = absurd (no_disk is)
-      ends endings.Unlinked s is = absurd (no_link is)
+abbrev pub ending_by : Bool → Bool → Bool → Bool → Ending
+ending_by stopped starved failed cut =
+    if stopped then endings.Stopped else if starved then endings.Starved else if failed then endings.Unlinked else if cut then endings.Cut else endings.Complete
 
--- no connection began, and nothing failed: no peer came
-no_peer_came : (old new : Device) (o : Outcome) → FaultCounts old new o → NoneRose old new → (status_of o ≡ 4 → ⊥) → EndsWithoutPeer new o
-    → (new.link.closed ≡ true) × (status_of o ≡ 0)
-no_peer_came old new (Served requests changes) counts none fed ends = (ends.2, refl)
-no_peer_came old new LinkFault counts none fed ends = absurd (no_link old new LinkFault counts none refl)
-no_peer_came old new DiskFault counts none fed ends = absurd (no_disk old new DiskFault counts none refl)
-no_peer_came old new NoMemory counts none fed ends = absurd (fed refl)
-no_peer_came old new Cut counts none fed ends = absurd ends
-no_peer_came old new (Formatted blocks half media) counts none fed ends = absurd ends
-no_peer_came old new BadWords counts none fed ends = absurd ends
-no_peer_came old new NotStore counts none fed ends = absurd ends
-no_peer_came old new AlreadyStore counts none fed ends = absurd ends
-no_peer_came old new TooSmall counts none fed ends = absurd ends
-no_peer_came old new (Damaged at) counts none fed ends = absurd ends
+abbrev pub FailsBy : Outcome → Type 0
+FailsBy o = (o ≡ DiskFault) ⊎ ((o ≡ LinkFault) ⊎ (status_of o ≡ 4))
 
--- the run by its history
-pub served_whole : (from : State) (old new : Device) (begun given : List ℕ) (o : Outcome) → FaultCounts old new o → NoneRose old new → (status_of o ≡ 4 → ⊥)
-    → Replayed (beginning from old begun) new given o → IsServedWhole from old new begun given (status_of o)
-served_whole from old new begun given o counts none fed (inl p) =
-    inl (
-      p.connection,
-      moments_of (taken_of p.session),
-      p.connections,
-      p.given_is,
-      answered old new o counts none from p.connection p.session p.ending fed
-          p.served p.outcome,
-    )
-served_whole from old new begun given o counts none fed (inr p) =
-    let came = no_peer_came old new o counts none fed p.ends in
-    inr (p.connections, p.given_is, came.0, came.1)
+-- no turn was skipped
+none_skipped : (skipped : ℕ) → nat_lt 0 skipped ≡ false → skipped ≡ 0
+none_skipped zero e = refl
+none_skipped (suc n) e = absurd (false≢true (sym e ∙ lt-ltb 0 (suc n) (omega arith)))
+
+some_skipped : (some : Bool) (o : Outcome) → some ≡ true → FailsBy (if some then NoMemory else o)
+some_skipped true o e = inr (inr refl)
+some_skipped false o e = absurd (false≢true e)
+
+-- it ended well, or the outcome says what failed
+well_by : (stopped starved failed cut : Bool) (answers changes skipped : ℕ) (some : Bool) → nat_lt 0 skipped ≡ some
+    → EndedWell stopped starved failed cut skipped
+    (status_of (replay_outcome (ending_by stopped starved failed cut) (record { answers = answers; changes = changes; skipped = skipped })))
+    ⊎ FailsBy (replay_outcome (ending_by stopped starved failed cut) (record { answers = answers; changes = changes; skipped = skipped }))
+well_by true starved failed cut answers changes skipped some e = inr (inl refl)
+well_by false true failed cut answers changes skipped some e = inr (inr (inr refl))
+well_by false false true cut answers changes skipped true e = inr (some_skipped (nat_lt 0 skipped) _ e)
+well_by false false true cut answers changes skipped false e = inr (rw e (inr (inl refl)))
+well_by false false false true answers changes skipped true e = inr (some_skipped (nat_lt 0 skipped) _ e)
+well_by false false false true answers changes skipped false e =
+    inl record { on = refl; fed = refl; linked = refl; made = none_skipped skipped e; by_input = rw e refl }
+well_by false false false false answers changes skipped true e = inr (some_skipped (nat_lt 0 skipped) _ e)
+well_by false false false false answers changes skipped false e =
+    inl record { on = refl; fed = refl; linked = refl; made = none_skipped skipped e; by_input = rw e refl }
+
+linked-whole : (link : LinkEnd) → has_failed link ≡ false → link ≡ Whole
+linked-whole Whole e = refl
+linked-whole Hearing e = absurd (false≢true (sym e))
+linked-whole Saying e = absurd (false≢true (sym e))
+
+-- where the disk didn't fail it didn't within an answer
+unstopped-answer : (steps : List (Step PutRequest)) → stops steps ≡ false → stops_in_answer steps ≡ false
+unstopped-answer [] e = refl
+unstopped-answer (Answered a t ∷ steps) e = unstopped-answer steps e
+unstopped-answer (Refused a t ∷ steps) e = unstopped-answer steps e
+unstopped-answer (Starved a ∷ steps) e = unstopped-answer steps e
+unstopped-answer (Stopped a t ∷ steps) e = absurd (false≢true (sym e))
+unstopped-answer (Cut a i t ∷ steps) e = unstopped-answer steps e
+
+-- the one connection of a run
+one_served : (from : State) (cs : List Connection) (session : Session PutRequest) → AreServed put_machine (start_of from) cs (session ∷ [])
+    → (c : Connection) × (cs ≡ c ∷ []) × IsServed put_machine (start_of from) c session
+one_served from [] session served = absurd served
+one_served from (c ∷ []) session served = (c, refl, served.0)
+one_served from (c ∷ d ∷ cs) session served = absurd (served.2)
+
+none_served : (from : State) (cs : List Connection) → AreServed put_machine (start_of from) cs [] → cs ≡ []
+none_served from [] served = refl
+none_served from (c ∷ cs) served = absurd served
+
+answered : (from : State) (c : Connection) (session : Session PutRequest) (status : ℕ) → IsServed put_machine (start_of from) c session
+    → EndedWell (stops session.steps) (starves session.steps) (has_failed session.link) (is_cut session.steps) (skips_in session.steps) status
+    → IsAnswered from c session status
+answered from c session status served well =
+    let pieces = pieces_of put_machine (start_of from) session.steps in
+    let whole = linked-whole session.link well.linked in
+    record {
+      served = served;
+      whole = whole;
+      fed = well.fed;
+      unstopped = well.on;
+      made = well.made;
+      told = subst (λ (link : LinkEnd). IsTold false link c.told pieces) whole
+          (subst (λ (b : Bool). IsTold b session.link c.told pieces) (unstopped-answer session.steps well.on) served.told);
+      status_is = well.by_input;
+    }
+
+module _ (from : State) (old new : Device) (begun given : List ℕ) (o : Outcome)
+    (disk : IsCounted (no_disk_fault o) old.faults new.faults)
+    (none : NoneRose old new)
+    (unlinked : o ≡ LinkFault → Rose old.link.faults new.link.faults)
+    (fed : status_of o ≢ 4) where
+  -- nothing failed
+  never : FailsBy o → ⊥
+  never (inl is) = no_disk old new o disk none is
+  never (inr (inl is)) = none.link (unlinked is)
+  never (inr (inr is)) = fed is
+
+  -- no connection began: no peer came
+  no_peer_came : (p : Outcome) → o ≡ p → EndsWithoutPeer new p → (new.link.closed ≡ true) × (status_of p ≡ 0)
+  no_peer_came (Served requests changes skipped) is ends = (ends.3, refl)
+  no_peer_came LinkFault is ends = absurd (never (inr (inl is)))
+  no_peer_came DiskFault is ends = absurd (never (inl is))
+  no_peer_came NoMemory is ends = absurd (never (inr (inr (ap status_of is))))
+  no_peer_came outcomes.Cut is ends = absurd ends
+  no_peer_came (Formatted blocks half media) is ends = absurd ends
+  no_peer_came BadWords is ends = absurd ends
+  no_peer_came NotStore is ends = absurd ends
+  no_peer_came AlreadyStore is ends = absurd ends
+  no_peer_came TooSmall is ends = absurd ends
+  no_peer_came (Damaged at) is ends = absurd ends
+
+  one_answered : OnePeer (beginning from old begun) new given o → OneAnswered from old new begun given (status_of o)
+  one_answered p =
+      let ran = p.runs.ran in
+      let session = p.session in
+      let one = one_served from ran.connections session ran.served in
+      let n = counts_of put_machine from (session ∷ []) in
+      let well = well_by (stops session.steps) (starves session.steps) (has_failed session.link) (is_cut session.steps) n.answers n.changes n.skipped
+      (nat_lt 0 n.skipped) refl in
+      elim well [
+        | inl good ↦
+            let skips : skips_in session.steps ≡ 0 = let made = good.made in omega (arith, made) in
+            record {
+              session = session;
+              connection = one.0;
+              connections = ran.connections_are ∙ ap (λ (cs : List Connection). old.link.connections ++ cs) one.1;
+              given_is = ran.given_is;
+              answered = answered from one.0 session (status_of o) one.2
+                  (record { on = good.on; fed = good.fed; linked = good.linked; made = skips; by_input = ap status_of p.outcome_is ∙ good.by_input });
+            }
+        | inr failed ↦ absurd (never (subst FailsBy (sym p.outcome_is) failed))
+      ]
+
+  -- `replay` by its history
+  pub served_whole : Replayed (beginning from old begun) new given o → IsServedWhole from old new begun given (status_of o)
+  served_whole (inl p) = inl (one_answered p)
+  served_whole (inr p) =
+      let ran = p.runs.ran in
+      let came = no_peer_came o refl p.ends in
+      inr record {
+        connections = ran.connections_are ∙ ap (λ (cs : List Connection). old.link.connections ++ cs) (none_served from ran.connections ran.served)
+            ∙ append-nil old.link.connections;
+        given_is = ran.given_is ∙ append-nil begun;
+        closed = came.0;
+        status_is = came.1;
+      }
+
+  -- ---- `serve`
+
+  whole-by : (starved : Bool) (link : LinkEnd) (cut : Bool) → starved ≡ false
+      → (ending_by false starved (has_failed link) cut ≡ endings.Unlinked → Rose old.link.faults new.link.faults) → link ≡ Whole
+  whole-by true link cut e rose = absurd (false≢true (sym e))
+  whole-by false Whole cut e rose = refl
+  whole-by false Hearing cut e rose = absurd (none.link (rose refl))
+  whole-by false Saying cut e rose = absurd (none.link (rose refl))
+
+  no_stops : (a b : Bool) → a || b ≡ false → (a ≡ false) × (b ≡ false)
+  no_stops false false e = (refl, refl)
+  no_stops false true e = absurd (false≢true (sym e))
+  no_stops true b e = absurd (false≢true (sym e))
+
+  all-whole : (sessions : List (Session PutRequest)) → run_stops sessions ≡ false → AreCounted old.link.faults new.link.faults sessions
+      → AllByRecursion (λ (session : Session PutRequest). starves session.steps ≡ false → session.link ≡ Whole) sessions
+  all-whole [] e counted = tt
+  all-whole (session ∷ sessions) e counted =
+      let on = no_stops (stops session.steps) (run_stops sessions) e in (
+        (λ fed. whole-by (starves session.steps) session.link (is_cut session.steps) fed (subst
+            (λ (stopped : Bool).
+            ending_by stopped (starves session.steps) (has_failed session.link) (is_cut session.steps) ≡ endings.Unlinked → Rose old.link.faults new.link.faults)
+            on.0 counted.0)),
+        all-whole sessions on.1 counted.1,
+      )
+
+  by_end : (end : RunEnd) (n : Counts) (sessions : List (Session PutRequest)) (connections : ℕ) → o ≡ serve_outcome end n
+      → loops.RunEnds new sessions connections end
+      → (run_stops sessions ≡ false) × (((length sessions ≡ connections) ⊎ (new.link.closed ≡ true)) × (status_of o ≡ 0))
+  by_end run_ends.Complete n sessions connections is ends = (ends.1, (inl ends.0, ap status_of is))
+  by_end run_ends.NoMore n sessions connections is ends = (ends.1, (inr ends.2, ap status_of is))
+  by_end run_ends.Unlinked n sessions connections is ends = absurd (never (inr (inl is)))
+  by_end run_ends.Stopped n sessions connections is ends = absurd (never (inl is))
+
+  -- `serve` by its history
+  pub all_served_whole : (connections : ℕ) → ServedAll (beginning from old begun) old new given connections o
+      → AreServedWhole from old new begun given connections (status_of o)
+  all_served_whole connections (inl p) =
+      let ended = by_end p.end _ p.sessions connections p.outcome_is p.ends in
+      record {
+        sessions = p.sessions;
+        runs = p.runs;
+        unstopped = ended.0;
+        whole = all-whole p.sessions ended.0 p.counted;
+        number = ended.1.0;
+        status_is = ended.1.1;
+      }
+  all_served_whole connections (inr p) =
+      let came = no_peer_came o refl p.ends in
+      record { sessions = []; runs = p.runs; unstopped = refl; whole = tt; number = inr came.0; status_is = came.1 }
 
 -- `format` where no call of the disk failed
 formatted : (old new : Device) (h : Header) (o : Outcome) → FormatRunEnds old new h o → (o ≡ DiskFault → ⊥)
@@ -91,8 +236,8 @@ formatted old new h AlreadyStore ends held = inr (inl refl)
 formatted old new h TooSmall ends held = inr (inl refl)
 formatted old new h NoMemory ends held = inr (inr refl)
 formatted old new h DiskFault ends held = absurd (held refl)
-formatted old new h (Served requests changes) ends held = absurd ends
-formatted old new h Cut ends held = absurd ends
+formatted old new h (Served requests changes skipped) ends held = absurd ends
+formatted old new h outcomes.Cut ends held = absurd ends
 formatted old new h BadWords ends held = absurd ends
 formatted old new h NotStore ends held = absurd ends
 formatted old new h (Damaged at) ends held = absurd ends
@@ -107,6 +252,6 @@ formatted_whole words old new clock begun given o run path blocks half id is non
     | inl bad ↦ absurd (bad.1 (Format path blocks half id) is)
     | inr did ↦
         let ends = subst (CommandEnds old new clock begun given o) (one_command words did.0 (Format path blocks half id) did.1 is) did.2 in
-        formatted old new _ o ends.0 (no_disk old new o run.counts none)
+        formatted old new _ o ends.0 (no_disk old new o run.disk none)
   ]
 ]

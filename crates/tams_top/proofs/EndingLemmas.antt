@@ -1,20 +1,22 @@
 -- What the status of a run says of its end. A status of another end is another number.
-use Rattle.std.proofs.Common.{◌≡◌, ◌⊎◌, ℕ, Bool, true, List, length, refl, ap, ◌∙◌, subst, inl, inr, arith}
-use Rattle.disk_trait.specs.Device.{Device, IsDevice, Left}
+use Rattle.std.proofs.Common.{◌≡◌, ◌≢◌, ◌<◌, ◌⊎◌, ℕ, Bool, true, false, IsTrue, List, length, refl, ap, ◌∙◌, subst, inl, inr, arith}
+use Rattle.disk_trait.specs.Device.{Device, IsDevice, Left, Link}
+use Rattle.disk_trait.specs.Calls.{Rose}
 use Rattle.media_journal.specs.declared.header.Header.{Header}
 use Rattle.media_journal.specs.File.{HasOpenHeader}
 use Rattle.media_journal.specs.Formatting.{FitsStore}
 use Rattle.tams_top.specs.declared.outcome.Outcome.{Outcome}
 use Rattle.tams_top.specs.declared.outcome.Outcome.TheVariants.{Formatted, Served, Cut, BadWords, NotStore, AlreadyStore, TooSmall, Damaged, DiskFault, NoMemory, LinkFault}
 use Rattle.tams_top.specs.declared.words.Command.{Command}
-use Rattle.tams_top.specs.declared.words.Command.TheVariants.{Format, Replay}
+use Rattle.tams_top.specs.declared.words.Command.TheVariants.{Format, Replay, Serve}
 use Rattle.tams_top.specs.Words.{IsCommand}
-use Rattle.tams_top.specs.Store.{State, StandsFor, empty_rows}
-use Rattle.tams_top.specs.Opening.{StandsForNone}
-use Rattle.tams_top.specs.Moments.{IsSettled}
-use Rattle.tams_top.specs.Running.{CommandEnds, FormatRunEnds, IsNoCommand, IsReplayFrom, OnePeer, RefusedFor, ReplayCause, Replayed, ReplayEnds, RunEnds, ServesNobody, Untouched, beginning, formatted_state, status_of}
+use Rattle.put_service.specs.Opening.{StandsForNone}
+use Rattle.put_service.specs.Serving.{IsSettled, beginning}
+use Rattle.put_service.specs.Store.{State, StandsFor, empty_rows}
+use Rattle.tams_top.specs.Histories.{BeginsFrom, NoPeer, OnePeer, Replayed, ServedAll}
+use Rattle.tams_top.specs.Running.{CommandEnds, FormatRunEnds, IsNoCommand, IsReplayFrom, IsServeFrom, LinkFaults, OpenedCause, RefusedFor, ReplayEnds, RunEnds, ServeEnds, ServesNobody, Untouched, formatted_state, no_peer_fault, status_of}
 use Rattle.tams_top.proofs.FormattingLemmas.{untouched_bare}
-use Rattle.tams_top.proofs.RunningLemmas.{no_store, unopened}
+use Rattle.tams_top.proofs.RunningLemmas.{no_peer, no_store}
 use Rattle.tams_top.proofs.WordTheorems.{one_command}
 
 module _ (old new : Device) (h : Header) where
@@ -28,7 +30,7 @@ module _ (old new : Device) (h : Header) where
 
   format_done : (o : Outcome) → FormatRunEnds old new h o → status_of o ≡ 0 → old.shows ≡ true → StandsFor new.seen (formatted_state h)
   format_done (Formatted blocks half media) ends s = ends.stands
-  format_done (Served requests changes) ends s = absurd ends
+  format_done (Served requests changes skipped) ends s = absurd ends
   format_done _ ends s = absurd (omega (arith, s))
 
   format_starved : (o : Outcome) → FormatRunEnds old new h o → status_of o ≡ 4 → Untouched old new
@@ -44,7 +46,7 @@ module _ (old new : Device) (h : Header) where
   format_only TooSmall ends shows cause = inl refl
   format_only DiskFault ends shows cause = inr (inl refl)
   format_only NoMemory ends shows cause = inr (inr refl)
-  format_only (Served requests changes) ends shows cause = absurd ends
+  format_only (Served requests changes skipped) ends shows cause = absurd ends
   format_only Cut ends shows cause = absurd ends
   format_only BadWords ends shows cause = absurd ends
   format_only NotStore ends shows cause = absurd ends
@@ -52,25 +54,25 @@ module _ (old new : Device) (h : Header) where
   format_only LinkFault ends shows cause = absurd ends
 
 module _ (old new : Device) where
-  replay_refused : (o : Outcome) → ReplayCause old new o → status_of o ≡ 2 → Untouched old new × (old.shows ≡ true → StandsForNone old.seen)
-  replay_refused NotStore cause s = (cause.1, λ shows. no_store old.seen (cause.0 shows))
-  replay_refused (Damaged at) cause s = (cause.1, λ shows. (cause.0 shows).1)
-  replay_refused AlreadyStore cause s = absurd cause
-  replay_refused TooSmall cause s = absurd cause
-  replay_refused _ cause s = absurd (omega (arith, s))
+  opened_refused : (o : Outcome) → OpenedCause old new o → status_of o ≡ 2 → Untouched old new × (old.shows ≡ true → StandsForNone old.seen)
+  opened_refused NotStore cause s = (cause.1, λ shows. no_store old.seen (cause.0 shows))
+  opened_refused (Damaged at) cause s = (cause.1, λ shows. (cause.0 shows).1)
+  opened_refused AlreadyStore cause s = absurd cause
+  opened_refused TooSmall cause s = absurd cause
+  opened_refused _ cause s = absurd (omega (arith, s))
 
-  replay_only : (o : Outcome) → ReplayCause old new o → old.shows ≡ true → StandsForNone old.seen → (status_of o ≡ 2) ⊎ ((status_of o ≡ 3) ⊎ (status_of o ≡ 4))
-  replay_only (Served requests changes) cause shows none = let stood = cause shows in absurd (none stood.0 stood.1)
-  replay_only Cut cause shows none = let stood = cause shows in absurd (none stood.0 stood.1)
-  replay_only LinkFault cause shows none = let stood = cause shows in absurd (none stood.0 stood.1)
-  replay_only NotStore cause shows none = inl refl
-  replay_only (Damaged at) cause shows none = inl refl
-  replay_only DiskFault cause shows none = inr (inl refl)
-  replay_only NoMemory cause shows none = inr (inr refl)
-  replay_only (Formatted blocks half media) cause shows none = absurd cause
-  replay_only BadWords cause shows none = absurd cause
-  replay_only AlreadyStore cause shows none = absurd cause
-  replay_only TooSmall cause shows none = absurd cause
+  opened_only : (o : Outcome) → OpenedCause old new o → old.shows ≡ true → StandsForNone old.seen → (status_of o ≡ 2) ⊎ ((status_of o ≡ 3) ⊎ (status_of o ≡ 4))
+  opened_only (Served requests changes skipped) cause shows none = let stood = cause shows in absurd (none stood.0 stood.1)
+  opened_only Cut cause shows none = let stood = cause shows in absurd (none stood.0 stood.1)
+  opened_only LinkFault cause shows none = let stood = cause shows in absurd (none stood.0 stood.1)
+  opened_only NotStore cause shows none = inl refl
+  opened_only (Damaged at) cause shows none = inl refl
+  opened_only DiskFault cause shows none = inr (inl refl)
+  opened_only NoMemory cause shows none = inr (inr refl)
+  opened_only (Formatted blocks half media) cause shows none = absurd cause
+  opened_only BadWords cause shows none = absurd cause
+  opened_only AlreadyStore cause shows none = absurd cause
+  opened_only TooSmall cause shows none = absurd cause
 
 -- no status is that of two ends
 other_status : (o p : Outcome) → o ≡ p → (n : ℕ) → status_of p ≡ n → status_of o ≡ n
@@ -81,7 +83,8 @@ module _ (words : List (List ℕ)) (old new : Device) (clock : Bool) (begun give
   command_refused : (command : Command) → CommandEnds old new clock begun given o command → status_of o ≡ 2
       → Untouched old new × (old.shows ≡ true → RefusedFor old.seen command)
   command_refused (Format path blocks half id) ends s = format_refused old new _ o ends.0 s
-  command_refused (Replay path base) ends s = replay_refused old new o ends.cause s
+  command_refused (Replay path base) ends s = opened_refused old new o ends.cause s
+  command_refused (Serve path port base connections) ends s = opened_refused old new o ends.cause s
 
   pub run_refused : status_of o ≡ 2 → Untouched old new × ((command : Command) × IsCommand words command × (old.shows ≡ true → RefusedFor old.seen command))
   run_refused s = elim run.cause [
@@ -96,7 +99,8 @@ module _ (words : List (List ℕ)) (old new : Device) (clock : Bool) (begun give
   command_only : (command : Command) → CommandEnds old new clock begun given o command → old.shows ≡ true → RefusedFor old.seen command
       → (status_of o ≡ 2) ⊎ ((status_of o ≡ 3) ⊎ (status_of o ≡ 4))
   command_only (Format path blocks half id) ends shows cause = format_only old new _ o ends.0 shows cause
-  command_only (Replay path base) ends shows cause = replay_only old new o ends.cause shows cause
+  command_only (Replay path base) ends shows cause = opened_only old new o ends.cause shows cause
+  command_only (Serve path port base connections) ends shows cause = opened_only old new o ends.cause shows cause
 
   pub run_only : (command : Command) → IsCommand words command → old.shows ≡ true → RefusedFor old.seen command
       → (status_of o ≡ 2) ⊎ ((status_of o ≡ 3) ⊎ (status_of o ≡ 4))
@@ -135,18 +139,189 @@ module _ (words : List (List ℕ)) (old new : Device) (clock : Bool) (begun give
     ]
   ]
 
+  -- there was no memory to read the words
+  no_words : o ≡ NoMemory → given ≡ begun → Untouched old new → IsDevice old → (from : State) → BeginsFrom from old clock → NoPeer (beginning from old begun) new given o
+  no_words is none untouched sound from start =
+      let peer = no_peer old new clock begun NoMemory sound untouched tt from start in rw (is, none) peer
+
   -- the history of a run of `replay`
-  pub run_replayed : IsDevice old → (from : State) → IsReplayFrom from words old clock → Replayed (beginning from old begun) new given o
+  pub run_replayed : IsDevice old → (from : State) → IsReplayFrom from words old clock
+      → Replayed (beginning from old begun) new given o
   run_replayed sound from replay = elim run.cause [
-    | inl starved ↦
-        let none = unopened old new clock begun NoMemory sound starved.2.seen starved.2.link starved.2.time tt replay.tells replay.settled from replay.stands in
-        rw (starved.1, starved.0) none
+    | inl starved ↦ inr (no_words starved.0 starved.1 starved.2 sound from replay.begins)
     | inr other ↦ elim other [
       | inl bad ↦ absurd (bad.1 (Replay replay.command.0 replay.command.1) replay.command.2)
       | inr did ↦
           let ends : ReplayEnds old new clock begun given o =
           subst (CommandEnds old new clock begun given o) (one_command words did.0 (Replay replay.command.0 replay.command.1) did.1 replay.command.2) did.2 in
-          ends.history replay.tells replay.settled from replay.stands
+          ends.history from replay.begins
+    ]
+  ]
+
+  -- and that of one of `serve`
+  pub run_served : IsDevice old → (from : State) (connections : ℕ) → IsServeFrom from connections words old clock
+      → ServedAll (beginning from old begun) old new given connections o
+  run_served sound from connections serve = elim run.cause [
+    | inl starved ↦ inr (no_words starved.0 starved.1 starved.2 sound from serve.begins)
+    | inr other ↦ elim other [
+      | inl bad ↦ absurd (bad.1 (Serve serve.command.0 serve.command.1 serve.command.2 connections) serve.command.3)
+      | inr did ↦
+          let ends : ServeEnds old new clock begun given connections o =
+          subst (CommandEnds old new clock begun given o)
+          (one_command words did.0 (Serve serve.command.0 serve.command.1 serve.command.2 connections) did.1 serve.command.3) did.2 in
+          ends.history from serve.begins
+    ]
+  ]
+
+  -- ---- the count of link faults
+
+  no_link_fault : o ≡ NoMemory → status_of o ≢ 5
+  no_link_fault is s = omega (arith, s, ap status_of is)
+
+  format_unlinked : (h : Header) → FormatRunEnds old new h o → o ≢ LinkFault
+  format_unlinked h ends is = subst (FormatRunEnds old new h) is ends
+
+  is_link_fault : (p : Outcome) → status_of p ≡ 5 → p ≡ LinkFault
+  is_link_fault LinkFault e = refl
+  is_link_fault _ e = absurd (omega (arith, e))
+
+  command_linked : (command : Command) → CommandEnds old new clock begun given o command → o ≡ LinkFault → Rose old.link.faults new.link.faults
+  command_linked (Format path blocks half id) ends is = absurd (format_unlinked _ ends.0 is)
+  command_linked (Replay path base) ends is = (subst (λ (p : Outcome). LinkFaults p old.link.faults new.link.faults) is ends.link).1
+  command_linked (Serve path port base connections) ends is = ends.link is
+
+  pub run_linked : status_of o ≡ 5 → Rose old.link.faults new.link.faults
+  run_linked s = elim run.cause [
+    | inl starved ↦ absurd (no_link_fault starved.0 s)
+    | inr other ↦ elim other [
+      | inl bad ↦ absurd (omega (arith, s, ap status_of bad.0))
+      | inr did ↦ command_linked did.0 did.2 (is_link_fault o s)
+    ]
+  ]
+
+  pub run_unlinked : o ≡ LinkFault → Rose old.link.faults new.link.faults
+  run_unlinked is = run_linked (ap status_of is)
+
+  replay_linked : (p : Outcome) → LinkFaults p old.link.faults new.link.faults → old.link.faults < new.link.faults
+      → (status_of p ≡ 3) ⊎ ((status_of p ≡ 4) ⊎ (status_of p ≡ 5))
+  replay_linked LinkFault faults rose = inr (inr refl)
+  replay_linked DiskFault faults rose = inl refl
+  replay_linked NoMemory faults rose = inr (inl refl)
+  replay_linked (Formatted blocks half media) faults rose = absurd (omega (arith, faults, rose))
+  replay_linked (Served requests changes skipped) faults rose = absurd (omega (arith, faults, rose))
+  replay_linked Cut faults rose = absurd (omega (arith, faults, rose))
+  replay_linked BadWords faults rose = absurd (omega (arith, faults, rose))
+  replay_linked NotStore faults rose = absurd (omega (arith, faults, rose))
+  replay_linked AlreadyStore faults rose = absurd (omega (arith, faults, rose))
+  replay_linked TooSmall faults rose = absurd (omega (arith, faults, rose))
+  replay_linked (Damaged at) faults rose = absurd (omega (arith, faults, rose))
+
+  pub run_linked_only : (path base : List ℕ) → IsCommand words (Replay path base) → old.link.faults < new.link.faults
+      → (status_of o ≡ 3) ⊎ ((status_of o ≡ 4) ⊎ (status_of o ≡ 5))
+  run_linked_only path base is rose = elim run.cause [
+    | inl starved ↦ inr (inl (ap status_of starved.0))
+    | inr other ↦ elim other [
+      | inl bad ↦ absurd (bad.1 (Replay path base) is)
+      | inr did ↦
+          let ends : ReplayEnds old new clock begun given o =
+          subst (CommandEnds old new clock begun given o) (one_command words did.0 (Replay path base) did.1 is) did.2 in
+          replay_linked o ends.link rose
+    ]
+  ]
+
+  -- ---- what is said of `serve` alone
+
+  module _ (path base : List ℕ) (port connections : ℕ) (is : IsCommand words (Serve path port base connections)) where
+    serve_ends : (did : Command) → IsCommand words did → CommandEnds old new clock begun given o did → ServeEnds old new clock begun given connections o
+    serve_ends did it ends =
+        subst (CommandEnds old new clock begun given o) (one_command words did (Serve path port base connections) it is) ends
+
+    pub run_peers : status_of o ≡ 5 → Rose old.link.peer_faults new.link.peer_faults
+    run_peers s = elim run.cause [
+      | inl starved ↦ absurd (no_link_fault starved.0 s)
+      | inr other ↦ elim other [
+        | inl bad ↦ absurd (bad.1 (Serve path port base connections) is)
+        | inr did ↦
+            let ends = serve_ends did.0 did.1 did.2 in
+            ends.peers.rises (rw (is_link_fault o s) refl)
+      ]
+    ]
+
+    peers_failed : (p : Outcome) → no_peer_fault p ≡ false → status_of p ≡ 5
+    peers_failed LinkFault e = refl
+    peers_failed DiskFault e = absurd cc
+    peers_failed (Formatted blocks half media) e = absurd cc
+    peers_failed (Served requests changes skipped) e = absurd cc
+    peers_failed Cut e = absurd cc
+    peers_failed BadWords e = absurd cc
+    peers_failed NotStore e = absurd cc
+    peers_failed AlreadyStore e = absurd cc
+    peers_failed TooSmall e = absurd cc
+    peers_failed (Damaged at) e = absurd cc
+    peers_failed NoMemory e = absurd cc
+
+    peers_rose : (held : Bool) → no_peer_fault o ≡ held → (IsTrue held → new.link.peer_faults ≡ old.link.peer_faults)
+        → old.link.peer_faults < new.link.peer_faults → status_of o ≡ 5
+    peers_rose true e stays rose = absurd (omega (arith, stays refl, rose))
+    peers_rose false e stays rose = peers_failed o e
+
+    pub run_peers_only : old.link.peer_faults < new.link.peer_faults → status_of o ≡ 5
+    run_peers_only rose = elim run.cause [
+      | inl starved ↦ absurd (omega (arith, rose, ap (λ (l : Link). l.peer_faults) starved.2.link))
+      | inr other ↦ elim other [
+        | inl bad ↦ absurd (bad.1 (Serve path port base connections) is)
+        | inr did ↦
+            let ends = serve_ends did.0 did.1 did.2 in
+            peers_rose (no_peer_fault o) refl ends.peers.stays rose
+      ]
+    ]
+
+    is_cut : (p : Outcome) → status_of p ≡ 6 → p ≡ Cut
+    is_cut Cut e = refl
+    is_cut _ e = absurd (omega (arith, e))
+
+    pub run_uncut : status_of o ≢ 6
+    run_uncut s = elim run.cause [
+      | inl starved ↦ omega (arith, s, ap status_of starved.0)
+      | inr other ↦ elim other [
+        | inl bad ↦ bad.1 (Serve path port base connections) is
+        | inr did ↦ (serve_ends did.0 did.1 did.2).uncut (is_cut o s)
+      ]
+    ]
+
+    is_starved : (p : Outcome) → status_of p ≡ 4 → p ≡ NoMemory
+    is_starved NoMemory e = refl
+    is_starved _ e = absurd (omega (arith, e))
+
+    pub run_starved_serve : status_of o ≡ 4 → ServesNobody old new begun given
+    run_starved_serve s = elim run.cause [
+      | inl starved ↦ record { link = starved.2.link; given_is = starved.1 }
+      | inr other ↦ elim other [
+        | inl bad ↦ absurd (bad.1 (Serve path port base connections) is)
+        | inr did ↦ (serve_ends did.0 did.1 did.2).starved (is_starved o s)
+      ]
+    ]
+
+  -- words that are no command
+  format_words : (h : Header) (p : Outcome) → FormatRunEnds old new h p → status_of p ≢ 1
+  format_words h BadWords ends s = ends
+  format_words h _ ends s = omega (arith, s)
+
+  opened_words : (p : Outcome) → OpenedCause old new p → status_of p ≢ 1
+  opened_words BadWords cause s = cause
+  opened_words _ cause s = omega (arith, s)
+
+  command_words : (command : Command) → CommandEnds old new clock begun given o command → status_of o ≢ 1
+  command_words (Format path blocks half id) ends s = format_words _ o ends.0 s
+  command_words (Replay path base) ends s = opened_words o ends.cause s
+  command_words (Serve path port base connections) ends s = opened_words o ends.cause s
+
+  pub run_words : status_of o ≡ 1 → IsNoCommand words × Untouched old new
+  run_words s = elim run.cause [
+    | inl starved ↦ absurd (omega (arith, s, ap status_of starved.0))
+    | inr other ↦ elim other [
+      | inl bad ↦ (bad.1, bad.2)
+      | inr did ↦ absurd (command_words did.0 did.2 s)
     ]
   ]
 
@@ -205,5 +380,6 @@ module _ (words : List (List ℕ)) (old new : Device) (clock : Bool) (begun give
             | inl nobody ↦ inl nobody
             | inr served ↦
                 inr (λ from replay.
-                subst (OnePeer (beginning from old begun) new given) is (served replay.tells replay.settled from replay.stands))
+                subst (OnePeer (beginning from old begun) new given) is (served from replay.begins))
           ]
+      command_starved (Serve path port base connections) ends s = inl (ends.starved (is_no_memory o s))

@@ -8,8 +8,8 @@ use Rattle.change_codec.specs.Rows.{row_spelling}
 use Rattle.media_journal.specs.declared.header.Header.{Header}
 use Rattle.media_journal.specs.File.{HasOpenHeader}
 use Rattle.media_journal.specs.JournalMoments.{IsNewStore, NoneOrNew}
-use Rattle.tams_top.specs.Store.{StandsFor, empty_rows}
-use Rattle.tams_top.specs.Moments.{IsSettled}
+use Rattle.put_service.specs.Serving.{IsSettled}
+use Rattle.put_service.specs.Store.{StandsFor, empty_rows}
 use Rattle.tams_top.specs.Running.{formatted_state}
 
 length-empty_rows : length empty_rows ≡ 13

@@ -1,19 +1,8 @@
-mod AnsweringLemmas
-pub mod ChangeLemmas
-mod EndingLemmas
-mod FoldLemmas
-mod FormattingLemmas
-mod GoingLemmas
-mod GoodLemmas
-mod HearingLemmas
-mod HistoryLemmas
-mod NoteLemmas
-mod OpenLemmas
-pub mod RequestLemmas
-mod RightLemmas
-mod RunningLemmas
 mod CompletenessLemmas
-mod ServingLemmas
-mod StoreLemmas
+mod EndingLemmas
+mod FormattingLemmas
+mod NoteLemmas
+mod RunningLemmas
+mod ServedLemmas
 mod WordLemmas
 pub mod WordTheorems

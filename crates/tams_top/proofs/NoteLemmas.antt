@@ -1,9 +1,9 @@
 -- A line that is put into the notes part by part.
-use Rattle.std.proofs.Common.{◌≡◌, ◌++◌, ◌∙◌, ℕ, Bool, true, false, List, refl, sym, ap, append_assoc}
+use Rattle.std.proofs.Common.{◌≡◌, ◌≢◌, ◌++◌, ◌∙◌, ℕ, zero, suc, codes, Bool, true, false, List, refl, sym, ap, append_assoc}
 use Rattle.std.proofs.lemmas.Bool.{false≢true}
 use Rattle.disk_trait.proofs.Theorems.{counted_twice}
 use Rattle.site_edge.specs.Links.{Sends}
-use Rattle.tams_top.specs.Running.{TakesPart}
+use Rattle.tams_top.specs.Running.{TakesPart, changes_end, numbered}
 
 sends_more : (ok : Bool) (first second sent : List ℕ) → Sends ok second sent → Sends ok (first ++ second) (first ++ sent)
 sends_more ok first second sent s = record {
@@ -39,3 +39,8 @@ takes_front tells first second a b old new one = record {
         p.2,
       );
 }
+
+-- the end of a line where turns were skipped
+pub changes_end-some : (skipped : ℕ) → skipped ≢ 0 → changes_end skipped ≡ numbered (codes " changes, ") skipped (codes " turns skipped\n")
+changes_end-some zero some = absurd (some refl)
+changes_end-some (suc n) some = refl

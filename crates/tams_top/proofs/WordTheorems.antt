@@ -1,10 +1,10 @@
 -- Words spell at most one command.
-use Rattle.std.proofs.Common.{◌≡◌, ◌<◌, ◌^◌, ◌∙◌, ℕ, List, Some, sym, arith}
+use Rattle.std.proofs.Common.{◌≡◌, ◌≤◌, ◌<◌, ◌^◌, ◌∙◌, ◌∷◌, [], ℕ, List, length, get_or, All, Option, Some, None, Result, Ok, Err, IfOk, IfSome, sym, arith}
 use Rattle.std.proofs.lemmas.Fmt.{decimal_injective}
-use Rattle.tams_top.specs.Words.{IsNumber, IsFormat, IsReplay, IsCommand}
+use Rattle.tams_top.specs.Words.{FormIs, IsNumber, IsPlain, IsFormat, IsReplay, IsServe, IsCommand}
 use Rattle.media_rows.specs.Ids.{id_of}
 use Rattle.tams_top.specs.declared.words.Command.{Command}
-use Rattle.tams_top.specs.declared.words.Command.TheVariants.{Format, Replay}
+use Rattle.tams_top.specs.declared.words.Command.TheVariants.{Format, Replay, Serve}
 
 -- a word is one number at most
 one_number : (most : ℕ) (v w : List ℕ) (m n : ℕ) → most < 2 ^ 64 → v ≡ w → IsNumber most v m → IsNumber most w n → m ≡ n
@@ -37,8 +37,61 @@ one_command words (Replay p b) (Format q n k j) x y =
     let g : IsFormat words q n k j = y.form in
     let same = sym f.words_are ∙ g.words_are in
     cc
+one_command words (Format p m h i) (Serve q k b n) x y =
+    let f : IsFormat words p m h i = x.form in
+    let g : IsServe words q k b n = y.form in
+    let same = sym f.words_are ∙ g.words_are in
+    cc
+one_command words (Serve p m b k) (Format q n h i) x y =
+    let f : IsServe words p m b k = x.form in
+    let g : IsFormat words q n h i = y.form in
+    let same = sym f.words_are ∙ g.words_are in
+    cc
+one_command words (Replay p b) (Serve q k d n) x y =
+    let f : IsReplay words p b = x.form in
+    let g : IsServe words q k d n = y.form in
+    let same = sym f.words_are ∙ g.words_are in
+    cc
+one_command words (Serve p m b k) (Replay q d) x y =
+    let f : IsServe words p m b k = x.form in
+    let g : IsReplay words q d = y.form in
+    let same = sym f.words_are ∙ g.words_are in
+    cc
+one_command words (Serve p m b h) (Serve q n d k) x y =
+    let f : IsServe words p m b h = x.form in
+    let g : IsServe words q n d k = y.form in
+    let same = sym f.words_are ∙ g.words_are in
+    let paths : p ≡ q = cc in
+    let bases : b ≡ d = cc in
+    let ports : m ≡ n = one_number 65535 _ _ m n (omega arith) (cc) f.port_is g.port_is in
+    let counts : h ≡ k = one_number 1000000000 _ _ h k (omega arith) (cc) f.connections_is g.connections_is in
+    cc
 one_command words (Replay p b) (Replay q d) x y =
     let f : IsReplay words p b = x.form in
     let g : IsReplay words q d = y.form in
     let same = sym f.words_are ∙ g.words_are in
     cc
+
+-- what was read by its form is a command
+pub found_in : {E : Type 0} (words : List (List ℕ)) (r : Result (Option Command) E) → All IsPlain words → IfOk r (FormIs words)
+    → IfOk r (λ found. IfSome found (IsCommand words))
+found_in words (Ok (Some command)) plain form = record { plain = plain; form = form }
+found_in words (Ok None) plain form = tt
+found_in words (Err e) plain form = tt
+
+-- a list of five words is the words at its places
+pub five_words : (words : List (List ℕ)) (a b c d e : List ℕ) → 5 ≤ length words → length words < 6 → a ≡ get_or words 0 a → b ≡ get_or words 1 b
+    → c ≡ get_or words 2 c → d ≡ get_or words 3 d → e ≡ get_or words 4 e → a ∷ b ∷ c ∷ d ∷ e ∷ [] ≡ words
+five_words [] a b c d e least most p q r s t = absurd (omega arith)
+five_words (v ∷ []) a b c d e least most p q r s t = absurd (omega arith)
+five_words (v ∷ w ∷ []) a b c d e least most p q r s t = absurd (omega arith)
+five_words (v ∷ w ∷ x ∷ []) a b c d e least most p q r s t = absurd (omega arith)
+five_words (v ∷ w ∷ x ∷ y ∷ []) a b c d e least most p q r s t = absurd (omega arith)
+five_words (v ∷ w ∷ x ∷ y ∷ z ∷ []) a b c d e least most p q r s t =
+    let first : a ≡ v = p in
+    let second : b ≡ w = q in
+    let third : c ≡ x = r in
+    let fourth : d ≡ y = s in
+    let fifth : e ≡ z = t in
+    cc
+five_words (v ∷ w ∷ x ∷ y ∷ z ∷ more ∷ rest) a b c d e least most p q r s t = absurd (omega arith)

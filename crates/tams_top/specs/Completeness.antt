@@ -1,45 +1,62 @@
--- Completeness: what a run of `replay` has done where nothing failed.
-use Rattle.std.specs.Prelude.{◌≡◌, ◌≢◌, ◌≤◌, ◌<◌, ◌⊎◌, ℕ, true, List, [], ◌∷◌, ◌++◌, length, All, None}
+-- Completeness: what a run of `replay` or `serve` has done where nothing failed.
+use Rattle.std.specs.Prelude.{◌≡◌, ◌⊎◌, ℕ, true, false, List, [], ◌∷◌, ◌++◌, length, if◌then◌else◌}
+use Rattle.std.specs.List.{AllByRecursion}
 use Rattle.disk_trait.specs.Device.{Device, Connection}
 use Rattle.disk_trait.specs.Calls.{Rose}
-use Rattle.tams_top.specs.declared.request.Front.TheVariants.{More}
-use Rattle.tams_top.specs.Change.{IsPutChange}
-use Rattle.tams_top.specs.Request.{IsFront}
-use Rattle.tams_top.specs.Store.{State}
-use Rattle.tams_top.specs.History.{Session, answers_in, change_of, most_requests, moments_of, taken_of, script_of, texts_of}
-use Rattle.tams_top.specs.Serving.{IsClosed}
+use Rattle.run_history.specs.Sessions.{IsServed, Session, Whole, all_moments, bytes_of, pieces_of, skips_in, stops}
+use Rattle.run_history.specs.Serving.{is_cut, run_stops, starves}
+use Rattle.run_history.specs.Traces.{start_of}
+use Rattle.put_service.specs.Machine.{PutRequest, put_machine}
+use Rattle.put_service.specs.Serving.{beginning}
+use Rattle.put_service.specs.Store.{State}
+use Rattle.tams_top.specs.Histories.{RunsAs}
 
 -- no count of faults rose, or stands at its last value
 pub record NoneRose (old new : Device) : Type 0 where
   pub disk : ¬ (Rose old.faults new.faults)
   pub link : ¬ (Rose old.link.faults new.link.faults)
 
--- The status by the input alone: the peer's bytes ended behind a whole request, or within one; or
--- an answer ended the connection.
-abbrev pub EndsByInput : Connection → Session → List ℕ → ℕ → Type 0
-EndsByInput c h rest status =
-    ((status ≡ 0) × (c.ended ≡ true) × (h.last ≡ None) × (rest ≡ [])
-    × (length h.taken < most_requests))
-    ⊎ (((status ≡ 6) × (c.ended ≡ true) × (h.last ≡ None) × (rest ≢ []) × IsFront rest More
-    × (length h.taken < most_requests))
-    ⊎ ((status ≡ 0) × IsClosed h rest))
+-- One connection has the machine's answer to each request that was heard whole, each answer was
+-- said whole, and no turn was skipped. The status is by the input alone.
+pub record IsAnswered (from : State) (c : Connection) (session : Session PutRequest)
+    (status : ℕ) : Type 0 where
+  pub served : IsServed put_machine (start_of from) c session
+  pub whole : session.link ≡ Whole
+  pub fed : starves session.steps ≡ false
+  pub unstopped : stops session.steps ≡ false
+  pub made : skips_in session.steps ≡ 0
+  pub told : c.told ≡ bytes_of (pieces_of put_machine (start_of from) session.steps)
+  pub status_is : status ≡ (if is_cut session.steps then 6 else 0)
 
--- Each request that the connection heard whole has the machine's answer, and each answer was said
--- whole.
-pub record IsAnswered (from : State) (c : Connection) (moments : List ℕ) (status : ℕ) : Type 0 where
-  pub session : Session
-  pub rest : List ℕ
-  pub heard : c.heard ≡ texts_of (taken_of session) ++ rest
-  pub told : c.told ≡ script_of from session
-  pub given : moments ≡ moments_of (taken_of session)
-  pub valid : All (λ t. IsPutChange (change_of t)) (taken_of session)
-  pub few : answers_in session ≤ most_requests
-  pub ends : EndsByInput c session rest status
+-- One connection of `replay` was answered whole.
+pub record OneAnswered (from : State) (old new : Device) (begun given : List ℕ)
+    (status : ℕ) : Type 0 where
+  pub session : Session PutRequest
+  pub connection : Connection
+  pub connections : new.link.connections ≡ old.link.connections ++ connection ∷ []
+  pub given_is : given ≡ begun ++ all_moments put_machine (start_of from) (session ∷ [])
+  pub answered : IsAnswered from connection session status
 
--- One connection was answered whole, or no peer came.
+-- No peer came.
+pub record NoneCame (old new : Device) (begun given : List ℕ) (status : ℕ) : Type 0 where
+  pub connections : new.link.connections ≡ old.link.connections
+  pub given_is : given ≡ begun
+  pub closed : new.link.closed ≡ true
+  pub status_is : status ≡ 0
+
+-- one connection was answered whole, or no peer came
 abbrev pub IsServedWhole : State → Device → Device → List ℕ → List ℕ → ℕ → Type 0
 IsServedWhole from old new begun given status =
-    ((c : Connection) × (moments : List ℕ) × (new.link.connections ≡ old.link.connections ++ c ∷ [])
-    × (given ≡ begun ++ moments) × IsAnswered from c moments status)
-    ⊎ ((new.link.connections ≡ old.link.connections) × (given ≡ begun) × (new.link.closed ≡ true)
-    × (status ≡ 0))
+    OneAnswered from old new begun given status ⊎ NoneCame old new begun given status
+
+-- `serve` served each of its connections, or each that came: where no request of a connection
+-- wanted memory no call of its link failed, so that each answer was said whole.
+pub record AreServedWhole (from : State) (old new : Device) (begun given : List ℕ) (connections : ℕ)
+    (status : ℕ) : Type 0 where
+  pub sessions : List (Session PutRequest)
+  pub runs : RunsAs (beginning from old begun) sessions new given
+  pub unstopped : run_stops sessions ≡ false
+  pub whole :
+      AllByRecursion (λ session. starves session.steps ≡ false → session.link ≡ Whole) sessions
+  pub number : (length sessions ≡ connections) ⊎ (new.link.closed ≡ true)
+  pub status_is : status ≡ 0

@@ -1,13 +1,4 @@
 pub mod Words
-pub mod Request
-pub mod Change
-pub mod Library
-pub mod Store
-pub mod Answer
-pub mod History
-pub mod Opening
-pub mod Within
-pub mod Moments
-pub mod Serving
+pub mod Histories
 pub mod Running
 pub mod Completeness

@@ -1,32 +1,30 @@
 -- What a run of the top call ends with, and the cause of each end.
-use Rattle.std.specs.Prelude.{◌≡◌, ◌-◌, ◌+◌, ◌*◌, ◌≤◌, ◌⊎◌, ℕ, Bool, true, false, List, [], ◌∷◌, ◌++◌, length, codes}
+use Rattle.std.specs.Prelude.{◌≡◌, ◌≢◌, ◌-◌, ◌+◌, ◌*◌, ◌≤◌, ◌⊎◌, ℕ, zero, suc, Bool, true, false, List, ◌++◌, length, codes}
 use Rattle.std.specs.Fmt.{decimal}
-use Rattle.disk_trait.specs.Device.{Device, Connection, Left}
+use Rattle.disk_trait.specs.Device.{Device, Left}
 use Rattle.disk_trait.specs.Calls.{Elapses, IsCounted, Rose, Unchanged}
 use Rattle.site_edge.specs.Sinks.{Puts}
+use Rattle.media_journal.specs.declared.fault.JournalFault.{JournalFault}
+use Rattle.media_journal.specs.declared.fault.JournalFault.TheVariants as opening
 use Rattle.media_journal.specs.declared.header.Header.{Header}
 use Rattle.media_journal.specs.File.{HasOpenHeader}
 use Rattle.media_journal.specs.Formatting.{FitsStore}
 use Rattle.media_journal.specs.Opening.{IsStore}
+use Rattle.put_service.specs.Library.{formatted_library}
+use Rattle.put_service.specs.Opening.{StandsForNone}
+use Rattle.put_service.specs.Serving.{IsSettled, beginning}
+use Rattle.put_service.specs.Store.{StandsFor, State, empty_rows}
 use Rattle.tams_top.specs.declared.outcome.Outcome.{Outcome}
 use Rattle.tams_top.specs.declared.outcome.Outcome.TheVariants.{Formatted, Served, Cut, BadWords, NotStore, AlreadyStore, TooSmall, Damaged, DiskFault, NoMemory, LinkFault}
-use Rattle.tams_top.specs.declared.connection.Ending.{Ending}
-use Rattle.tams_top.specs.declared.connection.Ending.TheVariants as endings
 use Rattle.tams_top.specs.declared.words.Command.{Command}
-use Rattle.tams_top.specs.declared.words.Command.TheVariants.{Format, Replay}
+use Rattle.tams_top.specs.declared.words.Command.TheVariants.{Format, Replay, Serve}
 use Rattle.tams_top.specs.Words.{IsCommand}
-use Rattle.tams_top.specs.Library.{IsGood, formatted_library}
-use Rattle.tams_top.specs.Store.{State, StandsFor, empty_rows}
-use Rattle.tams_top.specs.declared.store.Store.{Store}
-use Rattle.tams_top.specs.Moments.{AllRight, Beginning, EachKeeps, IsEarlier, IsSettled, TellsAll}
-use Rattle.tams_top.specs.Opening.{StandsForNone, state_of}
-use Rattle.tams_top.specs.History.{Session, moments_of, taken_of, answers_in, changes_in, end_of, session_of}
-use Rattle.tams_top.specs.Serving.{Counts, IsServed, StandsAt}
+use Rattle.tams_top.specs.Histories.{BeginsFrom, OnePeer, Replayed, ServedAll}
 
 -- the status of each end
 abbrev pub status_of : Outcome → ℕ
 status_of (Formatted blocks half media) = 0
-status_of (Served requests changes) = 0
+status_of (Served requests changes skipped) = 0
 status_of BadWords = 1
 status_of NotStore = 2
 status_of AlreadyStore = 2
@@ -41,13 +39,23 @@ status_of Cut = 6
 abbrev pub numbered : List ℕ → ℕ → List ℕ → List ℕ
 numbered front n rest = (front ++ decimal n) ++ rest
 
+-- the end of the line of a run that served
+abbrev pub changes_end : ℕ → List ℕ
+changes_end zero = codes " changes\n"
+changes_end (suc n) = numbered (codes " changes, ") (suc n) (codes " turns skipped\n")
+
+-- the line of a run that served: its answers, its changes, and the turns that it skipped where
+-- there are any
+abbrev pub served_line : ℕ → ℕ → ℕ → List ℕ
+served_line requests changes skipped =
+    numbered (codes "ok: ") requests (numbered (codes " requests, ") changes (changes_end skipped))
+
 -- the line of each end in the notes
 abbrev pub line_of : Outcome → List ℕ
 line_of (Formatted blocks half media) =
     numbered (codes "formatted ") blocks (numbered (codes " blocks, ") half
     (numbered (codes " per half, ") media (codes " for media\n")))
-line_of (Served requests changes) =
-    numbered (codes "ok: ") requests (numbered (codes " requests, ") changes (codes " changes\n"))
+line_of (Served requests changes skipped) = served_line requests changes skipped
 line_of BadWords = codes "bad words\n"
 line_of NotStore = codes "not a store\n"
 line_of AlreadyStore = codes "already a store\n"
@@ -76,143 +84,102 @@ pub record ServesNobody (old new : Device) (begun given : List ℕ) : Type 0 whe
   pub link : new.link ≡ old.link
   pub given_is : given ≡ begun
 
--- the outcome of a connection, by its history and how it ended
-abbrev pub OutcomeIs : State → Session → Ending → Outcome → Type 0
-OutcomeIs from h endings.Complete o = o ≡ Served (answers_in h) (changes_in from h)
-OutcomeIs from h endings.Closed o = o ≡ Served (answers_in h) (changes_in from h)
-OutcomeIs from h endings.Cut o = o ≡ Cut
-OutcomeIs from h endings.Starved o = o ≡ NoMemory
-OutcomeIs from h endings.Stopped o = o ≡ DiskFault
-OutcomeIs from h endings.Unlinked o = o ≡ LinkFault
-
--- the same by counts
-abbrev pub OutcomeBy : Ending → Counts → Outcome → Type 0
-OutcomeBy endings.Complete n o = o ≡ Served n.requests n.changes
-OutcomeBy endings.Closed n o = o ≡ Served n.requests n.changes
-OutcomeBy endings.Cut n o = o ≡ Cut
-OutcomeBy endings.Starved n o = o ≡ NoMemory
-OutcomeBy endings.Stopped n o = o ≡ DiskFault
-OutcomeBy endings.Unlinked n o = o ≡ LinkFault
-
--- the beginning of a run over a file that stands for a state
-abbrev pub beginning : State → Device → List ℕ → Beginning
-beginning from old begun =
-    record { state = from; before = old.link.connections; given = begun; moment = old.moment }
-
--- the library is good after each part of a history
-abbrev pub AllGood : State → Session → Type 0
-AllGood from h = (g : Session) → IsEarlier g h → IsGood (end_of from g).library
-
--- The premises of the headline: the words are a `replay`, the outside is as the model says, nothing
--- is pending, and the file stands for a state.
+-- The words are a `replay` over a file from which a run may begin.
 pub record IsReplayFrom (from : State) (words : List (List ℕ)) (old : Device)
     (clock : Bool) : Type 0 where
   pub command : (path : List ℕ) × (base : List ℕ) × IsCommand words (Replay path base)
-  pub tells : TellsAll old clock
-  pub settled : IsSettled old
-  pub stands : StandsFor old.seen from
+  pub begins : BeginsFrom from old clock
 
--- One connection was served to its end, by one history.
-pub record OnePeer (b : Beginning) (new : Device) (given : List ℕ) (o : Outcome) : Type 0 where
-  pub session : Session
-  pub connection : Connection
-  pub ending : Ending
-  pub connections : new.link.connections ≡ b.before ++ connection ∷ []
-  pub given_is : given ≡ b.given ++ moments_of (taken_of session)
-  pub served : IsServed b.state connection session ending
-  pub stands : StandsAt new.seen b.state session ending
-  pub outcome : OutcomeIs b.state session ending o
-  pub right : AllRight b session new
-  pub good : AllGood b.state session
-
--- the ends of a run in which no connection began: no peer will come, waiting for one failed, or
--- opening the store did
-abbrev pub EndsWithoutPeer : Device → Outcome → Type 0
-EndsWithoutPeer new (Served requests changes) =
-    (requests ≡ 0) × (changes ≡ 0) × (new.link.closed ≡ true)
-EndsWithoutPeer new LinkFault = Unit {0}
-EndsWithoutPeer new DiskFault = Unit {0}
-EndsWithoutPeer new NoMemory = Unit {0}
-EndsWithoutPeer new Cut = ⊥
-EndsWithoutPeer new (Formatted blocks half media) = ⊥
-EndsWithoutPeer new BadWords = ⊥
-EndsWithoutPeer new NotStore = ⊥
-EndsWithoutPeer new AlreadyStore = ⊥
-EndsWithoutPeer new TooSmall = ⊥
-EndsWithoutPeer new (Damaged at) = ⊥
-
--- No connection began, and the state stays.
-pub record NoPeer (b : Beginning) (new : Device) (given : List ℕ) (o : Outcome) : Type 0 where
-  pub connections : new.link.connections ≡ b.before
-  pub given_is : given ≡ b.given
-  pub stands : StandsFor new.seen b.state
-  pub ends : EndsWithoutPeer new o
-  pub right : AllRight b (session_of []) new
-  pub good : IsGood b.state.library
-
--- A run of `replay` from its beginning.
-abbrev pub Replayed : Beginning → Device → List ℕ → Outcome → Type 0
-Replayed b new given o = OnePeer b new given o ⊎ NoPeer b new given o
+-- They are a `serve` of so many connections over one.
+pub record IsServeFrom (from : State) (connections : ℕ) (words : List (List ℕ)) (old : Device)
+    (clock : Bool) : Type 0 where
+  pub command : (path : List ℕ) × (port : ℕ) × (base : List ℕ)
+      × IsCommand words (Serve path port base connections)
+  pub begins : BeginsFrom from old clock
 
 -- the image stands for some state
 abbrev pub StandsForOne : List ℕ → Type 0
 StandsForOne image = (s : State) × StandsFor image s
 
--- the cause of each end of `replay` in the file
-abbrev pub ReplayCause : Device → Device → Outcome → Type 0
-ReplayCause old new (Served requests changes) = old.shows ≡ true → StandsForOne old.seen
-ReplayCause old new Cut = old.shows ≡ true → StandsForOne old.seen
-ReplayCause old new LinkFault = old.shows ≡ true → StandsForOne old.seen
-ReplayCause old new NotStore = (old.shows ≡ true → ¬ (IsStore old.seen)) × Untouched old new
-ReplayCause old new (Damaged at) =
+-- the cause of each end of `replay` and `serve` in the file
+abbrev pub OpenedCause : Device → Device → Outcome → Type 0
+OpenedCause old new (Served requests changes skipped) = old.shows ≡ true → StandsForOne old.seen
+OpenedCause old new Cut = old.shows ≡ true → StandsForOne old.seen
+OpenedCause old new LinkFault = old.shows ≡ true → StandsForOne old.seen
+OpenedCause old new NotStore = (old.shows ≡ true → ¬ (IsStore old.seen)) × Untouched old new
+OpenedCause old new (Damaged at) =
     (old.shows ≡ true → IsStore old.seen × StandsForNone old.seen) × Untouched old new
-ReplayCause old new DiskFault = Unit {0}
-ReplayCause old new NoMemory = Unit {0}
-ReplayCause old new (Formatted blocks half media) = ⊥
-ReplayCause old new BadWords = ⊥
-ReplayCause old new AlreadyStore = ⊥
-ReplayCause old new TooSmall = ⊥
+OpenedCause old new DiskFault = Unit {0}
+OpenedCause old new NoMemory = Unit {0}
+OpenedCause old new (Formatted blocks half media) = ⊥
+OpenedCause old new BadWords = ⊥
+OpenedCause old new AlreadyStore = ⊥
+OpenedCause old new TooSmall = ⊥
+
+-- how opening a store fails
+abbrev pub opening_outcome : JournalFault → Outcome
+opening_outcome opening.NotStore = NotStore
+opening_outcome (opening.Damaged at) = Damaged at
+opening_outcome opening.Disk = DiskFault
+opening_outcome opening.Memory = NoMemory
+
+-- The count of link faults over a run of `replay` by its end. Want of memory and a disk fault come
+-- before it: behind them the link may have failed too.
+abbrev pub LinkFaults : Outcome → ℕ → ℕ → Type 0
+LinkFaults LinkFault before now = (before ≤ now) × Rose before now
+LinkFaults DiskFault before now = before ≤ now
+LinkFaults NoMemory before now = before ≤ now
+LinkFaults (Formatted blocks half media) before now = now ≡ before
+LinkFaults (Served requests changes skipped) before now = now ≡ before
+LinkFaults Cut before now = now ≡ before
+LinkFaults BadWords before now = now ≡ before
+LinkFaults NotStore before now = now ≡ before
+LinkFaults AlreadyStore before now = now ≡ before
+LinkFaults TooSmall before now = now ≡ before
+LinkFaults (Damaged at) before now = now ≡ before
 
 -- Where a run of `replay` ended for want of memory nobody was served, or a request of the one
--- connection wanted it.
+-- connection wanted it, or its turn.
 abbrev pub StarvedAs : Device → Device → Bool → List ℕ → List ℕ → Outcome → Type 0
 StarvedAs old new clock begun given o = ServesNobody old new begun given
-    ⊎ (TellsAll old clock → IsSettled old → (from : State) → StandsFor old.seen from
-    → OnePeer (beginning from old begun) new given o)
+    ⊎ ((from : State) → BeginsFrom from old clock → OnePeer (beginning from old begun) new given o)
 
--- the ends of `replay`, each with its cause, and the one history of all that was heard, told and
--- left
+-- The ends of `replay`, each with its cause, and the one history of all that was heard, told and
+-- left.
 pub record ReplayEnds (old new : Device) (clock : Bool) (begun given : List ℕ)
     (o : Outcome) : Type 0 where
-  pub cause : ReplayCause old new o
-  pub history : TellsAll old clock → IsSettled old → (from : State) → StandsFor old.seen from
+  pub cause : OpenedCause old new o
+  pub link : LinkFaults o old.link.faults new.link.faults
+  pub history : (from : State) → BeginsFrom from old clock
       → Replayed (beginning from old begun) new given o
   pub starved : o ≡ NoMemory → StarvedAs old new clock begun given o
 
--- the outcomes of a store that was opened
-abbrev pub IsOfOpened : Outcome → Type 0
-IsOfOpened (Served requests changes) = Unit {0}
-IsOfOpened Cut = Unit {0}
-IsOfOpened DiskFault = Unit {0}
-IsOfOpened NoMemory = Unit {0}
-IsOfOpened LinkFault = Unit {0}
-IsOfOpened (Formatted blocks half media) = ⊥
-IsOfOpened BadWords = ⊥
-IsOfOpened NotStore = ⊥
-IsOfOpened AlreadyStore = ⊥
-IsOfOpened TooSmall = ⊥
-IsOfOpened (Damaged at) = ⊥
+-- waiting for each peer succeeded
+abbrev pub no_peer_fault : Outcome → Bool
+no_peer_fault LinkFault = false
+no_peer_fault DiskFault = true
+no_peer_fault (Formatted blocks half media) = true
+no_peer_fault (Served requests changes skipped) = true
+no_peer_fault Cut = true
+no_peer_fault BadWords = true
+no_peer_fault NotStore = true
+no_peer_fault AlreadyStore = true
+no_peer_fault TooSmall = true
+no_peer_fault (Damaged at) = true
+no_peer_fault NoMemory = true
 
--- the ends of serving a store that was opened, wherever the run began
-pub record ConnectEnds (store : Store) (old new : Device) (clock : Bool) (begun given : List ℕ)
+-- The same of `serve`. It ends with a link fault where waiting for a peer failed; the link of each
+-- connection may fail too, which ends that connection alone. Want of memory ends it before the
+-- first peer.
+pub record ServeEnds (old new : Device) (clock : Bool) (begun given : List ℕ) (connections : ℕ)
     (o : Outcome) : Type 0 where
-  pub outcome : IsOfOpened o
-  pub history : TellsAll old clock → EachKeeps old store → (b : Beginning)
-      → b.state ≡ state_of store → b.before ≡ old.link.connections → b.given ≡ begun
-      → AllRight b (session_of []) old → Replayed b new given o
-  pub starved : o ≡ NoMemory → TellsAll old clock → EachKeeps old store → (b : Beginning)
-      → b.state ≡ state_of store → b.before ≡ old.link.connections → b.given ≡ begun
-      → AllRight b (session_of []) old → OnePeer b new given o
+  pub cause : OpenedCause old new o
+  pub peers : IsCounted (no_peer_fault o) old.link.peer_faults new.link.peer_faults
+  pub link : o ≡ LinkFault → Rose old.link.faults new.link.faults
+  pub history : (from : State) → BeginsFrom from old clock
+      → ServedAll (beginning from old begun) old new given connections o
+  pub starved : o ≡ NoMemory → ServesNobody old new begun given
+  pub uncut : o ≢ Cut
 
 -- the state of a store that was formatted with these numbers
 abbrev pub formatted_state : Header → State
@@ -237,7 +204,7 @@ FormatRunEnds old new h TooSmall =
     × (¬ (FitsStore h (length old.seen) empty_rows))) × Untouched old new
 FormatRunEnds old new h DiskFault = Unit {0}
 FormatRunEnds old new h NoMemory = Untouched old new
-FormatRunEnds old new h (Served requests changes) = ⊥
+FormatRunEnds old new h (Served requests changes skipped) = ⊥
 FormatRunEnds old new h Cut = ⊥
 FormatRunEnds old new h BadWords = ⊥
 FormatRunEnds old new h NotStore = ⊥
@@ -259,12 +226,14 @@ CommandEnds old new clock begun given o (Format path blocks half id) =
     × FormatMoments old new record { blocks = blocks; half = half; id = id } o
     × ServesNobody old new begun given
 CommandEnds old new clock begun given o (Replay path base) = ReplayEnds old new clock begun given o
+CommandEnds old new clock begun given o (Serve path port base connections) =
+    ServeEnds old new clock begun given connections o
 
 -- no call of the disk failed
 abbrev pub no_disk_fault : Outcome → Bool
 no_disk_fault DiskFault = false
 no_disk_fault (Formatted blocks half media) = true
-no_disk_fault (Served requests changes) = true
+no_disk_fault (Served requests changes skipped) = true
 no_disk_fault Cut = true
 no_disk_fault BadWords = true
 no_disk_fault NotStore = true
@@ -273,26 +242,6 @@ no_disk_fault TooSmall = true
 no_disk_fault (Damaged at) = true
 no_disk_fault NoMemory = true
 no_disk_fault LinkFault = true
-
--- The count of link faults over a run by its end. Want of memory and a disk fault come before it:
--- behind them the link may have failed too.
-abbrev pub LinkFaults : Outcome → ℕ → ℕ → Type 0
-LinkFaults LinkFault before now = (before ≤ now) × Rose before now
-LinkFaults DiskFault before now = before ≤ now
-LinkFaults NoMemory before now = before ≤ now
-LinkFaults (Formatted blocks half media) before now = now ≡ before
-LinkFaults (Served requests changes) before now = now ≡ before
-LinkFaults Cut before now = now ≡ before
-LinkFaults BadWords before now = now ≡ before
-LinkFaults NotStore before now = now ≡ before
-LinkFaults AlreadyStore before now = now ≡ before
-LinkFaults TooSmall before now = now ≡ before
-LinkFaults (Damaged at) before now = now ≡ before
-
--- the counts of faults over a run by its end
-pub record FaultCounts (old new : Device) (o : Outcome) : Type 0 where
-  pub disk : IsCounted (no_disk_fault o) old.faults new.faults
-  pub link : LinkFaults o old.link.faults new.link.faults
 
 -- words that are no command
 abbrev pub IsNoCommand : List (List ℕ) → Type 0
@@ -307,10 +256,10 @@ EndCause words old new clock begun given o =
     ⊎ ((command : Command) × IsCommand words command
     × CommandEnds old new clock begun given o command))
 
--- a run: the counts of faults by its end, and the end's cause
+-- a run: the count of disk faults by its end, and the end's cause
 pub record RunEnds (words : List (List ℕ)) (old new : Device) (clock : Bool) (begun given : List ℕ)
     (o : Outcome) : Type 0 where
-  pub counts : FaultCounts old new o
+  pub disk : IsCounted (no_disk_fault o) old.faults new.faults
   pub cause : EndCause words old new clock begun given o
 
 -- why a command is refused: there is a store already, or the numbers make none of the file's
@@ -319,3 +268,4 @@ abbrev pub RefusedFor : List ℕ → Command → Type 0
 RefusedFor image (Format path blocks half id) = HasOpenHeader image
     ⊎ ¬ (FitsStore record { blocks = blocks; half = half; id = id } (length image) empty_rows)
 RefusedFor image (Replay path base) = StandsForNone image
+RefusedFor image (Serve path port base connections) = StandsForNone image

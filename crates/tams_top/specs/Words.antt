@@ -4,9 +4,9 @@ use Rattle.std.specs.List.{starts_with}
 use Rattle.std.specs.Fmt.{decimal}
 use Rattle.media_rows.specs.Ids.{id_of}
 use Rattle.tams_top.specs.declared.words.Command.{Command}
-use Rattle.tams_top.specs.declared.words.Command.TheVariants.{Format, Replay}
+use Rattle.tams_top.specs.declared.words.Command.TheVariants.{Format, Replay, Serve}
 use Rattle.tams_top.specs.declared.words.Wanted.{Wanted}
-use Rattle.tams_top.specs.declared.words.Wanted.TheVariants.{Nothing, Plain, Fresh}
+use Rattle.tams_top.specs.declared.words.Wanted.TheVariants.{Nothing, Plain, Fresh, Listen}
 
 -- a word that is not empty and does not begin with `-`
 pub record IsPlain (word : List ℕ) : Type 0 where
@@ -56,10 +56,21 @@ pub record IsReplay (words : List (List ℕ)) (path base : List ℕ) : Type 0 wh
   pub words_are : words ≡ codes "replay" ∷ path ∷ base ∷ []
   pub base_is : IsBase base
 
+-- serve PATH PORT BASE CONNECTIONS
+pub record IsServe (words : List (List ℕ)) (path : List ℕ) (port : ℕ) (base : List ℕ)
+    (connections : ℕ) : Type 0 where
+  pub port_word : List ℕ
+  pub connections_word : List ℕ
+  pub words_are : words ≡ codes "serve" ∷ path ∷ port_word ∷ base ∷ connections_word ∷ []
+  pub port_is : IsNumber 65535 port_word port
+  pub base_is : IsBase base
+  pub connections_is : IsNumber 1000000000 connections_word connections
+
 -- the words are the command's name and its own words, each of its form
 abbrev pub HasForm : List (List ℕ) → Command → Type 0
 HasForm words (Format path blocks half id) = IsFormat words path blocks half id
 HasForm words (Replay path base) = IsReplay words path base
+HasForm words (Serve path port base connections) = IsServe words path port base connections
 
 -- the words are in the command set, and spell this command
 pub record IsCommand (words : List (List ℕ)) (command : Command) : Type 0 where
@@ -72,9 +83,11 @@ FormIs words (Some command) = HasForm words command
 FormIs words None = (command : Command) → HasForm words command → ⊥
 
 -- What the program opens for these words: a file of a length in bytes for `format`, a file that is
--- there for `replay`, and nothing for words that are no command.
+-- there for `replay`, that and a port for `serve`, and nothing for words that are no command.
 abbrev pub WantedFor : List (List ℕ) → Wanted → Type 0
 WantedFor words Nothing = (command : Command) → IsCommand words command → ⊥
 WantedFor words (Plain path) = (base : List ℕ) × IsCommand words (Replay path base)
 WantedFor words (Fresh path bytes) =
     (blocks half id : ℕ) × (bytes ≡ 4096 * blocks) × IsCommand words (Format path blocks half id)
+WantedFor words (Listen path port) =
+    (base : List ℕ) × (connections : ℕ) × IsCommand words (Serve path port base connections)

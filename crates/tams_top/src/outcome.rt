@@ -1,7 +1,7 @@
 //! What a run ends with: its status, and its line in the notes.
 ghost use Rattle.std.specs.Prelude.{◌≡◌, ◌++◌, is_ok};
 ghost use Rattle.std.specs.Fmt.{decimal};
-ghost use Rattle.tams_top.specs.Running.{TakesPart, line_of};
+ghost use Rattle.tams_top.specs.Running.{TakesPart, changes_end, line_of, served_line};
 
 use itoa::Buffer;
 use site_edge::{Sink, SinkFailed};
@@ -10,9 +10,17 @@ use site_edge::{Sink, SinkFailed};
 #[derive(Clone, Copy, Debug, PartialEq, Eq)]
 pub(crate) enum Outcome {
     /// A store of so many blocks was made, with so many a half and so many for media.
-    Formatted { blocks: u64, half: u64, media: u64 },
-    /// The input was read to its end, or to a request that ends the connection.
-    Served { requests: u64, changes: u64 },
+    Formatted {
+        blocks: u64,
+        half: u64,
+        media: u64,
+    },
+    /// All was heard and answered, with so many answers and changes, and so many turns skipped.
+    Served {
+        requests: u64,
+        changes: u64,
+        skipped: u64,
+    },
     /// The input ended within a request.
     Cut,
     BadWords,
@@ -60,11 +68,11 @@ impl Outcome {
                 put_number(notes, b" per half, ", media)?;
                 notes.put(b" for media\n")
             }
-            Outcome::Served { requests, changes } => {
-                put_number(notes, b"ok: ", requests)?;
-                put_number(notes, b" requests, ", changes)?;
-                notes.put(b" changes\n")
-            }
+            Outcome::Served {
+                requests,
+                changes,
+                skipped,
+            } => put_served(notes, requests, changes, skipped),
             Outcome::Damaged(at) => {
                 put_number(notes, b"damaged at ", at)?;
                 notes.put(b"\n")
@@ -79,6 +87,33 @@ impl Outcome {
             Outcome::Cut => notes.put(b"input ended within a request\n"),
         }
     }
+}
+
+/// Puts the line of a run that served.
+fn put_served<N: Sink>(
+    notes: &mut N,
+    requests: u64,
+    changes: u64,
+    skipped: u64,
+) -> Result<(), SinkFailed>
+    ensures { TakesPart (is_ok result) (N.tells notes.old) (served_line requests changes skipped)
+        (N.faults notes.old) (N.faults notes.new) (N.taken notes.old) (N.taken notes.new) }
+{
+    put_number(notes, b"ok: ", requests)?;
+    put_number(notes, b" requests, ", changes)?;
+    put_changes_end(notes, skipped)
+}
+
+/// Puts the end of that line.
+fn put_changes_end<N: Sink>(notes: &mut N, skipped: u64) -> Result<(), SinkFailed>
+    ensures { TakesPart (is_ok result) (N.tells notes.old) (changes_end skipped)
+        (N.faults notes.old) (N.faults notes.new) (N.taken notes.old) (N.taken notes.new) }
+{
+    if skipped == 0 {
+        return notes.put(b" changes\n");
+    }
+    put_number(notes, b" changes, ", skipped)?;
+    notes.put(b" turns skipped\n")
 }
 
 /// Puts a text and a number behind it.

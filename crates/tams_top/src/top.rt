@@ -1,26 +1,25 @@
 //! The top call.
-ghost use Rattle.std.specs.Prelude.{◌≡◌, ◌≢◌, ◌≤◌, ◌<◌, ◌*◌, ◌⊎◌, [], ℕ, List, Bool, true};
-ghost use Rattle.disk_trait.specs.Calls.{Rose};
+ghost use Rattle.std.specs.Prelude.{◌≡◌, ◌≢◌, ◌≤◌, ◌<◌, ◌⊎◌, ℕ, List, Bool, true};
+ghost use Rattle.disk_trait.specs.Calls.{IsCounted, Rose};
 ghost use Rattle.disk_trait.specs.Device.{Left};
 ghost use Rattle.media_journal.specs.File.{HasOpenHeader};
-ghost use Rattle.tams_top.specs.Completeness.{IsServedWhole, NoneRose};
-ghost use Rattle.tams_top.specs.Moments.{IsSettled};
-ghost use Rattle.tams_top.specs.Running.{ConnectEnds, FaultCounts, FormatRunEnds, FormatMoments, IsNoCommand, IsReplayFrom, OnePeer, OutcomeBy, beginning, RefusedFor, ReplayEnds, Replayed, RunEnds, ServesNobody, TakesPart, Untouched, formatted_state, line_of, status_of};
-ghost use Rattle.tams_top.specs.Store.{State, StandsFor};
+ghost use Rattle.put_service.specs.Serving.{IsSettled, beginning};
+ghost use Rattle.put_service.specs.Store.{StandsFor, State};
+ghost use Rattle.tams_top.specs.Completeness.{AreServedWhole, IsServedWhole, NoneRose};
+ghost use Rattle.tams_top.specs.Histories.{OnePeer, Replayed, ServedAll};
+ghost use Rattle.tams_top.specs.Running.{FormatMoments, FormatRunEnds, IsNoCommand, IsReplayFrom, IsServeFrom, RefusedFor, RunEnds, ServesNobody, TakesPart, Untouched, formatted_state, line_of, no_disk_fault, status_of};
 ghost use Rattle.tams_top.specs.Words.{IsCommand};
 ghost use Rattle.tams_top.specs.declared.outcome.Outcome.{Outcome};
 ghost use Rattle.tams_top.specs.declared.words.Command.{Command};
-ghost use Rattle.tams_top.specs.declared.words.Command.TheVariants.{Format};
+ghost use Rattle.tams_top.specs.declared.words.Command.TheVariants.{Format, Replay, Serve};
 
-use crate::connection::{Ending, serve};
 use crate::outcome::Outcome;
-use crate::store::{Store, empty_rows, open_store};
-use crate::tally::Tally;
-use crate::unread::Unread;
+use crate::serving::{replay, serve};
 use crate::words::{Command, read_words};
 use disk_trait::{Memory, TextList};
-use media_journal::{BLOCK, FormatFault, JournalFault, MOST_BLOCKS, MOST_HALF, format_device};
-use site_edge::{Clock, LinkFailed, Sink, Site};
+use media_journal::{FormatFault, MOST_BLOCKS, MOST_HALF, format_device};
+use put_service::empty_rows;
+use site_edge::{Clock, Sink, Site};
 use std::alloc::Global;
 
 /// Does what the words ask for on this site, puts a line about it into the notes, and answers the status.
@@ -52,12 +51,27 @@ pub fn run<X: Site, C: Clock, N: Sink>(
     ensures disk_only { (X.device site.old).faults < (X.device site.new).faults → result ≡ 3 }
     ensures link { result ≡ 5
         → Rose (X.device site.old).link.faults (X.device site.new).link.faults }
-    ensures link_only { (X.device site.old).link.faults < (X.device site.new).link.faults
+    ensures link_only { (path base : List ℕ) → IsCommand words.now (Replay path base)
+        → (X.device site.old).link.faults < (X.device site.new).link.faults
         → (result ≡ 3) ⊎ ((result ≡ 4) ⊎ (result ≡ 5)) }
 
+    // That of a link fault in `serve`: where waiting for a peer failed, and not where the link of a
+    // connection did.
+    ensures peers { (path base : List ℕ) (port connections : ℕ)
+        → IsCommand words.now (Serve path port base connections) → result ≡ 5
+        → Rose (X.device site.old).link.peer_faults (X.device site.new).link.peer_faults }
+    ensures peers_only { (path base : List ℕ) (port connections : ℕ)
+        → IsCommand words.now (Serve path port base connections)
+        → (X.device site.old).link.peer_faults < (X.device site.new).link.peer_faults
+        → result ≡ 5 }
+
+    // The status of an input that ended within a request is one of `replay` alone.
+    ensures cut { (path base : List ℕ) (port connections : ℕ)
+        → IsCommand words.now (Serve path port base connections) → result ≢ 6 }
+
     // Words that are no command and `format` wait for no peer and read no clock; where there is no memory
-    // `format` writes nothing. Elsewhere a run ends for want of memory only before it waits for a peer, or
-    // with a request of the one connection.
+    // `format` writes nothing. `serve` ends for want of memory only before it waits for a peer, and `replay`
+    // there, or with a request of its one connection.
     ensures nobody { IsNoCommand words.now
         → ServesNobody (X.device site.old) (X.device site.new) (C.given clock.old)
         (C.given clock.new) }
@@ -68,6 +82,10 @@ pub fn run<X: Site, C: Clock, N: Sink>(
     ensures starved_format { (path : List ℕ) (blocks half id : ℕ)
         → IsCommand words.now (Format path blocks half id) → result ≡ 4
         → Untouched (X.device site.old) (X.device site.new) }
+    ensures starved_serve { (path base : List ℕ) (port connections : ℕ)
+        → IsCommand words.now (Serve path port base connections) → result ≡ 4
+        → ServesNobody (X.device site.old) (X.device site.new) (C.given clock.old)
+        (C.given clock.new) }
     ensures starved { result ≡ 4 → ServesNobody (X.device site.old) (X.device site.new)
         (C.given clock.old) (C.given clock.new)
         ⊎ ((from : State) → IsReplayFrom from words.now (X.device site.old) (C.tells clock.new)
@@ -88,22 +106,32 @@ pub fn run<X: Site, C: Clock, N: Sink>(
         → (¬ (HasOpenHeader p.image)) ⊎ StandsFor p.image
         (formatted_state record { blocks = blocks; half = half; id = id }) }
 
-    // Over a file that stands for a state, one history from it gives all that a run of `replay` heard,
-    // told and left, whatever failed; the outcome by it has the status, and its line is put.
+    // Over a file that stands for a state, one history from it gives all that a run of `replay` or `serve`
+    // heard, told and left, whatever failed; the outcome by it has the status, and its line is put.
     ensures replayed { (from : State)
         → IsReplayFrom from words.now (X.device site.old) (C.tells clock.new)
         → (outcome : Outcome) × (result ≡ status_of outcome)
         × Replayed (beginning from (X.device site.old) (C.given clock.old)) (X.device site.new)
         (C.given clock.new) outcome }
+    ensures served { (from : State) (connections : ℕ)
+        → IsServeFrom from connections words.now (X.device site.old) (C.tells clock.new)
+        → (outcome : Outcome) × (result ≡ status_of outcome)
+        × ServedAll (beginning from (X.device site.old) (C.given clock.old)) (X.device site.old)
+        (X.device site.new) (C.given clock.new) connections outcome }
 
     // Where nothing failed over such a file, each request that was heard whole was answered by the
-    // machine, each answer was said whole, and the status is 0, or 6 by the input alone. `format` ends
-    // with 0 then, or as it was refused.
+    // machine, each answer was said whole, and the status is 0, or in `replay` 6 by the input alone.
+    // `format` ends with 0 then, or as it was refused.
     ensures complete { (from : State)
         → IsReplayFrom from words.now (X.device site.old) (C.tells clock.new)
         → NoneRose (X.device site.old) (X.device site.new) → result ≢ 4
         → IsServedWhole from (X.device site.old) (X.device site.new) (C.given clock.old)
         (C.given clock.new) result }
+    ensures complete_serve { (from : State) (connections : ℕ)
+        → IsServeFrom from connections words.now (X.device site.old) (C.tells clock.new)
+        → NoneRose (X.device site.old) (X.device site.new) → result ≢ 4
+        → AreServedWhole from (X.device site.old) (X.device site.new) (C.given clock.old)
+        (C.given clock.new) connections result }
     ensures complete_format { (path : List ℕ) (blocks half id : ℕ)
         → IsCommand words.now (Format path blocks half id)
         → NoneRose (X.device site.old) (X.device site.new)
@@ -147,6 +175,16 @@ fn outcome_of<X: Site, C: Clock>(
             ),
         ) => format(alloc, site, blocks, half, id),
         Ok(Some(Command::Replay { path: _, base: _ })) => replay(alloc, site, clock),
+        Ok(
+            Some(
+                Command::Serve {
+                    path: _,
+                    port: _,
+                    base: _,
+                    connections,
+                },
+            ),
+        ) => serve(alloc, site, clock, connections),
     }
 }
 
@@ -155,7 +193,8 @@ fn format<X: Site>(alloc: Global, site: &mut X, blocks: u64, half: u64, id: u128
     requires some_half { 1 ≤ half }
     requires half { half ≤ MOST_HALF }
     requires blocks { blocks ≤ MOST_BLOCKS }
-    ensures counts { FaultCounts (X.device site.old) (X.device site.new) result }
+    ensures disk { IsCounted (no_disk_fault result) (X.device site.old).faults
+        (X.device site.new).faults }
     ensures nobody { (X.device site.new).link ≡ (X.device site.old).link }
     ensures ends { FormatRunEnds (X.device site.old) (X.device site.new)
         record { blocks = blocks; half = half; id = id } result }
@@ -172,69 +211,5 @@ fn format<X: Site>(alloc: Global, site: &mut X, blocks: u64, half: u64, id: u128
         Err(FormatFault::TooSmall) => Outcome::TooSmall,
         Err(FormatFault::Disk) => Outcome::DiskFault,
         Err(FormatFault::Memory) => Outcome::NoMemory,
-    }
-}
-
-/// Opens the store of the site's device, and serves one connection.
-fn replay<X: Site, C: Clock>(alloc: Global, site: &mut X, clock: &mut C) -> Outcome
-    ensures counts { FaultCounts (X.device site.old) (X.device site.new) result }
-    ensures ends { ReplayEnds (X.device site.old) (X.device site.new) (C.tells clock.new)
-        (C.given clock.old) (C.given clock.new) result }
-{
-    let mut store = match open_store(alloc, site) {
-        Ok(store) => store,
-        Err(JournalFault::NotStore) => return Outcome::NotStore,
-        Err(JournalFault::Damaged(at)) => return Outcome::Damaged(at),
-        Err(JournalFault::Disk) => return Outcome::DiskFault,
-        Err(JournalFault::Memory) => return Outcome::NoMemory,
-    };
-    match Unread::new(alloc) {
-        Ok(mut unread) => connect(alloc, &mut store, site, clock, &mut unread),
-        Err(Memory) => Outcome::NoMemory,
-    }
-}
-
-/// Serves the one connection of a site, if a peer comes.
-fn connect<X: Site, C: Clock>(
-    alloc: Global,
-    store: &mut Store,
-    site: &mut X,
-    clock: &mut C,
-    unread: &mut Unread,
-) -> Outcome
-    requires empty { unread.old ≡ [] }
-    requires device { BLOCK * store.old.journal.blocks ≤ (X.device site.old).size }
-    ensures counts { FaultCounts (X.device site.old) (X.device site.new) result }
-    ensures ends { ConnectEnds store.old (X.device site.old) (X.device site.new) (C.tells clock.new)
-        (C.given clock.old) (C.given clock.new) result }
-{
-    match site.next_peer() {
-        Ok(true) => {
-            let mut tally = Tally::new();
-            let ending = serve(alloc, store, site, clock, unread, &mut tally);
-            site.close_peer();
-            outcome_by(ending, &tally)
-        }
-        Ok(false) => Outcome::Served {
-            requests: 0,
-            changes: 0,
-        },
-        Err(LinkFailed) => Outcome::LinkFault,
-    }
-}
-
-/// The outcome of a connection by how it ended, and by the numbers of its answers and changes.
-fn outcome_by(ending: Ending, tally: &Tally) -> Outcome
-    ensures { OutcomeBy ending tally.now result }
-{
-    match ending {
-        Ending::Complete | Ending::Closed => Outcome::Served {
-            requests: tally.requests(),
-            changes: tally.changes(),
-        },
-        Ending::Cut => Outcome::Cut,
-        Ending::Starved => Outcome::NoMemory,
-        Ending::Stopped => Outcome::DiskFault,
-        Ending::Unlinked => Outcome::LinkFault,
     }
 }

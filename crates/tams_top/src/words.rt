@@ -1,8 +1,9 @@
 //! The words of the command line, and what the program opens for them.
-ghost use Rattle.std.specs.Prelude.{◌≡◌, ◌∷◌, [], ◌↔◌, ℕ, All, IfOk, IfSome, IsNone, IsTrue};
+ghost use Rattle.std.specs.Prelude.{◌≡◌, ◌∷◌, [], ◌↔◌, ℕ, All, codes, IfOk, IfSome, IsNone, IsTrue};
 ghost use Rattle.tams_top.specs.Words.{IsPlain, IsNumber, IsBaseByte, HasScheme, IsBase, FormIs, IsCommand, WantedFor};
 ghost use Rattle.tams_top.specs.declared.words.Command.{Command};
 
+use connection_loop::MOST_CONNECTIONS;
 use disk_trait::{Memory, Text, TextList, same_bytes};
 use media_journal::{BLOCK, MOST_BLOCKS, MOST_HALF};
 use media_rows::read_id;
@@ -13,6 +14,9 @@ use std::str;
 const LEAST_BASE: usize = 8;
 
 const MOST_BASE: usize = 200;
+
+/// The last port.
+const LAST_PORT: u64 = 65_535;
 
 /// A command, with what its words say.
 #[derive(Drop)]
@@ -29,6 +33,13 @@ pub enum Command {
         path: Text,
         base: Text,
     },
+    /// Serves so many connections, one after another, on a port of this machine.
+    Serve {
+        path: Text,
+        port: u16,
+        base: Text,
+        connections: u64,
+    },
 }
 
 /// What the program opens for its words.
@@ -40,6 +51,8 @@ pub enum Wanted {
     Plain(Text),
     /// The file at this path, with this length in bytes at least.
     Fresh(Text, u64),
+    /// The file at this path, and a listener on this port.
+    Listen(Text, u16),
 }
 
 /// What the program has to open before it runs these words.
@@ -49,6 +62,7 @@ pub fn devices(alloc: Global, words: &TextList) -> Result<Wanted, Memory>
     match read_words(alloc, words)? {
         Some(Command::Format { path, blocks, .. }) => Ok(Wanted::Fresh(path, BLOCK * blocks)),
         Some(Command::Replay { path, .. }) => Ok(Wanted::Plain(path)),
+        Some(Command::Serve { path, port, .. }) => Ok(Wanted::Listen(path, port)),
         None => Ok(Wanted::Nothing),
     }
 }
@@ -64,26 +78,43 @@ pub(crate) fn read_words(alloc: Global, words: &TextList) -> Result<Option<Comma
         return Ok(None);
     }
     match items {
-        [name, path, blocks, half, id] => read_format(alloc, name, path, blocks, half, id),
+        [name, path, third, fourth, fifth] => { read_five(alloc, name, path, third, fourth, fifth) }
         [name, path, base] => read_replay(alloc, name, path, base),
         _ => Ok(None),
     }
 }
 
 /// The command that five words spell by their forms.
-fn read_format(
+fn read_five(
     alloc: Global,
     name: &Text,
+    path: &Text,
+    third: &Text,
+    fourth: &Text,
+    fifth: &Text,
+) -> Result<Option<Command>, Memory>
+    ensures { IfOk result (FormIs (name.now ∷ path.now ∷ third.now ∷ fourth.now ∷ fifth.now ∷ [])) }
+{
+    if same_bytes(name.bytes(), b"format") {
+        read_format(alloc, path, third, fourth, fifth)
+    } else if same_bytes(name.bytes(), b"serve") {
+        read_serve(alloc, path, third, fourth, fifth)
+    } else {
+        Ok(None)
+    }
+}
+
+/// The command that the four words behind `format` spell by their forms.
+fn read_format(
+    alloc: Global,
     path: &Text,
     blocks: &Text,
     half: &Text,
     id: &Text,
 ) -> Result<Option<Command>, Memory>
-    ensures { IfOk result (FormIs (name.now ∷ path.now ∷ blocks.now ∷ half.now ∷ id.now ∷ [])) }
+    ensures { IfOk result
+        (FormIs (codes "format" ∷ path.now ∷ blocks.now ∷ half.now ∷ id.now ∷ [])) }
 {
-    if !same_bytes(name.bytes(), b"format") {
-        return Ok(None);
-    }
     let Some(blocks) = read_number(blocks.bytes(), MOST_BLOCKS) else {
         return Ok(None);
     };
@@ -99,6 +130,34 @@ fn read_format(
         blocks,
         half,
         id,
+    }))
+}
+
+/// The command that the four words behind `serve` spell by their forms.
+fn read_serve(
+    alloc: Global,
+    path: &Text,
+    port: &Text,
+    base: &Text,
+    connections: &Text,
+) -> Result<Option<Command>, Memory>
+    ensures { IfOk result
+        (FormIs (codes "serve" ∷ path.now ∷ port.now ∷ base.now ∷ connections.now ∷ [])) }
+{
+    let Some(port) = read_number(port.bytes(), LAST_PORT) else {
+        return Ok(None);
+    };
+    let Some(connections) = read_number(connections.bytes(), MOST_CONNECTIONS) else {
+        return Ok(None);
+    };
+    if !is_base(base.bytes()) {
+        return Ok(None);
+    }
+    Ok(Some(Command::Serve {
+        path: path.copy(alloc)?,
+        port: port as u16,
+        base: base.copy(alloc)?,
+        connections,
     }))
 }
 

@@ -1,5 +1,5 @@
 use Rattle.std.proofs.Common.{refl, ◌∙◌, arith}
-use Rattle.connection_loop.proofs.Turning.{calls_more, tells_later, turned_first, turned_more}
+use Rattle.connection_loop.proofs.Turning.{calls_more, gives_twice, tells_later, turned_first, turned_more}
 use Rattle.connection_loop.proofs.connection.serve_connection.Goals as goal
 
 pub loop-init : goal.loop-init
@@ -31,6 +31,10 @@ returns-in-Some-clause-size g c = c.in-Some.ensures.size ∙ c.loop.invariant.si
 pub returns-in-Some-clause-clock : goal.returns-in-Some-clause-clock
 returns-in-Some-clause-clock g c = λ tells. c.loop.invariant.clock (c.in-Some.ensures.clock tells)
 
+pub returns-in-Some-clause-moments : goal.returns-in-Some-clause-moments
+returns-in-Some-clause-moments g c = λ tells.
+    gives_twice _ _ _ (c.loop.invariant.moments (c.in-Some.ensures.clock tells)) (c.in-Some.ensures.moments tells)
+
 pub returns-in-Some-clause-answers : goal.returns-in-Some-clause-answers
 returns-in-Some-clause-answers g c =
     let so_far = c.loop.invariant in
@@ -52,7 +56,7 @@ loop-preserved g c =
     let turn = c.in_default.ensures in
     turned_more g.V.Service.machine (g.X.Disk.device c.args.site.now) (g.X.Disk.device c.loop.site) (g.X.Disk.device c.take_turn.new.site)
     _ _ _ _ _ _ _ _ _ _ _ _ _ _ _ _ _ _ _ _ c.loop.counter
-    c.loop.invariant turn.calls turn.size turn.clock (turn.few refl) (turn.counted refl) (turn.turns refl) turn.most turn.goes
+    c.loop.invariant turn.calls turn.size turn.clock turn.moments (turn.few refl) (turn.counted refl) (turn.turns refl) turn.most turn.goes
 
 -- More turns than a connection has.
 pub unreachable-requires : goal.unreachable-requires

@@ -1,7 +1,7 @@
 use Rattle.std.proofs.Common.{refl, ◌∙◌, ◌||◌, Bool, true, false, ◌≡◌}
 use Rattle.run_history.proofs.Going.{goes_first}
 use Rattle.connection_loop.proofs.Between.{between_quiet, ended_calls, ends_closed, no_more_calls, same_connected, same_unchanged, unlinked_calls}
-use Rattle.connection_loop.proofs.Turning.{tells_later}
+use Rattle.connection_loop.proofs.Turning.{gives_none, tells_later}
 use Rattle.connection_loop.proofs.connection.serve_next.Goals as goal
 
 or_true : (b : Bool) → b || true ≡ true
@@ -65,3 +65,10 @@ returns-in-Err-clause-leads g c = λ all b sessions between.
     let new = g.X.Disk.device c.next_peer.new.self in
     between_quiet g.V.Service.machine b old new _ _ _ _ sessions _ between call.time (c.in-Err.ensures.next.connections all.tells)
     (λ keeps. g.V.Service.kept _ old new keeps (same_unchanged old new call.time))
+
+-- No moment was given where no connection came.
+pub returns-in-Ok-false-clause-moments : goal.returns-in-Ok-false-clause-moments
+returns-in-Ok-false-clause-moments g c = λ tells. gives_none _
+
+pub returns-in-Err-clause-moments : goal.returns-in-Err-clause-moments
+returns-in-Err-clause-moments g c = λ tells. gives_none _

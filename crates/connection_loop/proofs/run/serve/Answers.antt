@@ -1,6 +1,6 @@
 use Rattle.std.proofs.Common.{sym, ◌∙◌, arith}
-use Rattle.connection_loop.proofs.Between.{ended_stopped, served_more}
-use Rattle.connection_loop.proofs.Turning.{tells_later}
+use Rattle.connection_loop.proofs.Between.{counted_later, ended_stopped, served_more}
+use Rattle.connection_loop.proofs.Turning.{gives_twice, tells_later}
 use Rattle.connection_loop.proofs.run.serve.Goals as goal
 
 -- No more connections came.
@@ -14,6 +14,8 @@ returns-in-NoMore-clause-ended g c = λ all b between.
       sessions = so_far.sessions;
       served = leads.0.served;
       ends = (omega (arith, so_far.count, c.loop-test.true), leads.0.unstopped, leads.1);
+      counted = counted_later _ _ _ so_far.sessions so_far.counted c.loop.invariant.calls.link_faults
+          (omega (arith, c.in-NoMore.ensures.calls.link_faults));
     }
 
 -- Waiting for one failed.
@@ -31,6 +33,7 @@ returns-in-Unlinked-clause-ended g c = λ all b between.
       sessions = so_far.sessions;
       served = leads.served;
       ends = (omega (arith, so_far.count, c.loop-test.true), leads.unstopped);
+      counted = counted_later _ _ _ so_far.sessions so_far.counted c.loop.invariant.calls.link_faults c.in-Unlinked.ensures.calls.link_faults.0;
     }
 
 -- The disk failed in the last one.
@@ -40,15 +43,16 @@ returns-then-is_stopped-clause-ended g c = λ all b between.
     c.loop.invariant.reached (record { honest = all.honest; shows = all.shows; tells = all.tells; clock_tells = c.in-Ended.ensures.clock all.clock_tells }) b
     between in
     let leads = c.in-Ended.ensures.leads (tells_later _ _ _ c.loop.invariant.calls.same all) b so_far.sessions so_far.between in
-    ended_stopped g.V.Service.machine b (g.X.Disk.device c.serve_next.new.site) _ _ _ so_far.sessions _ c.in-Ended.ending c.loop.counter c.args.connections
-    leads (sym c.is_stopped.ensures ∙ c.if-is_stopped.true) so_far.count (omega (arith, c.loop-test.true))
+    ended_stopped g.V.Service.machine b (g.X.Disk.device c.args.site.now) (g.X.Disk.device c.loop.site) (g.X.Disk.device c.serve_next.new.site) _ _ _ so_far.sessions _ c.in-Ended.ending c.loop.counter c.args.connections
+    leads (sym c.is_stopped.ensures ∙ c.if-is_stopped.true) so_far.count (omega (arith, c.loop-test.true)) so_far.counted
+    c.loop.invariant.calls.link_faults c.in-Ended.ensures.calls.link_faults
 
 pub loop-preserved : goal.loop-preserved
 loop-preserved g c =
     let next = c.in-Ended.ensures in
     served_more g.V.Service.machine (g.X.Disk.device c.args.site.now) (g.X.Disk.device c.loop.site) (g.X.Disk.device c.serve_next.new.site)
     _ _ _ _ _ _ _ _ _ _ _ _ _ _ _ _ _ _ c.loop.counter c.in-Ended.ending
-    c.loop.invariant next.calls (sym c.is_stopped.ensures ∙ c.if-is_stopped.false) next.size next.clock next.answers next.leads
+    c.loop.invariant next.calls (sym c.is_stopped.ensures ∙ c.if-is_stopped.false) next.size next.clock next.moments next.answers next.leads
 
 -- There were as many as were asked for.
 pub returns-clause-ended : goal.returns-clause-ended
@@ -58,4 +62,17 @@ returns-clause-ended g c = λ all b between.
       sessions = so_far.sessions;
       served = so_far.between.served;
       ends = (omega (arith, so_far.count, c.loop-test.false, c.loop.auto.counter-end), so_far.between.unstopped);
+      counted = so_far.counted;
     }
+
+pub returns-in-NoMore-clause-moments : goal.returns-in-NoMore-clause-moments
+returns-in-NoMore-clause-moments g c = λ tells.
+    gives_twice _ _ _ (c.loop.invariant.moments (c.in-NoMore.ensures.clock tells)) (c.in-NoMore.ensures.moments tells)
+
+pub returns-in-Unlinked-clause-moments : goal.returns-in-Unlinked-clause-moments
+returns-in-Unlinked-clause-moments g c = λ tells.
+    gives_twice _ _ _ (c.loop.invariant.moments (c.in-Unlinked.ensures.clock tells)) (c.in-Unlinked.ensures.moments tells)
+
+pub returns-then-is_stopped-clause-moments : goal.returns-then-is_stopped-clause-moments
+returns-then-is_stopped-clause-moments g c = λ tells.
+    gives_twice _ _ _ (c.loop.invariant.moments (c.in-Ended.ensures.clock tells)) (c.in-Ended.ensures.moments tells)

@@ -1,7 +1,10 @@
 use Rattle.std.proofs.Common.{sym, ◌∙◌}
-use Rattle.tams_top.proofs.CompletenessLemmas.{formatted_whole, served_whole}
-use Rattle.tams_top.proofs.EndingLemmas.{run_bad, run_formats, run_formatted, run_formatting, run_only, run_refused, run_replayed, run_starved, run_starved_format}
+use Rattle.tams_top.proofs.CompletenessLemmas.{all_served_whole, formatted_whole, served_whole}
+use Rattle.tams_top.proofs.EndingLemmas.{run_bad, run_formats, run_formatted, run_formatting, run_linked, run_linked_only, run_only, run_peers, run_peers_only, run_refused, run_replayed, run_served, run_starved, run_starved_format, run_starved_serve, run_uncut, run_unlinked, run_words}
 use Rattle.tams_top.proofs.top.run.Goals as goal
+
+pub returns-clause-words : goal.returns-clause-words
+returns-clause-words g c = λ s. run_words _ _ _ _ _ _ _ c.outcome_of-outcome.ensures (sym c.status.ensures ∙ s)
 
 pub returns-clause-refused : goal.returns-clause-refused
 returns-clause-refused g c = λ s. run_refused _ _ _ _ _ _ _ c.outcome_of-outcome.ensures (sym c.status.ensures ∙ s)
@@ -9,6 +12,25 @@ returns-clause-refused g c = λ s. run_refused _ _ _ _ _ _ _ c.outcome_of-outcom
 pub returns-clause-refused_only : goal.returns-clause-refused_only
 returns-clause-refused_only g c = λ command is shows cause.
     rw c.status.ensures (run_only _ _ _ _ _ _ _ c.outcome_of-outcome.ensures command is shows cause)
+
+pub returns-clause-link : goal.returns-clause-link
+returns-clause-link g c = λ s. run_linked _ _ _ _ _ _ _ c.outcome_of-outcome.ensures (sym c.status.ensures ∙ s)
+
+pub returns-clause-link_only : goal.returns-clause-link_only
+returns-clause-link_only g c = λ path base is rose.
+    rw c.status.ensures (run_linked_only _ _ _ _ _ _ _ c.outcome_of-outcome.ensures path base is rose)
+
+pub returns-clause-peers : goal.returns-clause-peers
+returns-clause-peers g c = λ path base port connections is s.
+    run_peers _ _ _ _ _ _ _ c.outcome_of-outcome.ensures path base port connections is (sym c.status.ensures ∙ s)
+
+pub returns-clause-peers_only : goal.returns-clause-peers_only
+returns-clause-peers_only g c = λ path base port connections is rose.
+    rw c.status.ensures (run_peers_only _ _ _ _ _ _ _ c.outcome_of-outcome.ensures path base port connections is rose)
+
+pub returns-clause-cut : goal.returns-clause-cut
+returns-clause-cut g c = λ path base port connections is s.
+    run_uncut _ _ _ _ _ _ _ c.outcome_of-outcome.ensures path base port connections is (sym c.status.ensures ∙ s)
 
 pub returns-clause-formatted : goal.returns-clause-formatted
 returns-clause-formatted g c = λ s. run_formatted _ _ _ _ _ _ _ c.outcome_of-outcome.ensures (sym c.status.ensures ∙ s)
@@ -18,14 +40,32 @@ returns-clause-formatting g c = λ path blocks half id is honest shows settled b
     run_formatting _ _ _ _ _ _ _ c.outcome_of-outcome.ensures path blocks half id is honest shows settled bare p left
 
 pub returns-clause-replayed : goal.returns-clause-replayed
-returns-clause-replayed g c = λ from replay.
-    (c.outcome_of-outcome.result, c.status.ensures, run_replayed _ _ _ _ _ _ _ c.outcome_of-outcome.ensures (g.met.X.Disk.sound c.args.site.now) from replay)
+returns-clause-replayed g c = λ from replay. (
+  c.outcome_of-outcome.result,
+  c.status.ensures,
+  run_replayed _ _ _ _ _ _ _ c.outcome_of-outcome.ensures (g.met.X.Disk.sound c.args.site.now) from replay,
+)
+
+pub returns-clause-served : goal.returns-clause-served
+returns-clause-served g c = λ from connections serve. (
+  c.outcome_of-outcome.result,
+  c.status.ensures,
+  run_served _ _ _ _ _ _ _ c.outcome_of-outcome.ensures (g.met.X.Disk.sound c.args.site.now) from connections serve,
+)
 
 pub returns-clause-complete : goal.returns-clause-complete
 returns-clause-complete g c = λ from replay none fed.
     rw c.status.ensures
-    (served_whole from _ _ _ _ c.outcome_of-outcome.result c.outcome_of-outcome.ensures.counts none (λ four. fed (c.status.ensures ∙ four))
+    (served_whole from _ _ _ _ c.outcome_of-outcome.result c.outcome_of-outcome.ensures.disk none
+    (run_unlinked _ _ _ _ _ _ _ c.outcome_of-outcome.ensures) (λ four. fed (c.status.ensures ∙ four))
     (run_replayed _ _ _ _ _ _ _ c.outcome_of-outcome.ensures (g.met.X.Disk.sound c.args.site.now) from replay))
+
+pub returns-clause-complete_serve : goal.returns-clause-complete_serve
+returns-clause-complete_serve g c = λ from connections serve none fed.
+    rw c.status.ensures
+    (all_served_whole from _ _ _ _ c.outcome_of-outcome.result c.outcome_of-outcome.ensures.disk none
+    (run_unlinked _ _ _ _ _ _ _ c.outcome_of-outcome.ensures) (λ four. fed (c.status.ensures ∙ four)) connections
+    (run_served _ _ _ _ _ _ _ c.outcome_of-outcome.ensures (g.met.X.Disk.sound c.args.site.now) from connections serve))
 
 pub returns-clause-complete_format : goal.returns-clause-complete_format
 returns-clause-complete_format g c = λ path blocks half id is none.
@@ -40,6 +80,10 @@ returns-clause-nobody_formats g c = λ path blocks half id is. run_formats _ _ _
 pub returns-clause-starved_format : goal.returns-clause-starved_format
 returns-clause-starved_format g c = λ path blocks half id is s.
     run_starved_format _ _ _ _ _ _ _ c.outcome_of-outcome.ensures path blocks half id is (sym c.status.ensures ∙ s)
+
+pub returns-clause-starved_serve : goal.returns-clause-starved_serve
+returns-clause-starved_serve g c = λ path base port connections is s.
+    run_starved_serve _ _ _ _ _ _ _ c.outcome_of-outcome.ensures path base port connections is (sym c.status.ensures ∙ s)
 
 pub returns-clause-starved : goal.returns-clause-starved
 returns-clause-starved g c = λ s. run_starved _ _ _ _ _ _ _ c.outcome_of-outcome.ensures (sym c.status.ensures ∙ s)

@@ -3,6 +3,7 @@ use Rattle.std.proofs.Math.Seq.{drop-append_seam}
 use Rattle.put_service.specs.Machine.{PutRequest}
 use Rattle.put_service.specs.Request.{request_text}
 use Rattle.put_service.proofs.AnsweringLemmas.{put_leads}
+use Rattle.put_service.proofs.ServingLemmas.{gives_one}
 use Rattle.put_service.proofs.RequestLemmas.{begins_with, length-request_text}
 use Rattle.put_service.proofs.service.PutService.take_put.Goals as goal
 
@@ -30,3 +31,7 @@ returns-clause-goes g c = λ all b finished steps keeps going.
     begins.is keeps calls.link (calls.same.tells ∙ all.tells) c.requires.few handled.time
     c.handle-answer.result handled.done
     (rw c.response.ensures at c.say.ensures.call.time) (rw c.response.ensures at c.say.ensures.said))
+
+-- It took one moment.
+pub returns-clause-moments : goal.returns-clause-moments
+returns-clause-moments g c = λ tells. gives_one _ _ c.now.result (c.now.ensures.given tells) c.now.ensures.moment

@@ -1,3 +1,4 @@
+use Rattle.put_service.proofs.ServingLemmas.{gives_none}
 use Rattle.put_service.proofs.service.PutServiceService.take_turn.Goals as goal
 
 pub returns-in-Unbuilt-clause-goes : goal.returns-in-Unbuilt-clause-goes
@@ -7,3 +8,10 @@ returns-in-Unbuilt-clause-goes g c = λ all b finished steps keeps going.
 pub returns-in-More-clause-goes : goal.returns-in-More-clause-goes
 returns-in-More-clause-goes g c = λ all b finished steps keeps going.
     c.hear_more.ensures.goes _ all _ _ b finished steps keeps going
+
+-- Nothing that isn't built takes a moment, nor does hearing.
+pub returns-in-Unbuilt-clause-moments : goal.returns-in-Unbuilt-clause-moments
+returns-in-Unbuilt-clause-moments g c = λ tells. gives_none _
+
+pub returns-in-More-clause-moments : goal.returns-in-More-clause-moments
+returns-in-More-clause-moments g c = λ tells. gives_none _

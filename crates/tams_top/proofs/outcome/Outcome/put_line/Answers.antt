@@ -23,18 +23,6 @@ returns-in_err-put_number-in-Formatted-3 g c =
     (takes_twice _ _ _ _ _ _ _ _ _ _ _ c.put_number-in-Formatted.ensures.tells c.in_ok-put_number-in-Formatted-2.ensures.takes
     (takes_front _ _ _ _ _ _ _ c.in_err-put_number-in-Formatted-3.ensures.takes)))
 
-pub returns-in_err-put_number-in-Served : goal.returns-in_err-put_number-in-Served
-returns-in_err-put_number-in-Served g c =
-    let p = err_from_is_err_and c.from_residual-in_err-put_number-in-Served.result c.from_residual-in_err-put_number-in-Served.ensures.1 in
-    rw (p.1, c.in-Served.is) (takes_front _ _ _ _ _ _ _ c.in_err-put_number-in-Served.ensures.takes)
-
-pub returns-in_err-put_number-in-Served-2 : goal.returns-in_err-put_number-in-Served-2
-returns-in_err-put_number-in-Served-2 g c =
-    let p = err_from_is_err_and c.from_residual-in_err-put_number-in-Served-2.result c.from_residual-in_err-put_number-in-Served-2.ensures.1 in
-    rw (p.1, c.in-Served.is)
-    (takes_twice _ _ _ _ _ _ _ _ _ _ _ c.put_number-in-Served.ensures.tells c.in_ok-put_number-in-Served.ensures.takes
-    (takes_front _ _ _ _ _ _ _ c.in_err-put_number-in-Served-2.ensures.takes))
-
 pub returns-in_err-put_number-in-Damaged : goal.returns-in_err-put_number-in-Damaged
 returns-in_err-put_number-in-Damaged g c =
     let p = err_from_is_err_and c.from_residual-in_err-put_number-in-Damaged.result c.from_residual-in_err-put_number-in-Damaged.ensures.1 in
@@ -49,14 +37,6 @@ returns-in_ok-put_number-in-Formatted-3 g c =
     (takes_twice _ _ _ _ _ _ _ _ _ _ _ c.put_number-in-Formatted.ensures.tells c.in_ok-put_number-in-Formatted-2.ensures.takes
     (takes_twice _ _ _ _ _ _ _ _ _ _ _ c.put_number-in-Formatted-2.ensures.tells c.in_ok-put_number-in-Formatted-3.ensures.takes
     (record { counted = last.counted; puts = last.puts }))))
-
-pub returns-in_ok-put_number-in-Served-2 : goal.returns-in_ok-put_number-in-Served-2
-returns-in_ok-put_number-in-Served-2 g c =
-    let last = c.put-in-Served.ensures in
-    rw c.in-Served.is
-    (takes_twice _ _ _ _ _ _ _ _ _ _ _ c.put_number-in-Served.ensures.tells c.in_ok-put_number-in-Served.ensures.takes
-    (takes_twice _ _ _ _ _ _ _ _ _ _ _ c.put_number-in-Served-2.ensures.tells c.in_ok-put_number-in-Served-2.ensures.takes
-    (record { counted = last.counted; puts = last.puts })))
 
 pub returns-in_ok-put_number-in-Damaged : goal.returns-in_ok-put_number-in-Damaged
 returns-in_ok-put_number-in-Damaged g c =

@@ -1,0 +1,111 @@
+-- What a run over a file that stands for a state heard, told and left, by one history of its
+-- connections over the machine of puts.
+use Rattle.std.specs.Prelude.{◌≡◌, ◌⊎◌, ℕ, Bool, true, List, [], ◌∷◌, All, nat_lt, if◌then◌else◌}
+use Rattle.disk_trait.specs.Device.{Device}
+use Rattle.site_edge.specs.Clocks.{IsMoment}
+use Rattle.run_history.specs.Runs.{Beginning, Ran}
+use Rattle.run_history.specs.Serving.{Counts, counts_of}
+use Rattle.run_history.specs.Sessions.{Session, all_moments}
+use Rattle.run_history.specs.Traces.{start_of}
+use Rattle.connection_loop.specs.declared.ending.Ending.{Ending}
+use Rattle.connection_loop.specs.declared.ending.Ending.TheVariants as endings
+use Rattle.connection_loop.specs.declared.run.RunEnd.{RunEnd}
+use Rattle.connection_loop.specs.declared.run.RunEnd.TheVariants as run_ends
+use Rattle.connection_loop.specs.Loops.{AreCounted}
+use Rattle.connection_loop.specs.Loops as loops
+use Rattle.connection_loop.specs.Turns.{TellsAll, ending_of}
+use Rattle.put_service.specs.Machine.{PutRequest, put_machine}
+use Rattle.put_service.specs.Serving.{IsSettled}
+use Rattle.put_service.specs.Store.{StandsFor, State}
+use Rattle.tams_top.specs.declared.outcome.Outcome.{Outcome}
+use Rattle.tams_top.specs.declared.outcome.Outcome.TheVariants.{Formatted, Served, Cut, BadWords, NotStore, AlreadyStore, TooSmall, Damaged, DiskFault, NoMemory, LinkFault}
+
+-- The premises of the headline: the outside is as the model says, nothing is pending, and the file
+-- stands for a state.
+pub record BeginsFrom (from : State) (old : Device) (clock : Bool) : Type 0 where
+  pub tells : TellsAll old clock
+  pub settled : IsSettled old
+  pub stands : StandsFor old.seen from
+
+-- A run is one history of these connections, and each moment that it took is one.
+pub record RunsAs (b : Beginning State) (sessions : List (Session PutRequest)) (new : Device)
+    (given : List ℕ) : Type 0 where
+  pub ran : Ran put_machine b sessions new given
+  pub moments : All IsMoment (all_moments put_machine (start_of b.state) sessions)
+
+-- ---- outcomes by numbers
+
+-- the outcome with the numbers of a run
+abbrev pub served_with : Counts → Outcome
+served_with n = Served n.answers n.changes n.skipped
+
+-- an outcome of `replay`, unless a turn was skipped for want of memory
+abbrev pub unless_skipped : Counts → Outcome → Outcome
+unless_skipped n outcome = if nat_lt 0 n.skipped then NoMemory else outcome
+
+-- the outcome of `replay` by how its connection ended and by its numbers
+abbrev pub replay_outcome : Ending → Counts → Outcome
+replay_outcome endings.Complete n = unless_skipped n (served_with n)
+replay_outcome endings.Cut n = unless_skipped n Cut
+replay_outcome endings.Unlinked n = unless_skipped n LinkFault
+replay_outcome endings.Starved n = NoMemory
+replay_outcome endings.Stopped n = DiskFault
+
+-- the same of `serve`, by how its connections came to an end
+abbrev pub serve_outcome : RunEnd → Counts → Outcome
+serve_outcome run_ends.Complete n = served_with n
+serve_outcome run_ends.NoMore n = served_with n
+serve_outcome run_ends.Unlinked n = LinkFault
+serve_outcome run_ends.Stopped n = DiskFault
+
+-- ---- connections
+
+-- One connection was served to its end, by one history.
+pub record OnePeer (b : Beginning State) (new : Device) (given : List ℕ)
+    (outcome : Outcome) : Type 0 where
+  pub session : Session PutRequest
+  pub runs : RunsAs b (session ∷ []) new given
+  pub outcome_is : outcome
+      ≡ replay_outcome (ending_of session) (counts_of put_machine b.state (session ∷ []))
+
+-- Connections were served one after another, at most so many, by one history. Each that ended with
+-- a call of its link that failed raised the count.
+pub record SomePeers (b : Beginning State) (old new : Device) (given : List ℕ) (connections : ℕ)
+    (outcome : Outcome) : Type 0 where
+  pub sessions : List (Session PutRequest)
+  pub end : RunEnd
+  pub runs : RunsAs b sessions new given
+  pub ends : loops.RunEnds new sessions connections end
+  pub outcome_is : outcome ≡ serve_outcome end (counts_of put_machine b.state sessions)
+  pub counted : AreCounted old.link.faults new.link.faults sessions
+
+-- the ends of a run in which no connection began: no peer will come, waiting for one failed, or
+-- opening the store did
+abbrev pub EndsWithoutPeer : Device → Outcome → Type 0
+EndsWithoutPeer new (Served requests changes skipped) =
+    (requests ≡ 0) × (changes ≡ 0) × (skipped ≡ 0) × (new.link.closed ≡ true)
+EndsWithoutPeer new LinkFault = Unit {0}
+EndsWithoutPeer new DiskFault = Unit {0}
+EndsWithoutPeer new NoMemory = Unit {0}
+EndsWithoutPeer new Cut = ⊥
+EndsWithoutPeer new (Formatted blocks half media) = ⊥
+EndsWithoutPeer new BadWords = ⊥
+EndsWithoutPeer new NotStore = ⊥
+EndsWithoutPeer new AlreadyStore = ⊥
+EndsWithoutPeer new TooSmall = ⊥
+EndsWithoutPeer new (Damaged at) = ⊥
+
+-- No connection began, and the state stays.
+pub record NoPeer (b : Beginning State) (new : Device) (given : List ℕ)
+    (outcome : Outcome) : Type 0 where
+  pub runs : RunsAs b [] new given
+  pub ends : EndsWithoutPeer new outcome
+
+-- a run of `replay` from its beginning
+abbrev pub Replayed : Beginning State → Device → List ℕ → Outcome → Type 0
+Replayed b new given outcome = OnePeer b new given outcome ⊎ NoPeer b new given outcome
+
+-- a run of `serve` from its beginning
+abbrev pub ServedAll : Beginning State → Device → Device → List ℕ → ℕ → Outcome → Type 0
+ServedAll b old new given connections outcome =
+    SomePeers b old new given connections outcome ⊎ NoPeer b new given outcome
