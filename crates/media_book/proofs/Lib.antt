@@ -8,3 +8,4 @@ mod Sweeping
 mod Kept
 mod Allocations
 mod Same
+mod Restored
