@@ -19,7 +19,7 @@ use Rattle.media_book.proofs.Serials.{all_amid, pairs_amid}
 
 -- ---- an item amid others
 
-sizes_amid : (f : List ObjectState) (s : ObjectState) (b : List ObjectState)
+pub sizes_amid : (f : List ObjectState) (s : ObjectState) (b : List ObjectState)
     → sum (map stored_size (f ++ s ∷ b)) ≡ stored_size s + sum (map stored_size (f ++ b))
 sizes_amid f s b =
     sum-map stored_size (f ++ s ∷ b) ∙ sum_by-append stored_size f (s ∷ b)
@@ -31,7 +31,7 @@ sizes_amid f s b =
 
 -- ---- two states
 
-apart_turns : (s t : ObjectState) → are_states_apart s t ≡ are_states_apart t s
+pub apart_turns : (s t : ObjectState) → are_states_apart s t ≡ are_states_apart t s
 apart_turns Allocated Allocated = refl
 apart_turns Allocated (Stored start size) = refl
 apart_turns (Stored start size) Allocated = refl
@@ -43,7 +43,7 @@ apart_turns (Stored start size) (Stored other n) = by (nat_le (start + blocks_of
     by false true = refl
     by false false = refl
 
-clear_apart : (start size : ℕ) (s : ObjectState) → is_clear_of start (blocks_of size) s ≡ are_states_apart (Stored start size) s
+pub clear_apart : (start size : ℕ) (s : ObjectState) → is_clear_of start (blocks_of size) s ≡ are_states_apart (Stored start size) s
 clear_apart start size Allocated = refl
 clear_apart start size (Stored other n) = refl
 
@@ -80,7 +80,7 @@ all_clear_one start size block (s ∷ states) has apart =
     and_from (is_clear_of block 1 s) (list_all (is_clear_of block 1) states) (clear_one start size block s has parts.0)
     (all_clear_one start size block states has parts.1)
 
-same_all : {X : Type 0} (p q : X → Bool) → ((x : X) → p x ≡ q x) → (xs : List X) → list_all p xs ≡ list_all q xs
+pub same_all : {X : Type 0} (p q : X → Bool) → ((x : X) → p x ≡ q x) → (xs : List X) → list_all p xs ≡ list_all q xs
 same_all p q same [] = refl
 same_all p q same (x ∷ xs) = ap₂ (λ a b. a && b) (same x) (same_all p q same xs)
 

@@ -1,6 +1,6 @@
 -- The media of a library, what its changes make of them, and which media can be made from rows. Our
 -- own rules.
-use Rattle.std.specs.Prelude.{◌≡◌, ℕ, ◌==◌, nat_lt, List, [], ◌++◌, Bool, ◌&&◌, ◌||◌, IsTrue, Contains, Option, is_some, map}
+use Rattle.std.specs.Prelude.{◌≡◌, ℕ, ◌==◌, nat_lt, List, [], ◌++◌, Bool, ◌&&◌, ◌||◌, IsTrue, Contains, Option, Some, None, if◌then◌else◌, is_some, map}
 use Rattle.std.specs.List.{AllByRecursion, list_all, sum}
 use Rattle.media_rows.specs.declared.object.Extent.{Extent}
 use Rattle.media_rows.specs.declared.object.ObjectRow.{ObjectRow}
@@ -10,9 +10,11 @@ use Rattle.media_rows.specs.declared.refusal.Refusal.{Refusal}
 use Rattle.media_rows.specs.declared.segment.Segment.{Segment}
 use Rattle.media_rows.specs.declared.segment.SegmentRow.{SegmentRow}
 use Rattle.media_rows.specs.Answer.{first_taken, posts_refusal, taken_refusal}
+use Rattle.media_rows.specs.Good.{Good, are_compatible, are_extents_good, are_object_ids_distinct, are_references_good, rises_by}
 use Rattle.media_rows.specs.Library.{Library, empty_library}
-use Rattle.media_rows.specs.Lists.{are_distinct}
-use Rattle.media_rows.specs.Objects.{allocated_rows, blocks_of, idled, is_free, object_of, stored_row, with_object}
+use Rattle.media_rows.specs.Lists.{are_distinct, each_pair}
+use Rattle.media_rows.specs.Objects.{allocated_rows, blocks_of, idled, is_free, object_of, stored_row, swept_objects, with_object, without_objects}
+use Rattle.media_rows.specs.Ranges.{has_both_ends}
 use Rattle.media_rows.specs.Segments.{posted, without_segments}
 
 -- the media of a library: how many media blocks there are, and its segments and its objects, each by
@@ -101,6 +103,13 @@ without_rows rows moment media = record media {
   objects = idled media.segments (without_segments rows media.segments) moment media.objects;
 }
 
+-- the first objects that are due go
+abbrev pub swept : ℕ → Media → Media
+swept moment media = record media {
+  objects =
+      without_objects (swept_objects media.segments media.objects moment) media.objects;
+}
+
 -- ---- numbers
 
 -- how many bytes an object in this state has
@@ -111,3 +120,34 @@ stored_size (Stored start size) = size
 -- the bytes of all objects
 abbrev pub stored_bytes : List ObjectRow → ℕ
 stored_bytes objects = sum (map (λ row. stored_size row.state) objects)
+
+-- ---- media from rows
+
+-- What a good library says of its objects alone: extents are disjoint and lie within the media
+-- blocks, no two objects have one id, and they stand by rising serial.
+abbrev pub are_objects_good : ℕ → List ObjectRow → Bool
+are_objects_good blocks objects =
+    are_extents_good blocks objects
+    && (are_object_ids_distinct objects && rises_by (λ row. row.serial) objects)
+
+-- And of its segments beside these objects: those of one flow never overlap, each is bounded at both
+-- ends, its object is kept and stored, and they stand by rising serial. That their flows are kept is
+-- left to the catalog.
+abbrev pub are_rows_good : List ObjectRow → List SegmentRow → Bool
+are_rows_good objects segments =
+    each_pair are_compatible segments
+    && (list_all (λ row. has_both_ends row.segment.range) segments
+    && (are_references_good objects segments && rises_by (λ row. row.serial) segments))
+
+-- what a good library says of its media alone
+abbrev pub are_media_good : Media → Bool
+are_media_good media =
+    are_objects_good media.blocks media.objects && are_rows_good media.objects media.segments
+
+-- the media where a test holds
+abbrev pub media_if : Bool → Media → Option Media
+media_if good media = if good then Some media else None
+
+-- the media of a good library are good
+abbrev pub MediaAreGood : Type 0
+MediaAreGood = (library : Library) → Good library → IsTrue (are_media_good (media_of library))

@@ -3,8 +3,13 @@
 #![tactic(auto)]
 
 mod book;
+mod cuts;
 mod objects;
+mod restores;
 mod segments;
+mod sweeps;
 
 pub use crate::book::MediaBook;
+pub use crate::cuts::Covered;
+pub use crate::restores::media_are_good;
 pub use crate::segments::posts_are_refused_alike;

@@ -38,7 +38,7 @@ impl MediaBook {
     }
 
     /// Adds one of them.
-    fn with_object(
+    pub(crate) fn with_object(
         &self,
         alloc: Global,
         id: &Text,
@@ -59,6 +59,17 @@ impl MediaBook {
             }),
             Err(fault) => Err(fault),
         }
+    }
+
+    /// Whether the blocks of an extent are free, so that an object may have its bytes there. An extent without
+    /// bytes begins at block 0. It takes no memory.
+    pub fn takes(&self, extent: Extent) -> bool
+        ensures { result ≡ can_take self.now extent }
+    {
+        if extent.length == 0 {
+            return extent.start == 0;
+        }
+        self.space.is_free(extent.start, blocks_of(extent.length))
     }
 
     /// Notes that an object has its bytes, at a place whose blocks are free, and is idle since now. It is refused

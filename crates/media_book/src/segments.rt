@@ -46,7 +46,7 @@ impl MediaBook {
     }
 
     /// Adds one of them.
-    fn with_row(&self, alloc: Global, row: SegmentRow) -> Result<MediaBook, BookFault>
+    pub(crate) fn with_row(&self, alloc: Global, row: SegmentRow) -> Result<MediaBook, BookFault>
         requires bounded { IsTrue (has_both_ends row.segment.range) }
         requires above { IsTrue (are_segments_below row.serial self.now.segments) }
         ensures { IsChange (row_refusal self.now row)

@@ -1,0 +1,22 @@
+use Rattle.std.proofs.Common.{◌∷◌, ◌++◌, [], ap, sym, take, ◌∙◌}
+use Rattle.std.proofs.lemmas.List.{take_more}
+use Rattle.media_book.proofs.Restored.{objects_fail, objects_more}
+use Rattle.media_book.proofs.book.MediaBook.of_objects.Goals as goal
+
+-- one of them may not come
+pub returns-in-None : goal.returns-in-None
+returns-in-None c =
+    let rows = c.args.objects.now in
+    let row = c.index-objects-index.result in
+    let shape = take_more rows c.loop-index.index row c.loop-index-test.true
+    ∙ ap (λ r. take c.loop-index.index rows ++ r ∷ []) (sym c.index-objects-index.is) in
+    objects_fail c.args.blocks c.loop-index.index rows c.loop-index.media row c.loop-index.invariant shape (sym c.in-None.is ∙ c.in_ok-next.ensures)
+
+-- one more came
+pub loop-index-preserved : goal.loop-index-preserved
+loop-index-preserved c =
+    let rows = c.args.objects.now in
+    let row = c.index-objects-index.result in
+    let shape = take_more rows c.loop-index.index row c.loop-index-test.true
+    ∙ ap (λ r. take c.loop-index.index rows ++ r ∷ []) (sym c.index-objects-index.is) in
+    objects_more c.args.blocks c.loop-index.index rows c.loop-index.media c.in-Some.next row c.loop-index.invariant shape (sym c.in-Some.is ∙ c.in_ok-next.ensures)
