@@ -17,8 +17,8 @@ use Rattle.media_rows.specs.Objects.{allocated_rows, blocks_of, idled, is_free, 
 use Rattle.media_rows.specs.Ranges.{has_both_ends}
 use Rattle.media_rows.specs.Segments.{posted, without_segments}
 
--- the media of a library: how many media blocks there are, and its segments and its objects, each by
--- rising serial
+-- the media of a library: how many media blocks there are, and its segments and its objects, each
+-- by rising serial
 pub record Media : Type 0 where
   pub blocks : ℕ
   pub segments : List SegmentRow
@@ -130,9 +130,9 @@ are_objects_good blocks objects =
     are_extents_good blocks objects
     && (are_object_ids_distinct objects && rises_by (λ row. row.serial) objects)
 
--- And of its segments beside these objects: those of one flow never overlap, each is bounded at both
--- ends, its object is kept and stored, and they stand by rising serial. That their flows are kept is
--- left to the catalog.
+-- And of its segments beside these objects: those of one flow never overlap, each is bounded at
+-- both ends, its object is kept and stored, and they stand by rising serial. That their flows are
+-- kept is left to the catalog.
 abbrev pub are_rows_good : List ObjectRow → List SegmentRow → Bool
 are_rows_good objects segments =
     each_pair are_compatible segments
