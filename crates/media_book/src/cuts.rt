@@ -24,7 +24,7 @@ pub struct Covered {
 
 impl MediaBook {
     /// The segments of a flow that a range wholly covers. The serial is above those of all segments, as the next
-    /// one of a library is. It looks at the segments of the range up to the 33rd that it covers.
+    /// one of a library is. It looks at the range's segments page by page, up to the 33rd that it covers.
     pub fn covered(
         &self,
         alloc: Global,
