@@ -150,8 +150,8 @@ counted_later a b c (s ∷ sessions) so_far least more =
     ((λ e. rose_over a a b c (omega arith) least more (so_far.0 e)), counted_later a b c sessions so_far.1 least more)
 
 -- a connection more
-pub between_more : {State Request : Type 0} (m : Machine State Request) (b : Beginning State) (first now d : Device) (given : List ℕ) (held : Held State) (keeps : Type 0)
-    (sessions : List (Session Request)) (n : Counts) (ending : Ending) (counter : ℕ) → EndsAs m b d given held keeps sessions n ending
+pub between_more : {State Request : Type 0} (m : Machine State Request) (b : Beginning State) (first now d : Device) (given : List ℕ)
+    (held : Held State) (keeps : Type 0) (sessions : List (Session Request)) (n : Counts) (ending : Ending) (counter : ℕ) → EndsAs m b d given held keeps sessions n ending
     → is_stopped ending ≡ false → length sessions ≡ counter → AreCounted first.link.faults now.link.faults sessions
     → first.link.faults ≤ now.link.faults → LinkCount (Some ending) now.link.faults d.link.faults
     → GoesOnBetween m b first d given held keeps n (counter + 1)

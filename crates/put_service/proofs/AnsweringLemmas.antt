@@ -1,39 +1,37 @@
 -- A put that was answered, and what was refused: what the turn leads to.
-use Rattle.std.proofs.Common.{◌≡◌, ◌≢◌, ◌≤◌, ◌<◌, ◌+◌, ◌-◌, ◌==◌, ℕ, suc, Bool, true, false, List, [], ◌∷◌, ◌++◌, length, All, None, Some, codes, if◌then◌else◌, inl, inr, refl, sym, ap, ◌∙◌, subst, arith, append-nil}
+use Rattle.std.proofs.Common.{◌≡◌, ◌≢◌, ◌<◌, ◌+◌, ◌==◌, ℕ, suc, Bool, true, false, List, [], ◌∷◌, ◌++◌, All, None, Some, codes, if◌then◌else◌, inl, inr, refl, sym, ap, ◌∙◌, subst, arith, append-nil}
 use Rattle.std.proofs.lemmas.Bool.{cases_lt, eq-eqb, false≢true}
 use Rattle.std.proofs.lemmas.List.Elements.{All-cons, All-nil}
-use Rattle.disk_trait.specs.Device.{Device, Left, may_leave}
+use Rattle.disk_trait.specs.Device.{Device, Left}
 use Rattle.disk_trait.specs.Calls.{Elapses, Unchanged}
 use Rattle.disk_trait.proofs.Theorems.{elapses_weaker}
 use Rattle.site_edge.specs.Links.{Said, Tells}
-use Rattle.run_history.specs.Machine.{Machine, Refusal}
+use Rattle.run_history.specs.Machine.{Refusal}
 use Rattle.run_history.specs.Steps.{Answered, Ask, BeforeAnswer, Effect, Made, Piece, Refused, Reply, Stage, Starved, Step, Stopped, effect}
 use Rattle.run_history.specs.Sessions.{Saying, Session, Whole, has_failed, most_answers}
-use Rattle.run_history.specs.Traces.{Trace, trace_of, state_now, with_change}
-use Rattle.run_history.specs.Runs.{Beginning, Reached}
+use Rattle.run_history.specs.Traces.{Trace, trace_of, state_now}
+use Rattle.run_history.specs.Runs.{Beginning}
 use Rattle.run_history.specs.Laws.{Writes, Wrote, under_way}
 use Rattle.run_history.specs.Serving.{Counts, Going, Held}
-use Rattle.run_history.proofs.Answering.{durable_state, kept_states, torn_state, with_states}
-use Rattle.connection_loop.specs.declared.ending.Ending.{Ending}
+use Rattle.run_history.proofs.Answering.{durable_state, kept_states, torn_state}
 use Rattle.connection_loop.specs.declared.ending.Ending.TheVariants as endings
 use Rattle.connection_loop.specs.Turns.{EndsAs, TurnLeads}
 use Rattle.connection_loop.specs.Tallies.{counted}
 use Rattle.put_service.specs.declared.answer.Answer.{Answer}
 use Rattle.put_service.specs.declared.answer.Answer.TheVariants as answers
-use Rattle.put_service.specs.declared.change.PutChange.{PutChange}
 use Rattle.put_service.specs.declared.request.Front.TheVariants.{Unbuilt}
 use Rattle.put_service.specs.declared.store.Store.{Store}
 use Rattle.put_service.specs.Answer.{answer_body, body_fields, close_field, closes, is_final, response, status_line}
 use Rattle.put_service.specs.Change.{IsPutChange}
-use Rattle.put_service.specs.Keeping.{EachKeeps, Handled, HandledAs, Handles, IsHandled, IsStarved}
+use Rattle.put_service.specs.Keeping.{EachKeeps, HandledAs, Handles, IsHandled, IsStarved}
 use Rattle.put_service.specs.Library.{IsGood}
-use Rattle.put_service.specs.Machine.{PutRequest, Spells, change_of, is_changing, put_answer, put_machine, put_reply, state_after, with_put}
+use Rattle.put_service.specs.Machine.{PutRequest, Spells, change_of, is_changing, put_answer, put_machine, put_reply, with_put}
 use Rattle.put_service.specs.Opening.{state_of}
 use Rattle.put_service.specs.Request.{IsFront, request_text}
 use Rattle.put_service.specs.Serving.{changes_by, ending_after, machine_ending}
 use Rattle.put_service.specs.Store.{State, StandsFor}
 use Rattle.put_service.proofs.GoodLemmas.{keeps_good, with_put_good}
-use Rattle.put_service.proofs.StepLemmas.{StepSaid, answer_leads, counted_step, held_behind, state_before-change, state_now-change, state_now-going, step_ends}
+use Rattle.put_service.proofs.StepLemmas.{answer_leads, state_before-change, state_now-change, state_now-going, step_ends}
 use Rattle.put_service.proofs.StoreLemmas.{keeps_told, no_time, stands_now}
 
 -- a request that was taken

@@ -1,8 +1,7 @@
 -- A change keeps a library good, and so each library for which a file stands is good.
-use Rattle.std.proofs.Common.{◌≡◌, ◌≤◌, ◌<◌, ◌+◌, ◌==◌, ℕ, Bool, true, false, List, [], ◌∷◌, ◌++◌, filter, Option, Some, None, refl, sym, ap, subst, inl, inr, arith, nat_lt, cond}
-use Rattle.std.specs.Prelude.{All, if◌then◌else◌, unwrap_or}
+use Rattle.std.proofs.Common.{◌≡◌, ◌≤◌, ◌<◌, ◌+◌, ◌==◌, ℕ, Bool, true, false, List, [], ◌∷◌, filter, Option, Some, None, refl, sym, ap, subst, inl, inr, arith, nat_lt, cond}
+use Rattle.std.specs.Prelude.{if◌then◌else◌, unwrap_or}
 use Rattle.std.proofs.lemmas.Bool.{cases_lt, eqb-true, le-ltb, lt-ltb}
-use Rattle.std.proofs.lemmas.List.Elements.{All-cons, All-tail}
 use Rattle.disk_trait.specs.Device.{Device}
 use Rattle.media_journal.specs.declared.record.Record.{Record}
 use Rattle.put_service.specs.declared.change.PutChange.{PutChange}

@@ -1,11 +1,10 @@
 -- What hearing leaves of the connection under way: it goes on, or has ended behind a whole request or within one.
-use Rattle.std.proofs.Common.{◌≡◌, ◌≢◌, ◌<◌, ◌+◌, ℕ, zero, suc, Bool, true, false, List, [], ◌∷◌, ◌++◌, None, if◌then◌else◌, refl, sym, ap, ◌∙◌, subst, arith}
+use Rattle.std.proofs.Common.{◌≡◌, ◌≢◌, ◌<◌, ℕ, zero, suc, Bool, true, false, List, [], ◌∷◌, ◌++◌, if◌then◌else◌, refl, sym, ap, ◌∙◌, subst, arith}
 use Rattle.disk_trait.specs.Device.{Connection, Device}
 use Rattle.disk_trait.specs.Calls.{Elapses, Unchanged}
 use Rattle.site_edge.specs.Links.{change_last}
-use Rattle.run_history.specs.Machine.{Refusal}
 use Rattle.run_history.specs.Steps.{Stage, Step}
-use Rattle.run_history.specs.Sessions.{Hearing, IsUnfinished, LinkEnd, Saying, Session, Whole, after_sessions, after_steps, bytes_of, has_failed, pieces_of, texts_of}
+use Rattle.run_history.specs.Sessions.{Hearing, IsUnfinished, LinkEnd, Saying, Session, Whole, after_sessions, bytes_of, has_failed, pieces_of, texts_of}
 use Rattle.run_history.specs.Traces.{start_of}
 use Rattle.run_history.specs.Runs.{Beginning}
 use Rattle.run_history.specs.Laws.{under_way}
@@ -19,7 +18,7 @@ use Rattle.connection_loop.specs.Turns.{EndsAs, GivesMore, GoesOn, ending_of}
 use Rattle.put_service.specs.declared.request.Front.TheVariants.{More}
 use Rattle.put_service.specs.declared.store.Store.{Store}
 use Rattle.put_service.specs.Keeping.{EachKeeps}
-use Rattle.put_service.specs.Machine.{IsRefused, PutRequest, Spells, put_machine}
+use Rattle.put_service.specs.Machine.{PutRequest, put_machine}
 use Rattle.put_service.specs.Opening.{state_of}
 use Rattle.put_service.specs.Request.{IsFront}
 use Rattle.put_service.specs.Serving.{HeardMore}
@@ -27,15 +26,10 @@ use Rattle.put_service.specs.Store.{State}
 use Rattle.put_service.proofs.AnsweringLemmas.{holds}
 use Rattle.put_service.proofs.FrontLemmas.{more_unrefused, more_unspelled}
 use Rattle.put_service.proofs.StoreLemmas.{keeps_unchanged}
-use Rattle.disk_trait.specs.Device.{Link}
 use Rattle.site_edge.specs.Clocks.{IsMoment}
-use Rattle.std.proofs.lemmas.List.{append-nil}
 use Rattle.std.proofs.lemmas.List.Elements.{All-cons, All-nil}
 
--- no moment was given, and one was
-pub gives_none : (given : List ℕ) → GivesMore given given
-gives_none given = record { more = []; given_is = sym (append-nil given); moments = All-nil IsMoment }
-
+-- one moment was given
 pub gives_one : (before now : List ℕ) (moment : ℕ) → now ≡ before ++ moment ∷ [] → IsMoment moment → GivesMore before now
 gives_one before now moment is fits =
     record { more = moment ∷ []; given_is = is; moments = All-cons IsMoment moment [] fits (All-nil IsMoment) }

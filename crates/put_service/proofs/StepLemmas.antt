@@ -1,23 +1,23 @@
 -- A step whose changes were made and whose reply was said, or a part of it, as a turn of its connection: what it leads to.
-use Rattle.std.proofs.Common.{◌≡◌, ◌≤◌, ◌<◌, ◌+◌, ◌-◌, ℕ, Bool, true, false, List, [], ◌∷◌, ◌++◌, length, take, All, None, Some, if◌then◌else◌, refl, sym, ap, ◌∙◌, subst, arith, length-append}
+use Rattle.std.proofs.Common.{◌≡◌, ◌≤◌, ◌<◌, ◌+◌, ◌-◌, ℕ, Bool, true, false, List, [], ◌∷◌, ◌++◌, length, All, if◌then◌else◌, refl, sym, ap, ◌∙◌, arith, length-append}
 use Rattle.std.proofs.lemmas.Bool.{false≢true}
 use Rattle.std.proofs.lemmas.List.{take_all}
 use Rattle.disk_trait.specs.Device.{Device}
 use Rattle.disk_trait.specs.Calls.{Elapses}
 use Rattle.site_edge.specs.Links.{Said, Tells}
 use Rattle.run_history.specs.Machine.{Machine}
-use Rattle.run_history.specs.Steps.{Answered, Ask, Effect, IsStep, Made, Piece, Reply, Stage, Step, effect, is_last, last_or, step_text}
-use Rattle.run_history.specs.Sessions.{EndIs, LinkEnd, RestIs, Saying, Session, Whole, after_sessions, after_steps, all_changes, changes_of, has_failed, most_answers, skips_by, stops, stops_in_answer}
+use Rattle.run_history.specs.Steps.{Answered, Ask, Effect, IsStep, Made, Reply, Stage, Step, effect, is_last, last_or, step_text}
+use Rattle.run_history.specs.Sessions.{EndIs, LinkEnd, RestIs, Saying, Session, Whole, after_sessions, after_steps, all_changes, changes_of, most_answers, skips_by, stops, stops_in_answer}
 use Rattle.run_history.specs.Traces.{Trace, start_of, state_after, state_now, trace_of, with_change}
 use Rattle.run_history.specs.Runs.{Beginning, Reached, stops_writing}
 use Rattle.run_history.specs.Laws.{under_way}
-use Rattle.run_history.specs.Serving.{Counts, Going, Held, is_cut, starves}
+use Rattle.run_history.specs.Serving.{Counts, Going, Held}
 use Rattle.run_history.proofs.Growth.{stage-push, stages_count}
 use Rattle.run_history.proofs.Pairs.{state_after-change}
 use Rattle.run_history.proofs.Ends.{EndLike, end_like-push, stage-sessions}
 use Rattle.run_history.proofs.Answering.{ends_answered, goes_answered, with_states}
 use Rattle.connection_loop.specs.declared.ending.Ending.{Ending}
-use Rattle.connection_loop.specs.declared.ending.Ending.TheVariants.{Complete, Cut, Unlinked, Starved, Stopped}
+use Rattle.connection_loop.specs.declared.ending.Ending.TheVariants.{Complete, Unlinked}
 use Rattle.connection_loop.specs.Turns.{EndsAs, GoesOn, TurnLeads, ending_of}
 use Rattle.put_service.specs.Serving.{machine_ending}
 

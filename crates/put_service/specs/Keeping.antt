@@ -1,5 +1,5 @@
 -- What a store keeps of its device, and what answering a change leaves of both.
-use Rattle.std.specs.Prelude.{◌≡◌, ◌⊎◌, ◌*◌, ◌+◌, ℕ, Bool, true, false, List, ◌++◌, Result, Ok, Err}
+use Rattle.std.specs.Prelude.{◌≡◌, ◌⊎◌, Bool, true, false, List, Result, Ok, Err}
 use Rattle.disk_trait.specs.Device.{Device, Left}
 use Rattle.disk_trait.specs.Calls.{Elapses, Unchanged}
 use Rattle.media_journal.specs.declared.header.Header.{Header}

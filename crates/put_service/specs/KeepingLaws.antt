@@ -1,5 +1,4 @@
 -- What a store keeps of its device hangs on the images alone.
-use Rattle.std.specs.Prelude.{◌≡◌}
 use Rattle.disk_trait.specs.Device.{Device}
 use Rattle.connection_loop.specs.Turns.{SameImages}
 use Rattle.put_service.specs.declared.store.Store.{Store}

@@ -1,5 +1,5 @@
 -- The machine that runs: the put of a flow is answered, and its change is made.
-use Rattle.std.specs.Prelude.{◌≡◌, ◌<◌, ◌+◌, ◌-◌, ◌^◌, ◌==◌, ℕ, suc, Bool, true, false, List, [], ◌∷◌, Option, Some, None, length, nat_le, unwrap_or, if◌then◌else◌}
+use Rattle.std.specs.Prelude.{◌≡◌, ◌<◌, ◌+◌, ◌-◌, ◌^◌, ◌==◌, ℕ, suc, Bool, true, false, List, Option, Some, None, length, nat_le, unwrap_or, if◌then◌else◌}
 use Rattle.run_history.specs.Machine.{Cutting, Machine, Refusal, Reply}
 use Rattle.run_history.specs.Sessions.{most_answers}
 use Rattle.put_service.specs.declared.answer.Answer.{Answer}

@@ -1,5 +1,5 @@
 -- What the status of a run says of its end. A status of another end is another number.
-use Rattle.std.proofs.Common.{◌≡◌, ◌≢◌, ◌<◌, ◌⊎◌, ℕ, Bool, true, false, IsTrue, List, length, refl, ap, ◌∙◌, subst, inl, inr, arith}
+use Rattle.std.proofs.Common.{◌≡◌, ◌≢◌, ◌<◌, ◌⊎◌, ℕ, Bool, true, false, IsTrue, List, length, refl, ap, subst, inl, inr, arith}
 use Rattle.disk_trait.specs.Device.{Device, IsDevice, Left, Link}
 use Rattle.disk_trait.specs.Calls.{Rose}
 use Rattle.media_journal.specs.declared.header.Header.{Header}
@@ -74,9 +74,18 @@ module _ (old new : Device) where
   opened_only AlreadyStore cause shows none = absurd cause
   opened_only TooSmall cause shows none = absurd cause
 
--- no status is that of two ends
-other_status : (o p : Outcome) → o ≡ p → (n : ℕ) → status_of p ≡ n → status_of o ≡ n
-other_status o p same n is = ap status_of same ∙ is
+-- statuses of one outcome alone
+no_memory_by : (p : Outcome) → status_of p ≡ 4 → p ≡ NoMemory
+no_memory_by NoMemory e = refl
+no_memory_by _ e = absurd (omega (arith, e))
+
+link_fault_by : (p : Outcome) → status_of p ≡ 5 → p ≡ LinkFault
+link_fault_by LinkFault e = refl
+link_fault_by _ e = absurd (omega (arith, e))
+
+cut_by : (p : Outcome) → status_of p ≡ 6 → p ≡ Cut
+cut_by Cut e = refl
+cut_by _ e = absurd (omega (arith, e))
 
 module _ (words : List (List ℕ)) (old new : Device) (clock : Bool) (begun given : List ℕ) (o : Outcome) (run : RunEnds words old new clock begun given o) where
   -- a command that was refused
@@ -140,7 +149,8 @@ module _ (words : List (List ℕ)) (old new : Device) (clock : Bool) (begun give
   ]
 
   -- there was no memory to read the words
-  no_words : o ≡ NoMemory → given ≡ begun → Untouched old new → IsDevice old → (from : State) → BeginsFrom from old clock → NoPeer (beginning from old begun) new given o
+  no_words : o ≡ NoMemory → given ≡ begun → Untouched old new → IsDevice old → (from : State) → BeginsFrom from old clock
+      → NoPeer (beginning from old begun) new given o
   no_words is none untouched sound from start =
       let peer = no_peer old new clock begun NoMemory sound untouched tt from start in rw (is, none) peer
 
@@ -181,10 +191,6 @@ module _ (words : List (List ℕ)) (old new : Device) (clock : Bool) (begun give
   format_unlinked : (h : Header) → FormatRunEnds old new h o → o ≢ LinkFault
   format_unlinked h ends is = subst (FormatRunEnds old new h) is ends
 
-  is_link_fault : (p : Outcome) → status_of p ≡ 5 → p ≡ LinkFault
-  is_link_fault LinkFault e = refl
-  is_link_fault _ e = absurd (omega (arith, e))
-
   command_linked : (command : Command) → CommandEnds old new clock begun given o command → o ≡ LinkFault → Rose old.link.faults new.link.faults
   command_linked (Format path blocks half id) ends is = absurd (format_unlinked _ ends.0 is)
   command_linked (Replay path base) ends is = (subst (λ (p : Outcome). LinkFaults p old.link.faults new.link.faults) is ends.link).1
@@ -195,7 +201,7 @@ module _ (words : List (List ℕ)) (old new : Device) (clock : Bool) (begun give
     | inl starved ↦ absurd (no_link_fault starved.0 s)
     | inr other ↦ elim other [
       | inl bad ↦ absurd (omega (arith, s, ap status_of bad.0))
-      | inr did ↦ command_linked did.0 did.2 (is_link_fault o s)
+      | inr did ↦ command_linked did.0 did.2 (link_fault_by o s)
     ]
   ]
 
@@ -243,7 +249,7 @@ module _ (words : List (List ℕ)) (old new : Device) (clock : Bool) (begun give
         | inl bad ↦ absurd (bad.1 (Serve path port base connections) is)
         | inr did ↦
             let ends = serve_ends did.0 did.1 did.2 in
-            ends.peers.rises (rw (is_link_fault o s) refl)
+            ends.peers.rises (rw (link_fault_by o s) refl)
       ]
     ]
 
@@ -276,29 +282,21 @@ module _ (words : List (List ℕ)) (old new : Device) (clock : Bool) (begun give
       ]
     ]
 
-    is_cut : (p : Outcome) → status_of p ≡ 6 → p ≡ Cut
-    is_cut Cut e = refl
-    is_cut _ e = absurd (omega (arith, e))
-
     pub run_uncut : status_of o ≢ 6
     run_uncut s = elim run.cause [
       | inl starved ↦ omega (arith, s, ap status_of starved.0)
       | inr other ↦ elim other [
         | inl bad ↦ bad.1 (Serve path port base connections) is
-        | inr did ↦ (serve_ends did.0 did.1 did.2).uncut (is_cut o s)
+        | inr did ↦ (serve_ends did.0 did.1 did.2).uncut (cut_by o s)
       ]
     ]
-
-    is_starved : (p : Outcome) → status_of p ≡ 4 → p ≡ NoMemory
-    is_starved NoMemory e = refl
-    is_starved _ e = absurd (omega (arith, e))
 
     pub run_starved_serve : status_of o ≡ 4 → ServesNobody old new begun given
     run_starved_serve s = elim run.cause [
       | inl starved ↦ record { link = starved.2.link; given_is = starved.1 }
       | inr other ↦ elim other [
         | inl bad ↦ absurd (bad.1 (Serve path port base connections) is)
-        | inr did ↦ (serve_ends did.0 did.1 did.2).starved (is_starved o s)
+        | inr did ↦ (serve_ends did.0 did.1 did.2).starved (no_memory_by o s)
       ]
     ]
 
@@ -367,19 +365,15 @@ module _ (words : List (List ℕ)) (old new : Device) (clock : Bool) (begun give
     ]
   ]
     where
-      is_no_memory : (p : Outcome) → status_of p ≡ 4 → p ≡ NoMemory
-      is_no_memory NoMemory e = refl
-      is_no_memory _ e = absurd (omega (arith, e))
-
       command_starved : (command : Command) → CommandEnds old new clock begun given o command → status_of o ≡ 4 → ServesNobody old new begun given
           ⊎ ((from : State) → IsReplayFrom from words old clock → OnePeer (beginning from old begun) new given NoMemory)
       command_starved (Format path blocks half id) ends s = inl ends.2
       command_starved (Replay path base) ends s =
-          let is = is_no_memory o s in
+          let is = no_memory_by o s in
           elim (ends.starved is) [
             | inl nobody ↦ inl nobody
             | inr served ↦
                 inr (λ from replay.
                 subst (OnePeer (beginning from old begun) new given) is (served from replay.begins))
           ]
-      command_starved (Serve path port base connections) ends s = inl (ends.starved (is_no_memory o s))
+      command_starved (Serve path port base connections) ends s = inl (ends.starved (no_memory_by o s))

@@ -16,6 +16,7 @@ use Rattle.connection_loop.specs.declared.ending.Ending.TheVariants as endings
 use Rattle.connection_loop.specs.declared.run.RunEnd.{RunEnd}
 use Rattle.connection_loop.specs.Loops.{AreCounted, HasEnded, NextCalls, NextLeads, NextLinkCount, RunCalls, next_disk_held}
 use Rattle.connection_loop.specs.Tallies.{nothing_counted}
+use Rattle.connection_loop.proofs.Turning.{tells_later}
 use Rattle.connection_loop.specs.Turns.{GivesMore, IsBetween, TellsAll}
 use Rattle.put_service.specs.declared.service.PutService.{PutService}
 use Rattle.put_service.specs.Keeping.{EachKeeps}
@@ -29,15 +30,6 @@ use Rattle.tams_top.specs.declared.outcome.Outcome.TheVariants.{LinkFault, NoMem
 use Rattle.tams_top.specs.Histories.{BeginsFrom, OnePeer, Replayed, RunsAs, ServedAll, replay_outcome, serve_outcome, served_with}
 use Rattle.tams_top.specs.Running.{LinkFaults, OpenedCause, ReplayEnds, ServeEnds, StandsForOne, no_disk_fault}
 use Rattle.tams_top.proofs.RunningLemmas.{serve_cause, serve_fed, serve_link, serve_peers, serve_uncut}
-
--- what is told stays so
-pub tells_later : (a b : Device) (clock : Bool) → SameDevice a b → TellsAll a clock → TellsAll b clock
-tells_later a b clock same all = record {
-  honest = same.honest ∙ all.honest;
-  shows = same.shows ∙ all.shows;
-  tells = same.tells ∙ all.tells;
-  clock_tells = all.clock_tells;
-}
 
 -- the moments of a history are those that the clock gave
 pub runs_as : (b : Beginning State) (d : Device) (begun given : List ℕ) (sessions : List (Session PutRequest)) (n : Counts)

@@ -1,4 +1,4 @@
-use Rattle.std.proofs.Common.{◌≡◌, ◌∙◌, ◌++◌, ◌+◌, ◌==◌, List, ℕ, suc, ap, arith, drop, is_ok, length, length-drop, refl, sym}
+use Rattle.std.proofs.Common.{◌≡◌, ◌∙◌, ◌++◌, ◌+◌, ◌==◌, ℕ, suc, ap, arith, drop, is_ok, length, length-drop, refl, sym}
 use Rattle.std.proofs.Math.Seq.{drop-append_seam}
 use Rattle.put_service.specs.Machine.{PutRequest}
 use Rattle.put_service.specs.Request.{request_text}

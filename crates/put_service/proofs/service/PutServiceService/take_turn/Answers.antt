@@ -1,4 +1,4 @@
-use Rattle.put_service.proofs.ServingLemmas.{gives_none}
+use Rattle.connection_loop.proofs.Turning.{gives_none}
 use Rattle.put_service.proofs.service.PutServiceService.take_turn.Goals as goal
 
 pub returns-in-Unbuilt-clause-goes : goal.returns-in-Unbuilt-clause-goes
