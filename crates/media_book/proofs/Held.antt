@@ -19,7 +19,7 @@ use Rattle.media_book.proofs.Serials.{all_amid, pairs_amid}
 
 -- ---- an item amid others
 
-sizes_amid : (f : List ObjectState) (s : ObjectState) (b : List ObjectState)
+pub sizes_amid : (f : List ObjectState) (s : ObjectState) (b : List ObjectState)
     → sum (map stored_size (f ++ s ∷ b)) ≡ stored_size s + sum (map stored_size (f ++ b))
 sizes_amid f s b =
     sum-map stored_size (f ++ s ∷ b) ∙ sum_by-append stored_size f (s ∷ b)

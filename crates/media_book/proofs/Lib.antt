@@ -3,6 +3,8 @@ mod Held
 mod ObjectRows
 mod Posts
 mod Removals
+mod Covering
+mod Sweeping
 mod Kept
 mod Allocations
 mod Same

@@ -1,6 +1,6 @@
 -- Objects as a call changes them: which of them segments name, which states they have, and which ids are taken.
 use Rattle.std.proofs.Common.{◌≡◌, ℕ, ◌+◌, nat_lt, Bool, true, false, not, ◌&&◌, ◌||◌, cond, List, [], ◌∷◌, ◌++◌, Option, Some, None, bytes_eq, map, refl, sym, ap, ap₂, subst, ◌∙◌, arith}
-use Rattle.std.specs.Prelude.{is_some}
+use Rattle.std.specs.Prelude.{is_some, option_map}
 use Rattle.std.specs.List.{list_all}
 use Rattle.std.proofs.lemmas.Bool.{and_from, and_parts}
 use Rattle.std.proofs.lemmas.Bool.Decides.{nat_tests}
@@ -9,14 +9,17 @@ use Rattle.media_rows.specs.declared.object.Extent.{Extent}
 use Rattle.media_rows.specs.declared.object.ObjectRow.{ObjectRow}
 use Rattle.media_rows.specs.declared.object.ObjectState.{ObjectState}
 use Rattle.media_rows.specs.declared.object.ObjectState.TheVariants.{Allocated, Stored}
+use Rattle.media_rows.specs.declared.reply.View.TheVariants as views
 use Rattle.media_rows.specs.declared.segment.SegmentRow.{SegmentRow}
 use Rattle.media_rows.specs.Answer.{first_taken, keep_refusal, keep_state}
 use Rattle.media_rows.specs.Good.{are_object_ids_distinct, are_references_good}
 use Rattle.media_rows.specs.Lists.{has_text}
-use Rattle.media_rows.specs.Objects.{allocated_rows, is_named, is_stored_object, is_stored_row, object_of, stored_row, with_object}
+use Rattle.media_rows.specs.Objects.{allocated_rows, flows_naming, is_named, is_stored_object, is_stored_row, object_of, stored_row, with_object}
+use Rattle.media_rows.specs.Views.{shown_object}
+use Rattle.library_laws.proofs.ListLemmas.{find-In}
 use Rattle.object_refs.specs.declared.kept.Kept.{Kept}
 use Rattle.object_refs.specs.References.{are_below, changed_at, objects_in, referred, stored_at, with_new}
-use Rattle.media_book.specs.Media.{are_objects_below}
+use Rattle.media_book.specs.Media.{Media, are_objects_below, library_with}
 use Rattle.media_book.specs.Within.Ties.{states_of}
 
 pub same_id : (a b : List ℕ) → bytes_eq a b ≡ true → a ≡ b
@@ -237,3 +240,16 @@ below_more serial moment id (row ∷ rows) e =
   where
     up : (a : ℕ) → nat_lt a serial ≡ true → nat_lt a (serial + 1) ≡ true
     up a h = grind (arith, nat_tests)
+
+-- ---- what is shown of an object
+
+-- an object that is found by an id has it
+pub found_id : (id : List ℕ) (objects : List ObjectRow) (row : ObjectRow) → object_of id objects ≡ Some row → row.id ≡ id
+found_id id objects row e = same_id row.id id (find-In (λ (r : ObjectRow). bytes_eq r.id id) objects row e).1
+
+pub shown_is : (media : Media) (id : List ℕ) (row copy : ObjectRow) (flows : List ℕ) → Some row ≡ object_of id media.objects → copy ≡ row
+    → flows ≡ flows_naming media.segments id
+    → Some (views.Object copy flows) ≡ option_map (shown_object (library_with media 0)) (object_of id media.objects)
+shown_is media id row copy flows found same named =
+    ap₂ (λ r l. Some (views.Object r l)) same (named ∙ ap (flows_naming media.segments) (sym (found_id id media.objects row (sym found))))
+    ∙ ap (option_map (shown_object (library_with media 0))) found

@@ -72,6 +72,22 @@ pub all_ordered : {X : Type 0} (before : X → X → Bool) (p : X → Bool) (xs 
 all_ordered before p [] = refl
 all_ordered before p (x ∷ xs) = all_put before p x (in_order before xs) ∙ ap (λ b. p x && b) (all_ordered before p xs)
 
+any_amid : {X : Type 0} (p : X → Bool) (f : List X) (x : X) (b : List X) → list_any p (f ++ x ∷ b) ≡ (p x || list_any p (f ++ b))
+any_amid p [] x b = refl
+any_amid p (y ∷ f) x b = ap (λ r. p y || r) (any_amid p f x b) ∙ by (p y) (p x) (list_any p (f ++ b))
+  where
+    by : (a c d : Bool) → (a || (c || d)) ≡ (c || (a || d))
+    by true true d = refl
+    by true false d = refl
+    by false c d = refl
+
+any_ordered : {X : Type 0} (before : X → X → Bool) (p : X → Bool) (xs : List X) → list_any p (in_order before xs) ≡ list_any p xs
+any_ordered before p [] = refl
+any_ordered before p (x ∷ xs) =
+    let put = put_amid before x (in_order before xs) in
+    ap (list_any p) put.is ∙ any_amid p put.front x put.back ∙ ap (λ l. p x || list_any p l) (sym put.was)
+    ∙ ap (λ b. p x || b) (any_ordered before p xs)
+
 -- a test that looks at pairs either way finds the same in any order
 pub pairs_ordered : {X : Type 0} (before : X → X → Bool) (t : X → X → Bool) → ((a b : X) → t a b ≡ t b a) → (xs : List X)
     → each_pair t (in_order before xs) ≡ each_pair t xs
@@ -181,6 +197,13 @@ module _ {X : Type 0} (serial : X → ℕ) where
       by true q eq rest = rest
       by false true eq rest = rw eq rest
       by false false eq rest = rw eq (ap (λ l. row ∷ l) rest)
+
+  -- in which order others are left out makes no difference
+  pub without_ordered : (before : X → X → Bool) (removed rows : List X) → without (in_order before removed) rows ≡ without removed rows
+  without_ordered before removed [] = refl
+  without_ordered before removed (row ∷ rows) =
+      ap₂ (λ (b : Bool) (l : List X). cond (not b) (row ∷ l) l) (any_ordered before (λ gone. serial gone == serial row) removed)
+      (without_ordered before removed rows)
 
   pub kept_all : (rows : List X) → without [] rows ≡ rows
   kept_all [] = refl

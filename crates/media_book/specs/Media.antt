@@ -12,7 +12,7 @@ use Rattle.media_rows.specs.declared.segment.SegmentRow.{SegmentRow}
 use Rattle.media_rows.specs.Answer.{first_taken, posts_refusal, taken_refusal}
 use Rattle.media_rows.specs.Library.{Library, empty_library}
 use Rattle.media_rows.specs.Lists.{are_distinct}
-use Rattle.media_rows.specs.Objects.{allocated_rows, blocks_of, idled, is_free, object_of, stored_row, with_object}
+use Rattle.media_rows.specs.Objects.{allocated_rows, blocks_of, idled, is_free, object_of, stored_row, swept_objects, with_object, without_objects}
 use Rattle.media_rows.specs.Segments.{posted, without_segments}
 
 -- the media of a library: how many media blocks there are, and its segments and its objects, each by
@@ -99,6 +99,13 @@ abbrev pub without_rows : List SegmentRow → ℕ → Media → Media
 without_rows rows moment media = record media {
   segments = without_segments rows media.segments;
   objects = idled media.segments (without_segments rows media.segments) moment media.objects;
+}
+
+-- the first objects that are due go
+abbrev pub swept : ℕ → Media → Media
+swept moment media = record media {
+  objects =
+      without_objects (swept_objects media.segments media.objects moment) media.objects;
 }
 
 -- ---- numbers

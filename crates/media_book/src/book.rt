@@ -1,18 +1,18 @@
 //! The book and its looks.
-ghost use Rattle.std.specs.Prelude.{◌≡◌, ◌-◌, ◌^◌, IfOk, IsTrue, length, min, option_copied};
+ghost use Rattle.std.specs.Prelude.{◌≡◌, ◌-◌, ◌^◌, IfOk, IsTrue, is_some, length, min, option_copied, option_map};
 ghost use Rattle.media_rows.specs.Good.{are_object_ids_distinct, rises_by};
-ghost use Rattle.media_rows.specs.Objects.{due_objects, free_place, object_of};
+ghost use Rattle.media_rows.specs.Objects.{due_objects, flows_naming, free_place, object_of, reference_count};
 ghost use Rattle.media_rows.specs.Segments.{hull_of_segments, overlapping, segments_of};
-ghost use Rattle.media_rows.specs.Views.{shown_segments};
+ghost use Rattle.media_rows.specs.Views.{shown_object, shown_segments};
 ghost use Rattle.segment_book.specs.Answers.{is_flow_met};
 ghost use Rattle.shared_tree.specs.Pairs.{first};
-ghost use Rattle.media_book.specs.Media.{no_media, stored_bytes};
+ghost use Rattle.media_book.specs.Media.{library_with, no_media, stored_bytes};
 
-use disk_trait::{Memory, Text};
-use media_rows::{ObjectList, ObjectRow, Page, SegmentFilter, View};
+use disk_trait::{Duplicate, Memory, Text};
+use media_rows::{IdList, ObjectList, ObjectRow, Page, SegmentFilter, View};
 use object_blobs::Space;
 use object_refs::ObjectBook;
-use reference_laws::due_are_same;
+use reference_laws::{counts_are_same, due_are_same, flows_are_same};
 use segment_book::SegmentBook;
 use std::alloc::Global;
 use std::marker::Model;
@@ -122,6 +122,43 @@ impl MediaBook {
             (overlapping self.now.segments flow wanted.now.range wanted.now.object)) }
     {
         self.segments.page(alloc, flow, wanted, page)
+    }
+
+    /// The flows whose segments name a kept object, by rising id, each once.
+    pub fn flows_of(&self, alloc: Global, id: &Text) -> Result<IdList, Memory>
+        requires kept { IsTrue (is_some (object_of id.now self.now.objects)) }
+        ensures { IfOk result (λ flows. flows ≡ flows_naming self.now.segments id.now) }
+    {
+        flows_are_same();
+        self.objects.is_in_order();
+        self.objects.flows_of(alloc, id)
+    }
+
+    /// The number of segments that name a kept object. It takes no memory.
+    pub fn references(&self, id: &Text) -> u64
+        requires kept { IsTrue (is_some (object_of id.now self.now.objects)) }
+        ensures { result ≡ reference_count self.now.segments id.now }
+    {
+        counts_are_same();
+        self.objects.is_in_order();
+        self.objects.count(id)
+    }
+
+    /// What is shown of the object of an id, if it is kept: it and the flows whose segments name it.
+    pub fn shown_object(&self, alloc: Global, id: &Text) -> Result<Option<View>, Memory>
+        ensures { IfOk result (λ view. view ≡ option_map (shown_object (library_with self.now 0))
+            (object_of id.now self.now.objects)) }
+    {
+        match self.object(id) {
+            Some(row) => {
+                let flows = self.flows_of(alloc, id)?;
+                Ok(Some(View::Object {
+                    row: row.duplicate(alloc)?,
+                    flows,
+                }))
+            }
+            None => Ok(None),
+        }
     }
 
     /// The number of segments.

@@ -3,8 +3,11 @@
 #![tactic(auto)]
 
 mod book;
+mod cuts;
 mod objects;
 mod segments;
+mod sweeps;
 
 pub use crate::book::MediaBook;
+pub use crate::cuts::Covered;
 pub use crate::segments::posts_are_refused_alike;

@@ -3,6 +3,7 @@ mod Holding
 mod PieceLemmas
 pub mod Places
 mod Placing
+mod Placed
 mod Runs
 mod Seen
 mod Spaced

@@ -167,7 +167,7 @@ each_clear start count block (row ∷ rows) l e h =
     let both = and_parts (is_clear_of start count row.state) (list_all (λ r. is_clear_of start count r.state) rows) h in
     and_from _ _ (clear_block start count block row.state l e both.0) (each_clear start count block rows l e both.1)
 
-same_places : (objects : List ObjectRow) (area : Area) (count : ℕ) → LeavesFree objects area → 0 < count → (start : ℕ)
+pub same_places : (objects : List ObjectRow) (area : Area) (count : ℕ) → LeavesFree objects area → 0 < count → (start : ℕ)
     → is_free_place area.holes count start ≡ is_free objects area.blocks count start
 same_places objects area count leaves some start = same_tests (is_free_place area.holes count start) (is_free objects area.blocks count start) there back
   where

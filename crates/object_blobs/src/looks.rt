@@ -1,5 +1,5 @@
 //! Looks at the holes of a space, each at the key of its first block. The steps of a look aren't anybody's.
-ghost use Rattle.std.specs.Prelude.{◌≡◌, ◌<◌, ◌≤◌, IsTrue, filter, option_map, pos};
+ghost use Rattle.std.specs.Prelude.{◌≡◌, ◌+◌, ◌-◌, ◌^◌, ◌<◌, ◌≤◌, ◌&&◌, IsTrue, filter, nat_le, nat_lt, option_map, pos};
 ghost use Rattle.shared_tree.specs.Pairs.{first, is_above, is_up_to, last, values};
 ghost use Rattle.object_blobs.specs.Holes.{is_free_place};
 ghost use Rattle.object_blobs.specs.Within.Keys.{AreHoles, Holds, first_start, joined_end, joined_start};
@@ -36,6 +36,37 @@ pub(crate) fn holding<L: Ledger>(
         unreachable!()
     };
     *hole
+}
+
+/// Whether so many blocks from this one on are free.
+pub(crate) fn has_place<L: Ledger>(
+    holes: &Version<Hole>,
+    start: u64,
+    blocks: u64,
+    blank: Blank,
+) -> bool
+    requires kept { AreHoles holes.now }
+    requires some { 0 < blocks }
+    requires name { blank.name ≡ L.name }
+    requires parts { blank.parts ≡ L.parts }
+    requires one { 0 < L.parts }
+    ensures { result ≡ is_free_place (values holes.now) blocks start }
+{
+    let mut steps = Steps::<L>::new(blank);
+    match holes.at_or_before(key_of(start), &mut steps) {
+        Some((_, hole)) => reaches(hole, start, blocks),
+        None => false,
+    }
+}
+
+/// Whether a hole that begins up to a block has so many blocks from that one on.
+fn reaches(hole: &Hole, start: u64, blocks: u64) -> bool
+    requires fits { hole.now.start + hole.now.blocks < 2 ^ 64 }
+    ensures { result ≡ (nat_lt start (hole.now.start + hole.now.blocks)
+        && nat_le blocks (hole.now.start + hole.now.blocks - start)) }
+{
+    let end = hole.start + hole.blocks;
+    start < end && blocks <= end - start
 }
 
 /// Where free blocks that end at this one begin.

@@ -1,12 +1,12 @@
 //! Which media blocks are free: the holes between the extents, as a value.
 ghost use Rattle.std.specs.Prelude.{◌≡◌, ◌+◌, ◌<◌, ◌≤◌, IfOk, IsTrue, pos};
 ghost use Rattle.media_rows.specs.declared.object.ObjectRow.{ObjectRow};
-ghost use Rattle.media_rows.specs.Objects.{free_place};
+ghost use Rattle.media_rows.specs.Objects.{free_place, is_free};
 ghost use Rattle.std.specs.Prelude.{List};
 ghost use Rattle.object_blobs.specs.Holes.{HasHoles, IsAllFree, IsGiven, IsPlaceTaken, IsToldByFree, LeavesFree, is_free_place, is_taken_place, least_place};
 
 use crate::changes::{with_front, with_hole, with_rest, without_joined};
-use crate::looks::{first_fitting, holding, joined_end, joined_start};
+use crate::looks::{first_fitting, has_place, holding, joined_end, joined_start};
 use disk_trait::Memory;
 use shared_tree::Version;
 use std::alloc::Global;
@@ -88,6 +88,22 @@ impl Space {
         // The number of its blocks is a `u64`, and so is the end of each hole.
         let _blocks = self.blocks;
         first_fitting::<Brand>(&self.holes, blocks, Blank::new(1))
+    }
+
+    /// Whether so many blocks from this one on are all free. It takes no memory.
+    pub fn is_free(&self, start: u64, blocks: u64) -> bool
+        ensures free { result ≡ is_free_place self.now.holes blocks start }
+
+        // It is the library's answer, where the free blocks are those that its objects leave.
+        ensures library { (objects : List ObjectRow) → LeavesFree objects self.now → 0 < blocks
+            → result ≡ is_free objects self.now.blocks blocks start }
+    {
+        if blocks == 0 {
+            return true;
+        }
+        // As in `place`.
+        let _blocks = self.blocks;
+        has_place::<Brand>(&self.holes, start, blocks, Blank::new(1))
     }
 
     /// Takes so many blocks from this one on, all of which are free.

@@ -4,3 +4,4 @@ pub mod Gaining
 mod FlowRows
 mod Views
 mod Paging
+mod Listing

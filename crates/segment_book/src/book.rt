@@ -29,7 +29,7 @@ use time_range::TimeRange;
 #[derive(Drop)]
 pub struct SegmentBook {
     /// The segments of each flow, by the flows' ids.
-    flows: Version<SegmentIndex>,
+    pub(crate) flows: Version<SegmentIndex>,
     /// How many segments there are.
     count: u64,
 }

@@ -3,6 +3,7 @@
 #![tactic(auto)]
 
 mod book;
+mod lists;
 mod pages;
 
 pub use crate::book::SegmentBook;

@@ -47,7 +47,7 @@ pub(crate) fn rows_past<'a, L: Ledger>(
 }
 
 /// The number of an index's segments, of which there are fewer than the last value of a `u64`.
-fn few(index: &SegmentIndex) -> Result<u64, Memory>
+pub(crate) fn few(index: &SegmentIndex) -> Result<u64, Memory>
     ensures { IfOk result (λ count. count ≡ length index.now) }
 {
     let count = index.len();

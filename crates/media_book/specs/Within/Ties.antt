@@ -1,19 +1,20 @@
 -- How segments, objects and holes are kept side by side.
-use Rattle.std.specs.Prelude.{◌≡◌, ℕ, ◌+◌, nat_le, List, true, not, ◌&&◌, Option, map}
-use Rattle.std.specs.List.{list_all, sum}
+use Rattle.std.specs.Prelude.{◌≡◌, ◌≤◌, ℕ, ◌+◌, ◌-◌, nat_le, List, true, not, ◌&&◌, IsTrue, Contains, Option, map}
+use Rattle.std.specs.List.{AllByRecursion, list_all, sum}
 use Rattle.media_rows.specs.declared.object.ObjectRow.{ObjectRow}
 use Rattle.media_rows.specs.declared.object.ObjectState.{ObjectState}
+use Rattle.media_rows.specs.declared.object.ObjectState.TheVariants.{Allocated, Stored}
 use Rattle.media_rows.specs.declared.refusal.Refusal.{Refusal}
 use Rattle.media_rows.specs.declared.refusal.Refusal.TheVariants.{NoObject}
 use Rattle.media_rows.specs.declared.segment.Segment.{Segment}
 use Rattle.media_rows.specs.declared.segment.SegmentRow.{SegmentRow}
 use Rattle.media_rows.specs.Answer.{posts_refusal}
 use Rattle.media_rows.specs.Good.{are_references_good, are_states_apart, is_extent_good, rises_by}
-use Rattle.media_rows.specs.Lists.{each_pair, or_else}
-use Rattle.media_rows.specs.Objects.{is_clear_of, is_stored_object}
+use Rattle.media_rows.specs.Lists.{are_distinct, each_pair, or_else}
+use Rattle.media_rows.specs.Objects.{blocks_of, is_clear_of, is_stored_object, without_objects}
 use Rattle.media_rows.specs.Refusals.{when}
 use Rattle.media_rows.specs.Sound.{are_posts_good}
-use Rattle.object_blobs.specs.Holes.{Area, is_free_block}
+use Rattle.object_blobs.specs.Holes.{Area, IsGiven, is_free_block, is_taken_place}
 use Rattle.object_refs.specs.declared.kept.Kept.{Kept}
 use Rattle.object_refs.specs.References.{objects_in}
 use Rattle.reference_laws.specs.Ties.{AreTied}
@@ -78,3 +79,39 @@ pub record Allocating (serial next moment : ℕ) (start media : Media) (all left
   pub below : are_objects_below next media.objects ≡ true
 
 -- ---- objects that go
+
+-- these are some of the objects, each of them once
+pub record AreSomeObjects (rows objects : List ObjectRow) : Type 0 where
+  pub there : AllByRecursion (Contains objects) rows
+  pub once : IsTrue (are_distinct (map (λ row. row.serial) rows))
+
+-- the blocks of so many bytes are the area's, none of them is free, and all bytes are no fewer
+pub record MayFree (start size : ℕ) (area : Area) (bytes : ℕ) : Type 0 where
+  pub inside : start + blocks_of size ≤ area.blocks
+  pub taken : IsTrue (is_taken_place area.holes (blocks_of size) start)
+  pub counted : size ≤ bytes
+
+-- what an object has may be given back
+abbrev pub MayLose : ObjectState → Area → ℕ → Type 0
+MayLose Allocated area bytes = Unit {0}
+MayLose (Stored start size) area bytes = MayFree start size area bytes
+
+-- the blocks of so many bytes were given back
+pub record IsFreed (start size : ℕ) (old new : Area) (before after : ℕ) : Type 0 where
+  pub given : IsGiven start (blocks_of size) old new
+  pub counted : after ≡ before - size
+
+-- what an object has was given back
+abbrev pub IsLost : ObjectState → Area → Area → ℕ → ℕ → Type 0
+IsLost Allocated old new before after = (new ≡ old) × (after ≡ before)
+IsLost (Stored start size) old new before after = IsFreed start size old new before after
+
+-- the blocks of some objects were given back, and those of others are left to be
+pub record Freeing (start : List ObjectRow) (blocks : ℕ) (area : Area) (bytes : ℕ)
+    (all left : List ObjectRow) : Type 0 where
+  pub objects : List ObjectRow
+  pub rest : without_objects left objects ≡ without_objects all start
+  pub held : AreHeld (states_of objects) area bytes
+  pub same : area.blocks ≡ blocks
+  pub some : AreSomeObjects left objects
+  pub rising : rises_by (λ row. row.serial) objects ≡ true

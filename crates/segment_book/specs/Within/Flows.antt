@@ -19,6 +19,10 @@ use Rattle.segment_index.specs.declared.fault.AddFault.TheVariants as faults
 abbrev pub rows_in : List (ℤ × List SegmentRow) → List SegmentRow
 rows_in flows = flat_map (λ p. p.1) flows
 
+-- one list behind another
+abbrev pub joined : List (List SegmentRow) → List SegmentRow
+joined lists = flat_map (λ rows. rows) lists
+
 -- the same by rising serial
 abbrev pub segments_in : List (ℤ × List SegmentRow) → List SegmentRow
 segments_in flows = by_serial (λ row. row.serial) (rows_in flows)
