@@ -1,0 +1,4 @@
+mod Ready
+mod Changed
+mod Fronts
+mod Swept
