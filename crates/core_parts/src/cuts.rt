@@ -6,8 +6,9 @@ ghost use Rattle.media_rows.specs.Catalog.{no_flow_refusal};
 ghost use Rattle.media_rows.specs.Changes.{after};
 ghost use Rattle.media_rows.specs.Refusals.{IsChange};
 ghost use Rattle.media_rows.specs.Requests.{step_size};
-ghost use Rattle.media_rows.specs.Segments.{covered};
+ghost use Rattle.media_rows.specs.Segments.{covered, segments_of};
 ghost use Rattle.media_book.specs.Media.{AreSome};
+ghost use Rattle.core_registry.specs.Going.{hull_if_any};
 ghost use Rattle.core_parts.specs.Conditions.{IsReady};
 ghost use Rattle.core_parts.specs.Cuts.{cut_of};
 ghost use Rattle.core_parts.specs.Parts.{within_serials};
@@ -69,6 +70,24 @@ impl Parts {
         Ok(!covered.whole)
     }
 
+    /// A flow goes with all its segments.
+    #[tactic(auto, using(crate::proofs::Changed::ending))]
+    pub fn drop_flow(&self, alloc: Global, flow: u128, now: u64) -> Result<Option<Parts>, BookFault>
+        requires ready { IsReady self.now }
+        ensures { IsChange (change_refusal self.now flow)
+            (within_serials (after (changes.DropFlow now flow) self.now)) result }
+    {
+        going_is_told();
+        let refusal = self.registry.change_refusal(flow);
+        if let Some(why) = refusal {
+            return Err(BookFault::Refused(why));
+        }
+        let hull = self.hull_if_any(flow);
+        let media = self.media.remove_flow(alloc, flow, now)?;
+        let registry = self.registry.lose_flow(alloc, flow, &hull, now)?;
+        Ok(self.with_both(alloc, media, registry)?)
+    }
+
     /// Makes a request that the segments of a flow go that a range covers, and with the last of them the flow
     /// where `delete_flow` says so. It takes the next serial.
     pub fn ask_delete(
@@ -113,5 +132,16 @@ impl Parts {
             .registry
             .lose_segments(alloc, flow, &hull_if_any(rows), now)?;
         self.with_both(alloc, media, registry)
+    }
+
+    /// The least range that covers all segments of a flow, where it has any.
+    fn hull_if_any(&self, flow: u128) -> Option<TimeRange>
+        ensures { result ≡ hull_if_any (segments_of flow self.now.segments) }
+    {
+        if self.media.flow_len(flow) == 0 {
+            None
+        } else {
+            Some(self.media.hull(flow))
+        }
     }
 }
