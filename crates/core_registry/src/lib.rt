@@ -9,8 +9,10 @@ mod hooks;
 mod laws;
 mod registry;
 mod requests;
+mod restores;
 mod segments;
 
 pub use crate::events::{hull_if_any, hull_of_posts};
 pub use crate::laws::{going_flows_forget, going_is_told};
 pub use crate::registry::Registry;
+pub use crate::restores::RegistryRows;

@@ -1,0 +1,5 @@
+mod Ready
+mod Changed
+mod Fronts
+mod Named
+mod Swept

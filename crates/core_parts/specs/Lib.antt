@@ -1,0 +1,5 @@
+pub mod Parts
+pub mod Conditions
+pub mod Cuts
+pub mod Within
+pub use Rattle.media_rows.specs.Library

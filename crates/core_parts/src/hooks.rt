@@ -1,0 +1,32 @@
+//! Hooks that come and go.
+ghost use Rattle.std.specs.Prelude.{◌≡◌, IfOk};
+ghost use Rattle.media_rows.specs.Changes.{after_hook, without_hook};
+ghost use Rattle.core_parts.specs.Conditions.{IsReady};
+ghost use Rattle.core_parts.specs.Parts.{within_serials};
+
+use crate::Parts;
+use disk_trait::{Memory, Text};
+use media_rows::Hook;
+use std::alloc::Global;
+
+impl Parts {
+    /// Puts a hook, with the next serial, in place of the one of its address, whose events go.
+    pub fn put_hook(&self, alloc: Global, hook: &Hook) -> Result<Option<Parts>, Memory>
+        requires ready { IsReady self.now }
+        ensures { IfOk result
+            (λ next. next ≡ within_serials (after_hook hook.now self.now)) }
+    {
+        let registry = self.registry.put_hook(alloc, hook)?;
+        self.with_registry(registry)
+    }
+
+    /// Leaves out the hook of an address with its events. Where there is none, the library is the same.
+    pub fn drop_hook(&self, alloc: Global, url: &Text) -> Result<Option<Parts>, Memory>
+        requires ready { IsReady self.now }
+        ensures { IfOk result
+            (λ next. next ≡ within_serials (without_hook url.now self.now)) }
+    {
+        let registry = self.registry.drop_hook(alloc, url)?;
+        self.with_registry(Some(registry))
+    }
+}

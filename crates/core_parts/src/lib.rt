@@ -1,0 +1,16 @@
+//! A library as its media and all else, and what each change makes of both at once. That a library is
+//! good, and what a client is answered, is left to the callers.
+#![tactic(auto)]
+
+mod cuts;
+mod flows;
+mod hooks;
+mod ids;
+mod laws;
+mod media;
+mod parts;
+mod sweeps;
+
+pub use crate::cuts::Cut;
+pub use crate::laws::good_is_ready;
+pub use crate::parts::Parts;
