@@ -3,9 +3,11 @@
 #![tactic(auto)]
 
 mod outcome;
+mod premises;
 mod serving;
 mod top;
 mod words;
 
+pub use crate::premises::site_over;
 pub use crate::top::run;
 pub use crate::words::{Command, Wanted, devices};
