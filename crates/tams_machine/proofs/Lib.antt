@@ -1,0 +1,3 @@
+mod Sending
+mod Fronts
+mod Keeping

@@ -1,0 +1,104 @@
+-- What a request is answered in a state, and the state after its change and after its turn. Our own
+-- profile of the Time-addressable Media Store.
+use Rattle.std.specs.Prelude.{ℕ, Bool, List, [], ◌++◌, Option, Some, None, is_some, option_map, Result, Ok, Err, if◌then◌else◌}
+use Rattle.http_wire.specs.Framing.{method_kind}
+use Rattle.http_wire.specs.Response.{body_unless}
+use Rattle.media_rows.specs.declared.change.Change.{Change}
+use Rattle.media_rows.specs.declared.refusal.Refusal.{Refusal}
+use Rattle.media_rows.specs.declared.refusal.Refusal.TheVariants.{JournalFull}
+use Rattle.media_rows.specs.declared.reply.Reply.{Reply}
+use Rattle.media_rows.specs.declared.reply.Reply.TheVariants as replies
+use Rattle.media_rows.specs.Answer.{Outcome, unchanged}
+use Rattle.media_rows.specs.Apply.{turn}
+use Rattle.media_rows.specs.Media.{Archive, Question, answer_to, archive_after, asks, gets, puts}
+use Rattle.media_rows.specs.Objects.{bytes_of}
+use Rattle.change_codec.specs.Fitting as journals
+use Rattle.store_states.specs.States.{StoreState}
+use Rattle.run_history.specs.Machine as runs
+use Rattle.tams_http.specs.Answered.{response_to}
+use Rattle.tams_http.specs.Asked.{ask_of}
+use Rattle.tams_http.specs.declared.ask.Ask.{Ask}
+use Rattle.tams_http.specs.declared.ask.Ask.TheVariants.{GetMedia, PutMedia, Run}
+use Rattle.tams_machine.specs.Requests.{TamsRequest, context_of, is_head_only}
+
+-- ---- states
+
+-- the library and the journal of a state, without the bytes of objects
+abbrev pub journal_of : StoreState → journals.State
+journal_of s = record { library = s.archive.library; room = s.room; half = s.half }
+
+-- the state after a change that fits; for the storing of an object these bytes came
+abbrev pub state_after : StoreState → Change → List ℕ → StoreState
+state_after s change came = record {
+  archive = archive_after change came s.archive;
+  room = (journals.with_record (journal_of s) change).room;
+  half = s.half;
+}
+
+-- ---- the answer
+
+-- what is asked of the library: for a media PUT its body is the bytes
+abbrev pub question_of : Ask → List ℕ → Question
+question_of (Run command) body = asks command
+question_of (PutMedia object) body = puts object body
+question_of (GetMedia object) body = gets object
+
+-- the outcome, by its change: one that doesn't fit the journal is refused after all else
+abbrev pub fitting_by : StoreState → Outcome → Option Change → Outcome
+fitting_by s outcome None = outcome
+fitting_by s outcome (Some change) =
+    if journals.fits (journal_of s) change then outcome
+    else unchanged (replies.Refused JournalFull)
+
+-- what a request makes, by what it asks for or its refusal
+abbrev pub outcome_by : StoreState → List ℕ → ℕ → Result Ask Refusal → Outcome
+outcome_by s body moment (Err refusal) = unchanged (replies.Refused refusal)
+outcome_by s body moment (Ok ask) =
+    let outcome = answer_to s.archive (question_of ask body) moment in
+    fitting_by s outcome outcome.change
+
+-- what a request asks for
+abbrev pub asked_by : StoreState → TamsRequest → Result Ask Refusal
+asked_by s r = ask_of s.archive.library.id (method_kind r.head.method) r.head.target r.body
+
+-- what a request makes at a moment
+abbrev pub outcome_of : StoreState → TamsRequest → ℕ → Outcome
+outcome_of s r moment = outcome_by s r.body moment (asked_by s r)
+
+-- the bytes of an object, where the reply is that they follow
+abbrev pub object_bytes : Archive → Result Ask Refusal → Reply → List ℕ
+object_bytes archive (Ok (GetMedia object)) (replies.Media size) =
+    bytes_of object archive.library.objects archive.held
+object_bytes archive asked reply = []
+
+-- the bytes of the answer with a reply: the response, and behind it those of an object
+abbrev pub answer_bytes : List ℕ → StoreState → TamsRequest → Reply → List ℕ
+answer_bytes base s r reply =
+    response_to (context_of s.archive.library.id base r) reply
+    ++ body_unless (is_head_only (method_kind r.head.method))
+    (object_bytes s.archive (asked_by s r) reply)
+
+-- the answer to a request at a moment, and the state after its change where it has one
+abbrev pub answer_in : List ℕ → TamsRequest → ℕ → StoreState → runs.Reply StoreState
+answer_in base r moment s =
+    let outcome = outcome_of s r moment in
+    record {
+      bytes = answer_bytes base s r outcome.reply;
+      change = option_map (λ change. state_after s change r.body) outcome.change;
+    }
+
+-- ---- the turn
+
+-- a delete request is unfinished, or an object is due
+abbrev pub is_due : ℕ → StoreState → Bool
+is_due moment s = is_some (turn s.archive.library moment)
+
+-- the state after a turn's change, where it has one that fits
+abbrev pub turned_by : StoreState → Option Change → Option StoreState
+turned_by s None = None
+turned_by s (Some change) =
+    if journals.fits (journal_of s) change then Some (state_after s change []) else None
+
+-- the state after a turn at a moment, where it changes something
+abbrev pub turn_in : ℕ → StoreState → Option StoreState
+turn_in moment s = turned_by s (turn s.archive.library moment)

@@ -1,0 +1,73 @@
+-- Laws of the machine: what stands at the front of bytes, that states stay good, and that what is
+-- stored keeps its bytes.
+use Rattle.std.specs.Prelude.{◌≡◌, ◌++◌, ℕ, Bool, true, false, List, Contains, IfOk, IfSome, IsTrue}
+use Rattle.http_wire.specs.declared.head.MethodKind.{MethodKind}
+use Rattle.media_rows.specs.declared.command.Command.TheVariants as commands
+use Rattle.media_rows.specs.declared.object.ObjectRow.{ObjectRow}
+use Rattle.media_rows.specs.Media.{is_good_question}
+use Rattle.media_rows.specs.Moments.{is_moment}
+use Rattle.media_rows.specs.Objects.{is_stored}
+use Rattle.library_laws.specs.MediaLaws.{IsGoodArchive, bytes_in}
+use Rattle.store_states.specs.States.{StoreState}
+use Rattle.tams_http.specs.Asked.{ask_of}
+use Rattle.tams_http.specs.declared.ask.Ask.{Ask}
+use Rattle.tams_http.specs.declared.ask.Ask.TheVariants.{Run}
+use Rattle.tams_machine.specs.Requests.{Spells, TamsRequest}
+use Rattle.tams_machine.specs.Answers.{answer_in, asked_by, question_of, turn_in}
+
+-- ---- what stands at the front of bytes
+
+-- Behind so many requests the front of bytes spells one request at most: bytes that are a whole
+-- request, and longer ones that begin with them and are one too, are the same.
+abbrev pub RequestsAreOne : Type 0
+RequestsAreOne = (n : ℕ) (text other rest other_rest : List ℕ) (r s : TamsRequest)
+    → Spells n text r → Spells n other s → text ++ rest ≡ other ++ other_rest
+    → (other ≡ text) × (s ≡ r)
+
+-- ---- what requests ask for
+
+-- a request keeps the bytes of an object by a media PUT alone
+abbrev pub is_sent : Ask → Bool
+is_sent (Run (commands.Keep object start size)) = false
+is_sent _ = true
+
+abbrev pub RequestsSendBytes : Type 0
+RequestsSendBytes = (store : ℕ) (method : MethodKind) (target body : List ℕ)
+    → IfOk (ask_of store method target body) (λ ask. IsTrue (is_sent ask))
+
+-- ---- states stay good
+
+-- what a request asks for is good: the commands of requests are, since their bodies were read so
+abbrev pub AsksGood : StoreState → TamsRequest → Type 0
+AsksGood s r = IfOk (asked_by s r)
+    (λ ask. IsTrue (is_good_question s.archive.library (question_of ask r.body)))
+
+-- the state after an answer's change is good
+abbrev pub AnswersKeepGood : Type 0
+AnswersKeepGood = (base : List ℕ) (r : TamsRequest) (moment : ℕ) (s : StoreState)
+    → IsGoodArchive s.archive → IsTrue (is_moment moment) → AsksGood s r
+    → IfSome (answer_in base r moment s).change (λ next. IsGoodArchive next.archive)
+
+-- and so is the state after a turn's
+abbrev pub TurnsKeepGood : Type 0
+TurnsKeepGood = (moment : ℕ) (s : StoreState) → IsGoodArchive s.archive
+    → IsTrue (is_moment moment) → IfSome (turn_in moment s) (λ next. IsGoodArchive next.archive)
+
+-- ---- bytes stay
+
+-- each object that is stored in both, known by its serial, has the same bytes
+abbrev pub KeepsBytes : StoreState → StoreState → Type 0
+KeepsBytes s next = (old new : ObjectRow) → Contains s.archive.library.objects old
+    → Contains next.archive.library.objects new → new.serial ≡ old.serial
+    → IsTrue (is_stored old.state) → bytes_in next.archive new.id ≡ bytes_in s.archive old.id
+
+-- an answer's change keeps the bytes of what is stored
+abbrev pub AnswersKeepBytes : Type 0
+AnswersKeepBytes = (base : List ℕ) (r : TamsRequest) (moment : ℕ) (s : StoreState)
+    → IsGoodArchive s.archive → IsTrue (is_moment moment) → AsksGood s r
+    → IfSome (answer_in base r moment s).change (KeepsBytes s)
+
+-- and so does a turn's
+abbrev pub TurnsKeepBytes : Type 0
+TurnsKeepBytes = (moment : ℕ) (s : StoreState) → IsGoodArchive s.archive
+    → IsTrue (is_moment moment) → IfSome (turn_in moment s) (KeepsBytes s)

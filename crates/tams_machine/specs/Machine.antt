@@ -1,0 +1,27 @@
+-- The machine of the media store, for the histories of its runs: the library with the bytes of its
+-- objects and its journal, and what it answers to each request of a connection.
+use Rattle.std.specs.Prelude.{ℕ, List}
+use Rattle.library_laws.specs.MediaLaws.{IsGoodArchive}
+use Rattle.store_states.specs.States.{StandsFor, StoreState}
+use Rattle.run_history.specs.Machine.{Machine}
+use Rattle.tams_http.specs.Constants.{failure}
+use Rattle.tams_machine.specs.Requests.{Heads, IsCut, IsRefused, Spells, TamsRequest, interim_of}
+use Rattle.tams_machine.specs.Answers.{answer_in, is_due, turn_in}
+
+-- the machine, over the base of its addresses
+abbrev pub tams_machine : List ℕ → Machine StoreState TamsRequest
+tams_machine base = record {
+  spells = Spells;
+  heads = Heads;
+  refuses = IsRefused base;
+  cuts = IsCut;
+  interim = λ r. interim_of r.head;
+  answer = answer_in base;
+  no_memory = λ r. failure 500;
+  disk_fault = λ r. failure 503;
+  ends = λ r. r.ends;
+  due = is_due;
+  turn = turn_in;
+  stands = StandsFor;
+  good = λ s. IsGoodArchive s.archive;
+}

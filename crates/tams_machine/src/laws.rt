@@ -1,0 +1,28 @@
+//! The laws of the machine that a contract can say.
+ghost use Rattle.tams_machine.specs.Laws.{AnswersKeepBytes, AnswersKeepGood, RequestsAreOne, RequestsSendBytes, TurnsKeepBytes, TurnsKeepGood};
+
+use library_laws::turns_apply;
+
+/// The front of a connection's bytes spells one request at most.
+pub fn requests_are_one()
+    ensures { RequestsAreOne }
+{}
+
+/// A request keeps the bytes of an object by a media PUT alone.
+pub fn requests_send_bytes()
+    ensures { RequestsSendBytes }
+{}
+
+/// An answer's change leaves a good state, in which each object that was stored has the bytes that it had.
+pub fn answers_keep()
+    ensures good { AnswersKeepGood }
+    ensures bytes { AnswersKeepBytes }
+{}
+
+/// And so does a turn's.
+pub fn turns_keep()
+    ensures good { TurnsKeepGood }
+    ensures bytes { TurnsKeepBytes }
+{
+    turns_apply();
+}
