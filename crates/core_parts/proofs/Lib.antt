@@ -2,4 +2,5 @@ mod Ready
 mod Changed
 mod Fronts
 mod Named
+mod Stepped
 mod Swept

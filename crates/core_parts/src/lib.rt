@@ -9,6 +9,7 @@ mod ids;
 mod laws;
 mod media;
 mod parts;
+mod steps;
 mod sweeps;
 
 pub use crate::cuts::Cut;
