@@ -17,7 +17,7 @@ returns c =
     let request = c.in-Some.request.now in
     let now = c.args.now in
     let due : first_unfinished library.requests ≡ Some request =
-        sym (c.in-Some.ensures ∙ ap first_unfinished (c.requests.ensures ∙ ap (λ l. l.requests) c.self.view_is)) in
+    sym (c.in-Some.ensures ∙ ap first_unfinished (c.requests.ensures ∙ ap (λ l. l.requests) c.self.view_is)) in
     let asked : c.requests-2.result.now ≡ library.requests = c.requests-2.ensures ∙ ap (λ l. l.requests) c.self.view_is in
     let due_there : first_unfinished c.requests-2.result.now ≡ Some request = ap first_unfinished asked ∙ due in
     let media : c.deref.result.now ≡ media_of library = c.deref.ensures ∙ ap media_of c.self.view_is in
@@ -25,28 +25,28 @@ returns c =
     let f : c.in_ok-book.finished ≡ c.in_ok-book.field-0.finished = search in
     let b : c.in_ok-book.book ≡ c.in_ok-book.field-0.book = search in
     let removed : c.in_ok-book.removed ≡ removed_by_step library.segments request =
-        r ∙ c.in_ok-book.ensures.removed request due_there ∙ ap (λ m. removed_by_step m.segments request) media in
+    r ∙ c.in_ok-book.ensures.removed request due_there ∙ ap (λ m. removed_by_step m.segments request) media in
     let finished : c.in_ok-book.finished ≡ is_finished_by_step library.segments request =
-        f ∙ c.in_ok-book.ensures.finished request due_there ∙ ap (λ m. is_finished_by_step m.segments request) media in
+    f ∙ c.in_ok-book.ensures.finished request due_there ∙ ap (λ m. is_finished_by_step m.segments request) media in
     let book : c.in_ok-book.book ≡ after_step request.serial (is_finished_by_step library.segments request) now library.requests =
-        b ∙ c.in_ok-book.ensures.book request due_there ∙ ap₂ (λ done requests. after_step request.serial done now requests) (sym f ∙ finished) asked in
+    b ∙ c.in_ok-book.ensures.book request due_there ∙ ap₂ (λ done requests. after_step request.serial done now requests) (sym f ∙ finished) asked in
     let left : c.in_ok-media.media ≡ without_rows (removed_by_step library.segments request) now (media_of library) =
-        c.in_ok-media.ensures ∙ ap₂ (λ rows m. without_rows rows now m) (c.items-2.ensures ∙ sym r ∙ removed) (c.deref-2.ensures ∙ ap media_of c.self.view_is) in
+    c.in_ok-media.ensures ∙ ap₂ (λ rows m. without_rows rows now m) (c.items-2.ensures ∙ sym r ∙ removed) (c.deref-2.ensures ∙ ap media_of c.self.view_is) in
     let stepped : c.in_ok-stepped.stepped ≡ with_requests (after_step request.serial (is_finished_by_step library.segments request) now library.requests) (registry_of library) =
-        c.in_ok-stepped.ensures ∙ ap₂ with_requests (sym b ∙ book) (ap registry_of c.self.view_is) in
+    c.in_ok-stepped.ensures ∙ ap₂ with_requests (sym b ∙ book) (ap registry_of c.self.view_is) in
     let hull : c.hull_if_any-hull.result ≡ hull_if_any (removed_by_step library.segments request) =
-        c.hull_if_any-hull.ensures ∙ ap hull_if_any (c.items.ensures ∙ sym r ∙ removed) in
+    c.hull_if_any-hull.ensures ∙ ap hull_if_any (c.items.ensures ∙ sym r ∙ removed) in
     let gone : c.if-finished.gone ≡ is_flow_gone request library =
-        elim c.if-finished.branch [
-          then-finished w ↦
+    elim c.if-finished.branch [
+      | then-finished w ↦
           let t : true ≡ c.in_ok-book.finished = search in
           let g : c.if-finished.gone ≡ request.delete_flow = search in
           g ∙ ap (λ d. d && request.delete_flow) (t ∙ finished)
-        | else-finished w ↦
+      | else-finished w ↦
           let t : false ≡ c.in_ok-book.finished = search in
           let g : c.if-finished.gone ≡ false = search in
           g ∙ ap (λ d. d && request.delete_flow) (t ∙ finished)
-        ] in
+    ] in
     c.in_ok-next.ensures
     ∙ stepping c.going_is_told.ensures c.going_flows_forget.ensures library request now c.in_ok-media.media c.in_ok-registry.registry due left
     (c.in_ok-registry.ensures
