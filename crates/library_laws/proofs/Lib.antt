@@ -21,7 +21,7 @@ mod PlaceLemmas
 pub mod RestoreLemmas
 mod FollowLemmas
 mod ListsFollow
-mod RowOrder
+pub mod RowOrder
 mod RowLibrary
 pub mod ChangeFacts
 pub mod ObjectsCome

@@ -50,7 +50,7 @@ lex_passes_on f g k false true false h e j = grind (arith, nat_tests)
 lex_passes_on f g k true q true h e j = grind (arith, nat_tests)
 lex_passes_on f g k true q false h e j = grind (arith, nat_tests)
 
-by_flow : IsOrder segment_row_before
+pub by_flow : IsOrder segment_row_before
 by_flow = record {
   one_way = λ a b. lex_one_way a.flow b.flow (starts_before a b) (starts_before b a) (starts_in_order.one_way a b);
   passes_on = λ a b c. lex_passes_on a.flow b.flow c.flow (starts_before b a) (starts_before c b) (starts_before c a) (starts_in_order.passes_on a b c);

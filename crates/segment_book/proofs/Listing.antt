@@ -17,7 +17,7 @@ use Rattle.shared_tree.specs.Pairs.{IsRising, values}
 use Rattle.segment_index.specs.Answers.{is_bounded, met, met_page, page_of}
 use Rattle.id_index.proofs.Ids.{below_key, same_key}
 use Rattle.library_laws.proofs.ListLemmas.{take-whole}
-use Rattle.library_laws.proofs.PageLemmas.{IsOrder, starts_in_order}
+use Rattle.library_laws.proofs.RowOrder.{by_flow}
 use Rattle.segment_book.specs.Within.Flows.{IsBook, IsFlow, joined, rows_in, segments_in}
 use Rattle.segment_book.proofs.FlowRows.{Flows}
 use Rattle.segment_book.proofs.Ordered.{Comparable, order_after, stays}
@@ -49,28 +49,6 @@ page_of_all rows count bounded is =
     ap (take count) (all_past (met rows eternity) ∙ all_met rows bounded) ∙ take-whole count rows (omega (arith, is))
 
 -- ---- the order of a snapshot
-
--- an order of numbers, and behind it another one
-flows_one_way : (f g : ℕ) (p q : Bool) → (p ≡ true → q ≡ false) → (nat_lt f g || ((f == g) && p)) ≡ true → (nat_lt g f || ((g == f) && q)) ≡ false
-flows_one_way f g true true h e = let bad = h refl in absurd (cc)
-flows_one_way f g true false h e = grind (arith, nat_tests)
-flows_one_way f g false true h e = grind (arith, nat_tests)
-flows_one_way f g false false h e = grind (arith, nat_tests)
-
-flows_pass_on : (f g k : ℕ) (p q r : Bool) → (p ≡ false → q ≡ false → r ≡ false) → (nat_lt g f || ((g == f) && p)) ≡ false
-    → (nat_lt k g || ((k == g) && q)) ≡ false → (nat_lt k f || ((k == f) && r)) ≡ false
-flows_pass_on f g k false false true h e j = let bad = h refl refl in absurd (cc)
-flows_pass_on f g k false false false h e j = grind (arith, nat_tests)
-flows_pass_on f g k false true true h e j = grind (arith, nat_tests)
-flows_pass_on f g k false true false h e j = grind (arith, nat_tests)
-flows_pass_on f g k true q true h e j = grind (arith, nat_tests)
-flows_pass_on f g k true q false h e j = grind (arith, nat_tests)
-
-by_flow : IsOrder segment_row_before
-by_flow = record {
-  one_way = λ a b. flows_one_way a.flow b.flow (starts_before a b) (starts_before b a) (starts_in_order.one_way a b);
-  passes_on = λ a b c. flows_pass_on a.flow b.flow c.flow (starts_before b a) (starts_before c b) (starts_before c a) (starts_in_order.passes_on a b c);
-}
 
 -- two whose serials differ compare
 flows_compare : (a b : SegmentRow) → (a.serial == b.serial) ≡ false → Comparable segment_row_before a b
