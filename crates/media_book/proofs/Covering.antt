@@ -170,7 +170,8 @@ finished_all request segments rise below =
 
 -- and all that is covered is what the first step takes
 pub whole_taken : (rows all : List SegmentRow) (whole : Bool) → rows ≡ take step_size all → whole ≡ nat_le (length all) step_size → whole ≡ true → rows ≡ all
-whole_taken rows all whole taken told e = taken ∙ take-whole step_size all (let few : nat_le (length all) step_size ≡ true = sym told ∙ e in grind (arith, nat_tests))
+whole_taken rows all whole taken told e =
+    taken ∙ take-whole step_size all (let few : nat_le (length all) step_size ≡ true = sym told ∙ e in grind (arith, nat_tests))
 
 -- ---- the request that is due
 

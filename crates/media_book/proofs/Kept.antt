@@ -145,7 +145,8 @@ pub added_is : ReferencesCome → (segments : List SegmentRow) (kept : List Kept
     → IsMedia (segments ++ row ∷ []) (changed_at row.segment.object (referred row.flow) kept) area bytes
 added_is comes segments kept area bytes row why was free below =
     let objects = referred_objects row.segment.object row.flow kept in
-    let stored = untrue (is_stored_object (objects_in kept) row.segment.object) (unless (not (is_stored_object (objects_in kept) row.segment.object)) why free) in
+    let stored =
+    untrue (is_stored_object (objects_in kept) row.segment.object) (unless (not (is_stored_object (objects_in kept) row.segment.object)) why free) in
     record {
       tied = comes segments [] row kept (subst (λ l. AreTied l kept) (sym (append-nil segments)) was.tied);
       named = ap (λ l. are_references_good l (segments ++ row ∷ [])) objects

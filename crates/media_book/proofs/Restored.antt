@@ -100,7 +100,8 @@ holds_is blocks front Allocated = and_true (list_all (λ (r : ObjectRow). are_st
 
     all : (rows : List ObjectRow) → list_all (λ (r : ObjectRow). are_states_apart r.state Allocated) rows ≡ true
     all [] = refl
-    all (r ∷ rows) = and_from (are_states_apart r.state Allocated) (list_all (λ (x : ObjectRow). are_states_apart x.state Allocated) rows) (bare r.state) (all rows)
+    all (r ∷ rows) =
+        and_from (are_states_apart r.state Allocated) (list_all (λ (x : ObjectRow). are_states_apart x.state Allocated) rows) (bare r.state) (all rows)
 holds_is blocks front (Stored start size) =
     ap (λ b. b && (nat_le (start + blocks_of size) blocks && (nat_lt 0 size || (start == 0))))
     (same_all (λ (r : ObjectRow). are_states_apart r.state (Stored start size)) (λ (r : ObjectRow). is_clear_of start (blocks_of size) r.state)
@@ -198,7 +199,8 @@ unrefused : (objects : List ObjectRow) (front : List SegmentRow) (row : SegmentR
     → is_none (row_refusal (record { blocks = blocks; segments = front; objects = objects }) row)
     ≡ (is_stored_object objects row.segment.object && list_all (λ r. are_compatible r row) front)
 unrefused objects front row blocks =
-    by (is_stored_object objects row.segment.object) (meeting_refusal front row) ∙ ap (λ b. is_stored_object objects row.segment.object && b) (apart_is front row)
+    by (is_stored_object objects row.segment.object) (meeting_refusal front row)
+    ∙ ap (λ b. is_stored_object objects row.segment.object && b) (apart_is front row)
   where
     by : (s : Bool) (m : Option Refusal) → is_none (or_else (when (not s) (NoObject row.segment.object)) m) ≡ (s && is_none m)
     by true m = refl
@@ -504,8 +506,8 @@ media_are_good library good =
     (and_parts (((objects_rise && segments_rise) && requests_rise) && hooks_rise) events_rise most.1).0).0).0 in
     let ends : SegmentRow → Bool = λ row. has_both_ends row.segment.range in
     let bounded : list_all ends segments ≡ true =
-    list_all-from_In ends segments (λ row here. (and_parts (ends row) (is_kept flows row.flow) (list_all-In (is_segment_good flows) segments rows.1 row here)).0)
-    in
+    list_all-from_In ends segments
+    (λ row here. (and_parts (ends row) (is_kept flows row.flow) (list_all-In (is_segment_good flows) segments rows.1 row here)).0) in
     and_from (are_objects_good library.blocks objects) (are_rows_good objects segments)
     (and_from (are_extents_good library.blocks objects) (are_object_ids_distinct objects && rises_by (λ (row : ObjectRow). row.serial) objects) good.extents
     (and_from (are_object_ids_distinct objects) (rises_by (λ (row : ObjectRow). row.serial) objects) ids.1 risen.0))

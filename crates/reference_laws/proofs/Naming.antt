@@ -51,8 +51,8 @@ kept_flows : (segments : List SegmentRow) (kept : List Kept) (id : List ℕ) →
     → map (λ row. row.flow) (references (references_in kept) id) ≡ flows_to segments id
 kept_flows segments [] id tied distinct there = absurd (grind (arith, there))
 kept_flows segments (k ∷ ks) id tied distinct there =
-    let parts = and_parts (list_all (λ other. not (bytes_eq k.row.id other)) (map (λ row. row.id) (objects_in ks))) (are_object_ids_distinct (objects_in ks)) distinct
-    in
+    let parts =
+    and_parts (list_all (λ other. not (bytes_eq k.row.id other)) (map (λ row. row.id) (objects_in ks))) (are_object_ids_distinct (objects_in ks)) distinct in
     ap (map (λ row. row.flow)) (filter-append (λ row. bytes_eq row.segment.object id) (references_to k) (references_in ks))
     ∙ map-append (λ row. row.flow) (references (references_to k) id) (references (references_in ks) id)
     ∙ by (bytes_eq k.row.id id) refl there parts.0 (λ e. kept_flows segments ks id tied.1 parts.1 e)
@@ -66,7 +66,8 @@ kept_flows segments (k ∷ ks) id tied distinct there =
         ap₂ (λ a b. a ++ map (λ row. row.flow) b) (own_references k.row.id id k.flows e)
         (none_of_others id ks (subst (λ i. list_all (λ other. not (bytes_eq i other)) (map (λ row. row.id) (objects_in ks)) ≡ true) same apart))
         ∙ append-nil k.flows ∙ tied.0 ∙ ap (flows_to segments) same
-    by false e held apart rest = ap (λ l. map (λ row. row.flow) l ++ map (λ row. row.flow) (references (references_in ks) id)) (no_references k.row.id id k.flows e)
+    by false e held apart rest =
+        ap (λ l. map (λ row. row.flow) l ++ map (λ row. row.flow) (references (references_in ks) id)) (no_references k.row.id id k.flows e)
         ∙ rest held
 
 -- ---- each flow once
@@ -129,7 +130,8 @@ both_turned a b ns lt =
     let below : nat_lt b a ≡ false = grind (arith, nat_tests) in
     let fronts : low b (placed nat_lt a ns) ≡ low a ns ++ a ∷ high a (low b ns) =
     filter-append (λ n. nat_lt n b) (low a ns) (a ∷ high a ns)
-    ∙ ap₂ (λ x y. x ++ y) (swap (λ n. nat_lt n a) (λ n. nat_lt n b) ns ∙ within (λ n. nat_lt n b) (λ n. nat_lt n a) (λ n e. grind (arith, nat_tests)) ns) (rw lt (ap (λ l. a ∷ l) (swap (λ n. nat_lt a n) (λ n. nat_lt n b) ns))) in
+    ∙ ap₂ (λ x y. x ++ y) (swap (λ n. nat_lt n a) (λ n. nat_lt n b) ns ∙ within (λ n. nat_lt n b) (λ n. nat_lt n a) (λ n e. grind (arith, nat_tests)) ns)
+    (rw lt (ap (λ l. a ∷ l) (swap (λ n. nat_lt a n) (λ n. nat_lt n b) ns))) in
     let backs : high b (placed nat_lt a ns) ≡ high b ns =
     filter-append (λ n. nat_lt b n) (low a ns) (a ∷ high a ns)
     ∙ ap₂ (λ x y. x ++ y) (nothing (λ n. nat_lt n a) (λ n. nat_lt b n) (λ n e. grind (arith, nat_tests)) ns)

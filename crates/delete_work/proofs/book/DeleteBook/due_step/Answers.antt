@@ -15,7 +15,11 @@ stepped-requires c = record { due = sym c.in-Some.ensures }
 pub returns-clause-removed : goal.returns-clause-removed
 returns-clause-removed c =
     let due = sym c.in-Some.ensures in
-    let fits : IsFor c.in-Some.request.now c.args.index.now = record { own = c.requires.flow c.in-Some.request.now due; up = c.is_in_order.ensures.starts; bounded = c.is_in_order.ensures.bounded } in
+    let fits : IsFor c.in-Some.request.now c.args.index.now = record {
+      own = c.requires.flow c.in-Some.request.now due;
+      up = c.is_in_order.ensures.starts;
+      bounded = c.is_in_order.ensures.bounded;
+    } in
     let kept = ap values_of c.truncate.ensures.items ∙ sym (take-map (λ r. r.now) 32 c.in_ok-found.found.items) in
     due_is c.args.self.now (λ request. c.in_ok-copies.field-0 ≡ removed_by_step c.args.index.now request) c.in-Some.request.now due
     (c.in_ok-copies.ensures ∙ ap values_of c.deref.ensures.value ∙ kept ∙ removed_is fits (values_of c.in_ok-found.found.items) c.in_ok-found.ensures)
@@ -29,7 +33,11 @@ returns-clause-few c =
 pub returns-clause-finished : goal.returns-clause-finished
 returns-clause-finished c =
     let due = sym c.in-Some.ensures in
-    let fits : IsFor c.in-Some.request.now c.args.index.now = record { own = c.requires.flow c.in-Some.request.now due; up = c.is_in_order.ensures.starts; bounded = c.is_in_order.ensures.bounded } in
+    let fits : IsFor c.in-Some.request.now c.args.index.now = record {
+      own = c.requires.flow c.in-Some.request.now due;
+      up = c.is_in_order.ensures.starts;
+      bounded = c.is_in_order.ensures.bounded;
+    } in
     let mapped = length-map c.in_ok-found.found.items (λ r. r.now) in
     let same : c.len-finished.result ≡ length (values_of c.in_ok-found.found.items) = omega (arith, mapped) in
     due_is c.args.self.now (λ request. nat_le c.len-finished.result 32 ≡ is_finished_by_step c.args.index.now request) c.in-Some.request.now due

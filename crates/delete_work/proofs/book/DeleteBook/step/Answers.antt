@@ -12,14 +12,22 @@ unreachable-requires c = absurd (some_due _ c.requires.due c.in_default.ensures)
 pub objects_without-requires-clause-flow : goal.objects_without-requires-clause-flow
 objects_without-requires-clause-flow c =
     let due = sym c.in-Some.ensures in
-    let fits : IsFor c.in-Some.request.now c.args.index.now = record { own = c.requires.flow c.in-Some.request.now due; up = c.is_in_order.ensures.starts; bounded = c.is_in_order.ensures.bounded } in
+    let fits : IsFor c.in-Some.request.now c.args.index.now = record {
+      own = c.requires.flow c.in-Some.request.now due;
+      up = c.is_in_order.ensures.starts;
+      bounded = c.is_in_order.ensures.bounded;
+    } in
     own_removed fits _ (c.items-rows.ensures ∙ c.in_ok-step.ensures.removed c.in-Some.request.now due)
 
 -- and the objects have their references
 pub objects_without-requires-clause-references : goal.objects_without-requires-clause-references
 objects_without-requires-clause-references c =
     let due = sym c.in-Some.ensures in
-    let fits : IsFor c.in-Some.request.now c.args.index.now = record { own = c.requires.flow c.in-Some.request.now due; up = c.is_in_order.ensures.starts; bounded = c.is_in_order.ensures.bounded } in
+    let fits : IsFor c.in-Some.request.now c.args.index.now = record {
+      own = c.requires.flow c.in-Some.request.now due;
+      up = c.is_in_order.ensures.starts;
+      bounded = c.is_in_order.ensures.bounded;
+    } in
     references_removed fits c.args.objects.now _ (c.requires.references c.in-Some.request.now due)
     (c.items-rows.ensures ∙ c.in_ok-step.ensures.removed c.in-Some.request.now due)
 
@@ -27,7 +35,11 @@ objects_without-requires-clause-references c =
 pub returns-clause-index : goal.returns-clause-index
 returns-clause-index c =
     let due = sym c.in-Some.ensures in
-    let fits : IsFor c.in-Some.request.now c.args.index.now = record { own = c.requires.flow c.in-Some.request.now due; up = c.is_in_order.ensures.starts; bounded = c.is_in_order.ensures.bounded } in
+    let fits : IsFor c.in-Some.request.now c.args.index.now = record {
+      own = c.requires.flow c.in-Some.request.now due;
+      up = c.is_in_order.ensures.starts;
+      bounded = c.is_in_order.ensures.bounded;
+    } in
     c.in_ok-index_without.ensures ∙ ap (λ l. without_starts l c.args.index.now) c.items-rows.ensures
     ∙ index_is fits c.in_ok-step.step.removed (c.in_ok-step.ensures.removed c.in-Some.request.now due)
 

@@ -13,7 +13,8 @@ unreachable-requires c = absurd (not_due (first_unfinished c.args.requests.now) 
 
 pub due_step-requires-clause-flow : goal.due_step-requires-clause-flow
 due_step-requires-clause-flow c = λ request due.
-    let own = index_is c.args.requests.now c.in-Some.request.now request c.in_ok-index.index c.self.inside.segments (sym c.in-Some.ensures) c.in_ok-index.ensures due in
+    let own =
+    index_is c.args.requests.now c.in-Some.request.now request c.in_ok-index.index c.self.inside.segments (sym c.in-Some.ensures) c.in_ok-index.ensures due in
     subst (AreOfFlow request.flow) (sym own) (of_flow request.flow c.self.inside.segments c.self.invariant.rising)
 
 -- a step on the segments of the flow is one on all
@@ -21,7 +22,8 @@ pub returns-clause-removed : goal.returns-clause-removed
 returns-clause-removed c =
     let segments = c.self.inside.segments in
     if_ok c.due_step.result (λ step is request due.
-    let own = index_is c.args.requests.now c.in-Some.request.now request c.in_ok-index.index segments (sym c.in-Some.ensures) c.in_ok-index.ensures due in
+    let own =
+    index_is c.args.requests.now c.in-Some.request.now request c.in_ok-index.index segments (sym c.in-Some.ensures) c.in_ok-index.ensures due in
     is request due ∙ ap (λ l. removed_by_step l request) own ∙ removed_of_all request segments
     ∙ ap (λ m. removed_by_step m.segments request) c.self.view_is) c.due_step.ensures.removed
 
@@ -29,7 +31,8 @@ pub returns-clause-finished : goal.returns-clause-finished
 returns-clause-finished c =
     let segments = c.self.inside.segments in
     if_ok c.due_step.result (λ step is request due.
-    let own = index_is c.args.requests.now c.in-Some.request.now request c.in_ok-index.index segments (sym c.in-Some.ensures) c.in_ok-index.ensures due in
+    let own =
+    index_is c.args.requests.now c.in-Some.request.now request c.in_ok-index.index segments (sym c.in-Some.ensures) c.in_ok-index.ensures due in
     is request due ∙ ap (λ l. is_finished_by_step l request) own ∙ finished_of_all request segments
     ∙ ap (λ m. is_finished_by_step m.segments request) c.self.view_is) c.due_step.ensures.finished
 

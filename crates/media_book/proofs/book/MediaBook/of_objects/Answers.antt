@@ -19,4 +19,5 @@ loop-index-preserved c =
     let row = c.index-objects-index.result in
     let shape = take_more rows c.loop-index.index row c.loop-index-test.true
     ∙ ap (λ r. take c.loop-index.index rows ++ r ∷ []) (sym c.index-objects-index.is) in
-    objects_more c.args.blocks c.loop-index.index rows c.loop-index.media c.in-Some.next row c.loop-index.invariant shape (sym c.in-Some.is ∙ c.in_ok-next.ensures)
+    objects_more c.args.blocks c.loop-index.index rows c.loop-index.media c.in-Some.next row c.loop-index.invariant shape
+    (sym c.in-Some.is ∙ c.in_ok-next.ensures)

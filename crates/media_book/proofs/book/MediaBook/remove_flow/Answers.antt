@@ -18,5 +18,6 @@ pub returns : goal.returns
 returns c =
     let media = c.args.self.now in
     if_ok c.remove.result (λ next is. is
-    ∙ ap (λ l. without_rows l c.args.now media) (c.items.ensures ∙ c.in_ok-rows.ensures ∙ ap (λ m. in_order starts_before (segments_of c.args.flow m.segments)) c.self.view_is)
+    ∙ ap (λ l. without_rows l c.args.now media)
+    (c.items.ensures ∙ c.in_ok-rows.ensures ∙ ap (λ m. in_order starts_before (segments_of c.args.flow m.segments)) c.self.view_is)
     ∙ flow_goes c.args.flow c.args.now media) c.remove.ensures

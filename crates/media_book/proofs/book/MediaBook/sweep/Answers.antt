@@ -14,13 +14,15 @@ freed-requires c =
     record {
       held = c.self.invariant.held;
       some = swept_some c.self.inside.segments (objects_in kept) _ c.args.now c.is_in_order.ensures.serials
-          (c.items-gone.ensures ∙ c.in_ok-swept.ensures.gone ∙ ap (take sweep_size) (c.due_are_same.ensures c.self.inside.segments kept c.args.now c.self.invariant.tied));
+          (c.items-gone.ensures ∙ c.in_ok-swept.ensures.gone
+          ∙ ap (take sweep_size) (c.due_are_same.ensures c.self.inside.segments kept c.args.now c.self.invariant.tied));
     }
 
 pub invariant_of-result : goal.invariant_of-result
 invariant_of-result c =
     let kept = c.self.inside.objects in
-    let is = c.in_ok-swept.ensures.gone ∙ ap (take sweep_size) (c.due_are_same.ensures c.self.inside.segments kept c.args.now c.self.invariant.tied) in
+    let is = c.in_ok-swept.ensures.gone
+          ∙ ap (take sweep_size) (c.due_are_same.ensures c.self.inside.segments kept c.args.now c.self.invariant.tied) in
     rw c.in_ok-share.ensures
     (swept_is c.self.inside.segments kept _ c.self.inside.space _ c.self.inside.bytes _ c.in_ok-swept.swept.gone c.args.now c.self.invariant
     c.is_in_order.ensures.serials is c.in_ok-swept.ensures.left c.in_ok-swept.ensures.rows
@@ -30,7 +32,8 @@ invariant_of-result c =
 pub returns : goal.returns
 returns c =
     let kept = c.self.inside.objects in
-    let is = c.in_ok-swept.ensures.gone ∙ ap (take sweep_size) (c.due_are_same.ensures c.self.inside.segments kept c.args.now c.self.invariant.tied) in
+    let is = c.in_ok-swept.ensures.gone
+          ∙ ap (take sweep_size) (c.due_are_same.ensures c.self.inside.segments kept c.args.now c.self.invariant.tied) in
     rw c.in_ok-share.ensures
     (swept_seen c.self.inside.segments kept _ c.self.inside.space c.in_ok-freed.freed.space c.in_ok-swept.swept.gone c.args.now is c.in_ok-swept.ensures.rows
     c.in_ok-freed.ensures.blocks ∙ ap (swept c.args.now) c.self.view_is)

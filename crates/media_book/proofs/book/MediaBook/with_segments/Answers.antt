@@ -10,7 +10,8 @@ returns-in-None c =
     let row = c.index-segments-index.result in
     let shape = take_more rows c.loop-index.index row c.loop-index-test.true
     ∙ ap (λ r. take c.loop-index.index rows ++ r ∷ []) (sym c.index-segments-index.is) in
-    rows_fail c.args.self.now c.loop-index.index rows c.loop-index.media row c.requires.none c.loop-index.invariant shape (sym c.in-None.is ∙ c.in_ok-next.ensures)
+    rows_fail c.args.self.now c.loop-index.index rows c.loop-index.media row c.requires.none c.loop-index.invariant shape
+    (sym c.in-None.is ∙ c.in_ok-next.ensures)
 
 -- one more came
 pub loop-index-preserved : goal.loop-index-preserved
@@ -19,4 +20,5 @@ loop-index-preserved c =
     let row = c.index-segments-index.result in
     let shape = take_more rows c.loop-index.index row c.loop-index-test.true
     ∙ ap (λ r. take c.loop-index.index rows ++ r ∷ []) (sym c.index-segments-index.is) in
-    rows_more c.args.self.now c.loop-index.index rows c.loop-index.media c.in-Some.next row c.requires.none c.loop-index.invariant shape (sym c.in-Some.is ∙ c.in_ok-next.ensures)
+    rows_more c.args.self.now c.loop-index.index rows c.loop-index.media c.in-Some.next row c.requires.none c.loop-index.invariant shape
+    (sym c.in-Some.is ∙ c.in_ok-next.ensures)

@@ -14,13 +14,13 @@ pub invariant_of-result : goal.invariant_of-result
 invariant_of-result c =
     let there = subst (λ m. Contains m.segments c.args.row.now) (sym c.self.view_is) c.requires.there in
     rw (c.in_ok-remove.ensures, c.in_ok-share.ensures)
-    ((less_is c.references_go.ensures c.self.inside.segments c.self.inside.objects c.in_ok-unrefer.field-0 c.self.inside.space c.self.inside.bytes c.args.row.now
-    c.args.now c.self.invariant there c.in_ok-unrefer.ensures.objects c.in_ok-unrefer.ensures.flows).media)
+    ((less_is c.references_go.ensures c.self.inside.segments c.self.inside.objects c.in_ok-unrefer.field-0 c.self.inside.space c.self.inside.bytes
+    c.args.row.now c.args.now c.self.invariant there c.in_ok-unrefer.ensures.objects c.in_ok-unrefer.ensures.flows).media)
 
 pub returns : goal.returns
 returns c =
     let there = subst (λ m. Contains m.segments c.args.row.now) (sym c.self.view_is) c.requires.there in
     rw (c.in_ok-remove.ensures, c.in_ok-share.ensures)
-    ((less_is c.references_go.ensures c.self.inside.segments c.self.inside.objects c.in_ok-unrefer.field-0 c.self.inside.space c.self.inside.bytes c.args.row.now
-    c.args.now c.self.invariant there c.in_ok-unrefer.ensures.objects c.in_ok-unrefer.ensures.flows).seen
+    ((less_is c.references_go.ensures c.self.inside.segments c.self.inside.objects c.in_ok-unrefer.field-0 c.self.inside.space c.self.inside.bytes
+    c.args.row.now c.args.now c.self.invariant there c.in_ok-unrefer.ensures.objects c.in_ok-unrefer.ensures.flows).seen
     ∙ ap (without_rows (c.args.row.now ∷ []) c.args.now) c.self.view_is)
