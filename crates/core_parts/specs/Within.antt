@@ -15,8 +15,8 @@ after_going flow rows moment library =
     with_happened (removed_events library.catalog flow rows) moment
     (touch_flow flow rows moment (remove_segments rows moment library))
 
--- the registry once segments with this hull went from a flow, if any did, and the flow with them where that is
--- said
+-- the registry once segments with this hull went from a flow, if any did, and the flow with them
+-- where that is said
 abbrev pub lost_by : Bool → ℕ → Option (Option Span) → ℕ → Registry → Registry
 lost_by gone flow hull moment registry =
     if gone

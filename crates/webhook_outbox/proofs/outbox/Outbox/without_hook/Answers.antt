@@ -30,7 +30,8 @@ invariant_of-result c =
       new_slots_are = c.in_ok-without_slot-in-Some.ensures;
       new_events_are = c.in_ok-without_rows-in-Some.ensures ∙ ap (λ l. without_rows l c.self.inside.events) rows;
     } in
-    gone_slots c.args.serial c.in-Some.slot.now c.self.inside.slots c.in_ok-without_slot-in-Some.field-0 c.self.inside.events c.in_ok-without_rows-in-Some.field-0 d
+    gone_slots c.args.serial c.in-Some.slot.now c.self.inside.slots c.in_ok-without_slot-in-Some.field-0 c.self.inside.events
+    c.in_ok-without_rows-in-Some.field-0 d
 
 -- the hook goes with its events
 pub returns-in_ok-without_rows-in-Some : goal.returns-in_ok-without_rows-in-Some
@@ -45,7 +46,8 @@ returns-in_ok-without_rows-in-Some c =
       new_slots_are = c.in_ok-without_slot-in-Some.ensures;
       new_events_are = c.in_ok-without_rows-in-Some.ensures ∙ ap (λ l. without_rows l c.self.inside.events) rows;
     } in
-    gone_is c.args.serial c.in-Some.slot.now c.self.inside.slots c.in_ok-without_slot-in-Some.field-0 c.self.inside.events c.in_ok-without_rows-in-Some.field-0 d
+    gone_is c.args.serial c.in-Some.slot.now c.self.inside.slots c.in_ok-without_slot-in-Some.field-0 c.self.inside.events
+    c.in_ok-without_rows-in-Some.field-0 d
     ∙ ap (without_serial c.args.serial) c.self.view_is
 
 -- no hook has the serial
