@@ -22,7 +22,7 @@ pub invariant_of-result : goal.invariant_of-result
 invariant_of-result c =
     let kept = c.self.inside.objects in
     let is = c.in_ok-swept.ensures.gone
-          ∙ ap (take sweep_size) (c.due_are_same.ensures c.self.inside.segments kept c.args.now c.self.invariant.tied) in
+    ∙ ap (take sweep_size) (c.due_are_same.ensures c.self.inside.segments kept c.args.now c.self.invariant.tied) in
     rw c.in_ok-share.ensures
     (swept_is c.self.inside.segments kept _ c.self.inside.space _ c.self.inside.bytes _ c.in_ok-swept.swept.gone c.args.now c.self.invariant
     c.is_in_order.ensures.serials is c.in_ok-swept.ensures.left c.in_ok-swept.ensures.rows
@@ -33,7 +33,7 @@ pub returns : goal.returns
 returns c =
     let kept = c.self.inside.objects in
     let is = c.in_ok-swept.ensures.gone
-          ∙ ap (take sweep_size) (c.due_are_same.ensures c.self.inside.segments kept c.args.now c.self.invariant.tied) in
+    ∙ ap (take sweep_size) (c.due_are_same.ensures c.self.inside.segments kept c.args.now c.self.invariant.tied) in
     rw c.in_ok-share.ensures
     (swept_seen c.self.inside.segments kept _ c.self.inside.space c.in_ok-freed.freed.space c.in_ok-swept.swept.gone c.args.now is c.in_ok-swept.ensures.rows
     c.in_ok-freed.ensures.blocks ∙ ap (swept c.args.now) c.self.view_is)
