@@ -6,8 +6,8 @@ use Rattle.disk_trait.specs.Device.{Device, Left}
 use Rattle.disk_trait.specs.Calls.{Elapses, Unchanged}
 use Rattle.disk_trait.proofs.Theorems.{elapses_weaker}
 use Rattle.site_edge.specs.Links.{Said, Tells}
-use Rattle.run_history.specs.Machine.{Refusal}
-use Rattle.run_history.specs.Steps.{Answered, Ask, BeforeAnswer, Effect, Made, Piece, Refused, Reply, Stage, Starved, Step, Stopped, effect}
+use Rattle.run_history.specs.Machine.{BeforeAnswer, Refusal}
+use Rattle.run_history.specs.Steps.{Answered, Ask, Effect, Made, Piece, Refused, Reply, Stage, Starved, Step, Stopped, effect}
 use Rattle.run_history.specs.Sessions.{Saying, Session, Whole, has_failed, most_answers}
 use Rattle.run_history.specs.Traces.{Trace, trace_of, state_now}
 use Rattle.run_history.specs.Runs.{Beginning}
@@ -144,7 +144,8 @@ module _ (b : Beginning State) (old mid new : Device) (given : List ℕ) (store 
       → TurnLeads put_machine b new (given ++ moment ∷ []) (holds next rest (taken + 1)) (EachKeeps new next) finished (counted 1 false n)
       (machine_ending ok r.last)
   changing_leads a is changing state kept call said =
-      answer_leads put_machine b old mid new given (holds store unread taken) finished steps n ask (response a r.last) 1 (after ∷ []) (moment ∷ []) rest ok r.last
+      answer_leads put_machine b old mid new given (holds store unread taken) finished steps n ask (response a r.last) 1 (after ∷ []) (moment ∷ []) rest
+      ok r.last
       (record {
         going = g;
         is = (spells, tt);
@@ -194,8 +195,8 @@ module _ (b : Beginning State) (old mid new : Device) (given : List ℕ) (store 
       → Said ok (response answers.NoMemory true) mid new
       → EndsAs put_machine b new (given ++ moment ∷ []) (holds next rest (taken + 1)) (EachKeeps new next) finished (counted 0 false n) endings.Starved
   starved_leads starved call said =
-      step_ends put_machine b old mid new given (holds store unread taken) finished steps n (Starved ask) (response answers.NoMemory true) 0 [] (moment ∷ []) rest
-      ok false
+      step_ends put_machine b old mid new given (holds store unread taken) finished steps n (Starved ask) (response answers.NoMemory true) 0 []
+      (moment ∷ []) rest ok false
       (record {
         going = g;
         is = inl spells;
@@ -225,11 +226,11 @@ module _ (b : Beginning State) (old mid new : Device) (given : List ℕ) (store 
       → Said ok (response answers.DiskFault true) mid new
       → EndsAs put_machine b new (given ++ moment ∷ []) (holds next rest (taken + 1)) (EachKeeps new next) finished (counted 1 false n) endings.Stopped
   stopped_leads changing call said =
-      step_ends put_machine b old mid new given (holds store unread taken) finished steps n (Stopped ask (BeforeAnswer true)) (response answers.DiskFault true) 0
-      (after ∷ []) (moment ∷ []) rest ok true
+      step_ends put_machine b old mid new given (holds store unread taken) finished steps n (Stopped ask (BeforeAnswer true))
+      (response answers.DiskFault true) 0 (after ∷ []) (moment ∷ []) rest ok true
       (record {
         going = g;
-        is = (spells, changes changing);
+        is = (refl, (spells, changes changing));
         text = text;
         effect_is = λ at here. effect_torn r moment (state_of store) at here changing;
         sure = omega arith;
@@ -279,7 +280,8 @@ module _ (b : Beginning State) (old mid new : Device) (given : List ℕ) (store 
 pub refuse_leads : (b : Beginning State) (old new : Device) (given : List ℕ) (store : Store) (unread : List ℕ) (taken : ℕ)
     (finished : List (Session PutRequest)) (steps : List (Step PutRequest)) (n : Counts) (ok : Bool)
     → Going put_machine b old given (holds store unread taken) finished steps n → IsFront unread Unbuilt → EachKeeps old store → old.tells ≡ true
-    → Elapses (Tells false (response answers.NotBuilt true)) (Tells ok (response answers.NotBuilt true)) old new → Said ok (response answers.NotBuilt true) old new
+    → Elapses (Tells false (response answers.NotBuilt true)) (Tells ok (response answers.NotBuilt true)) old new
+    → Said ok (response answers.NotBuilt true) old new
     → EndsAs put_machine b new given (holds store unread taken) (EachKeeps new store) finished (counted 0 false n) (if ok then endings.Complete else
     endings.Unlinked)
 refuse_leads b old new given store unread taken finished steps n ok g front keeps tells call said =

@@ -1,6 +1,6 @@
 -- The machine that runs: the put of a flow is answered, and its change is made.
 use Rattle.std.specs.Prelude.{◌≡◌, ◌<◌, ◌+◌, ◌-◌, ◌^◌, ◌==◌, ℕ, suc, Bool, true, false, List, Option, Some, None, length, nat_le, unwrap_or, if◌then◌else◌}
-use Rattle.run_history.specs.Machine.{Cutting, Machine, Refusal, Reply}
+use Rattle.run_history.specs.Machine.{BeforeAnswer, Cutting, Machine, Refusal, Reply}
 use Rattle.run_history.specs.Sessions.{most_answers}
 use Rattle.put_service.specs.declared.answer.Answer.{Answer}
 use Rattle.put_service.specs.declared.answer.Answer.TheVariants.{Created, Replaced, FlowChanged, JournalFull, NotBuilt, NoMemory, DiskFault}
@@ -90,7 +90,8 @@ put_reply r moment s =
       change = if is_changing (put_answer s c) then Some (with_put s c) else None;
     }
 
--- The machine. It has no interim, and no turn has anything to do. A file stands for a state by the
+-- The machine. It has no interim, and no turn has anything to do. The disk is called only to write
+-- the record of an answer's change, before the answer begins. A file stands for a state by the
 -- records of its journal, and a state is good by its library.
 abbrev pub put_machine : Machine State PutRequest
 put_machine = record {
@@ -102,6 +103,7 @@ put_machine = record {
   answer = put_reply;
   no_memory = λ r. response NoMemory true;
   disk_fault = λ r. response DiskFault true;
+  may_fail = λ failure. failure ≡ BeforeAnswer true;
   ends = λ r. r.last;
   due = λ moment s. false;
   turn = λ moment s. None;

@@ -1,5 +1,5 @@
 //! The laws of the machine that a contract can say.
-ghost use Rattle.put_service.specs.Laws.{FrontsAreOne, StatesAreGood, StatesAreOne};
+ghost use Rattle.put_service.specs.Laws.{FaultsAreWritings, FrontsAreOne, StatesAreGood, StatesAreOne};
 
 /// An image stands for at most one state.
 pub fn states_are_one()
@@ -14,4 +14,9 @@ pub fn states_are_good()
 /// Where no whole request stands as yet, none begins there, and nothing that is refused.
 pub fn fronts_are_one()
     ensures { FrontsAreOne }
+{}
+
+/// Where the disk failed in a connection the record of a change was being written, and no answer had begun.
+pub fn faults_are_writings()
+    ensures { FaultsAreWritings }
 {}

@@ -13,7 +13,7 @@ mod store;
 mod unread;
 
 pub use crate::change::PutChange;
-pub use crate::laws::{fronts_are_one, states_are_good, states_are_one};
+pub use crate::laws::{faults_are_writings, fronts_are_one, states_are_good, states_are_one};
 pub use crate::library::{Flow, FlowList, Library};
 pub use crate::request::FlowPut;
 pub use crate::service::PutService;

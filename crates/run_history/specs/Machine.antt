@@ -20,6 +20,13 @@ pub record Cutting : Type 0 where
   pub interim : Option (List ℕ)
   pub takes_moment : Bool
 
+-- Where the disk failed in a request: before its answer had begun, within it, or in the turn behind
+-- it; and whether the record of a change was being written then.
+pub data Failure : Type 0 where
+  BeforeAnswer : (writing : Bool) → Failure
+  InAnswer : Failure
+  InTurn : (writing : Bool) → Failure
+
 -- A machine over states and requests.
 -- `spells n text request`: behind n requests of a connection, these bytes are this request's,
 -- whole.
@@ -29,6 +36,7 @@ pub record Cutting : Type 0 where
 -- `cuts text cutting`: of a request that begins with these bytes, this was done before it was cut.
 -- `interim`, `answer`, `no_memory`, `disk_fault`: what a request is told; an answer also by the
 -- moment that it took and the state.
+-- `may_fail failure`: the disk may fail there in a request, as the machine calls it there.
 -- `ends`: whether a request's answer ends its connection.
 -- `due`, `turn`: whether a turn at a moment has something to do, and the state after its change,
 -- none where it does nothing or its change has no room.
@@ -42,6 +50,7 @@ pub record Machine (State Request : Type 0) : Type 1 where
   pub answer : Request → ℕ → State → Reply State
   pub no_memory : Request → List ℕ
   pub disk_fault : Request → List ℕ
+  pub may_fail : Failure → Type 0
   pub ends : Request → Bool
   pub due : ℕ → State → Bool
   pub turn : ℕ → State → Option State

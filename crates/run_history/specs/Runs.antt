@@ -2,8 +2,8 @@
 use Rattle.std.specs.Prelude.{◌≡◌, ◌≤◌, ◌-◌, ◌⊎◌, ℕ, Bool, true, false, List, [], ◌∷◌, ◌++◌, length, map, All}
 use Rattle.disk_trait.specs.Device.{Device, Left, Connection, may_leave}
 use Rattle.site_edge.specs.Saying.{ArePrefixes, IsToldToLast}
-use Rattle.run_history.specs.Machine.{Machine}
-use Rattle.run_history.specs.Steps.{Step, Stopped, BeforeAnswer, InAnswer, InTurn}
+use Rattle.run_history.specs.Machine.{Machine, BeforeAnswer, InAnswer, InTurn}
+use Rattle.run_history.specs.Steps.{Step, Stopped}
 use Rattle.run_history.specs.Sessions.{Session, AreServed, all_moments, bytes_of}
 use Rattle.run_history.specs.Traces.{Trace, IsLeft, CountAtMost, start_of, state_after, state_now, states_of, trace_of}
 

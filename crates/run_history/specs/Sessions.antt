@@ -4,8 +4,8 @@ use Rattle.std.specs.Prelude.{◌≡◌, ◌≢◌, ◌≤◌, ◌+◌, ℕ, suc
 use Rattle.std.specs.List.{flat_map}
 use Rattle.disk_trait.specs.Device.{Connection}
 use Rattle.site_edge.specs.Saying.{IsPrefix}
-use Rattle.run_history.specs.Machine.{Machine, Refusal}
-use Rattle.run_history.specs.Steps.{Step, Answered, Refused, Starved, Stopped, Cut, InAnswer, Made, Skipped, Piece, Interim, Reply, Stage, effect, after_step, piece_bytes, step_text, is_last, IsStep}
+use Rattle.run_history.specs.Machine.{Machine, Refusal, InAnswer}
+use Rattle.run_history.specs.Steps.{Step, Answered, Refused, Starved, Stopped, Cut, Made, Skipped, Piece, Interim, Reply, Stage, effect, after_step, piece_bytes, step_text, is_last, IsStep}
 
 -- ---- the steps of one connection, from a stage of the run
 

@@ -1,6 +1,6 @@
 -- The steps of a connection, and what each tells and changes.
 use Rattle.std.specs.Prelude.{◌≡◌, ◌≢◌, ◌+◌, ◌⊎◌, ℕ, Bool, true, false, List, [], ◌∷◌, ◌++◌, length, Option, Some, None, option_to_list, option_map, unwrap_or, if◌then◌else◌}
-use Rattle.run_history.specs.Machine.{Machine, Refusal}
+use Rattle.run_history.specs.Machine.{Machine, Refusal, Failure, BeforeAnswer, InAnswer, InTurn}
 
 -- a request that was taken: its bytes, what they spell, and the moment that it took
 pub record Ask (Request : Type 0) : Type 0 where
@@ -12,13 +12,6 @@ pub record Ask (Request : Type 0) : Type 0 where
 pub data Turned : Type 0 where
   Made : Turned
   Skipped : Turned
-
--- Where the disk failed: before an answer had begun, within one, or in the turn behind it; and
--- whether the record of a change was being written then.
-pub data Failure : Type 0 where
-  BeforeAnswer : (writing : Bool) → Failure
-  InAnswer : Failure
-  InTurn : (writing : Bool) → Failure
 
 -- One step of a connection.
 -- `Answered`: a request had its interim, its answer and its change, and then its turn.
@@ -161,17 +154,23 @@ abbrev pub after_answer : {State Request : Type 0} → Machine State Request →
     → State
 after_answer m s ask = unwrap_or (m.answer ask.request ask.moment s).change s
 
--- A record is written only of a change that there is, and only of a request that was whole.
+-- A request comes to this place. A record is written only of a change that there is, and only of a
+-- request that was whole.
+abbrev pub ComesTo : {State Request : Type 0} → Machine State Request → ℕ → State → Ask Request
+    → Failure → Type 0
+ComesTo m n s ask (BeforeAnswer true) =
+    m.spells n ask.text ask.request × ((m.answer ask.request ask.moment s).change ≢ None)
+ComesTo m n s ask (BeforeAnswer false) = IsTaken m n ask
+ComesTo m n s ask InAnswer = m.spells n ask.text ask.request
+ComesTo m n s ask (InTurn true) =
+    m.spells n ask.text ask.request × (m.turn ask.moment (after_answer m s ask) ≢ None)
+ComesTo m n s ask (InTurn false) =
+    m.spells n ask.text ask.request × (m.due ask.moment (after_answer m s ask) ≡ true)
+
+-- The disk can fail in a request at a place to which it comes, and at which the machine calls it.
 abbrev pub CanFail : {State Request : Type 0} → Machine State Request → ℕ → State → Ask Request
     → Failure → Type 0
-CanFail m n s ask (BeforeAnswer true) =
-    m.spells n ask.text ask.request × ((m.answer ask.request ask.moment s).change ≢ None)
-CanFail m n s ask (BeforeAnswer false) = IsTaken m n ask
-CanFail m n s ask InAnswer = m.spells n ask.text ask.request
-CanFail m n s ask (InTurn true) =
-    m.spells n ask.text ask.request × (m.turn ask.moment (after_answer m s ask) ≢ None)
-CanFail m n s ask (InTurn false) =
-    m.spells n ask.text ask.request × (m.due ask.moment (after_answer m s ask) ≡ true)
+CanFail m n s ask failure = m.may_fail failure × ComesTo m n s ask failure
 
 -- only a turn that has something to do is skipped
 abbrev pub CanTurn : {State Request : Type 0} → Machine State Request → State → Ask Request

@@ -2,8 +2,8 @@
 -- what it comes to.
 use Rattle.std.specs.Prelude.{◌≡◌, ◌+◌, ◌-◌, ℕ, true, false, List, [], ◌∷◌, Option, Some, None, nat_lt, if◌then◌else◌}
 use Rattle.disk_trait.specs.Device.{Connection}
-use Rattle.run_history.specs.Machine.{Machine, Reply}
-use Rattle.run_history.specs.Steps.{Ask, Step, Answered, Refused, Starved, Stopped, Cut, InAnswer, Made, Piece, Interim}
+use Rattle.run_history.specs.Machine.{Machine, Reply, BeforeAnswer, InAnswer, InTurn}
+use Rattle.run_history.specs.Steps.{Ask, CanFail, Step, Answered, Refused, Starved, Stopped, Cut, Made, Piece, Interim}
 use Rattle.run_history.specs.Steps as steps
 use Rattle.run_history.specs.Sessions.{Hearing, IsServed, Saying, Session, Whole, all_moments, scripts_of, skips_in}
 use Rattle.run_history.specs.Runs.{StandsNow}
@@ -36,6 +36,7 @@ adder = record {
   answer = λ d moment s. demand_reply d s;
   no_memory = λ d. 5 ∷ [];
   disk_fault = λ d. 6 ∷ [];
+  may_fail = λ failure. Unit {0};
   ends = λ d. false;
   due = λ moment s. nat_lt 5 s;
   turn = λ moment s. if nat_lt 5 s then Some (s - 5) else None;
@@ -93,25 +94,25 @@ pub record OtherSteps : Type 0 where
       ≡ 3 ∷ 6 ∷ []
   pub counted : skips_in
       (Answered (asks (Add 3) 1) steps.Skipped ∷ Answered (asks Show 2) Made ∷ []) ≡ 1
-  pub torn : trace_of adder 3 (alone (Stopped (asks (Add 3) 1) (steps.BeforeAnswer true))) ≡
+  pub torn : trace_of adder 3 (alone (Stopped (asks (Add 3) 1) (BeforeAnswer true))) ≡
       record {
         scripts = (Interim (1 ∷ []) ∷ steps.Reply (6 ∷ []) 0 ∷ []) ∷ [];
         first = 3;
         changes = 6 ∷ [];
       }
-  pub untorn : trace_of adder 3 (alone (Stopped (asks (Add 3) 1) (steps.BeforeAnswer false))) ≡
+  pub untorn : trace_of adder 3 (alone (Stopped (asks (Add 3) 1) (BeforeAnswer false))) ≡
       record {
         scripts = (Interim (1 ∷ []) ∷ steps.Reply (6 ∷ []) 0 ∷ []) ∷ [];
         first = 3;
         changes = [];
       }
-  pub turning : trace_of adder 3 (alone (Stopped (asks (Add 3) 1) (steps.InTurn true))) ≡
+  pub turning : trace_of adder 3 (alone (Stopped (asks (Add 3) 1) (InTurn true))) ≡
       record {
         scripts = (Interim (1 ∷ []) ∷ steps.Reply (101 ∷ 3 ∷ []) 1 ∷ []) ∷ [];
         first = 3;
         changes = 6 ∷ 1 ∷ [];
       }
-  pub before_turn : trace_of adder 3 (alone (Stopped (asks (Add 3) 1) (steps.InTurn false))) ≡
+  pub before_turn : trace_of adder 3 (alone (Stopped (asks (Add 3) 1) (InTurn false))) ≡
       record {
         scripts = (Interim (1 ∷ []) ∷ steps.Reply (101 ∷ 3 ∷ []) 1 ∷ []) ∷ [];
         first = 3;
@@ -155,13 +156,38 @@ pub record Serving : Type 0 where
     link = Saying;
   })
 
+-- ---- where the disk may fail
+
+-- the same machine, were its disk called only to write the record of an answer's change
+abbrev pub writing_adder : Machine ℕ Demand
+writing_adder = record adder { may_fail = λ failure. failure ≡ BeforeAnswer true }
+
+-- a connection that was told a byte of its answer
+abbrev pub broken_connection : Connection
+broken_connection =
+    record { heard = 100 ∷ 0 ∷ []; ended = false; failed = false; told = 100 ∷ [] }
+
+-- its session, where the disk failed within that answer
+abbrev pub broken_session : Session Demand
+broken_session = record { steps = Stopped (asks Show 14) InAnswer ∷ []; link = Whole }
+
+-- The disk fails within an answer only of a machine that calls it there, and while a record is
+-- being written only of a request that has a change.
+pub record Failing : Type 0 where
+  pub within : IsServed adder (start_of 2) broken_connection broken_session
+  pub not_within : ¬ (IsServed writing_adder (start_of 2) broken_connection broken_session)
+  pub writing : CanFail writing_adder 0 3 (asks (Add 3) 1) (BeforeAnswer true)
+  pub unchanged : ¬ (CanFail adder 0 3 (asks Show 1) (BeforeAnswer true))
+
+-- ---- how a connection ends
+
 -- a connection of which nothing was heard, nor its end
 abbrev pub open_connection : Connection
 open_connection = record { heard = []; ended = false; failed = false; told = [] }
 
 -- the disk failed while the record of an addition was being written
 abbrev pub torn_trace : Trace ℕ
-torn_trace = trace_of adder 3 (alone (Stopped (asks (Add 3) 1) (steps.BeforeAnswer true)))
+torn_trace = trace_of adder 3 (alone (Stopped (asks (Add 3) 1) (BeforeAnswer true)))
 
 -- A connection that nothing ended is heard to its peer's end. Where a record was being written, the
 -- file may stand for the state before its change or after it, and otherwise for the last one alone.

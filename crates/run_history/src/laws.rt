@@ -1,6 +1,6 @@
 //! The laws that a contract can say. Those over devices are the theorems of the proofs.
 ghost use Rattle.run_history.specs.Laws.{BegunIsGreatest};
-ghost use Rattle.run_history.specs.Worked.{Ending, OtherSteps, Serving, SixSteps};
+ghost use Rattle.run_history.specs.Worked.{Ending, Failing, OtherSteps, Serving, SixSteps};
 
 /// The number of what had begun is the greatest that an answer counts of which a byte was told.
 pub fn begun_is_greatest()
@@ -20,6 +20,11 @@ pub fn other_steps()
 /// A connection is served by its steps, and not where a whole request is left unanswered.
 pub fn serving()
     ensures { Serving }
+{}
+
+/// Where the disk may fail in a request.
+pub fn failing()
+    ensures { Failing }
 {}
 
 /// How a connection that nothing ended must end, and for which states a file may stand at the end.

@@ -4,4 +4,4 @@
 
 mod laws;
 
-pub use crate::laws::{begun_is_greatest, ending, other_steps, serving, six_steps};
+pub use crate::laws::{begun_is_greatest, ending, failing, other_steps, serving, six_steps};

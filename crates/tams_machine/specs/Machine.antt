@@ -8,7 +8,8 @@ use Rattle.tams_http.specs.Constants.{failure}
 use Rattle.tams_machine.specs.Requests.{Heads, IsCut, IsRefused, Spells, TamsRequest, interim_of}
 use Rattle.tams_machine.specs.Answers.{answer_in, is_due, turn_in}
 
--- the machine, over the base of its addresses
+-- the machine, over the base of its addresses: its disk is called before an answer, within it and
+-- in the turn behind it
 abbrev pub tams_machine : List ℕ → Machine StoreState TamsRequest
 tams_machine base = record {
   spells = Spells;
@@ -19,6 +20,7 @@ tams_machine base = record {
   answer = answer_in base;
   no_memory = λ r. failure 500;
   disk_fault = λ r. failure 503;
+  may_fail = λ failure. Unit {0};
   ends = λ r. r.ends;
   due = is_due;
   turn = turn_in;

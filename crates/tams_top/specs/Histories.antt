@@ -27,7 +27,9 @@ pub record BeginsFrom (from : State) (old : Device) (clock : Bool) : Type 0 wher
   pub settled : IsSettled old
   pub stands : StandsFor old.seen from
 
--- A run is one history of these connections, and each moment that it took is one.
+-- A run is one history of these connections, and each moment that it took is one. By the machine
+-- the disk failed in it only while the record of a change was being written, before its answer
+-- began.
 pub record RunsAs (b : Beginning State) (sessions : List (Session PutRequest)) (new : Device)
     (given : List ℕ) : Type 0 where
   pub ran : Ran put_machine b sessions new given
