@@ -1,6 +1,7 @@
 //! What meets the premises of the headline.
-ghost use Rattle.std.specs.Prelude.{◌<◌, true};
-ghost use Rattle.site_edge.specs.MemorySite.{site_device};
+ghost use Rattle.std.specs.Prelude.{◌≡◌, ◌<◌, [], true};
+ghost use Rattle.disk_trait.specs.MemoryDisk.{fresh_disk};
+ghost use Rattle.site_edge.specs.MemorySite.{fresh_site, site_device};
 ghost use Rattle.put_service.specs.Store.{StandsFor, State};
 ghost use Rattle.tams_top.specs.Histories.{BeginsFrom};
 
@@ -8,12 +9,14 @@ use disk_trait::{MemoryDisk, NumberList, Text};
 use site_edge::{MemorySite, PeerList};
 use std::alloc::Global;
 
-/// A site in memory over the bytes of a file, as `format` leaves them, say, whose calls fail for want of
-/// memory alone. One `hear` gives at most `piece` bytes. With a clock that tells, as one over a list, it meets the
-/// premises of a run over a file that stands for a state. It takes no memory.
+/// A site in memory over the bytes of a file, as `format` leaves them, say, with these peers to come, whose
+/// calls fail for want of memory alone. One `hear` gives at most `piece` bytes. With a clock that tells, as
+/// one over a list, it meets the premises of a run over a file that stands for a state. It takes no memory.
 pub fn site_over(alloc: Global, bytes: Text, peers: PeerList, piece: usize) -> MemorySite
     requires { 0 < piece }
-    ensures { (from : State) → StandsFor bytes from → BeginsFrom from (site_device result) true }
+    ensures site { result ≡ fresh_site (fresh_disk bytes []) peers piece [] }
+    ensures premises { (from : State) → StandsFor bytes from
+        → BeginsFrom from (site_device result) true }
 {
     let disk = MemoryDisk::from_bytes(alloc, bytes, NumberList::new(alloc));
     MemorySite::new(alloc, disk, peers, piece, NumberList::new(alloc))

@@ -7,8 +7,8 @@ use Rattle.put_service.specs.Store.{StandsFor}
 use Rattle.tams_top.proofs.premises.site_over.Goals as goal
 
 -- what was made of the bytes reads as they, and leaves them alone
-pub returns : goal.returns
-returns c =
+pub returns-clause-premises : goal.returns-clause-premises
+returns-clause-premises c =
     let disk = c.from_bytes-disk.ensures.disk in
     let seen : seen_of c.from_bytes-disk.result.past ≡ c.args.bytes = ap (λ d. seen_of d.past) disk in
     let same : seen_of c.new-3.result.disk.past ≡ seen_of c.from_bytes-disk.result.past = ap (λ s. seen_of s.disk.past) c.new-3.ensures.site in
