@@ -18,7 +18,7 @@ use Rattle.connection_loop.specs.declared.connection.Next.TheVariants as next
 use Rattle.connection_loop.specs.declared.run.RunEnd.TheVariants as run
 use Rattle.connection_loop.specs.Turns.{EndsAs, GivesMore, IsBetween, LinkCount, SameImages, SiteCalls, TellsAll, disk_held, ending_of, is_stopped}
 use Rattle.connection_loop.specs.Loops.{AreCounted, GoesOnBetween, HasEnded, HasServedSo, NextCalls, NextLeads, RunCalls}
-use Rattle.connection_loop.proofs.Turning.{gives_none, gives_twice, tells_later}
+use Rattle.connection_loop.proofs.Turning.{counted_none, gives_none, gives_twice, tells_later}
 
 -- ---- images
 
@@ -68,13 +68,6 @@ ended_calls ending within ended within_too ended_too old came served new waits p
   link_faults = rw (closes.counted.stays refl, ← waits.counted.stays refl) calls.link_faults;
   peer_faults = rw (closed.peers.peer_faults, calls.peer_faults) peers;
   closed = λ idle. closed.under_way;
-}
-
-counted_none : (before now : ℕ) → now ≡ before → IsCounted true before now
-counted_none before now same = record {
-  never_falls = omega (arith, same);
-  stays = λ _. same;
-  rises = λ no. absurd (false≢true (sym no));
 }
 
 -- the call that found that no more will come
@@ -151,8 +144,9 @@ counted_later a b c (s ∷ sessions) so_far least more =
 
 -- a connection more
 pub between_more : {State Request : Type 0} (m : Machine State Request) (b : Beginning State) (first now d : Device) (given : List ℕ)
-    (held : Held State) (keeps : Type 0) (sessions : List (Session Request)) (n : Counts) (ending : Ending) (counter : ℕ) → EndsAs m b d given held keeps sessions n ending
-    → is_stopped ending ≡ false → length sessions ≡ counter → AreCounted first.link.faults now.link.faults sessions
+    (held : Held State) (keeps : Type 0) (sessions : List (Session Request)) (n : Counts) (ending : Ending) (counter : ℕ)
+    → EndsAs m b d given held keeps sessions n ending → is_stopped ending ≡ false → length sessions ≡ counter
+    → AreCounted first.link.faults now.link.faults sessions
     → first.link.faults ≤ now.link.faults → LinkCount (Some ending) now.link.faults d.link.faults
     → GoesOnBetween m b first d given held keeps n (counter + 1)
 between_more m b first now d given held keeps sessions n ending counter e on count counted least faults =

@@ -4,7 +4,7 @@ use Rattle.std.proofs.lemmas.Bool.{false≢true}
 use Rattle.std.proofs.lemmas.List.{append-nil, append_assoc}
 use Rattle.std.proofs.lemmas.List.Elements.{All-append, All-nil}
 use Rattle.disk_trait.specs.Device.{Device}
-use Rattle.disk_trait.specs.Calls.{SameDevice}
+use Rattle.disk_trait.specs.Calls.{IsCounted, SameDevice}
 use Rattle.disk_trait.proofs.Theorems.{counted_twice, same_device_twice}
 use Rattle.site_edge.specs.Clocks.{IsMoment}
 use Rattle.run_history.specs.Machine.{Machine}
@@ -17,11 +17,19 @@ use Rattle.connection_loop.specs.declared.ending.Ending.TheVariants.{Complete, C
 use Rattle.connection_loop.specs.Turns.{GivesMore, GoesOn, LinkCount, SiteCalls, TellsAll, disk_held}
 use Rattle.connection_loop.specs.Loops.{HasTurned}
 
+-- a count that no call raised
+pub counted_none : (before now : ℕ) → now ≡ before → IsCounted true before now
+counted_none before now same = record {
+  never_falls = omega (arith, same);
+  stays = λ _. same;
+  rises = λ no. absurd (false≢true (sym no));
+}
+
 -- nothing was called
 pub no_calls : (d : Device) → SiteCalls None d d
 no_calls d = record {
   same = record { size = refl; honest = refl; shows = refl; tells = refl };
-  faults = record { never_falls = omega arith; stays = λ _. refl; rises = λ no. absurd (false≢true (sym no)) };
+  faults = counted_none d.faults d.faults refl;
   link_faults = refl;
   peer_faults = refl;
   under_way = refl;

@@ -2,7 +2,7 @@
 use Rattle.std.proofs.Common.{◌≡◌, ◌≢◌, ℕ, Bool, true, List, Err, refl, ap, inl, inr, arith}
 use Rattle.std.proofs.lemmas.List.Elements.{All-nil}
 use Rattle.disk_trait.specs.Device.{Device, IsDevice, Link}
-use Rattle.disk_trait.specs.Calls.{DiskReads, IsCounted, Rose}
+use Rattle.disk_trait.specs.Calls.{DiskReads, Rose}
 use Rattle.site_edge.specs.Clocks.{IsMoment}
 use Rattle.media_journal.specs.declared.fault.JournalFault.{JournalFault}
 use Rattle.media_journal.specs.declared.fault.JournalFault.TheVariants as opening
@@ -13,6 +13,7 @@ use Rattle.run_history.specs.Serving.{Counts}
 use Rattle.connection_loop.specs.declared.run.RunEnd.{RunEnd}
 use Rattle.connection_loop.specs.declared.run.RunEnd.TheVariants.{Complete, NoMore, Unlinked, Stopped}
 use Rattle.connection_loop.specs.Loops.{RunCalls, run_disk_held, run_peers_held}
+use Rattle.connection_loop.proofs.Turning.{counted_none}
 use Rattle.put_service.specs.declared.service.PutService.{PutService}
 use Rattle.put_service.specs.Opening.{ServiceAnswer, StandsForNone}
 use Rattle.put_service.specs.Serving.{beginning}
@@ -103,9 +104,6 @@ refused_disk opening.NotStore = refl
 refused_disk (opening.Damaged at) = refl
 refused_disk opening.Disk = refl
 refused_disk opening.Memory = refl
-
-counted_none : (before now : ℕ) → now ≡ before → IsCounted true before now
-counted_none before now same = record { never_falls = omega (arith, same); stays = λ _. same; rises = λ no. absurd cc }
 
 module _ (old new : Device) (clock : Bool) (begun : List ℕ) (fault : JournalFault)
     (sound : IsDevice old)
