@@ -148,7 +148,8 @@ pub answer_leads : {State Request : Type 0} (m : Machine State Request) (b : Beg
     → TurnLeads m b new (given ++ moments) (held_behind held.taken state rest) keeps finished (counted_step n states (Answered ask Made)) (machine_ending ok
     last)
 answer_leads m b old mid new given held finished steps n ask bytes made states moments rest true false s ends few keeps kept state state_is =
-    step_goes m b old mid new given held finished steps n (Answered ask Made) bytes made states moments rest true false s refl ends (few refl) keeps kept state state_is
+    step_goes m b old mid new given held finished steps n (Answered ask Made) bytes made states moments rest true false s refl ends (few refl) keeps kept
+    state state_is
 answer_leads m b old mid new given held finished steps n ask bytes made states moments rest true true s ends few keeps kept state state_is =
     step_ends m b old mid new given held finished steps n (Answered ask Made) bytes made states moments rest true false s Complete refl
     (λ stays. absurd (false≢true (sym stays ∙ ends))) (λ stays. absurd (false≢true (sym stays ∙ ends))) keeps (λ on. kept)

@@ -198,7 +198,8 @@ module _ (from : State) (old new : Device) (begun given : List ℕ) (o : Outcome
       let on = no_stops (stops session.steps) (run_stops sessions) e in (
         (λ fed. whole-by (starves session.steps) session.link (is_cut session.steps) fed (subst
             (λ (stopped : Bool).
-            ending_by stopped (starves session.steps) (has_failed session.link) (is_cut session.steps) ≡ endings.Unlinked → Rose old.link.faults new.link.faults)
+            ending_by stopped (starves session.steps) (has_failed session.link) (is_cut session.steps) ≡ endings.Unlinked
+            → Rose old.link.faults new.link.faults)
             on.0 counted.0)),
         all-whole sessions on.1 counted.1,
       )
