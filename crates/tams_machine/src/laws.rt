@@ -1,6 +1,8 @@
 //! The laws of the machine that a contract can say.
+ghost use Rattle.tams_machine.specs.Worked.{MachineAsWorked};
 ghost use Rattle.tams_machine.specs.Laws.{AnswersKeepBytes, AnswersKeepGood, RequestsAreOne, RequestsSendBytes, TurnsKeepBytes, TurnsKeepGood};
 
+use change_codec::fits_as_worked;
 use library_laws::turns_apply;
 
 /// The front of a connection's bytes spells one request at most.
@@ -25,4 +27,11 @@ pub fn turns_keep()
     ensures bytes { TurnsKeepBytes }
 {
     turns_apply();
+}
+
+/// An interim, the last request of a connection, the put of a flow, the bytes of an object and a turn, by hand.
+pub fn machine_as_worked()
+    ensures { MachineAsWorked }
+{
+    fits_as_worked();
 }

@@ -4,4 +4,6 @@
 
 mod laws;
 
-pub use crate::laws::{answers_keep, requests_are_one, requests_send_bytes, turns_keep};
+pub use crate::laws::{
+    answers_keep, machine_as_worked, requests_are_one, requests_send_bytes, turns_keep,
+};
