@@ -1,8 +1,8 @@
 -- The references that a book of objects keeps, where they are those of the segments: what a book says of them it
 -- says of the segments, and a segment that comes or goes is one reference more or less.
-use Rattle.std.proofs.Common.{◌≡◌, ◌⊎◌, inl, inr, ℕ, ◌+◌, nat_lt, Bool, true, false, not, ◌&&◌, ◌||◌, cond, List, [], ◌∷◌, ◌++◌, Option, Some, None, filter, length, map, bytes_eq, refl, sym, ap, ap₂, subst, ◌∙◌, arith, append-nil}
-use Rattle.std.specs.Prelude.{◌==◌, nat_le, is_some}
-use Rattle.std.specs.List.{AllByRecursion, list_all, list_any}
+use Rattle.std.proofs.Common.{◌≡◌, inl, inr, ℕ, ◌+◌, nat_lt, Bool, true, false, not, ◌&&◌, ◌||◌, cond, List, [], ◌∷◌, ◌++◌, filter, map, bytes_eq, refl, sym, ap, ap₂, subst, ◌∙◌, arith}
+use Rattle.std.specs.Prelude.{◌==◌, nat_le}
+use Rattle.std.specs.List.{AllByRecursion, list_any}
 use Rattle.std.proofs.lemmas.Bool.Decides.{nat_tests}
 use Rattle.std.proofs.lemmas.List.{map-append}
 use Rattle.std.proofs.lemmas.List.Elements.{filter-append}
@@ -18,9 +18,9 @@ use Rattle.library_laws.proofs.PageLemmas.{IsOrder}
 use Rattle.segment_book.proofs.Ordered.{Comparable, put_last}
 use Rattle.segment_book.proofs.Gaining.{Gains}
 use Rattle.object_refs.specs.declared.kept.Kept.{Kept}
-use Rattle.object_refs.specs.References.{changed_at, flows_in, less_one, objects_in, reference_of, references_in, references_to, referred, refers, released}
+use Rattle.object_refs.specs.References.{changed_at, flows_in, less_one, objects_in, reference_of, references_in, references_to, referred, released}
 use Rattle.reference_laws.specs.Ties.{AreTied, flows_to}
-use Rattle.reference_laws.specs.Laws.{DueAreSame, NamesAreSame, ObjectsChange, ObjectsCome, ObjectsGo, ReferencesCome, ReferencesGo, Released}
+use Rattle.reference_laws.specs.Laws.{DueAreSame, NamesAreSame, ObjectsChange, ObjectsCome, ObjectsGo, ReferencesCome, ReferencesGo}
 
 -- ---- numbers in order
 

@@ -1,7 +1,6 @@
 -- Laws of objects whose references are those of the segments: what is said of references is said of
 -- segments, and it stays so with each call of a book of objects.
-use Rattle.std.specs.Prelude.{◌≡◌, ℕ, List, [], ◌∷◌, ◌++◌, Contains, IsFalse, IsTrue, is_some}
-use Rattle.media_rows.specs.declared.object.ObjectRow.{ObjectRow}
+use Rattle.std.specs.Prelude.{◌≡◌, ℕ, List, ◌∷◌, ◌++◌, Contains, IsFalse, IsTrue, is_some}
 use Rattle.media_rows.specs.declared.segment.SegmentRow.{SegmentRow}
 use Rattle.media_rows.specs.Good.{are_object_ids_distinct}
 use Rattle.media_rows.specs.Objects.{due_objects, flows_naming, idled, is_named, object_of, reference_count}
