@@ -10,7 +10,7 @@ ghost use Rattle.webhook_outbox.specs.Posting.{shown_in};
 ghost use Rattle.core_views.specs.Pages.{key_behind};
 ghost use Rattle.core_views.specs.Shown.{IsShown};
 
-use crate::pages::{first_rows, key_behind, rows_past};
+use crate::pages::{first_rows, id_before, key_behind, rows_past};
 use crate::parts::{flow_part, source_part};
 use delete_work::DeleteBook;
 use disk_trait::{Duplicate, Memory};
@@ -40,7 +40,7 @@ pub fn sources_view(
     ensures { IfOk result (λ view. view
         ≡ shown_sources page.now (filter (passes_source wanted.now) catalog.now.sources)) }
 {
-    let listed = catalog.list_sources(alloc, wanted, None)?;
+    let listed = catalog.list_sources(alloc, wanted, id_before(page))?;
     let past = rows_past(alloc, listed.items(), page)?;
     source_page(alloc, &past, page.limit)
 }

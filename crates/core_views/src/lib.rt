@@ -10,4 +10,4 @@ pub use crate::books::{
     flow_part_view, hooks_view, request_view, requests_view, source_part_view, source_view,
     sources_view,
 };
-pub use crate::pages::{Keyed, first_rows, key_behind, rows_past};
+pub use crate::pages::{Keyed, first_rows, id_before, key_behind, rows_past};

@@ -1,9 +1,9 @@
 //! Pages of rows by their keys.
 ghost use Rattle.std.specs.Prelude.{◌≡◌, ℤ, IfOk, option_map, option_copied, reverse, take, if◌then◌else◌};
 ghost use Rattle.media_rows.specs.Lists.{is_past, items_past, last_key};
-ghost use Rattle.media_rows.specs.Views.{flow_key, source_key};
+ghost use Rattle.media_rows.specs.Views.{flow_key, id_key, source_key};
 ghost use Rattle.shared_tree.specs.Pairs.{values_of};
-ghost use Rattle.core_views.specs.Pages.{key_behind};
+ghost use Rattle.core_views.specs.Pages.{key_before, key_behind};
 
 use disk_trait::Memory;
 use id_index::id_key;
@@ -52,6 +52,28 @@ pub fn rows_past<'a, T: Keyed>(
         past.reverse();
     }
     Ok(past)
+}
+
+/// The id behind which the rows of a page lie, where it goes forward from a key. The others needn't be listed.
+pub fn id_before(page: &Page) -> Option<u128>
+    ensures { option_map id_key result ≡ key_before page.now }
+{
+    if page.reverse {
+        return None;
+    }
+    page.after.map(id_of_key)
+}
+
+/// The id of a key.
+fn id_of_key(key: i128) -> u128
+    ensures { id_key result ≡ key }
+{
+    const HALF: u128 = 1 << 127;
+    if key < 0 {
+        (key + i128::MAX + 1) as u128
+    } else {
+        key as u128 + HALF
+    }
 }
 
 /// Whether a key lies behind the one after which a page begins.

@@ -8,6 +8,6 @@ use Rattle.core_views.proofs.books.sources_view.Goals as goal
 pub returns : goal.returns
 returns c =
     if_ok c.source_page.result
-    (λ view is. is ∙ sources_shown c.args.page.now c.args.wanted.now c.args.catalog.now.sources c.in_ok-listed.listed c.items.result.now
-    (values_of c.in_ok-past.past.items) (values_of c.deref.result.now) c.in_ok-listed.ensures.exact c.items.ensures c.in_ok-past.ensures
+    (λ view is. is ∙ sources_shown c.args.page.now c.args.wanted.now c.id_before.result c.args.catalog.now.sources c.in_ok-listed.listed c.items.result.now
+    (values_of c.in_ok-past.past.items) (values_of c.deref.result.now) c.id_before.ensures c.in_ok-listed.ensures.exact c.items.ensures c.in_ok-past.ensures
     (ap values_of c.deref.ensures.value)) c.source_page.ensures
