@@ -9,7 +9,7 @@ ghost use Rattle.core_views.specs.Pages.{key_behind};
 ghost use Rattle.core_views.specs.Shown.{IsShown};
 
 use core_parts::Parts;
-use core_views::{first_rows, key_behind, rows_past};
+use core_views::{first_rows, id_before, key_behind, rows_past};
 use disk_trait::{Duplicate, Memory};
 use media_book::MediaBook;
 use media_rows::{BookFault, FlowFilter, FlowRow, FlowShown, FlowShownList, Page, Refusal, View};
@@ -40,7 +40,10 @@ pub(crate) fn flows_view(
         (listed_flows parts.now wanted.now range.now)) }
 {
     let media = parts.media();
-    let listed = parts.registry().catalog().list_flows(alloc, wanted, None)?;
+    let listed = parts
+        .registry()
+        .catalog()
+        .list_flows(alloc, wanted, id_before(page))?;
     let past = rows_past(alloc, listed.items(), page)?;
     let met = met_flows(alloc, media, &past, range)?;
     flow_page(alloc, media, &met, page.limit)

@@ -41,6 +41,14 @@ values_by : {X : Type 0} (back : Bool) (rows : List (Bor X))
 values_by true rows = values_turned rows
 values_by false rows = refl
 
+-- a list is turned round, or stays
+pub turned : {X : Type 0} (back : Bool) (rows other all : List X) → back ≡ true → all ≡ other → other ≡ reverse rows
+    → all ≡ (if back then reverse rows else rows)
+turned back rows other all is same turn = same ∙ turn ∙ sym (ap (λ b. if b then reverse rows else rows) is)
+
+pub stays : {X : Type 0} (back : Bool) (rows all : List X) → back ≡ false → all ≡ rows → all ≡ (if back then reverse rows else rows)
+stays back rows all is same = same ∙ sym (ap (λ b. if b then reverse rows else rows) is)
+
 -- ---- what lies past a page's key
 
 -- the rows past a page's key, turned round where the page goes backwards, are the page's
