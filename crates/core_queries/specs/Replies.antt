@@ -1,0 +1,20 @@
+-- The reply to an asking command. Our own profile of the Time-addressable Media Store.
+use Rattle.std.specs.Prelude.{◌≡◌, Option, Some, Result, Ok, Err, option_map}
+use Rattle.media_rows.specs.declared.refusal.BookFault.{BookFault}
+use Rattle.media_rows.specs.declared.refusal.BookFault.TheVariants as books
+use Rattle.media_rows.specs.declared.refusal.Refusal.{Refusal}
+use Rattle.media_rows.specs.declared.reply.Reply.{Reply}
+use Rattle.media_rows.specs.declared.reply.Reply.TheVariants as replies
+use Rattle.media_rows.specs.declared.reply.View.{View}
+
+-- what is shown is the reply, and a refusal stays
+abbrev pub replied : Result View Refusal → Result Reply Refusal
+replied (Ok view) = Ok (replies.Shown view)
+replied (Err refusal) = Err refusal
+
+-- A question is answered by what it shows, and a refusal as it is. Want of memory may stand at any
+-- place.
+abbrev pub IsReply : Option (Result View Refusal) → Result Reply BookFault → Type 0
+IsReply shown (Ok reply) = option_map replied shown ≡ Some (Ok reply)
+IsReply shown (Err (books.Refused why)) = option_map replied shown ≡ Some (Err why)
+IsReply shown (Err books.Memory) = Unit {0}
