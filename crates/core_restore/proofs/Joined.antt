@@ -46,8 +46,8 @@ parts_of_good media library good =
     (and_from (are_media_good (media_of library)) (is_rest_good library) (media library good)
     (and_from (can_restore (registry_rows library)) (are_tied library.catalog.flows library.segments library.requests)
     (and_from _ _ own.can_catalog (and_from _ _ own.can_requests own.can_outbox))
-    (and_from (list_all (λ (row : SegmentRow). is_kept library.catalog.flows row.flow) library.segments) _ (kept_of library.catalog.flows library.segments rows.1)
-    asked.0)))
+    (and_from (list_all (λ (row : SegmentRow). is_kept library.catalog.flows row.flow) library.segments) _
+    (kept_of library.catalog.flows library.segments rows.1) asked.0)))
 
 -- ---- and where its parts are good, so is it
 
@@ -70,7 +70,8 @@ good_of_parts id blocks next kinds order e =
     let values = and_parts (are_serials_good library.next_serial (serials_of library)) (are_texts_good library) a.0 in
     let b = and_parts (are_media_good (media_of library)) (is_rest_good library) a.1 in
     let media = and_parts (are_objects_good library.blocks objects) (are_rows_good objects segments) b.0 in
-    let kept = and_parts (are_extents_good library.blocks objects) (are_object_ids_distinct objects && rises_by (λ (row : ObjectRow). row.serial) objects) media.0 in
+    let kept = and_parts (are_extents_good library.blocks objects)
+    (are_object_ids_distinct objects && rises_by (λ (row : ObjectRow). row.serial) objects) media.0 in
     let ids = and_parts (are_object_ids_distinct objects) (rises_by (λ (row : ObjectRow). row.serial) objects) kept.1 in
     let pairs = and_parts (each_pair are_compatible segments) _ media.1 in
     let ends = and_parts (list_all (λ (row : SegmentRow). has_both_ends row.segment.range) segments) _ pairs.1 in
@@ -84,10 +85,12 @@ good_of_parts id blocks next kinds order e =
     let asked = and_parts _ (nat_le (done_count library.requests) done_kept) others.0 in
     let outbox = and_parts _ (is_outbox_good library.outbox) others.1 in
     let urls = and_parts (are_urls_distinct library.outbox.hooks) _ outbox.0 in
-    let tied = and_parts (list_all (λ (row : SegmentRow). is_kept flows row.flow) segments) (list_all (is_request_good flows segments) library.requests) rest.1 in
+    let tied = and_parts (list_all (λ (row : SegmentRow). is_kept flows row.flow) segments)
+    (list_all (is_request_good flows segments) library.requests) rest.1 in
     let serials = Serials-from library.next_serial (serials_of library) values.0 in
     record {
-      segments = and_from (each_pair are_compatible segments) (list_all (is_segment_good flows) segments) pairs.0 (segments_of_both flows segments ends.0 tied.0);
+      segments = and_from (each_pair are_compatible segments) (list_all (is_segment_good flows) segments) pairs.0
+          (segments_of_both flows segments ends.0 tied.0);
       references = named.0;
       extents = kept.0;
       names = Names-test library (record {

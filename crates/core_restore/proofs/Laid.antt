@@ -21,7 +21,7 @@ use Rattle.core_rows.specs.Kinds.{Kinds, KindsMakeTheLibrary, joined, kind_of, k
 use Rattle.library_laws.specs.RowLaws.{RowsGiveTheLibrary, RowsRise}
 use Rattle.library_laws.proofs.ChangesKept.{good_is_tested}
 use Rattle.library_laws.proofs.ListLemmas.{In-back, list_any-from_In}
-use Rattle.core_restore.specs.Restored.{LibrarysRowsAreTested, TestedRowsAreALibrarys, have_numbers}
+use Rattle.core_restore.specs.Restored.{RowsOfALibraryPass, PassingRowsAreOfALibrary, have_numbers}
 use Rattle.core_restore.proofs.Backed.{back, by_flow}
 use Rattle.core_restore.proofs.Handing.{numbers_are}
 use Rattle.core_restore.proofs.Parted.{absent_of, flows, hooks, objects, requests, rise_of, segments, sources}
@@ -75,7 +75,8 @@ none_last next (y ∷ ys) all = absurd (by y (and_parts (row_before (rows.Number
     by (rows.Event x) e = false≢true e
     by (rows.Numbers n) e = false≢true e
 
-laid_first : (row : Row) (later : List Row) → list_all (row_before row) later ≡ true → laid (joined (kind_of row) (kinds_of later)) ≡ row ∷ laid (kinds_of later)
+laid_first : (row : Row) (later : List Row) → list_all (row_before row) later ≡ true
+    → laid (joined (kind_of row) (kinds_of later)) ≡ row ∷ laid (kinds_of later)
 laid_first (rows.Source x) later all = refl
 laid_first (rows.Flow x) later all =
     let row = rows.Flow x in
@@ -156,8 +157,8 @@ rows_are id blocks all e some =
     (map rows.Event kinds.events) (rows.Numbers (unwrap_or kinds.next_serial 1) ∷ [])
     ∙ rw (segments_back all e, last_is kinds.next_serial (sym (numbers_are all) ∙ some)) (laid_out all e)
 
-pub tested_rows : KindsMakeTheLibrary → TestedRowsAreALibrarys
-tested_rows made id blocks all e =
+pub passing_rows : KindsMakeTheLibrary → PassingRowsAreOfALibrary
+passing_rows made id blocks all e =
     let parts = and_parts (rises row_before all) (have_numbers all && is_good (library_of id blocks all)) e in
     let rest = and_parts (have_numbers all) (is_good (library_of id blocks all)) parts.1 in
     record {
@@ -176,8 +177,8 @@ numbered library =
     ++ map rows.Segment (in_order segment_row_before library.segments) ++ map rows.Request library.requests ++ map rows.Hook library.outbox.hooks
     ++ map rows.Event library.outbox.events) (rows.Numbers library.next_serial ∷ []) (rows.Numbers library.next_serial) (inl refl)) refl
 
-pub librarys_rows : RowsGiveTheLibrary → RowsRise → LibrarysRowsAreTested
-librarys_rows gives rise id blocks all library fine has =
+pub rows_pass : RowsGiveTheLibrary → RowsRise → RowsOfALibraryPass
+rows_pass gives rise id blocks all library fine has =
     let same : library_of id blocks all ≡ library =
     rw (sym has.named, sym has.sized, sym has.listed) (gives library has.good) in
     and_from (rises row_before all) (have_numbers all && is_good (library_of id blocks all))

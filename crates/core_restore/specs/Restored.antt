@@ -28,12 +28,12 @@ pub record HasRows (id blocks : ℕ) (rows : List Row) (library : Library) : Typ
   pub listed : rows_of library ≡ rows
 
 -- rows that pass the test are those of the library that they make
-abbrev pub TestedRowsAreALibrarys : Type 0
-TestedRowsAreALibrarys = (id blocks : ℕ) (rows : List Row)
+abbrev pub PassingRowsAreOfALibrary : Type 0
+PassingRowsAreOfALibrary = (id blocks : ℕ) (rows : List Row)
     → IsTrue (are_rows_of_good id blocks rows) → HasRows id blocks rows (library_of id blocks rows)
 
 -- and the rows of each good library pass it
-abbrev pub LibrarysRowsAreTested : Type 0
-LibrarysRowsAreTested = (id blocks : ℕ) (rows : List Row) (library : Library)
+abbrev pub RowsOfALibraryPass : Type 0
+RowsOfALibraryPass = (id blocks : ℕ) (rows : List Row) (library : Library)
     → HaveRanges library.segments → HasRows id blocks rows library
     → IsTrue (are_rows_of_good id blocks rows)

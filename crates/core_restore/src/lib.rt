@@ -9,5 +9,5 @@ mod serials;
 mod ties;
 mod values;
 
-pub use crate::laws::rows_are_a_librarys;
+pub use crate::laws::rows_of_libraries_pass;
 pub use crate::parts::parts_of_rows;
