@@ -3,7 +3,7 @@ ghost use Rattle.std.specs.Prelude.{◌≡◌, IfOk};
 ghost use Rattle.media_rows.specs.Library.{empty_library};
 ghost use Rattle.media_book.specs.Media.{media_of};
 ghost use Rattle.core_registry.specs.Registry.{registry_of};
-ghost use Rattle.core_parts.specs.Parts.{made_of};
+ghost use Rattle.core_parts.specs.Parts.{library_of_parts, made_of};
 
 use core_registry::Registry;
 use disk_trait::Memory;
@@ -40,6 +40,22 @@ impl Parts {
             id,
             media: Rc::new(alloc, MediaBook::empty(alloc, blocks)?)?,
             registry: Registry::empty(alloc)?,
+        })
+    }
+
+    /// The library of this id that has these media, and all else of this registry.
+    pub fn of(
+        alloc: Global,
+        id: u128,
+        media: MediaBook,
+        registry: Registry,
+    ) -> Result<Parts, Memory>
+        ensures { IfOk result (λ parts. parts ≡ library_of_parts id media registry) }
+    {
+        Ok(Parts {
+            id,
+            media: Rc::new(alloc, media)?,
+            registry,
         })
     }
 

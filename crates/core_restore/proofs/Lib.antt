@@ -1,0 +1,9 @@
+mod Sorting
+mod Rising
+mod Numbered
+mod Parted
+mod Lasting
+mod Joined
+mod Handing
+mod Backed
+mod Laid

@@ -1,0 +1,3 @@
+pub mod Restored
+pub mod Within
+pub use Rattle.media_rows.specs.Snapshot
