@@ -1,8 +1,8 @@
 //! Rows as text.
-ghost use Rattle.std.specs.Prelude.{◌≡◌, ◌++◌, ◌∷◌, [], OnOk, map};
+ghost use Rattle.std.specs.Prelude.{◌≡◌, ◌∷◌, [], OnOk, map};
 ghost use Rattle.media_rows.specs.declared.row.Row.{Row};
 ghost use Rattle.media_rows.specs.declared.row.Row.TheVariants as rows;
-ghost use Rattle.core_rows.specs.Texts.{text_of};
+ghost use Rattle.core_rows.specs.Texts.{AddsRows};
 
 use change_codec::encode_row;
 use disk_trait::{Duplicate, Memory, Text};
@@ -76,7 +76,7 @@ impl AnyRow for EventRow {
 
 /// Adds the text of rows of one kind at the end. A row that has no spelling is want of memory.
 pub fn append_rows<T: AnyRow>(alloc: Global, list: &[T], text: &mut Text) -> Result<(), Memory>
-    ensures { OnOk result (text.new ≡ text.old ++ text_of (map T.as_row list.now)) }
+    ensures { OnOk result (AddsRows text.old (map T.as_row list.now) text.new) }
 {
     for item in list {
         let row = item.duplicate(alloc)?.into_row();
@@ -87,7 +87,7 @@ pub fn append_rows<T: AnyRow>(alloc: Global, list: &[T], text: &mut Text) -> Res
 
 /// Adds the text of the row of numbers, the last one of a snapshot.
 pub fn append_next_serial(alloc: Global, next_serial: u64, text: &mut Text) -> Result<(), Memory>
-    ensures { OnOk result (text.new ≡ text.old ++ text_of (rows.Numbers next_serial ∷ [])) }
+    ensures { OnOk result (AddsRows text.old (rows.Numbers next_serial ∷ []) text.new) }
 {
     encode_row(alloc, &Row::Numbers { next_serial }, text)
 }

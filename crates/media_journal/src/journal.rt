@@ -55,6 +55,14 @@ impl Journal {
         self.room
     }
 
+    /// The blocks of a half.
+    pub fn half(&self) -> u64
+        ensures half { result ≡ self.now.half }
+        ensures most { result ≤ MOST_HALF }
+    {
+        self.half
+    }
+
     /// Adds the frame's payload as the last record. Its bytes are synced before its gate is opened, and
     /// the open gate before the call answers. After `Disk` the journal must be opened again.
     pub fn append<D: Disk>(&mut self, disk: &mut D, frame: &Frame) -> Result<(), AppendFault>

@@ -28,10 +28,11 @@ use Rattle.media_rows.specs.Outbox.{hook_of}
 use Rattle.media_rows.specs.Ranges.{eternity}
 use Rattle.media_rows.specs.Requests.{step_size}
 use Rattle.media_rows.specs.Segments.{covered, segments_of}
+use Rattle.store_states.specs.Fitting.{fitted_by}
 use Rattle.store_states.specs.States.{StoreState}
 use Rattle.tams_http.specs.declared.ask.Ask.{Ask}
 use Rattle.tams_http.specs.declared.ask.Ask.TheVariants.{GetMedia, PutMedia, Run}
-use Rattle.tams_machine.specs.Answers.{fitting_by, journal_of, outcome_by, question_of, state_after, turned_by}
+use Rattle.tams_machine.specs.Answers.{journal_of, outcome_by, question_of, state_after, turned_by}
 use Rattle.tams_machine.specs.Laws.{KeepsBytes, is_sent}
 
 -- ---- one change
@@ -146,11 +147,11 @@ if_fits : (s : StoreState) (came : List ℕ) (reply : Reply) (change : Change) (
 if_fits s came reply change true good applies size is = kept s change came good applies is size
 if_fits s came reply change false good applies size is = tt
 
-fitted : (s : StoreState) (came : List ℕ) (reply : Reply) (change : Option Change) → IsGoodArchive s.archive
+fitted_leaves : (s : StoreState) (came : List ℕ) (reply : Reply) (change : Option Change) → IsGoodArchive s.archive
     → IfSome change (AppliesWithin s.archive.library) → IfSome change (λ c. fits_bytes c came ≡ true)
-    → Leaves s came (fitting_by s (record { reply = reply; change = change }) change)
-fitted s came reply None good applies size = tt
-fitted s came reply (Some change) good applies size = if_fits s came reply change _ good applies size refl
+    → Leaves s came (fitted_by (journal_of s) (record { reply = reply; change = change }) change)
+fitted_leaves s came reply None good applies size = tt
+fitted_leaves s came reply (Some change) good applies size = if_fits s came reply change _ good applies size refl
 
 pub asked_keeps : (s : StoreState) (body : List ℕ) (moment : ℕ) (asked : Result Ask Refusal) → IsGoodArchive s.archive → is_moment moment ≡ true
     → IfOk asked (λ ask. IsTrue (is_good_question s.archive.library (question_of ask body))) → IfOk asked (λ ask. IsTrue (is_sent ask))
@@ -158,7 +159,7 @@ pub asked_keeps : (s : StoreState) (body : List ℕ) (moment : ℕ) (asked : Res
 asked_keeps s body moment (Err refusal) good at fine sent = tt
 asked_keeps s body moment (Ok ask) good at fine sent =
     let outcome = answer_to s.archive (question_of ask body) moment in
-    fitted s body outcome.reply outcome.change good (questions_apply s.archive (question_of ask body) moment good.good fine at)
+    fitted_leaves s body outcome.reply outcome.change good (questions_apply s.archive (question_of ask body) moment good.good fine at)
     (questions_take s ask body moment good at sent)
 
 -- what holds of the state after each change holds of the next state

@@ -5,7 +5,6 @@ use Rattle.http_wire.specs.Framing.{method_kind}
 use Rattle.http_wire.specs.Response.{body_unless}
 use Rattle.media_rows.specs.declared.change.Change.{Change}
 use Rattle.media_rows.specs.declared.refusal.Refusal.{Refusal}
-use Rattle.media_rows.specs.declared.refusal.Refusal.TheVariants.{JournalFull}
 use Rattle.media_rows.specs.declared.reply.Reply.{Reply}
 use Rattle.media_rows.specs.declared.reply.Reply.TheVariants as replies
 use Rattle.media_rows.specs.Answer.{Outcome, unchanged}
@@ -13,6 +12,7 @@ use Rattle.media_rows.specs.Apply.{turn}
 use Rattle.media_rows.specs.Media.{Archive, Question, answer_to, archive_after, asks, gets, puts}
 use Rattle.media_rows.specs.Objects.{bytes_of}
 use Rattle.change_codec.specs.Fitting as journals
+use Rattle.store_states.specs.Fitting.{fitted}
 use Rattle.store_states.specs.States.{StoreState}
 use Rattle.run_history.specs.Machine as runs
 use Rattle.tams_http.specs.Answered.{response_to}
@@ -43,19 +43,11 @@ question_of (Run command) body = asks command
 question_of (PutMedia object) body = puts object body
 question_of (GetMedia object) body = gets object
 
--- the outcome, by its change: one that doesn't fit the journal is refused after all else
-abbrev pub fitting_by : StoreState → Outcome → Option Change → Outcome
-fitting_by s outcome None = outcome
-fitting_by s outcome (Some change) =
-    if journals.fits (journal_of s) change then outcome
-    else unchanged (replies.Refused JournalFull)
-
 -- what a request makes, by what it asks for or its refusal
 abbrev pub outcome_by : StoreState → List ℕ → ℕ → Result Ask Refusal → Outcome
 outcome_by s body moment (Err refusal) = unchanged (replies.Refused refusal)
 outcome_by s body moment (Ok ask) =
-    let outcome = answer_to s.archive (question_of ask body) moment in
-    fitting_by s outcome outcome.change
+    fitted (journal_of s) (answer_to s.archive (question_of ask body) moment)
 
 -- what a request asks for
 abbrev pub asked_by : StoreState → TamsRequest → Result Ask Refusal
