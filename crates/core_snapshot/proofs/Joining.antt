@@ -1,33 +1,26 @@
 -- Text of rows, one kind behind the other, and lists that a filter leaves whole.
-use Rattle.std.proofs.Common.{◌≡◌, ℕ, Bool, true, List, [], ◌∷◌, ◌++◌, None, cond, filter, refl, sym, ap, ◌∙◌, append_assoc}
-use Rattle.std.proofs.lemmas.Grind.{flat_map-append}
+use Rattle.std.proofs.Common.{◌≡◌, ℕ, Bool, true, List, [], ◌∷◌, ◌++◌, None, cond, filter, refl, sym, subst, ap, ◌∙◌, append_assoc}
 use Rattle.media_rows.specs.declared.command.FlowFilter.{FlowFilter}
 use Rattle.media_rows.specs.declared.command.SourceFilter.{SourceFilter}
 use Rattle.media_rows.specs.declared.command.TagTest.{TagTest}
 use Rattle.media_rows.specs.declared.flow.FlowRow.{FlowRow}
 use Rattle.media_rows.specs.declared.row.Row.{Row}
 use Rattle.media_rows.specs.declared.source.SourceRow.{SourceRow}
-use Rattle.change_codec.specs.Rows.{row_spelling}
 use Rattle.flow_book.specs.Listing.{flows_listed, is_flow_listed, is_source_listed, sources_listed}
-use Rattle.core_rows.specs.Texts.{text_of}
+use Rattle.core_rows.specs.Texts.{AddsRows}
+use Rattle.core_rows.proofs.Writing.{added_behind}
 
--- the text of some rows behind that of others
-joined : (old mid new : List ℕ) (a b : List Row) → mid ≡ old ++ text_of a → new ≡ mid ++ text_of b → new ≡ old ++ text_of (a ++ b)
-joined old mid new a b first second =
-    second ∙ ap (λ (t : List ℕ). t ++ text_of b) first ∙ append_assoc old (text_of a) (text_of b)
-    ∙ ap (λ (t : List ℕ). old ++ t) (sym (flat_map-append row_spelling.meaning.spell a b))
-
--- the same of the eight kinds of rows, behind no text
-pub kinds_joined : (none catalog media all : List ℕ) (a b c d e f g h : List Row) → none ≡ [] → catalog ≡ none ++ text_of (a ++ b)
-    → media ≡ catalog ++ text_of (c ++ d) → all ≡ media ++ text_of (e ++ f ++ g ++ h) → all ≡ text_of (a ++ b ++ c ++ d ++ e ++ f ++ g ++ h)
+-- the eight kinds of rows, behind no text
+pub kinds_joined : (none catalog media all : List ℕ) (a b c d e f g h : List Row) → none ≡ [] → AddsRows none (a ++ b) catalog
+    → AddsRows catalog (c ++ d) media → AddsRows media (e ++ f ++ g ++ h) all → AddsRows [] (a ++ b ++ c ++ d ++ e ++ f ++ g ++ h) all
 kinds_joined none catalog media all a b c d e f g h empty first second third =
     let four : List Row = (a ++ b) ++ (c ++ d) in
     let left : four ++ (e ++ f ++ g ++ h) ≡ a ++ b ++ c ++ d ++ e ++ f ++ g ++ h =
     sym (append_assoc four (e ++ f ++ g) h) ∙ ap (λ (l : List Row). l ++ h) (sym (append_assoc four (e ++ f) g))
     ∙ ap (λ (l : List Row). l ++ g ++ h) (sym (append_assoc four e f))
     ∙ ap (λ (l : List Row). l ++ e ++ f ++ g ++ h) (sym (append_assoc (a ++ b) c d)) in
-    joined none media all four (e ++ f ++ g ++ h) (joined none catalog media (a ++ b) (c ++ d) first second) third
-    ∙ ap (λ (t : List ℕ). t ++ text_of (four ++ (e ++ f ++ g ++ h))) empty ∙ ap text_of left
+    let both = added_behind none media all four (e ++ f ++ g ++ h) (added_behind none catalog media (a ++ b) (c ++ d) first second) third in
+    subst (λ (l : List Row). AddsRows [] l all) left (subst (λ (t : List ℕ). AddsRows t (four ++ (e ++ f ++ g ++ h)) all) empty both)
 
 -- ---- filters that ask for nothing
 

@@ -3,7 +3,7 @@ ghost use Rattle.std.specs.Prelude.{◌≡◌, ◌++◌, ◌∷◌, [], IfOk, On
 ghost use Rattle.media_rows.specs.declared.row.Row.TheVariants as rows;
 ghost use Rattle.media_rows.specs.Lists.{in_order};
 ghost use Rattle.media_rows.specs.Snapshot.{rows_of, segment_row_before};
-ghost use Rattle.core_rows.specs.Texts.{text_of};
+ghost use Rattle.core_rows.specs.Texts.{AddsRows};
 
 use core_parts::Parts;
 use core_registry::Registry;
@@ -17,7 +17,7 @@ use std::alloc::Global;
 /// The text of all rows of a library: by kind, then sources and flows by id, segments by flow and first point, all
 /// else by serial, and the next serial last. A row that has no spelling is want of memory.
 pub fn snapshot_text(alloc: Global, parts: &Parts) -> Result<Text, Memory>
-    ensures { IfOk result (λ text. text ≡ text_of (rows_of parts.now)) }
+    ensures { IfOk result (AddsRows [] (rows_of parts.now)) }
 {
     let mut text = Text::new(alloc);
     append_catalog(alloc, parts.registry().catalog(), &mut text)?;
@@ -28,8 +28,8 @@ pub fn snapshot_text(alloc: Global, parts: &Parts) -> Result<Text, Memory>
 
 /// Adds the text of sources and of flows.
 fn append_catalog(alloc: Global, catalog: &FlowBook, text: &mut Text) -> Result<(), Memory>
-    ensures { OnOk result (text.new ≡ text.old
-        ++ text_of (map rows.Source catalog.now.sources ++ map rows.Flow catalog.now.flows)) }
+    ensures { OnOk result (AddsRows text.old
+        (map rows.Source catalog.now.sources ++ map rows.Flow catalog.now.flows) text.new) }
 {
     let sources = all_sources(alloc, catalog)?;
     append_rows(alloc, sources.items(), text)?;
@@ -39,9 +39,9 @@ fn append_catalog(alloc: Global, catalog: &FlowBook, text: &mut Text) -> Result<
 
 /// Adds the text of objects and of segments.
 fn append_media(alloc: Global, media: &MediaBook, text: &mut Text) -> Result<(), Memory>
-    ensures { OnOk result (text.new ≡ text.old
-        ++ text_of (map rows.Object media.now.objects
-        ++ map rows.Segment (in_order segment_row_before media.now.segments))) }
+    ensures { OnOk result (AddsRows text.old
+        (map rows.Object media.now.objects
+        ++ map rows.Segment (in_order segment_row_before media.now.segments)) text.new) }
 {
     let objects = media.object_rows(alloc)?;
     append_rows(alloc, objects.items(), text)?;
@@ -51,10 +51,10 @@ fn append_media(alloc: Global, media: &MediaBook, text: &mut Text) -> Result<(),
 
 /// Adds the text of delete requests, of hooks and waiting events, and of the next serial.
 fn append_others(alloc: Global, registry: &Registry, text: &mut Text) -> Result<(), Memory>
-    ensures { OnOk result (text.new ≡ text.old
-        ++ text_of (map rows.Request registry.now.requests ++ map rows.Hook registry.now.outbox.hooks
+    ensures { OnOk result (AddsRows text.old
+        (map rows.Request registry.now.requests ++ map rows.Hook registry.now.outbox.hooks
         ++ map rows.Event registry.now.outbox.events
-        ++ rows.Numbers registry.now.next_serial ∷ [])) }
+        ++ rows.Numbers registry.now.next_serial ∷ []) text.new) }
 {
     let requests = registry.requests().list(alloc)?;
     append_rows(alloc, requests.items(), text)?;

@@ -1,11 +1,11 @@
-use Rattle.std.proofs.Common.{[], ◌∷◌, ◌++◌, map, ap, ◌∙◌}
+use Rattle.std.proofs.Common.{[], ◌∷◌, ◌++◌, map, subst, ap, ◌∙◌}
 use Rattle.media_rows.specs.declared.row.Row.TheVariants as rows
 use Rattle.media_rows.specs.Catalog.{Catalog}
 use Rattle.media_rows.specs.Lists.{in_order}
 use Rattle.media_rows.specs.Snapshot.{segment_row_before}
 use Rattle.media_book.specs.Media.{Media}
 use Rattle.core_registry.specs.Registry.{Registry}
-use Rattle.core_rows.specs.Texts.{text_of}
+use Rattle.core_rows.specs.Texts.{AddsRows}
 use Rattle.core_snapshot.proofs.Joining.{kinds_joined}
 use Rattle.core_snapshot.proofs.snapshot.snapshot_text.Goals as goal
 
@@ -13,15 +13,12 @@ use Rattle.core_snapshot.proofs.snapshot.snapshot_text.Goals as goal
 pub returns : goal.returns
 returns c =
     let library = c.args.parts.now in
-    let first = c.in_ok-append_catalog.ensures
-    ∙ ap (λ (k : Catalog). c.new-text.result ++ text_of (map rows.Source k.sources ++ map rows.Flow k.flows))
-    (c.catalog.ensures ∙ ap (λ (r : Registry). r.catalog) c.registry.ensures) in
-    let second = c.in_ok-append_media.ensures
-    ∙ ap (λ (m : Media). c.append_catalog.new.text
-    ++ text_of (map rows.Object m.objects ++ map rows.Segment (in_order segment_row_before m.segments))) c.media.ensures in
-    let third = c.in_ok-append_others.ensures
-    ∙ ap (λ (r : Registry). c.append_media.new.text ++ text_of (map rows.Request r.requests ++ map rows.Hook r.outbox.hooks
-    ++ map rows.Event r.outbox.events ++ rows.Numbers r.next_serial ∷ [])) c.registry-2.ensures in
+    let first = subst (λ (k : Catalog). AddsRows c.new-text.result (map rows.Source k.sources ++ map rows.Flow k.flows) c.append_catalog.new.text)
+    (c.catalog.ensures ∙ ap (λ (r : Registry). r.catalog) c.registry.ensures) c.in_ok-append_catalog.ensures in
+    let second = subst (λ (m : Media). AddsRows c.append_catalog.new.text
+    (map rows.Object m.objects ++ map rows.Segment (in_order segment_row_before m.segments)) c.append_media.new.text) c.media.ensures c.in_ok-append_media.ensures in
+    let third = subst (λ (r : Registry). AddsRows c.append_media.new.text (map rows.Request r.requests ++ map rows.Hook r.outbox.hooks
+    ++ map rows.Event r.outbox.events ++ rows.Numbers r.next_serial ∷ []) c.append_others.new.text) c.registry-2.ensures c.in_ok-append_others.ensures in
     kinds_joined c.new-text.result c.append_catalog.new.text c.append_media.new.text c.append_others.new.text
     (map rows.Source library.catalog.sources) (map rows.Flow library.catalog.flows) (map rows.Object library.objects)
     (map rows.Segment (in_order segment_row_before library.segments))
