@@ -1,0 +1,4 @@
+mod Prepares
+mod Due
+mod Applied
+mod Texts

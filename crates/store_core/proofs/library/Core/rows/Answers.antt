@@ -1,0 +1,13 @@
+use Rattle.std.proofs.Common.{[], subst}
+use Rattle.media_rows.specs.Good.{Good}
+use Rattle.media_rows.specs.Library.{Library}
+use Rattle.media_rows.specs.Snapshot.{rows_of}
+use Rattle.core_rows.specs.Texts.{AddsRows}
+use Rattle.store_core.proofs.Texts.{snapshot}
+use Rattle.store_core.proofs.library.Core.rows.Goals as goal
+
+-- a good library's rows stand in their order
+pub returns : goal.returns
+returns c =
+    snapshot c.rows_rise.ensures c.args.self.now (subst Good c.self.view_is c.self.invariant) c.in_ok-text.text
+    (subst (λ (l : Library). AddsRows [] (rows_of l) c.in_ok-text.text) c.self.view_is c.in_ok-text.ensures)

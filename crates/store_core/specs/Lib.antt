@@ -1,0 +1,3 @@
+pub mod Prepared
+pub mod Within
+pub use Rattle.media_rows.specs.Good

@@ -1,0 +1,77 @@
+-- What a library prepares for a command or a turn, and which changes it applies. Our own rules.
+use Rattle.std.specs.Prelude.{◌≡◌, ℕ, Bool, false, Option, Some, None, option_map, Result, Ok, Err, if◌then◌else◌}
+use Rattle.media_rows.specs.declared.change.Change.{Change}
+use Rattle.media_rows.specs.declared.refusal.BookFault.{BookFault}
+use Rattle.media_rows.specs.declared.refusal.BookFault.TheVariants as books
+use Rattle.media_rows.specs.declared.refusal.Refusal.{Refusal}
+use Rattle.media_rows.specs.declared.reply.Reply.{Reply}
+use Rattle.media_rows.specs.declared.reply.Reply.TheVariants as replies
+use Rattle.media_rows.specs.Answer.{Outcome, changed}
+use Rattle.media_rows.specs.Apply.{applied, passes_serials, turn}
+use Rattle.media_rows.specs.Changes.{after}
+use Rattle.media_rows.specs.Library.{Library}
+use Rattle.media_book.specs.Media.{stored_bytes}
+use Rattle.webhook_outbox.specs.Delivered.{counted}
+use Rattle.store_core.specs.declared.library.Counts.{Counts}
+use Rattle.store_core.specs.declared.prepare.Prepared.{Prepared}
+
+-- how much a library keeps
+abbrev pub counts_of : Library → Counts
+counts_of library = record {
+  flows = counted library.catalog.flows;
+  segments = counted library.segments;
+  objects = counted library.objects;
+  requests = counted library.requests;
+  hooks = counted library.outbox.hooks;
+  events = counted library.outbox.events;
+  bytes = stored_bytes library.objects;
+}
+
+-- ---- prepared
+
+-- a change, if there is one, would bring the next serial past its limit
+abbrev pub is_past : Library → Option Change → Bool
+is_past library None = false
+is_past library (Some change) = passes_serials change library
+
+-- the library after a change, if there is one
+abbrev pub library_after : Library → Option Change → Library
+library_after library None = library
+library_after library (Some change) = after change library
+
+-- what an outcome makes of a library, which stays as it was where its serials would end
+abbrev pub prepared_by : Library → Outcome → Prepared
+prepared_by library outcome = record {
+  core =
+      if is_past library outcome.change
+      then library else library_after library outcome.change;
+  change = outcome.change;
+  reply = outcome.reply;
+  past = is_past library outcome.change;
+}
+
+-- nothing is prepared of an outcome whose reply is a refusal
+abbrev pub unless_refused : Reply → Prepared → Result Prepared Refusal
+unless_refused (replies.Refused why) prepared = Err why
+unless_refused _ prepared = Ok prepared
+
+-- what is prepared of an outcome, or its refusal
+abbrev pub prepared_of : Library → Outcome → Result Prepared Refusal
+prepared_of library outcome = unless_refused outcome.reply (prepared_by library outcome)
+
+-- What is given is given, and a refusal is answered as it is. Want of memory may stand at any place.
+abbrev pub IsGiven : {T : Type 0} → Result T Refusal → Result T BookFault → Type 0
+IsGiven given (Ok value) = given ≡ Ok value
+IsGiven given (Err (books.Refused why)) = given ≡ Err why
+IsGiven given (Err books.Memory) = Unit {0}
+
+-- what is prepared of a turn, where its change is due
+abbrev pub turned : Library → ℕ → Option Prepared
+turned library moment =
+    option_map (λ change. prepared_by library (changed replies.Done change)) (turn library moment)
+
+-- a change that was prepared applies to the library, and gives what was prepared, unless the serials would end
+abbrev pub AppliesTo : Library → Prepared → Type 0
+AppliesTo library prepared =
+    (change : Change) → prepared.change ≡ Some change → prepared.past ≡ false
+    → applied change library ≡ Some prepared.core

@@ -1,0 +1,59 @@
+-- Words that the calls within this crate cite, and no other crate.
+use Rattle.std.specs.Prelude.{ℕ, false, Option, Some, None, is_none, option_map, unwrap_or, Result, Ok, Err}
+use Rattle.media_rows.specs.declared.change.Change.{Change}
+use Rattle.media_rows.specs.declared.command.Command.{Command}
+use Rattle.media_rows.specs.declared.refusal.ApplyFault.{ApplyFault}
+use Rattle.media_rows.specs.declared.refusal.ApplyFault.TheVariants as faults
+use Rattle.media_rows.specs.declared.refusal.BookFault.{BookFault}
+use Rattle.media_rows.specs.declared.refusal.BookFault.TheVariants as books
+use Rattle.media_rows.specs.declared.reply.Reply.{Reply}
+use Rattle.media_rows.specs.Answer.{Outcome, accepted, changing_answer, refusal_of}
+use Rattle.media_rows.specs.Changes.{after}
+use Rattle.media_rows.specs.Library.{Library}
+use Rattle.media_rows.specs.Refusals.{IsChange}
+use Rattle.core_parts.specs.Parts.{within_serials}
+use Rattle.store_core.specs.declared.made.Made.{Made}
+use Rattle.store_core.specs.declared.made.Step.{Step}
+use Rattle.store_core.specs.declared.prepare.Prepared.{Prepared}
+
+-- a reply, with a change and the library after it
+abbrev pub made_change : Reply → Change → Option Library → Made
+made_change reply change next =
+    record { reply = reply; step = Some (record { change = change; next = next }) }
+
+-- a reply alone
+abbrev pub made_none : Reply → Made
+made_none reply = record { reply = reply; step = None }
+
+-- a change of a library, and the library after it, unless its serials would end
+abbrev pub step_by : Library → Change → Step
+step_by library change =
+    record { change = change; next = within_serials (after change library) }
+
+-- what an outcome makes of a library
+abbrev pub made_by : Library → Outcome → Made
+made_by library outcome =
+    record { reply = outcome.reply; step = option_map (step_by library) outcome.change }
+
+-- a changing command makes this of a library that doesn't refuse it
+abbrev pub Makes : Library → Command → ℕ → Result Made BookFault → Type 0
+Makes library command moment result =
+    IsChange (refusal_of library command)
+    (made_by library (changing_answer None (accepted library command moment))) result
+
+-- what is prepared of a library by what was made of it
+abbrev pub prepared_step : Library → Reply → Option Step → Prepared
+prepared_step library reply None =
+    record { core = library; change = None; reply = reply; past = false }
+prepared_step library reply (Some step) = record {
+  core = unwrap_or step.next library;
+  change = Some step.change;
+  reply = reply;
+  past = is_none step.next;
+}
+
+-- what a change gives, without the reason why it is refused
+abbrev pub without_reason : {T : Type 0} → Result T BookFault → Result T ApplyFault
+without_reason (Ok value) = Ok value
+without_reason (Err (books.Refused why)) = Err faults.Refused
+without_reason (Err books.Memory) = Err faults.Memory

@@ -1,0 +1,249 @@
+//! Changes that are applied, as when a file is opened.
+ghost use Rattle.std.specs.Prelude.{◌≡◌, ◌==◌, ◌||◌, IsTrue, nat_lt};
+ghost use Rattle.media_rows.specs.declared.change.Change.TheVariants as changes;
+ghost use Rattle.media_rows.specs.Apply.{applies, is_allowed};
+ghost use Rattle.media_rows.specs.Changes.{after, moment_of};
+ghost use Rattle.media_rows.specs.Refusals.{Restores};
+ghost use Rattle.media_rows.specs.Sound.{has_good_values};
+ghost use Rattle.core_parts.specs.Conditions.{IsReady};
+ghost use Rattle.core_parts.specs.Parts.{within_serials};
+ghost use Rattle.store_core.specs.Within.{without_reason};
+
+use crate::Core;
+use crate::commands::STEP_SIZE;
+use core_parts::{Cut, Parts, good_is_ready};
+use disk_trait::Text;
+use good_values::{has_good_values, is_moment};
+use library_laws::{applies_is_tested, good_is_tested};
+use media_rows::{ApplyFault, BookFault, Change, Extent};
+use std::alloc::Global;
+use time_range::TimeRange;
+
+impl Core {
+    /// The library after a change, which is refused exactly where it doesn't apply: nothing may refuse it, its moment and
+    /// its values are good, and the serials don't end with it.
+    pub fn apply(&self, alloc: Global, change: &Change) -> Result<Core, ApplyFault>
+        ensures { Restores (applies self.now change.now) (after change.now self.now) result }
+    {
+        good_is_ready();
+        applies_is_tested();
+        good_is_tested();
+        let parts = &self.parts;
+        if !is_moment(moment_of(change)) {
+            return Err(ApplyFault::Refused);
+        }
+        if !has_good_values(alloc, change)? {
+            return Err(ApplyFault::Refused);
+        }
+        match next_parts(alloc, parts, change) {
+            Ok(Some(parts)) => Ok(Core { parts }),
+            Ok(None) => Err(ApplyFault::Refused),
+            Err(fault) => Err(fault),
+        }
+    }
+}
+
+/// The moment of a change.
+fn moment_of(change: &Change) -> u64
+    ensures { result ≡ moment_of change.now }
+{
+    match change {
+        Change::PutFlow { moment, .. }
+        | Change::SetFlow { moment, .. }
+        | Change::SetSource { moment, .. }
+        | Change::DropFlow { moment, .. }
+        | Change::Allocate { moment, .. }
+        | Change::Store { moment, .. }
+        | Change::AddSegments { moment, .. }
+        | Change::CutSegments { moment, .. }
+        | Change::AskDelete { moment, .. }
+        | Change::DeleteStep { moment }
+        | Change::SweepStep { moment }
+        | Change::PutHook { moment, .. }
+        | Change::DropHook { moment, .. } => *moment,
+    }
+}
+
+/// The library after a change, where nothing refuses it, unless its serials would end.
+fn next_parts(alloc: Global, parts: &Parts, change: &Change) -> Result<Option<Parts>, ApplyFault>
+    requires ready { IsReady parts.now }
+    requires values { IsTrue (has_good_values change.now) }
+    ensures { Restores (is_allowed parts.now change.now)
+        (within_serials (after change.now parts.now)) result }
+{
+    match change {
+        Change::PutFlow { moment, flow } => without_reason(parts.put_flow(alloc, flow, *moment)),
+        Change::SetFlow { moment, flow, part } => {
+            without_reason(parts.set_flow(alloc, *flow, part, *moment))
+        }
+        Change::SetSource {
+            moment,
+            source,
+            part,
+        } => without_reason(parts.set_source(alloc, *source, part, *moment)),
+        Change::DropFlow { moment, flow } => drop_flow(alloc, parts, *flow, *moment),
+        Change::Allocate {
+            moment,
+            flow,
+            objects,
+        } => without_reason(parts.allocate(alloc, *flow, objects.items(), *moment)),
+        Change::Store {
+            moment,
+            object,
+            start_block,
+            length,
+        } => {
+            let extent = Extent {
+                start: *start_block,
+                length: *length,
+            };
+            store(alloc, parts, object, extent, *moment)
+        }
+        Change::AddSegments {
+            moment,
+            flow,
+            segments,
+        } => without_reason(parts.add(alloc, *flow, segments.items(), *moment)),
+        Change::CutSegments {
+            moment,
+            flow,
+            range,
+        } => cut_segments(alloc, parts, *flow, range, *moment),
+        Change::AskDelete {
+            moment,
+            flow,
+            range,
+            delete_flow,
+        } => ask_delete(alloc, parts, *flow, range, *delete_flow, *moment),
+        Change::DeleteStep { moment } => delete_step(alloc, parts, *moment),
+        Change::SweepStep { moment } => sweep_step(alloc, parts, *moment),
+        Change::PutHook { hook, .. } => Ok(parts.put_hook(alloc, hook)?),
+        Change::DropHook { moment, url } => drop_hook(alloc, parts, url, *moment),
+    }
+}
+
+/// A flow goes with its segments, of which there are at most 32.
+fn drop_flow(
+    alloc: Global,
+    parts: &Parts,
+    flow: u128,
+    now: u64,
+) -> Result<Option<Parts>, ApplyFault>
+    requires ready { IsReady parts.now }
+    ensures { Restores (is_allowed parts.now (changes.DropFlow now flow))
+        (within_serials (after (changes.DropFlow now flow) parts.now)) result }
+{
+    if parts.media().flow_len(flow) > STEP_SIZE {
+        return Err(ApplyFault::Refused);
+    }
+    without_reason(parts.drop_flow(alloc, flow, now))
+}
+
+/// An object has its bytes at a place that is free.
+fn store(
+    alloc: Global,
+    parts: &Parts,
+    object: &Text,
+    extent: Extent,
+    now: u64,
+) -> Result<Option<Parts>, ApplyFault>
+    requires ready { IsReady parts.now }
+    requires start { IsTrue (nat_lt 0 extent.length || (extent.start == 0)) }
+    ensures { Restores (is_allowed parts.now (changes.Store now object.now extent.start extent.length))
+        (within_serials (after (changes.Store now object.now extent.start extent.length) parts.now)) result }
+{
+    if !parts.media().takes(extent) {
+        return Err(ApplyFault::Refused);
+    }
+    without_reason(parts.store(alloc, object, extent, now))
+}
+
+/// The segments that a range covers go, of which there are 1 to 32.
+fn cut_segments(
+    alloc: Global,
+    parts: &Parts,
+    flow: u128,
+    range: &TimeRange,
+    now: u64,
+) -> Result<Option<Parts>, ApplyFault>
+    requires ready { IsReady parts.now }
+    ensures { Restores (is_allowed parts.now (changes.CutSegments now flow range.now))
+        (within_serials (after (changes.CutSegments now flow range.now) parts.now)) result }
+{
+    match parts.cut(alloc, flow, range, now) {
+        Ok(Cut::Gone(next)) => Ok(next),
+        Ok(Cut::Nothing | Cut::Many) | Err(BookFault::Refused(_)) => Err(ApplyFault::Refused),
+        Err(BookFault::Memory) => Err(ApplyFault::Memory),
+    }
+}
+
+/// A delete request comes, where a range covers more than 32 segments.
+fn ask_delete(
+    alloc: Global,
+    parts: &Parts,
+    flow: u128,
+    range: &TimeRange,
+    delete_flow: bool,
+    now: u64,
+) -> Result<Option<Parts>, ApplyFault>
+    requires ready { IsReady parts.now }
+    ensures { Restores (is_allowed parts.now (changes.AskDelete now flow range.now delete_flow))
+        (within_serials (after (changes.AskDelete now flow range.now delete_flow) parts.now)) result }
+{
+    if !parts.covers_many(alloc, flow, range)? {
+        return Err(ApplyFault::Refused);
+    }
+    without_reason(parts.ask_delete(alloc, flow, range, delete_flow, now))
+}
+
+/// The delete request that is due is worked off by one step.
+fn delete_step(alloc: Global, parts: &Parts, now: u64) -> Result<Option<Parts>, ApplyFault>
+    requires ready { IsReady parts.now }
+    ensures { Restores (is_allowed parts.now (changes.DeleteStep now))
+        (within_serials (after (changes.DeleteStep now) parts.now)) result }
+{
+    if parts.registry().requests().first_due().is_none() {
+        return Err(ApplyFault::Refused);
+    }
+    Ok(parts.delete_step(alloc, now)?)
+}
+
+/// Objects that are due go.
+fn sweep_step(alloc: Global, parts: &Parts, now: u64) -> Result<Option<Parts>, ApplyFault>
+    requires ready { IsReady parts.now }
+    ensures { Restores (is_allowed parts.now (changes.SweepStep now))
+        (within_serials (after (changes.SweepStep now) parts.now)) result }
+{
+    if !parts.is_sweep_due(now) {
+        return Err(ApplyFault::Refused);
+    }
+    Ok(parts.sweep(alloc, now)?)
+}
+
+/// The hook of an address goes, if there is one.
+fn drop_hook(
+    alloc: Global,
+    parts: &Parts,
+    url: &Text,
+    now: u64,
+) -> Result<Option<Parts>, ApplyFault>
+    requires ready { IsReady parts.now }
+    ensures { Restores (is_allowed parts.now (changes.DropHook now url.now))
+        (within_serials (after (changes.DropHook now url.now) parts.now)) result }
+{
+    if parts.registry().outbox().find_hook(alloc, url)?.is_none() {
+        return Err(ApplyFault::Refused);
+    }
+    Ok(parts.drop_hook(alloc, url)?)
+}
+
+/// What a change gives, where nothing refuses it.
+fn without_reason(changed: Result<Option<Parts>, BookFault>) -> Result<Option<Parts>, ApplyFault>
+    ensures { result ≡ without_reason changed }
+{
+    match changed {
+        Ok(next) => Ok(next),
+        Err(BookFault::Refused(_)) => Err(ApplyFault::Refused),
+        Err(BookFault::Memory) => Err(ApplyFault::Memory),
+    }
+}

@@ -1,0 +1,108 @@
+//! The core and its looks.
+ghost use Rattle.std.specs.Prelude.{◌≡◌, ◌≤◌, IfOk, option_copied};
+ghost use Rattle.media_rows.specs.Library.{empty_library};
+ghost use Rattle.media_rows.specs.Objects.{free_place, object_of};
+ghost use Rattle.store_core.specs.Prepared.{counts_of};
+
+use crate::Prepared;
+use core_parts::Parts;
+use disk_trait::{Memory, Text};
+use media_rows::ObjectRow;
+use std::alloc::Global;
+use std::marker::Model;
+
+/// A good library. What a command or a turn makes of it is prepared apart, as another core, which shares with this one all
+/// that the change leaves.
+#[derive(Drop)]
+pub struct Core {
+    pub(crate) parts: Parts,
+}
+
+impl Model for Core {
+    ghost use Rattle.media_rows.specs.Library.{Library};
+    ghost use Rattle.media_rows.specs.Good.{Good};
+
+    ghost Value = { Library };
+
+    ghost view = { λ c. c.parts };
+
+    ghost invariant = { λ c. Good c.parts };
+}
+
+/// The numbers of rows of each kind, each cut at the last value of its type, and that of the bytes of all stored objects.
+#[derive(Clone, Copy, Debug, PartialEq, Eq)]
+pub struct Counts {
+    pub flows: u64,
+    pub segments: u64,
+    pub objects: u64,
+    pub requests: u64,
+    pub hooks: u64,
+    pub events: u64,
+    pub bytes: u64,
+}
+
+impl Core {
+    /// The library of a new store, with its id and the number of its media blocks.
+    pub fn empty(alloc: Global, id: u128, blocks: u64) -> Result<Core, Memory>
+        ensures { IfOk result (λ core. core ≡ empty_library id blocks) }
+    {
+        Ok(Core {
+            parts: Parts::empty(alloc, id, blocks)?,
+        })
+    }
+
+    /// The same library once more. The error is for a count of owners that is full.
+    pub fn share(&self) -> Result<Core, Memory>
+        ensures { IfOk result (λ core. core ≡ self.now) }
+    {
+        Ok(Core {
+            parts: self.parts.share()?,
+        })
+    }
+
+    /// The store's id.
+    pub fn id(&self) -> u128
+        ensures { result ≡ self.now.id }
+    {
+        self.parts.id()
+    }
+
+    /// The least place at which so many media blocks are free in a row, and `None` exactly where there is none. No blocks
+    /// are placed at 0. It takes no memory.
+    pub fn place(&self, blocks: u64) -> Option<u64>
+        ensures { result ≡ free_place self.now.objects self.now.blocks blocks }
+    {
+        self.parts.media().place(blocks)
+    }
+
+    /// The object of this id, if it is kept, be it allocated or stored. It takes no memory.
+    pub fn object(&self, id: &Text) -> Option<&ObjectRow>
+        ensures { option_copied result ≡ object_of id.now self.now.objects }
+    {
+        self.parts.media().object(id)
+    }
+
+    /// How much is kept. It takes no memory.
+    pub fn counts(&self) -> Counts
+        ensures { result ≡ counts_of self.now }
+    {
+        let media = self.parts.media();
+        let registry = self.parts.registry();
+        Counts {
+            flows: registry.catalog().flow_count(),
+            segments: media.segment_count(),
+            objects: media.object_count(),
+            requests: registry.requests().request_count(),
+            hooks: registry.outbox().hook_count(),
+            events: registry.outbox().event_count(),
+            bytes: media.stored_bytes(),
+        }
+    }
+
+    /// Becomes what was prepared. It takes no memory.
+    pub fn install(&mut self, prepared: Prepared)
+        ensures { self.new ≡ prepared.core }
+    {
+        *self = prepared.core;
+    }
+}

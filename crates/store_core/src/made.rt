@@ -1,0 +1,47 @@
+//! What a command that nothing refuses makes: its reply, and the change with the library after it.
+ghost use Rattle.std.specs.Prelude.{◌≡◌};
+ghost use Rattle.media_rows.specs.Answer.{created_unless};
+ghost use Rattle.store_core.specs.Within.{made_change, made_none};
+
+use core_parts::Parts;
+use media_rows::{Change, Reply};
+
+/// A change, and the library after it, unless its serials would end.
+#[derive(Drop)]
+pub(crate) struct Step {
+    pub(crate) change: Change,
+    pub(crate) next: Option<Parts>,
+}
+
+/// A reply, and what is changed, where something is.
+#[derive(Drop)]
+pub(crate) struct Made {
+    pub(crate) reply: Reply,
+    pub(crate) step: Option<Step>,
+}
+
+impl Made {
+    /// A reply to a command that makes a change.
+    pub(crate) fn changed(reply: Reply, change: Change, next: Option<Parts>) -> Made
+        ensures { result ≡ made_change reply change next }
+    {
+        Made {
+            reply,
+            step: Some(Step { change, next }),
+        }
+    }
+
+    /// A reply to a command that leaves the library as it is.
+    pub(crate) fn unchanged(reply: Reply) -> Made
+        ensures { result ≡ made_none reply }
+    {
+        Made { reply, step: None }
+    }
+}
+
+/// Something is made, or one that is there is replaced.
+pub(crate) fn created_unless(there: bool) -> Reply
+    ensures { result ≡ created_unless there }
+{
+    if there { Reply::Done } else { Reply::Created }
+}

@@ -1,0 +1,113 @@
+//! What is prepared for a command.
+ghost use Rattle.std.specs.Prelude.{◌≡◌, IfOk, IfSome, IsTrue, None};
+ghost use Rattle.media_rows.specs.Answer.{answer};
+ghost use Rattle.media_rows.specs.Good.{Good};
+ghost use Rattle.media_rows.specs.Moments.{is_moment};
+ghost use Rattle.media_rows.specs.Sound.{is_good_command};
+ghost use Rattle.media_rows.specs.Views.{asked};
+ghost use Rattle.store_core.specs.Prepared.{AppliesTo, IsGiven, prepared_of};
+ghost use Rattle.store_core.specs.Within.{Makes, prepared_step};
+
+use crate::Core;
+use crate::commands::{
+    add_segments, allocate, cut_segments, drop_flow, drop_hook, keep, put_flow, put_hook, set_flow,
+    set_source,
+};
+use crate::made::{Made, Step};
+use core_parts::{Parts, good_is_ready};
+use disk_trait::Memory;
+use library_laws::{answers_apply, good_is_tested};
+use media_rows::{BookFault, Change, Command, Extent, Reply};
+use std::alloc::Global;
+
+/// What a command or a turn makes of a library: the library afterwards, the change, where there is one, and the reply.
+/// `past` says that the change would bring the next serial past its last value; then the library is the one of before.
+#[derive(Drop)]
+pub struct Prepared {
+    pub core: Core,
+    pub change: Option<Change>,
+    pub reply: Reply,
+    pub past: bool,
+}
+
+impl Core {
+    /// What the library answers to a changing command at a moment, in seconds since 1970-01-01T00:00:00Z: a refusal, or
+    /// what the command makes of it. The library itself stays. An object that is to be kept has its least free place.
+    pub fn prepare(&self, alloc: Global, command: &Command, now: u64) -> Result<Prepared, BookFault>
+        requires changing { asked self.now command.now ≡ None }
+        requires good { IsTrue (is_good_command self.now command.now) }
+        requires moment { IsTrue (is_moment now) }
+        ensures prepared { IsGiven (prepared_of self.now (answer self.now command.now now)) result }
+        ensures applies { IfOk result (AppliesTo self.now) }
+    {
+        answers_apply();
+        good_is_tested();
+        match made(alloc, &self.parts, command, now) {
+            Ok(made) => Ok(self.prepared(made)?),
+            Err(fault) => Err(fault),
+        }
+    }
+
+    /// What was made of the library, as it is prepared.
+    pub(crate) fn prepared(&self, made: Made) -> Result<Prepared, Memory>
+        requires good { IfSome made.step (λ step. IfSome step.next Good) }
+        ensures { IfOk result
+            (λ prepared. prepared ≡ prepared_step self.now made.reply made.step) }
+    {
+        let Made { reply, step } = made;
+        let Some(step) = step else {
+            return Ok(Prepared {
+                core: self.share()?,
+                change: None,
+                reply,
+                past: false,
+            });
+        };
+        let Step { change, next } = step;
+        let past = next.is_none();
+        let core = match next {
+            None => self.share()?,
+            Some(parts) => Core { parts },
+        };
+        Ok(Prepared {
+            core,
+            change: Some(change),
+            reply,
+            past,
+        })
+    }
+}
+
+/// What a changing command makes of a library.
+fn made(alloc: Global, parts: &Parts, command: &Command, now: u64) -> Result<Made, BookFault>
+    requires library { Good parts.now }
+    requires changing { asked parts.now command.now ≡ None }
+    requires good { IsTrue (is_good_command parts.now command.now) }
+    requires moment { IsTrue (is_moment now) }
+    ensures { Makes parts.now command.now now result }
+{
+    good_is_ready();
+    match command {
+        Command::PutFlow(body) => put_flow(alloc, parts, body, now),
+        Command::SetFlow(flow, part) => set_flow(alloc, parts, *flow, part, now),
+        Command::SetSource(source, part) => set_source(alloc, parts, *source, part, now),
+        Command::DropFlow(flow) => drop_flow(alloc, parts, *flow, now),
+        Command::Allocate(flow, want) => allocate(alloc, parts, *flow, want, now),
+        Command::Keep {
+            object,
+            start_block,
+            length,
+        } => {
+            let extent = Extent {
+                start: *start_block,
+                length: *length,
+            };
+            keep(alloc, parts, object, extent, now)
+        }
+        Command::AddSegments(flow, posts) => add_segments(alloc, parts, *flow, posts, now),
+        Command::CutSegments(flow, range) => cut_segments(alloc, parts, *flow, range, now),
+        Command::PutHook(hook) => put_hook(alloc, parts, hook, now),
+        Command::DropHook(url) => drop_hook(alloc, parts, url, now),
+        _ => unreachable!(),
+    }
+}

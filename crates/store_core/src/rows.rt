@@ -1,0 +1,42 @@
+//! The library and the rows of a snapshot.
+ghost use Rattle.std.specs.Prelude.{IfOk};
+ghost use Rattle.media_rows.specs.Refusals.{Restores};
+ghost use Rattle.media_rows.specs.Snapshot.{library_of, rows_of};
+ghost use Rattle.snapshot_rows.specs.Texts.{SpellsRows};
+ghost use Rattle.core_restore.specs.Restored.{are_rows_of_good};
+
+use crate::Core;
+use core_restore::parts_of_rows;
+use core_snapshot::snapshot_text;
+use disk_trait::{Memory, Text};
+use library_laws::{good_is_tested, rows_rise};
+use media_rows::{ApplyFault, RowList};
+use std::alloc::Global;
+
+impl Core {
+    /// The text of the library's rows in the order of a snapshot. A row that has no spelling is want of memory.
+    pub fn rows(&self, alloc: Global) -> Result<Text, Memory>
+        ensures { IfOk result (λ text. SpellsRows text (rows_of self.now)) }
+    {
+        rows_rise();
+        let text = snapshot_text(alloc, &self.parts)?;
+        Ok(text)
+    }
+
+    /// The library of these rows, under this id and of so many media blocks, of 4,096 bytes. They are refused exactly
+    /// where they aren't the rows of a good library in the order of a snapshot.
+    pub fn from_rows(
+        alloc: Global,
+        id: u128,
+        blocks: u64,
+        rows: &RowList,
+    ) -> Result<Core, ApplyFault>
+        ensures { Restores (are_rows_of_good id blocks rows.now) (library_of id blocks rows.now) result }
+    {
+        good_is_tested();
+        match parts_of_rows(alloc, id, blocks, rows) {
+            Ok(parts) => Ok(Core { parts }),
+            Err(fault) => Err(fault),
+        }
+    }
+}
