@@ -1,0 +1,108 @@
+-- Records that are applied one after another.
+use Rattle.std.proofs.Common.{◌≡◌, ◌<◌, ◌+◌, ℕ, suc, Bool, false, cond, List, [], ◌∷◌, ◌++◌, length, take, drop, get_or, Err, Some, None, sym, ap, ◌∙◌, subst, drop-cons, add-one}
+use Rattle.std.proofs.lemmas.List.{take-append-drop, take_more}
+use Rattle.field_codec.proofs.Wholes.{one_value}
+use Rattle.media_rows.specs.declared.change.Change.{Change}
+use Rattle.media_rows.specs.Apply.{applied, applies}
+use Rattle.media_rows.specs.Changes.{after}
+use Rattle.media_rows.specs.Library.{Library}
+use Rattle.change_codec.specs.Changes.{change_spelling}
+use Rattle.change_codec.specs.Codec.{SpellsChange}
+use Rattle.change_codec.proofs.ChangeLaws.{change_lawful}
+use Rattle.media_journal.specs.declared.record.Record.{Record}
+use Rattle.store_states.specs.States.{Folds, StepOf}
+use Rattle.store_states.proofs.Folding.{fold_push, one_step}
+use Rattle.store_opening.specs.declared.fault.OpenFault.{OpenFault}
+use Rattle.store_opening.specs.declared.fault.OpenFault.TheVariants.{Damaged, Memory}
+use Rattle.store_opening.specs.Opening.{IsNoStep, IsRefusedAt}
+use Rattle.store_opening.specs.Within.{OnDamaged}
+
+-- ---- one record
+
+none_made : (b : Bool) (made next : Library) → b ≡ false → cond b (Some made) None ≡ Some next → ⊥
+none_made b made next is e =
+    let none : None ≡ Some next = ap (λ (x : Bool). cond x (Some made) None) (sym is) ∙ e in
+    cc
+
+-- a payload whose change doesn't apply makes nothing
+pub no_step : (payload : List ℕ) (change : Change) (from : Library) → SpellsChange payload change → applies from change ≡ false → IsNoStep payload from
+no_step payload change from spells is next step =
+    let same : step.change ≡ change = one_value change_spelling change_lawful payload step.change change step.spells spells in
+    let made : applied change from ≡ Some next = subst (λ (c : Change). applied c from ≡ Some next) same step.made in
+    none_made (applies from change) (after change from) next is made
+
+-- ---- records in order
+
+-- records fold up to the one at a place, and with it
+pub fold_more : (rs : List Record) (i : ℕ) (r : Record) (first from next : Library) → i < length rs → r ≡ get_or rs i r → Folds (take i rs) first from
+    → StepOf r.payload from next → Folds (take (i + 1) rs) first next
+fold_more rs i r first from next within is folds step =
+    let more : take (i + 1) rs ≡ take i rs ++ r ∷ [] = take_more rs i r within ∙ ap (λ (x : Record). take i rs ++ x ∷ []) (sym is) in
+    subst (λ (xs : List Record). Folds xs first next) (sym more) (fold_push (take i rs) r first from next folds step)
+
+-- a record in the midst of others
+split_at : (rs : List Record) (i : ℕ) (r : Record) → i < length rs → r ≡ get_or rs i r → rs ≡ take i rs ++ r ∷ drop (i + 1) rs
+split_at rs i r within is =
+    let rest : drop i rs ≡ r ∷ drop (i + 1) rs = rw (add-one, drop-cons rs i r) (ap (λ (x : Record). x ∷ drop (suc i) rs) (sym is)) in
+    sym (take-append-drop i rs) ∙ ap (λ (xs : List Record). take i rs ++ xs) rest
+
+-- the first record that makes nothing is the refused one
+pub fold_refused : (rs : List Record) (i : ℕ) (r : Record) (first from : Library) (fault : OpenFault) → i < length rs → r ≡ get_or rs i r
+    → Folds (take i rs) first from → OnDamaged {X = Library} (Err fault) (λ at. IsNoStep r.payload from)
+    → OnDamaged {X = Library} (Err fault) (λ at. at ≡ r.offset) → OnDamaged {X = Library} (Err fault) (IsRefusedAt rs first)
+fold_refused rs i r first from (Damaged at) within is folds none place = record {
+  front = take i rs;
+  refused = r;
+  behind = drop (i + 1) rs;
+  parts = split_at rs i r within is;
+  before = from;
+  folds = folds;
+  none = none;
+  place = place;
+}
+fold_refused rs i r first from Memory within is folds none place = tt
+
+-- ---- the refused record
+
+-- records among which one is refused make nothing
+pub no_fold : (front : List Record) (r : Record) (behind : List Record) (first before to : Library) → Folds front first before → IsNoStep r.payload before
+    → Folds (front ++ r ∷ behind) first to → ⊥
+no_fold [] r behind first before to same none folds =
+    subst (λ (x : Library). IsNoStep r.payload x) same none folds.0 folds.1
+no_fold (q ∷ front) r behind first before to made none folds =
+    let same : folds.0 ≡ made.0 = one_step q.payload first made.0 folds.0 made.1 folds.1 in
+    no_fold front r behind made.0 before to made.2 none (subst (λ (x : Library). Folds (front ++ r ∷ behind) x to) same folds.2)
+
+pub refused_no_fold : (records : List Record) (first to : Library) (at : ℕ) → IsRefusedAt records first at → Folds records first to → ⊥
+refused_no_fold records first to at refused folds =
+    no_fold refused.front refused.refused refused.behind first refused.before to refused.folds refused.none
+    (subst (λ (rs : List Record). Folds rs first to) refused.parts folds)
+
+heads : (r q : Record) (rs qs : List Record) → r ∷ rs ≡ q ∷ qs → r ≡ q
+heads r q rs qs e = cc
+
+tails : (r q : Record) (rs qs : List Record) → r ∷ rs ≡ q ∷ qs → rs ≡ qs
+tails r q rs qs e = cc
+
+-- among records one is the first that is refused
+one_refused_by : (front more : List Record) (r q : Record) (behind rest : List Record) (first before other : Library)
+    → front ++ r ∷ behind ≡ more ++ q ∷ rest → Folds front first before → IsNoStep r.payload before → Folds more first other → IsNoStep q.payload other → q ≡ r
+one_refused_by [] [] r q behind rest first before other e made none makes nothing = sym (heads r q behind rest e)
+one_refused_by [] (p ∷ more) r q behind rest first before other e same none makes nothing =
+    let is : p ≡ r = sym (heads r p behind (more ++ q ∷ rest) e) in
+    absurd (subst (λ (x : Library). IsNoStep r.payload x) same none makes.0 (subst (λ (x : Record). StepOf x.payload first makes.0) is makes.1))
+one_refused_by (p ∷ front) [] r q behind rest first before other e made none same nothing =
+    let is : p ≡ q = heads p q (front ++ r ∷ behind) rest e in
+    absurd (subst (λ (x : Library). IsNoStep q.payload x) same nothing made.0 (subst (λ (x : Record). StepOf x.payload first made.0) is made.1))
+one_refused_by (p ∷ front) (s ∷ more) r q behind rest first before other e made none makes nothing =
+    let is : s ≡ p = sym (heads p s (front ++ r ∷ behind) (more ++ q ∷ rest) e) in
+    let step : StepOf p.payload first makes.0 = subst (λ (x : Record). StepOf x.payload first makes.0) is makes.1 in
+    let same : makes.0 ≡ made.0 = one_step p.payload first made.0 makes.0 made.1 step in
+    one_refused_by front more r q behind rest made.0 before other (tails p s (front ++ r ∷ behind) (more ++ q ∷ rest) e) made.2 none
+    (subst (λ (x : Library). Folds more x other) same makes.2) nothing
+
+pub one_refused : (records : List Record) (first : Library) (at other : ℕ) → IsRefusedAt records first at → IsRefusedAt records first other → other ≡ at
+one_refused records first at other a b =
+    let same =
+    one_refused_by a.front b.front a.refused b.refused a.behind b.behind first a.before b.before (sym a.parts ∙ b.parts) a.folds a.none b.folds b.none in
+    b.place ∙ ap (λ (r : Record). r.offset) same ∙ sym a.place

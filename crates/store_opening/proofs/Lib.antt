@@ -1,0 +1,6 @@
+mod Applying
+mod Texts
+mod Halves
+mod Damage
+mod Opened
+pub mod Kept

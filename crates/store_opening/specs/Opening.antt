@@ -1,0 +1,118 @@
+-- What opening a store answers over an image of its file. Our own format.
+use Rattle.std.specs.Prelude.{◌≡◌, ◌+◌, ℕ, List, ◌∷◌, ◌++◌, Result, Ok, Err}
+use Rattle.media_rows.specs.declared.row.Row.{Row}
+use Rattle.media_rows.specs.Library.{Library}
+use Rattle.snapshot_rows.specs.Texts.{IsDamagedAt, SpellsRows}
+use Rattle.media_journal.specs.declared.header.Header.{Header}
+use Rattle.media_journal.specs.declared.record.Record.{Record}
+use Rattle.media_journal.specs.declared.fault.JournalFault.{JournalFault}
+use Rattle.media_journal.specs.declared.fault.JournalFault.TheVariants.{NotStore, Damaged, Disk, Memory}
+use Rattle.media_journal.specs.File.{Reads, ReadsTorn, active_start}
+use Rattle.media_journal.specs.Journal.{Gives}
+use Rattle.media_journal.specs.Opening.{DamagedAt, IsStore}
+use Rattle.store_states.specs.Kept.{StoreView, half_of}
+use Rattle.store_states.specs.States.{Folds, IsSnapshot, Makes, StepOf, held_in, media_start}
+use Rattle.store_opening.specs.declared.opening.OpenedStore.{OpenedStore}
+
+-- ---- what is kept of an image
+
+-- The image gives the journal rows and records that make the library.
+pub record IsKept (image : List ℕ) (kept : StoreView) : Type 0 where
+  pub header : Header
+  pub text : List ℕ
+  pub records : List Record
+  pub gives : Gives image kept.journal (half_of header text records)
+  pub makes : Makes header text records kept.library
+
+-- what a store keeps that was opened
+abbrev pub kept_of : OpenedStore → StoreView
+kept_of store = record { library = store.core; journal = store.journal }
+
+-- the bytes in the image of the objects of what is kept
+abbrev pub kept_bytes : List ℕ → StoreView → List (List ℕ)
+kept_bytes image kept = held_in image (media_start kept.journal.half) kept.library.objects
+
+-- ---- where an image is damaged
+
+-- The image has this header, and these rows and whole records in its active half: a closed gate
+-- stands behind them, or a torn record.
+pub data ReadsHalf (image : List ℕ) (header : Header) (text : List ℕ)
+    (records : List Record) : Type 0 where
+  Closed : (gate : ℕ) → Reads image header gate text records → ReadsHalf image header text records
+  Torn : (at : ℕ) → ReadsTorn image header at text records → ReadsHalf image header text records
+
+-- The place is that of the first row that is no spelling, or that isn't after the row before it.
+pub record HasDamagedRow (image : List ℕ) (at : ℕ) : Type 0 where
+  pub header : Header
+  pub text : List ℕ
+  pub records : List Record
+  pub reads : ReadsHalf image header text records
+  pub row : ℕ
+  pub damaged : IsDamagedAt text row
+  pub place : at ≡ active_start image header.half + 8 + row
+
+-- The rows are spelled in their order, but aren't those of a good library. The place is the start
+-- of their half.
+pub record HasOtherRows (image : List ℕ) (at : ℕ) : Type 0 where
+  pub header : Header
+  pub text : List ℕ
+  pub records : List Record
+  pub reads : ReadsHalf image header text records
+  pub rows : List Row
+  pub spells : SpellsRows text rows
+  pub none : (library : Library) → IsSnapshot header text library → ⊥
+  pub place : at ≡ active_start image header.half
+
+-- a payload makes nothing of a library: it is no change, or its change doesn't apply
+abbrev pub IsNoStep : List ℕ → Library → Type 0
+IsNoStep payload from = (next : Library) → StepOf payload from next → ⊥
+
+-- Records before one make a library, of which that one makes nothing. The place is its gate's.
+pub record IsRefusedAt (records : List Record) (first : Library) (at : ℕ) : Type 0 where
+  pub front : List Record
+  pub refused : Record
+  pub behind : List Record
+  pub parts : records ≡ front ++ refused ∷ behind
+  pub before : Library
+  pub folds : Folds front first before
+  pub none : IsNoStep refused.payload before
+  pub place : at ≡ refused.offset
+
+-- The rows are those of a good library, and the place is that of a record's gate which is the first
+-- that makes nothing.
+pub record HasRefusedRecord (image : List ℕ) (at : ℕ) : Type 0 where
+  pub header : Header
+  pub text : List ℕ
+  pub records : List Record
+  pub reads : ReadsHalf image header text records
+  pub first : Library
+  pub snapshot : IsSnapshot header text first
+  pub refused : IsRefusedAt records first at
+
+-- Rows and whole records make a library. The place is that of the torn record's gate behind them.
+pub record HasTornRecord (image : List ℕ) (at : ℕ) : Type 0 where
+  pub header : Header
+  pub text : List ℕ
+  pub records : List Record
+  pub reads : ReadsTorn image header at text records
+  pub library : Library
+  pub makes : Makes header text records library
+
+-- The offset at which the image of a store is damaged, from its start.
+pub data StoreDamagedAt (image : List ℕ) (at : ℕ) : Type 0 where
+  InJournal : DamagedAt image at → StoreDamagedAt image at
+  InRow : HasDamagedRow image at → StoreDamagedAt image at
+  InRows : HasOtherRows image at → StoreDamagedAt image at
+  InRecord : HasRefusedRecord image at → StoreDamagedAt image at
+  InTorn : HasTornRecord image at → StoreDamagedAt image at
+
+-- ---- what is answered
+
+-- What opening answers over an image: the library and the journal that it has, `NotStore` where it
+-- is no store, and `Damaged` with the offset at which it is damaged.
+abbrev pub StoreAnswer : List ℕ → Result OpenedStore JournalFault → Type 0
+StoreAnswer image (Ok store) = IsKept image (kept_of store)
+StoreAnswer image (Err NotStore) = ¬ (IsStore image)
+StoreAnswer image (Err (Damaged at)) = IsStore image × StoreDamagedAt image at
+StoreAnswer image (Err Disk) = Unit {0}
+StoreAnswer image (Err Memory) = Unit {0}

@@ -1,0 +1,59 @@
+//! Opening a store.
+ghost use Rattle.std.specs.Prelude.{◌≡◌, ◌≤◌, ◌+◌, ◌*◌, ℕ, List, true, IfOk};
+ghost use Rattle.disk_trait.specs.Calls.{DiskReads};
+ghost use Rattle.media_journal.specs.Answers.{not_disk};
+ghost use Rattle.media_journal.specs.Journal.{IsWhole};
+ghost use Rattle.media_journal.specs.Opening.{IsOpened, WholeUnlessTorn};
+ghost use Rattle.store_opening.specs.Opening.{StoreAnswer};
+ghost use Rattle.store_opening.specs.Within.{PartAnswer};
+
+use crate::fault::OpenFault;
+use crate::records::fold;
+use crate::rows::library_of_rows;
+use disk_trait::Disk;
+use media_journal::{BLOCK, Journal, JournalFault, Opened, open_journal};
+use std::alloc::Global;
+use store_core::Core;
+
+/// A store's library, and its journal behind the records that made it.
+#[derive(Drop)]
+pub struct OpenedStore {
+    pub core: Core,
+    pub journal: Journal,
+}
+
+/// Opens the store of a device. `NotStore` comes exactly where the device has fewer than 20,480 bytes or
+/// no open header, and `Damaged` with the offset at which the file is damaged, in bytes: 8 for numbers
+/// that a file can't have, the start of the active half where its rows don't fit it or aren't those of a
+/// good library, the first row that is none or doesn't stand behind the row before it, or the gate of the
+/// first record whose end passes the half, whose payload is no change, or whose change doesn't apply.
+pub fn open_store<D: Disk>(alloc: Global, disk: &mut D) -> Result<OpenedStore, JournalFault>
+    ensures reads { DiskReads (not_disk result) (D.device disk.old) (D.device disk.new) }
+    ensures within { IfOk result (λ s. BLOCK * s.journal.blocks ≤ (D.device disk.new).size) }
+    ensures whole { IfOk result (λ s. IsWhole s.journal) }
+    ensures answer { (D.device disk.old).shows ≡ true
+        → StoreAnswer (D.device disk.old).seen result }
+{
+    let opened = open_journal(alloc, disk)?;
+    Ok(store_of(alloc, opened)?)
+}
+
+/// The store of what was opened.
+fn store_of(alloc: Global, opened: Opened) -> Result<OpenedStore, OpenFault>
+    requires sizes { 2 * opened.half + 3 ≤ opened.blocks }
+    requires whole { WholeUnlessTorn opened.torn opened.journal }
+    ensures journal { IfOk result (λ s. s.journal ≡ opened.journal) }
+    ensures whole { IfOk result (λ s. IsWhole s.journal) }
+    ensures answer { (image : List ℕ) → IsOpened image opened → PartAnswer image result }
+{
+    let first = library_of_rows(alloc, &opened)?;
+    let core = fold(alloc, opened.found.items(), first)?;
+    // A torn record is named only where all records before it apply.
+    if let Some(at) = opened.torn {
+        return Err(OpenFault::Damaged(at));
+    }
+    Ok(OpenedStore {
+        core,
+        journal: opened.journal,
+    })
+}

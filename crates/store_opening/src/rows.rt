@@ -1,0 +1,35 @@
+//! The library of a half's rows.
+ghost use Rattle.std.specs.Prelude.{◌≤◌, ◌+◌, ◌*◌, ℕ, List, IfOk};
+ghost use Rattle.media_journal.specs.Opening.{IsOpened, header_of};
+ghost use Rattle.store_states.specs.States.{IsSnapshot};
+ghost use Rattle.store_opening.specs.Within.{HasWrongRows, OnDamaged};
+
+use crate::fault::OpenFault;
+use media_journal::Opened;
+use media_rows::{ApplyFault, RowList};
+use snapshot_rows::{RowsFault, read_rows};
+use std::alloc::Global;
+use store_core::Core;
+
+/// The library of the rows of what was opened.
+pub(crate) fn library_of_rows(alloc: Global, opened: &Opened) -> Result<Core, OpenFault>
+    requires { 2 * opened.now.half + 3 ≤ opened.now.blocks }
+    ensures ok { IfOk result (IsSnapshot (header_of opened.now) opened.now.rows) }
+    ensures damaged { (image : List ℕ) → IsOpened image opened.now
+        → OnDamaged result (HasWrongRows image) }
+{
+    let rows = match read_rows(alloc, opened.rows.bytes()) {
+        Ok(rows) => rows,
+        // Places of a file fit a u64, so that nothing is cut here or below.
+        Err(RowsFault::Damaged(row)) => {
+            return Err(OpenFault::Damaged(opened.rows_at.saturating_add(row)));
+        }
+        Err(RowsFault::Memory) => return Err(OpenFault::Memory),
+    };
+    let media_blocks = opened.blocks - (2 * opened.half + 2);
+    match Core::from_rows(alloc, opened.id, media_blocks, &rows) {
+        Ok(library) => Ok(library),
+        Err(ApplyFault::Refused) => Err(OpenFault::Damaged(opened.rows_at.saturating_sub(8))),
+        Err(ApplyFault::Memory) => Err(OpenFault::Memory),
+    }
+}
