@@ -59,7 +59,8 @@ unless_refused _ prepared = Ok prepared
 abbrev pub prepared_of : Library → Outcome → Result Prepared Refusal
 prepared_of library outcome = unless_refused outcome.reply (prepared_by library outcome)
 
--- What is given is given, and a refusal is answered as it is. Want of memory may stand at any place.
+-- What is given is given, and a refusal is answered as it is. Want of memory may stand at any
+-- place.
 abbrev pub IsGiven : {T : Type 0} → Result T Refusal → Result T BookFault → Type 0
 IsGiven given (Ok value) = given ≡ Ok value
 IsGiven given (Err (books.Refused why)) = given ≡ Err why
@@ -70,7 +71,8 @@ abbrev pub turned : Library → ℕ → Option Prepared
 turned library moment =
     option_map (λ change. prepared_by library (changed replies.Done change)) (turn library moment)
 
--- a change that was prepared applies to the library, and gives what was prepared, unless the serials would end
+-- a change that was prepared applies to the library, and gives what was prepared, unless the
+-- serials would end
 abbrev pub AppliesTo : Library → Prepared → Type 0
 AppliesTo library prepared =
     (change : Change) → prepared.change ≡ Some change → prepared.past ≡ false
