@@ -172,7 +172,7 @@ empty_ordered : {X : Type 0} (before : X → X → Bool) (xs : List X) → is_em
 empty_ordered before [] = refl
 empty_ordered before (x ∷ xs) = not_empty before x (in_order before xs)
 
-none_first : (rows : List SegmentRow) → is_none (overlap_refusal (slice_get rows 0)) ≡ is_empty rows
+none_first : (met : List SegmentRow) → is_none (overlap_refusal (slice_get met 0)) ≡ is_empty met
 none_first [] = refl
 none_first (row ∷ rows) = refl
 
