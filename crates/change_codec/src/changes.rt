@@ -225,8 +225,8 @@ fn kind_of(change: &Change) -> u8
     }
 }
 
-/// A change's moment.
-fn moment_of(change: &Change) -> u64
+/// A change's moment, in seconds since 1970-01-01T00:00:00Z.
+pub fn moment_of(change: &Change) -> u64
     ensures { result ≡ moment_of change.now }
 {
     match change {

@@ -13,7 +13,9 @@ mod sized;
 mod values;
 mod whole;
 mod writable;
+mod writable_changes;
 
+pub use crate::changes::moment_of;
 pub use crate::laws::{
     change_faults_have_one_place, changes_have_one_spelling, fits_as_worked,
     row_faults_have_one_place, rows_are_no_prefixes, rows_begin_with_their_kinds,

@@ -9,16 +9,19 @@ ghost use Rattle.media_rows.specs.declared.row.Row.{Row};
 
 use crate::field::Field;
 use crate::sized::{read_row, write_row};
+use crate::writable::Writable;
 use disk_trait::{Memory, Text};
 use field_codec::{BadField, CodecFault, Cursor, ReadFault};
 use media_rows::{Change, Row};
 use std::alloc::Global;
 
-/// The one spelling of a change.
+/// The one spelling of a change. A change that has none is want of memory.
 pub fn encode_change(alloc: Global, change: &Change) -> Result<Text, Memory>
-    requires { CanWriteChange change.now }
     ensures { IfOk result (λ text. SpellsChange text change.now) }
 {
+    if !change.can_write() {
+        return Err(Memory);
+    }
     let mut text = Text::new(alloc);
     change.write_to(&mut text)?;
     Ok(text)

@@ -47,6 +47,8 @@ pub fn open_journal<D: Disk>(alloc: Global, disk: &mut D) -> Result<Opened, Jour
     ensures reads { DiskReads (not_disk result) (D.device disk.old) (D.device disk.new) }
     ensures within { IfOk result (λ o. BLOCK * o.journal.blocks ≤ (D.device disk.new).size) }
     ensures sizes { IfOk result (λ o. 2 * o.half + 3 ≤ o.blocks) }
+    ensures blocks { IfOk result (λ o. o.journal.blocks ≡ o.blocks) }
+    ensures half { IfOk result (λ o. o.journal.half ≡ o.half) }
     ensures position { IfOk result (λ o. IsPosition o.journal) }
     ensures whole { IfOk result (λ o. WholeUnlessTorn o.torn o.journal) }
     ensures answer { (D.device disk.old).shows ≡ true → OpenAnswer (D.device disk.old).seen result }
@@ -94,6 +96,7 @@ fn assembled(header: Header, start: u64, half: Half) -> Opened
     requires within { half.chain.gate < start + BLOCK * header.half }
     ensures header { header_of result ≡ header }
     ensures blocks { result.journal.blocks ≡ header.blocks }
+    ensures half { result.journal.half ≡ header.half }
     ensures position { IsPosition result.journal }
     ensures whole { WholeUnlessTorn result.torn result.journal }
     ensures opened { (image : List ℕ) → IsReadHalf image header start half → IsOpened image result }
