@@ -2,7 +2,7 @@
 ghost use Rattle.std.specs.Prelude.{◌≡◌, ◌==◌, ◌||◌, IsTrue, nat_lt};
 ghost use Rattle.media_rows.specs.declared.change.Change.TheVariants as changes;
 ghost use Rattle.media_rows.specs.Apply.{applies, is_allowed};
-ghost use Rattle.media_rows.specs.Changes.{after, moment_of};
+ghost use Rattle.media_rows.specs.Changes.{after};
 ghost use Rattle.media_rows.specs.Refusals.{Restores};
 ghost use Rattle.media_rows.specs.Sound.{has_good_values};
 ghost use Rattle.core_parts.specs.Conditions.{IsReady};
@@ -11,6 +11,7 @@ ghost use Rattle.store_core.specs.Within.{without_reason};
 
 use crate::Core;
 use crate::commands::STEP_SIZE;
+use change_codec::moment_of;
 use core_parts::{Cut, Parts, good_is_ready};
 use disk_trait::Text;
 use good_values::{has_good_values, is_moment};
@@ -40,27 +41,6 @@ impl Core {
             Ok(None) => Err(ApplyFault::Refused),
             Err(fault) => Err(fault),
         }
-    }
-}
-
-/// The moment of a change.
-fn moment_of(change: &Change) -> u64
-    ensures { result ≡ moment_of change.now }
-{
-    match change {
-        Change::PutFlow { moment, .. }
-        | Change::SetFlow { moment, .. }
-        | Change::SetSource { moment, .. }
-        | Change::DropFlow { moment, .. }
-        | Change::Allocate { moment, .. }
-        | Change::Store { moment, .. }
-        | Change::AddSegments { moment, .. }
-        | Change::CutSegments { moment, .. }
-        | Change::AskDelete { moment, .. }
-        | Change::DeleteStep { moment }
-        | Change::SweepStep { moment }
-        | Change::PutHook { moment, .. }
-        | Change::DropHook { moment, .. } => *moment,
     }
 }
 

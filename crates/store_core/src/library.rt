@@ -1,5 +1,6 @@
 //! The core and its looks.
 ghost use Rattle.std.specs.Prelude.{◌≡◌, ◌≤◌, IfOk, option_copied};
+ghost use Rattle.media_rows.specs.Good.{Good};
 ghost use Rattle.media_rows.specs.Library.{empty_library};
 ghost use Rattle.media_rows.specs.Objects.{free_place, object_of};
 ghost use Rattle.store_core.specs.Prepared.{counts_of};
@@ -58,6 +59,13 @@ impl Core {
         Ok(Core {
             parts: self.parts.share()?,
         })
+    }
+
+    /// A core is a good library, which is told to callers here. It does nothing.
+    pub fn keeps_good(&self)
+        ensures { Good self.now }
+    {
+        let _parts = &self.parts;
     }
 
     /// The store's id.

@@ -1,5 +1,5 @@
 -- What opening a store answers over an image of its file. Our own format.
-use Rattle.std.specs.Prelude.{◌≡◌, ◌+◌, ℕ, List, ◌∷◌, ◌++◌, Result, Ok, Err}
+use Rattle.std.specs.Prelude.{◌≡◌, ◌+◌, ◌-◌, ℕ, List, ◌∷◌, ◌++◌, Result, Ok, Err}
 use Rattle.media_rows.specs.declared.row.Row.{Row}
 use Rattle.media_rows.specs.Library.{Library}
 use Rattle.snapshot_rows.specs.Texts.{IsDamagedAt, SpellsRows}
@@ -11,7 +11,7 @@ use Rattle.media_journal.specs.File.{Reads, ReadsTorn, active_start}
 use Rattle.media_journal.specs.Journal.{Gives}
 use Rattle.media_journal.specs.Opening.{DamagedAt, IsStore}
 use Rattle.store_states.specs.Kept.{StoreView, half_of}
-use Rattle.store_states.specs.States.{Folds, IsSnapshot, Makes, StepOf, held_in, media_start}
+use Rattle.store_states.specs.States.{Folds, IsSnapshot, Makes, StepOf, blocks_before, held_in, media_start}
 use Rattle.store_opening.specs.declared.opening.OpenedStore.{OpenedStore}
 
 -- ---- what is kept of an image
@@ -27,6 +27,10 @@ pub record IsKept (image : List ℕ) (kept : StoreView) : Type 0 where
 -- what a store keeps that was opened
 abbrev pub kept_of : OpenedStore → StoreView
 kept_of store = record { library = store.core; journal = store.journal }
+
+-- the library has the media blocks of its file: all but those before them
+abbrev pub HasItsBlocks : OpenedStore → Type 0
+HasItsBlocks store = store.core.blocks ≡ store.journal.blocks - blocks_before store.journal.half
 
 -- the bytes in the image of the objects of what is kept
 abbrev pub kept_bytes : List ℕ → StoreView → List (List ℕ)

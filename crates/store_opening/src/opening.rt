@@ -4,7 +4,7 @@ ghost use Rattle.disk_trait.specs.Calls.{DiskReads};
 ghost use Rattle.media_journal.specs.Answers.{not_disk};
 ghost use Rattle.media_journal.specs.Journal.{IsWhole};
 ghost use Rattle.media_journal.specs.Opening.{IsOpened, WholeUnlessTorn};
-ghost use Rattle.store_opening.specs.Opening.{StoreAnswer};
+ghost use Rattle.store_opening.specs.Opening.{HasItsBlocks, StoreAnswer};
 ghost use Rattle.store_opening.specs.Within.{PartAnswer};
 
 use crate::fault::OpenFault;
@@ -14,6 +14,7 @@ use disk_trait::Disk;
 use media_journal::{BLOCK, Journal, JournalFault, Opened, open_journal};
 use std::alloc::Global;
 use store_core::Core;
+use store_states::states_are_good;
 
 /// A store's library, and its journal behind the records that made it.
 #[derive(Drop)]
@@ -31,6 +32,8 @@ pub fn open_store<D: Disk>(alloc: Global, disk: &mut D) -> Result<OpenedStore, J
     ensures reads { DiskReads (not_disk result) (D.device disk.old) (D.device disk.new) }
     ensures within { IfOk result (λ s. BLOCK * s.journal.blocks ≤ (D.device disk.new).size) }
     ensures whole { IfOk result (λ s. IsWhole s.journal) }
+    ensures sizes { IfOk result (λ s. 2 * s.journal.half + 3 ≤ s.journal.blocks) }
+    ensures blocks { IfOk result HasItsBlocks }
     ensures answer { (D.device disk.old).shows ≡ true
         → StoreAnswer (D.device disk.old).seen result }
 {
@@ -42,10 +45,15 @@ pub fn open_store<D: Disk>(alloc: Global, disk: &mut D) -> Result<OpenedStore, J
 fn store_of(alloc: Global, opened: Opened) -> Result<OpenedStore, OpenFault>
     requires sizes { 2 * opened.half + 3 ≤ opened.blocks }
     requires whole { WholeUnlessTorn opened.torn opened.journal }
+    requires blocks { opened.journal.blocks ≡ opened.blocks }
+    requires half { opened.journal.half ≡ opened.half }
     ensures journal { IfOk result (λ s. s.journal ≡ opened.journal) }
     ensures whole { IfOk result (λ s. IsWhole s.journal) }
+    ensures sizes { IfOk result (λ s. 2 * s.journal.half + 3 ≤ s.journal.blocks) }
+    ensures blocks { IfOk result HasItsBlocks }
     ensures answer { (image : List ℕ) → IsOpened image opened → PartAnswer image result }
 {
+    states_are_good();
     let first = library_of_rows(alloc, &opened)?;
     let core = fold(alloc, opened.found.items(), first)?;
     // A torn record is named only where all records before it apply.

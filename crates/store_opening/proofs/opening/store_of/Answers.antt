@@ -1,4 +1,5 @@
 use Rattle.std.proofs.lemmas.Result.{err_from_is_err_and}
+use Rattle.media_journal.specs.Opening.{header_of}
 use Rattle.store_opening.proofs.Opened.{records_fault, rows_fault, torn_record}
 use Rattle.store_opening.proofs.opening.store_of.Goals as goal
 
@@ -21,3 +22,10 @@ pub returns-in-Some-clause-answer : goal.returns-in-Some-clause-answer
 returns-in-Some-clause-answer c = λ image is.
     torn_record image c.args.opened c.in_ok-first.first c.in_ok-core.core c.in-Some.at c.in-Some.is is c.in_ok-first.ensures.ok
     (rw c.items.ensures at c.in_ok-core.ensures.folded)
+
+-- The library of rows and records has the media blocks of its header's file.
+pub returns-clause-blocks : goal.returns-clause-blocks
+returns-clause-blocks c =
+    let good = c.states_are_good.ensures.library (header_of c.args.opened) c.args.opened.rows c.args.opened.found c.in_ok-core.core
+    (record { first = c.in_ok-first.first; snapshot = c.in_ok-first.ensures.ok; folds = rw c.items.ensures at c.in_ok-core.ensures.folded }) in
+    rw (c.requires.blocks, c.requires.half) good.1.blocks
