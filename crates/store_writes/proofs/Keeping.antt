@@ -1,5 +1,5 @@
 -- What is kept, over each call.
-use Rattle.std.proofs.Common.{◌≡◌, ◌≤◌, ◌+◌, ◌*◌, ◌/◌, ℕ, Bool, true, false, List, length, refl, sym, arith, subst, ap, inl, inr}
+use Rattle.std.proofs.Common.{◌≡◌, ◌≤◌, ◌+◌, ◌*◌, ◌/◌, ◌∙◌, ◌==◌, ℕ, Bool, true, false, cond, List, length, refl, sym, arith, subst, ap, inl, inr}
 use Rattle.media_rows.specs.declared.object.Extent.{Extent}
 use Rattle.media_rows.specs.declared.object.ObjectRow.{ObjectRow}
 use Rattle.media_rows.specs.Library.{Library}
@@ -9,7 +9,7 @@ use Rattle.disk_trait.specs.Calls.{Elapses, LeavesOnly, TornWrite, Unchanged}
 use Rattle.disk_trait.specs.DiskMoments.{Then, WithinTwo}
 use Rattle.disk_trait.proofs.Theorems.{elapses_twice, elapses_weaker}
 use Rattle.object_blobs.specs.Extents.{extent_start}
-use Rattle.media_journal.specs.Checkpoint.{CheckpointEnds, KeepsOrSwitches}
+use Rattle.media_journal.specs.Checkpoint.{CheckpointEnds, KeepsOrSwitches, WritesOther, other_start}
 use Rattle.media_journal.specs.Journal.{Contents, Position}
 use Rattle.media_journal.specs.JournalMoments.{AppendEnds, EachGives, KeepsOrAdds}
 use Rattle.store_states.specs.Kept.{AgreesWith, HoldsEach, MoveEnds, Moves, StoreView, half_of, kept_after, kept_checked, kept_state}
@@ -17,6 +17,7 @@ use Rattle.store_states.specs.Laws.{AreInBlocks}
 use Rattle.store_states.specs.States.{IsTextOf, StepOf, StoreState, held_in, media_start}
 use Rattle.store_states.proofs.Agreeing.{agreed_images_stand, free_writes_keep, free_writes_stand, quiet_calls_keep, quiet_calls_stand}
 use Rattle.store_states.proofs.Appending.{appends_keep, appends_stand}
+use Rattle.store_states.proofs.Bytes.{early_writes}
 use Rattle.store_states.proofs.Checking.{checkpoints_keep, checkpoints_stand}
 use Rattle.store_states.proofs.Making.{text_under}
 use Rattle.store_writes.specs.Writes.{Advances, IsFree, Keeps}
@@ -151,3 +152,39 @@ checked_at old new kept held rows ok journal agrees text same =
     → ((contents : Contents) → EachGives old j contents → Elapses (KeepsOrSwitches j rows contents) (CheckpointEnds ok j rows contents) old new)
     → Advances ok (kept_state kept held) (kept_checked kept (length rows)) held old new)
     same (λ fits time. checked old new kept held rows ok agrees text fits time)
+
+-- the other half ends before the media blocks
+other_ends : (half n : ℕ) (first : Bool) → n + 9 ≤ 4096 * half → cond first (8192 + 4096 * half) 8192 + (9 + n) ≤ 4096 * (2 * half + 2)
+other_ends half n true fits = omega (arith, fits)
+other_ends half n false fits = omega (arith, fits)
+
+-- where a checkpoint writes, no object has bytes
+other_bytes : (p : Position) (n : ℕ) (image other : List ℕ) (objects : List ObjectRow) → n + 9 ≤ 4096 * p.half → WritesOther p n image other
+    → held_in other (media_start p.half) objects ≡ held_in image (media_start p.half) objects
+other_bytes p n image other objects fits writes =
+    let early : other_start p + (9 + n) ≤ media_start p.half = other_ends p.half n (p.start == 8192) fits in
+    early_writes writes.between other (media_start p.half) 4096 1 objects writes.selector (omega arith)
+    ∙ early_writes image writes.between (media_start p.half) (other_start p) (9 + n) objects writes.half early
+
+ends_elsewhere : (ok : Bool) (p : Position) (rows : List ℕ) (held : Contents) (old new : Left) → CheckpointEnds ok p rows held old new
+    → WritesOther p (length rows) old.image new.image
+ends_elsewhere true p rows held old new now = now.elsewhere
+ends_elsewhere false p rows held old new now = now.elsewhere
+
+pub checked_bytes : (old new : Device) (kept : StoreView) (held : List (List ℕ)) (rows : List ℕ) (ok : Bool) (journal : Position) → AgreesWith old kept held
+    → kept.journal ≡ journal → length rows + 9 ≤ 4096 * journal.half
+    → ((contents : Contents) → EachGives old journal contents
+    → Elapses (KeepsOrSwitches journal rows contents) (CheckpointEnds ok journal rows contents) old new)
+    → (objects : List ObjectRow) (bytes : List (List ℕ)) → HoldsEach old (media_start kept.journal.half) objects bytes
+    → HoldsEach new (media_start kept.journal.half) objects bytes
+checked_bytes old new kept held rows ok journal agrees same =
+    subst (λ (j : Position). length rows + 9 ≤ 4096 * j.half
+    → ((contents : Contents) → EachGives old j contents → Elapses (KeepsOrSwitches j rows contents) (CheckpointEnds ok j rows contents) old new)
+    → (objects : List ObjectRow) (bytes : List (List ℕ)) → HoldsEach old (media_start kept.journal.half) objects bytes
+    → HoldsEach new (media_start kept.journal.half) objects bytes)
+    same (λ fits time objects bytes holds left could.
+    let contents = half_of agrees.header agrees.text agrees.records in
+    let from = (time contents agrees.gives).now left could in
+    other_bytes kept.journal (length rows) from.0.image left.image objects fits
+    (ends_elsewhere ok kept.journal rows contents from.0 left from.2)
+    ∙ holds from.0 from.1)

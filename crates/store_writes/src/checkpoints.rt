@@ -3,8 +3,9 @@ ghost use Rattle.std.specs.Prelude.{◌≡◌, ◌≤◌, ◌+◌, ◌*◌, ℕ,
 ghost use Rattle.disk_trait.specs.Calls.{DiskCalls, LeavesOnly};
 ghost use Rattle.media_journal.specs.Checkpoint.{after_checkpoint};
 ghost use Rattle.media_journal.specs.Journal.{IsWhole};
-ghost use Rattle.store_states.specs.Kept.{AgreesWith, StoreView, kept_checked, kept_state};
-ghost use Rattle.store_states.specs.States.{IsTextOf};
+ghost use Rattle.media_rows.specs.declared.object.ObjectRow.{ObjectRow};
+ghost use Rattle.store_states.specs.Kept.{AgreesWith, HoldsEach, StoreView, kept_checked, kept_state};
+ghost use Rattle.store_states.specs.States.{IsTextOf, media_start};
 ghost use Rattle.store_writes.specs.Writes.{Advances};
 
 use disk_trait::{Disk, Failed};
@@ -26,6 +27,14 @@ pub fn checkpoint<D: Disk>(disk: &mut D, journal: &mut Journal, rows: &[u8]) -> 
         → IsTextOf kept.library.id kept.library.blocks rows.now kept.library
         → Advances (is_ok result) (kept_state kept held) (kept_checked kept (length rows.now)) held
         (D.device disk.old) (D.device disk.new) }
+
+    // It writes before the media blocks: the bytes of any objects stay, be they stored or to be stored.
+    ensures bytes { (D.device disk.old).honest ≡ true → (D.device disk.old).shows ≡ true
+        → (kept : StoreView) → (held : List (List ℕ))
+        → AgreesWith (D.device disk.old) kept held → kept.journal ≡ journal.old
+        → (objects : List ObjectRow) → (bytes : List (List ℕ))
+        → HoldsEach (D.device disk.old) (media_start kept.journal.half) objects bytes
+        → HoldsEach (D.device disk.new) (media_start kept.journal.half) objects bytes }
 
     ensures moved { OnOk result (journal.new ≡ after_checkpoint journal.old (length rows.now)) }
     ensures err { OnErr result (journal.new ≡ journal.old) }
