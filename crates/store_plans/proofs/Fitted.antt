@@ -1,0 +1,82 @@
+-- What was prepared, and whether its change fits the journal.
+use Rattle.std.proofs.Common.{◌≡◌, Bool, true, false, cond, Option, Some, None, refl, sym, ap, subst}
+use Rattle.std.specs.Prelude.{Ok}
+use Rattle.std.proofs.lemmas.Bool.{true≢false}
+use Rattle.media_rows.specs.declared.change.Change.{Change}
+use Rattle.media_rows.specs.declared.refusal.Refusal.TheVariants.{JournalFull}
+use Rattle.media_rows.specs.declared.reply.Reply.{Reply}
+use Rattle.media_rows.specs.declared.reply.Reply.TheVariants as replies
+use Rattle.media_rows.specs.Answer.{Outcome, unchanged}
+use Rattle.media_rows.specs.Library.{Library}
+use Rattle.change_codec.specs.Fitting.{State}
+use Rattle.store_core.specs.declared.prepare.Prepared.{Prepared}
+use Rattle.store_core.specs.Prepared.{AppliesTo, is_past, prepared_by, prepared_of, unless_refused}
+use Rattle.store_states.specs.Fitting.{fitted_by}
+use Rattle.store_plans.specs.declared.outcome.Planned.{Planned}
+use Rattle.store_plans.specs.Plans.{IsPlanOf, IsPlanned}
+use Rattle.store_plans.specs.Within.{IsFitted, IsPreparedFor, fits_if, outcome_of, still}
+use Rattle.store_plans.proofs.Answered.{still_plan}
+
+-- ---- what was prepared
+
+passed : (reply : Reply) (q p : Prepared) → unless_refused reply q ≡ Ok p → q ≡ p
+passed (replies.Refused why) q p e = absurd (cc)
+passed replies.Created q p e = cc
+passed replies.Done q p e = cc
+passed (replies.CreatedObjects ids) q p e = cc
+passed (replies.Accepted row) q p e = cc
+passed (replies.Shown view) q p e = cc
+passed (replies.Media size) q p e = cc
+
+same_core : (library : Library) (reply : Reply) (change : Option Change) → change ≡ None
+    → (prepared_by library (record { reply = reply; change = change })).core ≡ library
+same_core library reply None e = refl
+same_core library reply (Some change) e = absurd (cc)
+
+-- what is known of what an outcome makes
+pub made_for : (library : Library) (outcome : Outcome) (p : Prepared) → prepared_by library outcome ≡ p → AppliesTo library p → IsPreparedFor library p
+made_for library outcome p is applies = record {
+  past = subst (λ (q : Prepared). q.past ≡ is_past library q.change) is refl;
+  same = subst (λ (q : Prepared). q.change ≡ None → q.core ≡ library) is (same_core library outcome.reply outcome.change);
+  applies = applies;
+}
+
+-- the same of what was prepared of an answer
+pub prepared_is : (library : Library) (outcome : Outcome) (p : Prepared) → prepared_of library outcome ≡ Ok p → prepared_by library outcome ≡ p
+prepared_is library outcome p e = passed outcome.reply (prepared_by library outcome) p e
+
+-- and it is that outcome's
+pub outcome_is : (library : Library) (outcome : Outcome) (p : Prepared) → prepared_by library outcome ≡ p → outcome_of p ≡ outcome
+outcome_is library outcome p is = sym (ap outcome_of is)
+
+-- ---- the answer in the journal
+
+same_by : (journal : State) (outcome : Outcome) (change : Option Change) → fits_if journal change ≡ true → fitted_by journal outcome change ≡ outcome
+same_by journal outcome None e = refl
+same_by journal outcome (Some change) e = ap (λ (b : Bool). cond b outcome (unchanged (replies.Refused JournalFull))) e
+
+full_by : (journal : State) (outcome : Outcome) (change : Option Change) → fits_if journal change ≡ false
+    → fitted_by journal outcome change ≡ unchanged (replies.Refused JournalFull)
+full_by journal outcome None e = absurd (true≢false e)
+full_by journal outcome (Some change) e = ap (λ (b : Bool). cond b outcome (unchanged (replies.Refused JournalFull))) e
+
+-- the plan of one whose change fits is its plan in the journal
+pub fits_plan : (journal : State) (outcome : Outcome) (planned : Planned) → IsFitted journal outcome (Some planned) → IsPlanOf journal outcome planned
+fits_plan journal outcome planned is =
+    subst (λ (o : Outcome). IsPlanned journal o planned) (sym (same_by journal outcome outcome.change is.0)) is.1
+
+-- so what was prepared of an outcome is planned as that outcome
+pub prepared_plan : (journal : State) (outcome : Outcome) (p : Prepared) (planned : Planned) → prepared_of journal.library outcome ≡ Ok p
+    → IsFitted journal (outcome_of p) (Some planned) → IsPlanOf journal outcome planned
+prepared_plan journal outcome p planned e plan =
+    fits_plan journal outcome planned
+    (subst (λ (o : Outcome). IsFitted journal o (Some planned)) (outcome_is journal.library outcome p (prepared_is journal.library outcome p e)) plan)
+
+-- and where its change doesn't fit, the refusal is its plan
+pub prepared_full : (journal : State) (outcome : Outcome) (p : Prepared) (planned : Planned) → prepared_of journal.library outcome ≡ Ok p
+    → IsFitted journal (outcome_of p) None → planned ≡ still journal.library (replies.Refused JournalFull) → IsPlanOf journal outcome planned
+prepared_full journal outcome p planned e full is =
+    let none : fits_if journal outcome.change ≡ false =
+    subst (λ (o : Outcome). IsFitted journal o None) (outcome_is journal.library outcome p (prepared_is journal.library outcome p e)) full in
+    subst (λ (o : Outcome). IsPlanned journal o planned) (sym (full_by journal outcome outcome.change none))
+    (still_plan journal (replies.Refused JournalFull) planned is)

@@ -1,0 +1,4 @@
+mod Spelled
+mod Answered
+mod Fitted
+mod Due

@@ -1,0 +1,126 @@
+-- Words that the calls within this crate cite, and no other crate.
+use Rattle.std.specs.Prelude.{◌≡◌, ◌+◌, ℕ, nat_le, Bool, true, false, ◌||◌, List, length, Option, Some, None, IfSome, Result, IsTrue, IsFalse}
+use Rattle.media_rows.specs.declared.change.Change.{Change}
+use Rattle.media_rows.specs.declared.change.Change.TheVariants as changes
+use Rattle.media_rows.specs.declared.object.Extent.{Extent}
+use Rattle.media_rows.specs.declared.object.ObjectRow.{ObjectRow}
+use Rattle.media_rows.specs.declared.object.ObjectState.TheVariants.{Allocated}
+use Rattle.media_rows.specs.declared.refusal.Refusal.{Refusal}
+use Rattle.media_rows.specs.declared.reply.Reply.{Reply}
+use Rattle.media_rows.specs.declared.reply.Reply.TheVariants.{Created}
+use Rattle.media_rows.specs.declared.reply.View.{View}
+use Rattle.media_rows.specs.Answer.{Outcome, changed, shown_reply}
+use Rattle.media_rows.specs.Library.{Library}
+use Rattle.change_codec.specs.Codec.{SpellsChange}
+use Rattle.change_codec.specs.Fitting.{State, fits, fits_behind_rows, fits_room, snapshot_size}
+use Rattle.media_journal.specs.Journal.{Position}
+use Rattle.store_core.specs.declared.prepare.Prepared.{Prepared}
+use Rattle.store_core.specs.Prepared.{AppliesTo, is_past}
+use Rattle.store_states.specs.States.{IsTextOf}
+use Rattle.store_plans.specs.declared.outcome.Planned.{Planned}
+use Rattle.store_plans.specs.declared.outcome.Written.{Written}
+use Rattle.store_plans.specs.declared.room.Recorded.{Recorded}
+use Rattle.store_states.specs.Fitting.{FitsJournal}
+use Rattle.store_plans.specs.Plans.{ComesFirst, IsPlanned}
+
+-- ---- the record of a change
+
+-- a record has the room that it needs
+abbrev pub RecordFits : Position → Recorded → Type 0
+RecordFits position recorded = FitsJournal position recorded.rows recorded.frame
+
+-- the journal has a place for the record of a change, whatever its serials are
+abbrev pub has_place : State → Change → Bool
+has_place journal change = fits_room journal change || fits_behind_rows journal change
+
+-- the record of a change that has a place, and the rows before it
+pub record IsRecord (journal : State) (change : Change) (recorded : Recorded) : Type 0 where
+  pub place : IsTrue (has_place journal change)
+  pub spells : SpellsChange recorded.frame change
+  pub first : ComesFirst journal change recorded.rows
+
+-- there is none exactly where it has no place
+abbrev pub IsRecorded : State → Change → Option Recorded → Type 0
+IsRecorded journal change None = IsFalse (has_place journal change)
+IsRecorded journal change (Some recorded) = IsRecord journal change recorded
+
+-- a half has room for the record of a payload of so many bytes behind the library's rows
+abbrev pub has_room_behind : State → ℕ → Bool
+has_room_behind journal size = nat_le (snapshot_size journal.library + size + 14) journal.half
+
+-- the record of a payload behind the rows of the library
+pub record IsBehind (journal : State) (payload : List ℕ) (recorded : Recorded) : Type 0 where
+  pub place : IsTrue (has_room_behind journal (length payload))
+  pub frame : recorded.frame ≡ payload
+  pub text : List ℕ
+  pub rows : recorded.rows ≡ Some text
+  pub snapshot : IsTextOf journal.library.id journal.library.blocks text journal.library
+  pub size : length text ≡ snapshot_size journal.library
+
+-- there is none exactly where a half has no room for both
+abbrev pub IsBehindRows : State → List ℕ → Option Recorded → Type 0
+IsBehindRows journal payload None = IsFalse (has_room_behind journal (length payload))
+IsBehindRows journal payload (Some recorded) = IsBehind journal payload recorded
+
+-- ---- the plan of what was prepared
+
+-- the outcome of which something was prepared
+abbrev pub outcome_of : Prepared → Outcome
+outcome_of prepared = record { reply = prepared.reply; change = prepared.change }
+
+-- what is known of what was prepared of a library
+pub record IsPreparedFor (library : Library) (prepared : Prepared) : Type 0 where
+  pub past : prepared.past ≡ is_past library prepared.change
+  pub same : prepared.change ≡ None → prepared.core ≡ library
+  pub applies : AppliesTo library prepared
+
+-- a change fits the journal, if there is one
+abbrev pub fits_if : State → Option Change → Bool
+fits_if journal None = true
+fits_if journal (Some change) = fits journal change
+
+-- the plan of an outcome, and none exactly where its change doesn't fit the journal
+abbrev pub IsFitted : State → Outcome → Option Planned → Type 0
+IsFitted journal outcome None = IsFalse (fits_if journal outcome.change)
+IsFitted journal outcome (Some planned) =
+    IsTrue (fits_if journal outcome.change) × IsPlanned journal outcome planned
+
+-- the plan of what was prepared, with what is written for it
+abbrev pub plan_with : Prepared → Written → Planned
+plan_with prepared written = record {
+  next = prepared.core;
+  frame = written.frame;
+  rows = written.rows;
+  reply = prepared.reply;
+}
+
+-- the record that is written, if there is one, has its room
+abbrev pub WrittenFits : Position → Written → Type 0
+WrittenFits position written = IfSome written.frame (FitsJournal position written.rows)
+
+-- the plan that leaves a library as it is
+abbrev pub still : Library → Reply → Planned
+still library reply = record { next = library; frame = None; rows = None; reply = reply }
+
+-- the plan of a command that asks, which leaves the library as it is
+abbrev pub IsShown : Option (Result View Refusal) → Library → Planned → Type 0
+IsShown None library planned = ⊥
+IsShown (Some shown) library planned = planned ≡ still library (shown_reply shown)
+
+-- ---- turns and puts
+
+-- a change is a delete step
+abbrev pub is_delete_step : Option Change → Bool
+is_delete_step (Some (changes.DeleteStep moment)) = true
+is_delete_step other = false
+
+-- an object is kept, and has no bytes yet
+pub record IsAllocated (found : Option ObjectRow) : Type 0 where
+  pub row : ObjectRow
+  pub kept : found ≡ Some row
+  pub state : row.state ≡ Allocated
+
+-- what is made of bytes that come for such an object
+abbrev pub storing : List ℕ → Extent → ℕ → Outcome
+storing object extent moment =
+    changed Created (changes.Store moment object extent.start extent.length)
