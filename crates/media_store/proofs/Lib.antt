@@ -1,0 +1,8 @@
+mod Making
+mod Planning
+mod Commands
+mod Written
+mod Places
+mod Storing
+mod Outcomes
+mod PutFacts

@@ -1,0 +1,347 @@
+//! Puts of objects' bytes, in pieces.
+ghost use Rattle.std.specs.Prelude.{◌≡◌, ◌≤◌, ◌+◌, ℕ, true, List, length, bytes_eq, IfOk, IsFalse, IsTrue, OnOk, is_ok};
+ghost use Rattle.std.specs.Option.{option_copied};
+ghost use Rattle.std.specs.Result.{is_err};
+ghost use Rattle.media_rows.specs.declared.change.Change.{Change};
+ghost use Rattle.media_rows.specs.Answer.{stored_put};
+ghost use Rattle.media_rows.specs.Moments.{is_moment};
+ghost use Rattle.media_rows.specs.Objects.{blocks_of};
+ghost use Rattle.disk_trait.specs.Calls.{DiskCalls, bytes_at};
+ghost use Rattle.object_blobs.specs.Extents.{IsOnDevice, extent_bytes};
+ghost use Rattle.store_plans.specs.Plans.{MakesChange};
+ghost use Rattle.store_states.specs.Kept.{AgreesWith, StoreView};
+ghost use Rattle.store_states.specs.States.{media_start};
+ghost use Rattle.store_writes.specs.Writes.{Keeps};
+ghost use Rattle.media_store.specs.Changes.{CanCommit, Makes, bytes_by, kept_by};
+ghost use Rattle.media_store.specs.Puts.{EndsPut, GoesOn, HasBegun, HasRoom, IsPutOf, StoresAs, TakesPiece, bytes_in, handed_by, kept_behind, may_be_same, piece_bytes, put_reply, refusal_of, stores_at};
+ghost use Rattle.media_store.specs.Stores.{journal_of, size_of};
+ghost use Rattle.media_store.specs.Within.{IsPlacedOn, LeavesObjects, TakesAt};
+
+use crate::Store;
+use disk_trait::{Disk, Failed, Memory, Text, same_bytes};
+use media_rows::{Extent, Refusal, Reply};
+use std::alloc::Global;
+use std::marker::Model;
+use store_commits::store_change;
+use store_plans::{Planned, PutPlan, plan_put};
+use store_states::images_have_the_bytes;
+use store_writes::{read_kept, write_free};
+
+/// The most bytes of a piece.
+pub const PIECE: usize = 65_536;
+
+/// A put of an object's bytes that is under way. Dropped, it leaves the store's library as it is.
+#[derive(Drop)]
+pub struct Put {
+    size: u64,
+    handed: u64,
+    plan: PutPlan,
+    same: bool,
+    /// Room for a piece of the bytes that are kept, where they are to be compared.
+    buffer: Vec<u8>,
+}
+
+impl Model for Put {
+    ghost use Rattle.std.specs.Prelude.{◌≡◌, length};
+    ghost use Rattle.media_store.specs.Puts.{HasRoom, PutSeen};
+
+    ghost Value = { PutSeen };
+
+    ghost view = { λ p. record { size = p.size; handed = p.handed; plan = p.plan; same = p.same } };
+
+    ghost invariant = { λ p. HasRoom p.plan (length p.buffer.items) };
+}
+
+impl Put {
+    /// Why the bytes are refused, where they are, whatever they will be.
+    pub fn refusal(&self) -> Option<&Refusal>
+        ensures { option_copied result ≡ refusal_of self.now.plan }
+    {
+        match &self.plan {
+            PutPlan::Refused(why) => Some(why),
+            PutPlan::Kept(_) | PutPlan::Write(_, _) => None,
+        }
+    }
+}
+
+impl Store {
+    /// Begins a put of so many bytes as those of an object, at a moment in seconds since 1970-01-01T00:00:00Z.
+    /// An object that isn't kept is refused as `UnknownObject`, bytes for which no place is free as `MediaFull`,
+    /// and those whose change doesn't fit the journal, after all else, as `JournalFull`; a put that is refused
+    /// takes its bytes and drops them. All memory of the put is taken here.
+    pub fn put_begin(
+        &self,
+        alloc: Global,
+        object: &Text,
+        length: u64,
+        now: u64,
+    ) -> Result<Put, Memory>
+        requires unspent { IsFalse self.now.spent }
+        requires moment { IsTrue (is_moment now) }
+        ensures { IfOk result (HasBegun self.now.kept object.now length now) }
+    {
+        let plan = plan_put(alloc, &self.library, &self.journal, object, length, now)?;
+        let same = may_be_same(&plan, length);
+        let buffer = buffer_for(alloc, &plan)?;
+        Ok(Put {
+            size: length,
+            handed: 0,
+            plan,
+            same,
+            buffer,
+        })
+    }
+
+    /// Takes the next piece of a put, of at most 65,536 bytes: it is written to the object's place, or compared
+    /// with the bytes that are kept. It takes no memory. After `Failed` the store is spent.
+    pub fn put_piece<D: Disk>(
+        &mut self,
+        disk: &mut D,
+        put: &mut Put,
+        piece: &[u8],
+    ) -> Result<(), Failed>
+        requires unspent { IsFalse self.old.spent }
+        requires device { size_of self.old.kept ≤ (D.device disk.old).size }
+        requires of_store { IsPutOf self.old.kept put.old }
+        requires inside { put.old.handed + length piece.now ≤ put.old.size }
+        requires short { length piece.now ≤ PIECE }
+
+        // What is kept stays, also where the call fails, and at each moment a crash leaves its state.
+        ensures keeps { (held : List (List ℕ)) → AgreesWith (D.device disk.old) self.old.kept held
+            → Keeps self.old.kept held (D.device disk.old) (D.device disk.new) }
+
+        ensures piece { (D.device disk.old).shows ≡ true → OnOk result
+            (TakesPiece self.old.kept put.old.plan piece.now put.old put.new
+            (D.device disk.old) (D.device disk.new)) }
+        ensures put { OnOk result (GoesOn put.old put.new piece.now × IsPutOf self.new.kept put.new) }
+        ensures kept { self.new.kept ≡ self.old.kept }
+        ensures spent { self.new.spent ≡ is_err result }
+        ensures handed { (D.device disk.old).tells ≡ true → OnOk result ((D.device disk.new).handed
+            ≡ (D.device disk.old).handed + piece_bytes put.old.plan piece.now) }
+        ensures handed_at_most { (D.device disk.old).tells ≡ true → (D.device disk.new).handed
+            ≤ (D.device disk.old).handed + piece_bytes put.old.plan piece.now }
+        ensures calls { DiskCalls (is_ok result) (D.device disk.old) (D.device disk.new) }
+    {
+        self.library.keeps_good();
+        let area = self.area();
+        match put.take(disk, area, piece) {
+            Ok(()) => Ok(()),
+            Err(fault) => {
+                self.spent = true;
+                Err(fault)
+            }
+        }
+    }
+
+    /// Ends a put whose bytes are all there: they are synced, and then the change that stores them is written. It
+    /// takes no memory. After `Failed` the store is spent.
+    pub fn put_end<D: Disk>(&mut self, disk: &mut D, put: Put) -> Result<Reply, Failed>
+        requires unspent { IsFalse self.old.spent }
+        requires device { size_of self.old.kept ≤ (D.device disk.old).size }
+        requires of_store { IsPutOf self.old.kept put }
+        requires filled { put.handed ≡ put.size }
+        ensures makes { (D.device disk.old).honest ≡ true → (D.device disk.old).shows ≡ true
+            → (D.device disk.old).tells ≡ true → (held : List (List ℕ)) → (change : Change)
+            → AgreesWith (D.device disk.old) self.old.kept held
+            → StoresAs self.old.kept change put.plan
+            → EndsPut (is_ok result) put.plan change self.old.kept held
+            (D.device disk.old) (D.device disk.new) }
+        ensures reply { IfOk result (λ reply. reply ≡ put_reply put put.plan) }
+        ensures kept { IfOk result (λ _. self.new.kept ≡ kept_behind self.old.kept put.plan) }
+        ensures spent { self.new.spent ≡ is_err result }
+        ensures handed { (D.device disk.old).tells ≡ true → IfOk result (λ _. (D.device disk.new).handed
+            ≡ (D.device disk.old).handed + handed_by put.plan) }
+        ensures handed_at_most { (D.device disk.old).tells ≡ true
+            → (D.device disk.new).handed ≤ (D.device disk.old).handed + handed_by put.plan }
+        ensures calls { DiskCalls (is_ok result) (D.device disk.old) (D.device disk.new) }
+    {
+        let Put { plan, same, .. } = put;
+        match plan {
+            PutPlan::Refused(why) => Ok(Reply::Refused(why)),
+            PutPlan::Kept(_) => Ok(compared_reply(same)),
+            PutPlan::Write(extent, planned) => self.store(disk, extent, planned),
+        }
+    }
+}
+
+impl Store {
+    /// Writes the change that stores an object whose bytes were written, and becomes what it makes.
+    fn store<D: Disk>(
+        &mut self,
+        disk: &mut D,
+        extent: Extent,
+        planned: Planned,
+    ) -> Result<Reply, Failed>
+        requires unspent { IsFalse self.old.spent }
+        requires device { size_of self.old.kept ≤ (D.device disk.old).size }
+        requires within { extent.start + blocks_of extent.length ≤ self.old.kept.library.blocks }
+        requires ready { CanCommit self.old.kept planned }
+        ensures makes { (D.device disk.old).honest ≡ true → (D.device disk.old).shows ≡ true
+            → (D.device disk.old).tells ≡ true → (held : List (List ℕ)) → (change : Change)
+            → AgreesWith (D.device disk.old) self.old.kept held
+            → MakesChange (journal_of self.old.kept) change planned → IsTrue (stores_at change extent)
+            → Makes (is_ok result) change (bytes_in self.old.kept extent (D.device disk.old).seen)
+            self.old.kept (kept_by self.old.kept planned) held
+            (D.device disk.old) (D.device disk.new) }
+        ensures reply { IfOk result (λ reply. reply ≡ planned.reply) }
+        ensures kept { IfOk result (λ _. self.new.kept ≡ kept_by self.old.kept planned) }
+        ensures spent { self.new.spent ≡ is_err result }
+        ensures handed { (D.device disk.old).tells ≡ true → IfOk result (λ _. (D.device disk.new).handed
+            ≡ (D.device disk.old).handed + bytes_by planned) }
+        ensures handed_at_most { (D.device disk.old).tells ≡ true
+            → (D.device disk.new).handed ≤ (D.device disk.old).handed + bytes_by planned }
+        ensures calls { DiskCalls (is_ok result) (D.device disk.old) (D.device disk.new) }
+    {
+        images_have_the_bytes();
+        let Planned {
+            next,
+            frame,
+            rows,
+            reply,
+        } = planned;
+        let Some(frame) = frame else {
+            return Ok(reply);
+        };
+        match store_change(disk, &mut self.journal, rows.as_ref(), &frame) {
+            Ok(()) => {
+                self.library = next;
+                Ok(reply)
+            }
+            Err(fault) => {
+                self.spent = true;
+                Err(fault)
+            }
+        }
+    }
+}
+
+impl Put {
+    /// Takes a piece, where the media blocks begin at `area`.
+    fn take<D: Disk>(&mut self, disk: &mut D, area: u64, piece: &[u8]) -> Result<(), Failed>
+        requires place { IsPlacedOn area (D.device disk.old).size self.old.plan self.old.same
+            (self.old.handed + length piece.now) }
+        requires inside { self.old.handed + length piece.now ≤ self.old.size }
+        requires short { length piece.now ≤ PIECE }
+        ensures keeps { (kept : StoreView) → (held : List (List ℕ))
+            → AgreesWith (D.device disk.old) kept held → area ≡ media_start kept.journal.half
+            → LeavesObjects kept.library self.old.plan
+            → Keeps kept held (D.device disk.old) (D.device disk.new) }
+        ensures piece { (D.device disk.old).shows ≡ true → OnOk result
+            (TakesAt area self.old.plan piece.now self.old.handed self.old.same self.new.same
+            (D.device disk.old).seen (D.device disk.new).seen) }
+        ensures put { OnOk result (GoesOn self.old self.new piece.now) }
+        ensures same { self.new.same ≡ true → self.old.same ≡ true }
+        ensures handed { (D.device disk.old).tells ≡ true → OnOk result ((D.device disk.new).handed
+            ≡ (D.device disk.old).handed + piece_bytes self.old.plan piece.now) }
+        ensures handed_at_most { (D.device disk.old).tells ≡ true → (D.device disk.new).handed
+            ≤ (D.device disk.old).handed + piece_bytes self.old.plan piece.now }
+        ensures calls { DiskCalls (is_ok result) (D.device disk.old) (D.device disk.new) }
+    {
+        let at = self.handed;
+        let room = self.buffer.as_mut_slice();
+        self.same = take_piece(disk, area, &self.plan, at, self.same, piece, room)?;
+        self.handed += piece.len() as u64;
+        Ok(())
+    }
+}
+
+/// Writes a piece of a put's bytes at this offset in them, or compares it with the bytes that are kept, as far as
+/// they are the same; whether they still are. Those are read into `room`.
+fn take_piece<D: Disk>(
+    disk: &mut D,
+    area: u64,
+    plan: &PutPlan,
+    at: u64,
+    same: bool,
+    piece: &[u8],
+    room: &mut [u8],
+) -> Result<bool, Failed>
+    requires place { IsPlacedOn area (D.device disk.old).size plan.now same (at + length piece.now) }
+    requires short { length piece.now ≤ PIECE }
+    requires room { HasRoom plan.now (length room.old) }
+    ensures keeps { (kept : StoreView) → (held : List (List ℕ))
+        → AgreesWith (D.device disk.old) kept held → area ≡ media_start kept.journal.half
+        → LeavesObjects kept.library plan.now
+        → Keeps kept held (D.device disk.old) (D.device disk.new) }
+    ensures piece { (D.device disk.old).shows ≡ true → IfOk result (λ still.
+        TakesAt area plan.now piece.now at same still
+        (D.device disk.old).seen (D.device disk.new).seen) }
+    ensures same { IfOk result (λ still. still ≡ true → same ≡ true) }
+    ensures room { length room.new ≡ length room.old }
+    ensures handed { (D.device disk.old).tells ≡ true → IfOk result (λ _. (D.device disk.new).handed
+        ≡ (D.device disk.old).handed + piece_bytes plan.now piece.now) }
+    ensures handed_at_most { (D.device disk.old).tells ≡ true → (D.device disk.new).handed
+        ≤ (D.device disk.old).handed + piece_bytes plan.now piece.now }
+    ensures calls { DiskCalls (is_ok result) (D.device disk.old) (D.device disk.new) }
+{
+    match plan {
+        PutPlan::Refused(_) => Ok(same),
+        PutPlan::Kept(extent) => {
+            if !same {
+                return Ok(false);
+            }
+            let out = &mut room[..piece.len()];
+            is_same(disk, area, *extent, at, piece, out)
+        }
+        PutPlan::Write(extent, _) => {
+            write_free(disk, area, *extent, at, piece)?;
+            Ok(same)
+        }
+    }
+}
+
+/// Whether a piece of the bytes that are kept is this one. It is read into `out`.
+fn is_same<D: Disk>(
+    disk: &mut D,
+    area: u64,
+    extent: Extent,
+    at: u64,
+    piece: &[u8],
+    out: &mut [u8],
+) -> Result<bool, Failed>
+    requires room { length out.old ≡ length piece.now }
+    requires inside { at + length piece.now ≤ extent.length }
+    requires device { IsOnDevice area extent (D.device disk.old).size }
+    ensures same { (D.device disk.old).shows ≡ true → IfOk result (λ same. same
+        ≡ bytes_eq (bytes_at (extent_bytes area extent (D.device disk.old).seen) at (length piece.now))
+        piece.now) }
+    ensures room { length out.new ≡ length out.old }
+    ensures keeps { (kept : StoreView) → (held : List (List ℕ)) → AgreesWith (D.device disk.old) kept held
+        → Keeps kept held (D.device disk.old) (D.device disk.new) }
+    ensures handed { (D.device disk.new).handed ≡ (D.device disk.old).handed }
+    ensures calls { DiskCalls (is_ok result) (D.device disk.old) (D.device disk.new) }
+{
+    read_kept(disk, area, extent, at, out)?;
+    Ok(same_bytes(out, piece))
+}
+
+/// Whether bytes of an object may be the same as so many that come: there are as many.
+fn may_be_same(plan: &PutPlan, size: u64) -> bool
+    ensures { result ≡ may_be_same size plan.now }
+{
+    match plan {
+        PutPlan::Kept(extent) => extent.length == size,
+        PutPlan::Refused(_) | PutPlan::Write(_, _) => true,
+    }
+}
+
+/// Room for a piece of the bytes that are to be compared, where there are some.
+fn buffer_for(alloc: Global, plan: &PutPlan) -> Result<Vec<u8>, Memory>
+    ensures { IfOk result (λ buffer. HasRoom plan.now (length buffer.items)) }
+{
+    match plan {
+        PutPlan::Kept(_) => Ok(vec![in alloc; 0u8; PIECE]?),
+        PutPlan::Refused(_) | PutPlan::Write(_, _) => Ok(Vec::new(alloc)),
+    }
+}
+
+/// The reply to bytes that were compared.
+fn compared_reply(same: bool) -> Reply
+    ensures { result ≡ (stored_put same).reply }
+{
+    if same {
+        Reply::Done
+    } else {
+        Reply::Refused(Refusal::OtherBytes)
+    }
+}

@@ -1,0 +1,84 @@
+//! The store and its looks.
+ghost use Rattle.std.specs.Prelude.{◌≡◌};
+ghost use Rattle.media_rows.specs.Objects.{object_of};
+ghost use Rattle.store_core.specs.Prepared.{counts_of};
+ghost use Rattle.store_states.specs.States.{media_start};
+ghost use Rattle.media_store.specs.Stores.{extent_of};
+
+use disk_trait::Text;
+use media_journal::{BLOCK, Journal};
+use media_rows::{Extent, ObjectState};
+use std::marker::Model;
+use store_core::{Core, Counts};
+
+/// A store that was opened. The bytes of its objects stay on the disk, which is handed to each call that needs
+/// it.
+#[derive(Drop)]
+pub struct Store {
+    pub(crate) library: Core,
+    pub(crate) journal: Journal,
+    pub(crate) spent: bool,
+}
+
+impl Model for Store {
+    ghost use Rattle.std.specs.Prelude.{◌≡◌, false};
+    ghost use Rattle.media_store.specs.Stores.{IsStore, StoreSeen};
+
+    ghost Value = { StoreSeen };
+
+    ghost view = { λ s. record {
+      kept = record { library = s.library; journal = s.journal };
+      spent = s.spent;
+    } };
+
+    ghost invariant = { λ s. s.spent ≡ false
+        → IsStore (record { library = s.library; journal = s.journal }) };
+}
+
+impl Store {
+    /// Whether a call of the disk failed. Then the store must be opened again.
+    pub fn spent(&self) -> bool
+        ensures { result ≡ self.now.spent }
+    {
+        self.spent
+    }
+
+    /// The store's id.
+    pub fn id(&self) -> u128
+        ensures { result ≡ self.now.kept.library.id }
+    {
+        self.library.id()
+    }
+
+    /// How much is kept. It takes no memory.
+    pub fn counts(&self) -> Counts
+        ensures { result ≡ counts_of self.now.kept.library }
+    {
+        self.library.counts()
+    }
+
+    /// Where the bytes of the object of this id lie, in media blocks and bytes; `None` exactly where it isn't
+    /// stored. It takes no memory.
+    pub fn extent_of(&self, object: &Text) -> Option<Extent>
+        ensures { result ≡ extent_of (object_of object.now self.now.kept.library.objects) }
+    {
+        let row = self.library.object(object)?;
+        match row.state {
+            ObjectState::Allocated => None,
+            ObjectState::Stored {
+                start_block,
+                length,
+            } => Some(Extent {
+                start: start_block,
+                length,
+            }),
+        }
+    }
+
+    /// Where the media blocks begin in the file, in bytes.
+    pub(crate) fn area(&self) -> u64
+        ensures { result ≡ media_start self.now.kept.journal.half }
+    {
+        BLOCK * (2 * self.journal.half() + 2)
+    }
+}
