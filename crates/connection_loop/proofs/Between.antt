@@ -9,7 +9,7 @@ use Rattle.site_edge.specs.Links.{AddsConnection, Closed, LinkCall}
 use Rattle.run_history.specs.Machine.{Machine}
 use Rattle.run_history.specs.Sessions.{Session, has_failed, stops}
 use Rattle.run_history.specs.Runs.{Beginning}
-use Rattle.run_history.specs.Serving.{Counts, Held, is_cut, starves}
+use Rattle.run_history.specs.Serving.{Counts, is_cut, starves}
 use Rattle.run_history.proofs.Ends.{run_stops-push}
 use Rattle.run_history.proofs.Going.{served_quiet}
 use Rattle.connection_loop.specs.declared.ending.Ending.{Ending}
@@ -33,29 +33,27 @@ same_connected old new time =
 -- ---- one connection
 
 -- It was closed.
-pub ends_closed : {State Request : Type 0} (m : Machine State Request) (b : Beginning State) (old new : Device) (given : List ℕ) (held : Held State)
-    (keeps keeps_now : Type 0) (finished : List (Session Request)) (n : Counts) (ending : Ending) → EndsAs m b old given held keeps finished n ending
-    → Elapses Unchanged Unchanged old new → new.link.connections ≡ old.link.connections → (keeps → keeps_now)
-    → EndsAs m b new given held keeps_now finished n ending
-ends_closed m b old new given held keeps keeps_now finished n ending e time same kept = record {
+pub ends_closed : {State Request : Type 0} (m : Machine State Request) (b : Beginning State) (old new : Device) (given : List ℕ)
+    (keeps keeps_now : State → Type 0) (finished : List (Session Request)) (n : Counts) (ending : Ending) → EndsAs m b old given keeps finished n ending
+    → Elapses Unchanged Unchanged old new → new.link.connections ≡ old.link.connections → ((s : State) → keeps s → keeps_now s)
+    → EndsAs m b new given keeps_now finished n ending
+ends_closed m b old new given keeps keeps_now finished n ending e time same kept = record {
   session = e.session;
   served = served_quiet m b old new given _ n e.served time same;
   unstopped = e.unstopped;
   ending_is = e.ending_is;
-  state = e.state;
-  kept = λ on. kept (e.kept on);
+  kept = λ on. kept _ (e.kept on);
 }
 
 -- None came.
-pub between_quiet : {State Request : Type 0} (m : Machine State Request) (b : Beginning State) (old new : Device) (given : List ℕ) (held : Held State)
-    (keeps keeps_now : Type 0) (sessions : List (Session Request)) (n : Counts) → IsBetween m b old given held keeps sessions n
-    → Elapses Unchanged Unchanged old new → new.link.connections ≡ old.link.connections → (keeps → keeps_now)
-    → IsBetween m b new given held keeps_now sessions n
-between_quiet m b old new given held keeps keeps_now sessions n i time same kept = record {
+pub between_quiet : {State Request : Type 0} (m : Machine State Request) (b : Beginning State) (old new : Device) (given : List ℕ)
+    (keeps keeps_now : State → Type 0) (sessions : List (Session Request)) (n : Counts) → IsBetween m b old given keeps sessions n
+    → Elapses Unchanged Unchanged old new → new.link.connections ≡ old.link.connections → ((s : State) → keeps s → keeps_now s)
+    → IsBetween m b new given keeps_now sessions n
+between_quiet m b old new given keeps keeps_now sessions n i time same kept = record {
   served = served_quiet m b old new given sessions n i.served time same;
   unstopped = i.unstopped;
-  state = i.state;
-  kept = kept i.kept;
+  kept = kept _ i.kept;
 }
 
 -- the calls for a connection that came, was served and was closed
@@ -144,19 +142,18 @@ counted_later a b c (s ∷ sessions) so_far least more =
 
 -- a connection more
 pub between_more : {State Request : Type 0} (m : Machine State Request) (b : Beginning State) (first now d : Device) (given : List ℕ)
-    (held : Held State) (keeps : Type 0) (sessions : List (Session Request)) (n : Counts) (ending : Ending) (counter : ℕ)
-    → EndsAs m b d given held keeps sessions n ending → is_stopped ending ≡ false → length sessions ≡ counter
+    (keeps : State → Type 0) (sessions : List (Session Request)) (n : Counts) (ending : Ending) (counter : ℕ)
+    → EndsAs m b d given keeps sessions n ending → is_stopped ending ≡ false → length sessions ≡ counter
     → AreCounted first.link.faults now.link.faults sessions
     → first.link.faults ≤ now.link.faults → LinkCount (Some ending) now.link.faults d.link.faults
-    → GoesOnBetween m b first d given held keeps n (counter + 1)
-between_more m b first now d given held keeps sessions n ending counter e on count counted least faults =
+    → GoesOnBetween m b first d given keeps n (counter + 1)
+between_more m b first now d given keeps sessions n ending counter e on count counted least faults =
     let going = stops-by e.session ending false e.ending_is on in
     record {
       sessions = sessions ++ e.session ∷ [];
       between = record {
         served = e.served;
         unstopped = run_stops-push sessions e.session e.unstopped ∙ going;
-        state = e.state going;
         kept = e.kept going;
       };
       count = omega (arith, count, length-append sessions (e.session ∷ []));
@@ -164,12 +161,12 @@ between_more m b first now d given held keeps sessions n ending counter e on cou
     }
 
 -- the disk failed in it
-pub ended_stopped : {State Request : Type 0} (m : Machine State Request) (b : Beginning State) (first now d : Device) (given : List ℕ) (held : Held State)
-    (keeps : Type 0) (sessions : List (Session Request)) (n : Counts) (ending : Ending) (counter connections : ℕ)
-    → EndsAs m b d given held keeps sessions n ending → is_stopped ending ≡ true → length sessions ≡ counter → counter < connections
+pub ended_stopped : {State Request : Type 0} (m : Machine State Request) (b : Beginning State) (first now d : Device) (given : List ℕ)
+    (keeps : State → Type 0) (sessions : List (Session Request)) (n : Counts) (ending : Ending) (counter connections : ℕ)
+    → EndsAs m b d given keeps sessions n ending → is_stopped ending ≡ true → length sessions ≡ counter → counter < connections
     → AreCounted first.link.faults now.link.faults sessions → first.link.faults ≤ now.link.faults → LinkCount (Some ending) now.link.faults d.link.faults
     → HasEnded m b first d given n connections run.Stopped
-ended_stopped m b first now d given held keeps sessions n ending counter connections e on count few counted least faults = record {
+ended_stopped m b first now d given keeps sessions n ending counter connections e on count few counted least faults = record {
   sessions = sessions ++ e.session ∷ [];
   served = e.served;
   ends = (
@@ -249,9 +246,9 @@ no_run_calls d = record {
 }
 
 -- before the first connection
-pub served_first : {State Request : Type 0} (m : Machine State Request) (d : Device) (tells : Bool) (given : List ℕ) (held : Held State) (keeps : Type 0)
-    (n : Counts) (size : ℕ) → n.answers ≡ 0 → HasServedSo m d d tells tells given given held held keeps keeps n n size size 0
-served_first m d tells given held keeps n size none = record {
+pub served_first : {State Request : Type 0} (m : Machine State Request) (d : Device) (tells : Bool) (given : List ℕ) (keeps : State → Type 0)
+    (n : Counts) (size : ℕ) → n.answers ≡ 0 → HasServedSo m d d tells tells given given keeps keeps n n size size 0
+served_first m d tells given keeps n size none = record {
   calls = no_run_calls d;
   size_is = refl;
   clock = λ t. t;
@@ -262,15 +259,15 @@ served_first m d tells given held keeps n size none = record {
 
 -- a connection more
 pub served_more : {State Request : Type 0} (m : Machine State Request) (first now last : Device) (tells_first tells_now tells_next : Bool)
-    (given_first given more : List ℕ) (held_first held later : Held State) (keeps_first keeps keeps_next : Type 0) (n_first n n_next : Counts)
+    (given_first given more : List ℕ) (keeps_first keeps keeps_next : State → Type 0) (n_first n n_next : Counts)
     (size_first size size_next counter : ℕ) (ending : Ending)
-    → HasServedSo m first now tells_first tells_now given_first given held_first held keeps_first keeps n_first n size_first size counter
+    → HasServedSo m first now tells_first tells_now given_first given keeps_first keeps n_first n size_first size counter
     → NextCalls (next.Ended ending) now last → is_stopped ending ≡ false → size_next ≡ size → (tells_next ≡ true → tells_now ≡ true)
     → (tells_next ≡ true → GivesMore given more) → n_next.answers ≤ n.answers + 1000000
-    → (TellsAll now tells_next → (b : Beginning State) → (sessions : List (Session Request)) → IsBetween m b now given held keeps sessions n
-    → NextLeads m b last more later keeps_next sessions n_next (next.Ended ending))
-    → HasServedSo m first last tells_first tells_next given_first more held_first later keeps_first keeps_next n_first n_next size_first size_next (counter + 1)
-served_more m first now last tells_first tells_now tells_next given_first given more held_first held later keeps_first keeps keeps_next n_first n n_next
+    → (TellsAll now tells_next → (b : Beginning State) → (sessions : List (Session Request)) → IsBetween m b now given keeps sessions n
+    → NextLeads m b last more keeps_next sessions n_next (next.Ended ending))
+    → HasServedSo m first last tells_first tells_next given_first more keeps_first keeps_next n_first n_next size_first size_next (counter + 1)
+served_more m first now last tells_first tells_now tells_next given_first given more keeps_first keeps keeps_next n_first n n_next
     size_first size size_next counter ending h calls on size_is clock gives answers leads = record {
       calls = calls_on ending first now last h.calls calls on;
       size_is = size_is ∙ h.size_is;
@@ -279,7 +276,7 @@ served_more m first now last tells_first tells_now tells_next given_first given 
       answers = omega (arith, answers, h.answers);
       reached = λ all b between.
           let so_far = h.reached (record { honest = all.honest; shows = all.shows; tells = all.tells; clock_tells = clock all.clock_tells }) b between in
-          between_more m b first now last more later keeps_next so_far.sessions n_next ending counter
+          between_more m b first now last more keeps_next so_far.sessions n_next ending counter
           (leads (tells_later first now tells_next h.calls.same all) b so_far.sessions so_far.between) on so_far.count so_far.counted h.calls.link_faults
           calls.link_faults;
     }

@@ -11,10 +11,10 @@ use Rattle.run_history.specs.Machine.{Machine}
 use Rattle.run_history.specs.Steps.{Step}
 use Rattle.run_history.specs.Sessions.{Session}
 use Rattle.run_history.specs.Runs.{Beginning}
-use Rattle.run_history.specs.Serving.{Counts, Going, Held}
+use Rattle.run_history.specs.Serving.{Counts, Going}
 use Rattle.connection_loop.specs.declared.ending.Ending.{Ending}
 use Rattle.connection_loop.specs.declared.ending.Ending.TheVariants.{Complete, Cut, Unlinked, Starved, Stopped}
-use Rattle.connection_loop.specs.Turns.{GivesMore, GoesOn, LinkCount, SiteCalls, TellsAll, disk_held}
+use Rattle.connection_loop.specs.Turns.{GivesMore, GoesOn, LinkCount, SiteCalls, TellsAll, disk_held, held_with}
 use Rattle.connection_loop.specs.Loops.{HasTurned}
 
 -- a count that no call raised
@@ -77,9 +77,10 @@ gives_twice a b c first second = record {
 }
 
 -- before the first turn
-pub turned_first : {State Request : Type 0} (m : Machine State Request) (d : Device) (tells : Bool) (given : List ℕ) (held : Held State) (keeps : Type 0)
-    (n : Counts) (size turns : ℕ) → held.taken ≡ 0 → turns ≡ 0 → HasTurned m d d tells tells given given held held keeps keeps n n size size turns 0
-turned_first m d tells given held keeps n size turns none zero = record {
+pub turned_first : {State Request : Type 0} (m : Machine State Request) (d : Device) (tells : Bool) (given unread : List ℕ) (taken : ℕ)
+    (keeps : State → Type 0) (n : Counts) (size turns : ℕ) → taken ≡ 0 → turns ≡ 0
+    → HasTurned m d d tells tells given given unread unread taken taken keeps keeps n n size size turns 0
+turned_first m d tells given unread taken keeps n size turns none zero = record {
   calls = no_calls d;
   size_is = refl;
   clock = λ t. t;
@@ -88,23 +89,25 @@ turned_first m d tells given held keeps n size turns none zero = record {
   answers = omega (arith, none);
   moved = omega arith;
   most = omega (arith, zero);
-  reached = λ all b finished kept going. record { steps = []; kept = kept; going = going };
+  reached = λ all b finished s kept going. record { steps = []; state = s; kept = kept; going = going };
 }
 
 -- a turn that goes on
 pub turned_more : {State Request : Type 0} (m : Machine State Request) (first now next : Device) (tells_first tells_now tells_next : Bool)
-    (given_first given more : List ℕ) (held_first held later : Held State) (keeps_first keeps keeps_next : Type 0) (n_first n n_next : Counts)
-    (size_first size size_next turns turns_next counter : ℕ)
-    → HasTurned m first now tells_first tells_now given_first given held_first held keeps_first keeps n_first n size_first size turns counter
+    (given_first given more unread_first unread unread_next : List ℕ) (taken_first taken taken_next : ℕ) (keeps_first keeps keeps_next : State → Type 0)
+    (n_first n n_next : Counts) (size_first size size_next turns turns_next counter : ℕ)
+    → HasTurned m first now tells_first tells_now given_first given unread_first unread taken_first taken keeps_first keeps n_first n size_first size turns
+    counter
     → SiteCalls None now next → size_next ≡ size → (tells_next ≡ true → tells_now ≡ true)
-    → (tells_next ≡ true → GivesMore given more) → later.taken < 1000000
-    → n_next.answers + held.taken ≡ n.answers + later.taken → turns < turns_next → turns_next < 2 ^ 64 - 1
-    → (TellsAll now tells_next → (b : Beginning State) → (finished : List (Session Request)) (steps : List (Step Request)) → keeps
-    → Going m b now given held finished steps n → GoesOn m b next more later keeps_next finished n_next)
-    → HasTurned m first next tells_first tells_next given_first more held_first later keeps_first keeps_next n_first n_next size_first size_next turns_next
-    (counter + 1)
-turned_more m first now next tells_first tells_now tells_next given_first given more held_first held later keeps_first keeps keeps_next n_first n n_next
-    size_first size size_next turns turns_next counter h calls size_is clock gives few counted moves most goes = record {
+    → (tells_next ≡ true → GivesMore given more) → taken_next < 1000000
+    → n_next.answers + taken ≡ n.answers + taken_next → turns < turns_next → turns_next < 2 ^ 64 - 1
+    → (TellsAll now tells_next → (b : Beginning State) → (finished : List (Session Request)) (steps : List (Step Request)) (s : State) → keeps s
+    → Going m b now given (held_with s unread taken) finished steps n → GoesOn m b next more unread_next taken_next keeps_next finished n_next)
+    → HasTurned m first next tells_first tells_next given_first more unread_first unread_next taken_first taken_next keeps_first keeps_next n_first n_next
+    size_first size_next turns_next (counter + 1)
+turned_more m first now next tells_first tells_now tells_next given_first given more unread_first unread unread_next taken_first taken taken_next
+    keeps_first keeps keeps_next n_first n n_next size_first size size_next turns turns_next counter h calls size_is clock gives few counted moves most goes =
+    record {
       calls = calls_more None first now next h.calls calls;
       size_is = size_is ∙ h.size_is;
       clock = λ yes. h.clock (clock yes);
@@ -113,8 +116,8 @@ turned_more m first now next tells_first tells_now tells_next given_first given 
       answers = omega (arith, counted, h.answers);
       moved = omega (arith, moves, h.moved);
       most = most;
-      reached = λ all b finished kept going.
+      reached = λ all b finished s kept going.
           let so_far =
-          h.reached (record { honest = all.honest; shows = all.shows; tells = all.tells; clock_tells = clock all.clock_tells }) b finished kept going in
-          goes (tells_later first now tells_next h.calls.same all) b finished so_far.steps so_far.kept so_far.going;
+          h.reached (record { honest = all.honest; shows = all.shows; tells = all.tells; clock_tells = clock all.clock_tells }) b finished s kept going in
+          goes (tells_later first now tells_next h.calls.same all) b finished so_far.steps so_far.state so_far.kept so_far.going;
     }

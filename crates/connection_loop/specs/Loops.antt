@@ -6,33 +6,34 @@ use Rattle.disk_trait.specs.Calls.{IsCounted, Rose, SameDevice}
 use Rattle.run_history.specs.Machine.{Machine}
 use Rattle.run_history.specs.Sessions.{Session}
 use Rattle.run_history.specs.Runs.{Beginning}
-use Rattle.run_history.specs.Serving.{Counts, Going, HasServed, Held, run_stops}
+use Rattle.run_history.specs.Serving.{Counts, Going, HasServed, run_stops}
 use Rattle.connection_loop.specs.declared.connection.Next.{Next}
 use Rattle.connection_loop.specs.declared.connection.Next.TheVariants.{NoMore, Unlinked, Ended}
 use Rattle.connection_loop.specs.declared.run.RunEnd.{RunEnd}
 use Rattle.connection_loop.specs.declared.run.RunEnd.TheVariants.{Complete}
 use Rattle.connection_loop.specs.declared.run.RunEnd.TheVariants as run
 use Rattle.connection_loop.specs.declared.ending.Ending.TheVariants as endings
-use Rattle.connection_loop.specs.Turns.{EndsAs, GivesMore, GoesOn, IsBetween, LinkCount, SiteCalls, TellsAll, disk_held, ending_of}
+use Rattle.connection_loop.specs.Turns.{EndsAs, GivesMore, GoesOn, IsBetween, LinkCount, SiteCalls, TellsAll, disk_held, ending_of, held_with}
 
 -- Turns of a connection so far: no call failed, each turn was counted, and the connection has come
 -- so far from wherever it had come at first.
 pub record HasTurned {State Request : Type 0} (m : Machine State Request) (first now : Device)
-    (tells_first tells_now : Bool) (given_first given : List ℕ) (held_first held : Held State)
-    (keeps_first keeps : Type 0) (n_first n : Counts) (size_first size turns counter : ℕ) : Type 0
+    (tells_first tells_now : Bool) (given_first given unread_first unread : List ℕ)
+    (taken_first taken : ℕ) (keeps_first keeps : State → Type 0) (n_first n : Counts)
+    (size_first size turns counter : ℕ) : Type 0
   where
     pub calls : SiteCalls None first now
     pub size_is : size ≡ size_first
     pub clock : tells_now ≡ true → tells_first ≡ true
     pub moments : tells_now ≡ true → GivesMore given_first given
-    pub few : held.taken < 1000000
-    pub answers : n.answers ≡ n_first.answers + held.taken
+    pub few : taken < 1000000
+    pub answers : n.answers ≡ n_first.answers + taken
     pub moved : counter ≤ turns
     pub most : turns < 2 ^ 64 - 1
     pub reached : TellsAll first tells_now → (b : Beginning State)
-        → (finished : List (Session Request)) → keeps_first
-        → Going m b first given_first held_first finished [] n_first
-        → GoesOn m b now given held keeps finished n
+        → (finished : List (Session Request)) (s : State) → keeps_first s
+        → Going m b first given_first (held_with s unread_first taken_first) finished [] n_first
+        → GoesOn m b now given unread taken keeps finished n
 
 -- no call of the disk failed
 abbrev pub next_disk_held : Next → Bool
@@ -63,13 +64,11 @@ pub record NextCalls (next : Next) (old new : Device) : Type 0 where
 -- What waiting for the next connection and serving it leads to: no more will come; waiting for one
 -- failed; or one has ended.
 abbrev pub NextLeads : {State Request : Type 0} → Machine State Request → Beginning State → Device
-    → List ℕ → Held State → Type 0 → List (Session Request) → Counts → Next → Type 0
-NextLeads m b d given held keeps sessions n NoMore =
-    IsBetween m b d given held keeps sessions n × (d.link.closed ≡ true)
-NextLeads m b d given held keeps sessions n Unlinked =
-    IsBetween m b d given held keeps sessions n
-NextLeads m b d given held keeps sessions n (Ended ending) =
-    EndsAs m b d given held keeps sessions n ending
+    → List ℕ → (State → Type 0) → List (Session Request) → Counts → Next → Type 0
+NextLeads m b d given keeps sessions n NoMore =
+    IsBetween m b d given keeps sessions n × (d.link.closed ≡ true)
+NextLeads m b d given keeps sessions n Unlinked = IsBetween m b d given keeps sessions n
+NextLeads m b d given keeps sessions n (Ended ending) = EndsAs m b d given keeps sessions n ending
 
 -- ---- connections one after another
 
@@ -123,17 +122,17 @@ pub record HasEnded {State Request : Type 0} (m : Machine State Request) (b : Be
 
 -- Connections so far, none of which stopped the run.
 pub record GoesOnBetween {State Request : Type 0} (m : Machine State Request) (b : Beginning State)
-    (first d : Device) (given : List ℕ) (held : Held State) (keeps : Type 0) (n : Counts)
+    (first d : Device) (given : List ℕ) (keeps : State → Type 0) (n : Counts)
     (counter : ℕ) : Type 0 where
   pub sessions : List (Session Request)
-  pub between : IsBetween m b d given held keeps sessions n
+  pub between : IsBetween m b d given keeps sessions n
   pub count : length sessions ≡ counter
   pub counted : AreCounted first.link.faults d.link.faults sessions
 
 -- the same from wherever the run had come at first
 pub record HasServedSo {State Request : Type 0} (m : Machine State Request) (first now : Device)
-    (tells_first tells_now : Bool) (given_first given : List ℕ) (held_first held : Held State)
-    (keeps_first keeps : Type 0) (n_first n : Counts) (size_first size counter : ℕ) : Type 0
+    (tells_first tells_now : Bool) (given_first given : List ℕ)
+    (keeps_first keeps : State → Type 0) (n_first n : Counts) (size_first size counter : ℕ) : Type 0
   where
     pub calls : RunCalls Complete first now
     pub size_is : size ≡ size_first
@@ -141,5 +140,5 @@ pub record HasServedSo {State Request : Type 0} (m : Machine State Request) (fir
     pub moments : tells_now ≡ true → GivesMore given_first given
     pub answers : n.answers ≤ 1000000 * counter
     pub reached : TellsAll first tells_now → (b : Beginning State)
-        → IsBetween m b first given_first held_first keeps_first [] n_first
-        → GoesOnBetween m b first now given held keeps n counter
+        → IsBetween m b first given_first keeps_first [] n_first
+        → GoesOnBetween m b first now given keeps n counter

@@ -48,33 +48,39 @@ is_stopped Unlinked = false
 is_stopped Starved = false
 is_stopped Stopped = true
 
--- A connection behind others has ended so, and the service keeps the state to which it led, unless
--- the disk failed.
+-- what is known of the connection under way in a state, by its unread bytes and its requests
+abbrev pub held_with : {State : Type 0} → State → List ℕ → ℕ → Held State
+held_with s unread taken = record { state = s; unread = unread; taken = taken }
+
+-- A connection behind others has ended so, and the state to which it led is kept, unless the disk
+-- failed.
 pub record EndsAs {State Request : Type 0} (m : Machine State Request) (b : Beginning State)
-    (d : Device) (given : List ℕ) (held : Held State) (keeps : Type 0)
+    (d : Device) (given : List ℕ) (keeps : State → Type 0)
     (finished : List (Session Request)) (n : Counts) (ending : Ending) : Type 0 where
   pub session : Session Request
   pub served : HasServed m b d given (finished ++ session ∷ []) n
   pub unstopped : run_stops finished ≡ false
   pub ending_is : ending ≡ ending_of session
-  pub state : stops session.steps ≡ false → held.state
-      ≡ (after_sessions m (start_of b.state) (finished ++ session ∷ [])).state
-  pub kept : stops session.steps ≡ false → keeps
+  pub kept : stops session.steps ≡ false
+      → keeps (after_sessions m (start_of b.state) (finished ++ session ∷ [])).state
 
--- A connection goes on.
+-- A connection goes on, in a state that is kept.
 pub record GoesOn {State Request : Type 0} (m : Machine State Request) (b : Beginning State)
-    (d : Device) (given : List ℕ) (held : Held State) (keeps : Type 0)
+    (d : Device) (given unread : List ℕ) (taken : ℕ) (keeps : State → Type 0)
     (finished : List (Session Request)) (n : Counts) : Type 0 where
   pub steps : List (Step Request)
-  pub kept : keeps
-  pub going : Going m b d given held finished steps n
+  pub state : State
+  pub kept : keeps state
+  pub going : Going m b d given (held_with state unread taken) finished steps n
 
 -- what a turn leads to: the connection goes on, or it has ended
 abbrev pub TurnLeads : {State Request : Type 0} → Machine State Request → Beginning State → Device
-    → List ℕ → Held State → Type 0 → List (Session Request) → Counts → Option Ending → Type 0
-TurnLeads m b d given held keeps finished n None = GoesOn m b d given held keeps finished n
-TurnLeads m b d given held keeps finished n (Some ending) =
-    EndsAs m b d given held keeps finished n ending
+    → List ℕ → List ℕ → ℕ → (State → Type 0) → List (Session Request) → Counts → Option Ending
+    → Type 0
+TurnLeads m b d given unread taken keeps finished n None =
+    GoesOn m b d given unread taken keeps finished n
+TurnLeads m b d given unread taken keeps finished n (Some ending) =
+    EndsAs m b d given keeps finished n ending
 
 -- What a connection that goes on or ended in some way leaves of the count of link faults. Where it
 -- ended for want of memory or with a disk fault, its last answer may have failed to be said.
@@ -103,16 +109,11 @@ pub record SiteCalls (ending : Option Ending) (old new : Device) : Type 0 where
   pub peer_faults : new.link.peer_faults ≡ old.link.peer_faults
   pub under_way : new.link.under_way ≡ old.link.under_way
 
--- the state stays, and nothing was heard of the next connection
-abbrev pub held_afresh : {State : Type 0} → Held State → Held State
-held_afresh held = record { state = held.state; unread = []; taken = 0 }
-
--- Connections were served one after another, none of which stopped the run, and the service keeps
--- the state to which they led.
+-- Connections were served one after another, none of which stopped the run, and the state to which
+-- they led is kept.
 pub record IsBetween {State Request : Type 0} (m : Machine State Request) (b : Beginning State)
-    (d : Device) (given : List ℕ) (held : Held State) (keeps : Type 0)
+    (d : Device) (given : List ℕ) (keeps : State → Type 0)
     (sessions : List (Session Request)) (n : Counts) : Type 0 where
   pub served : HasServed m b d given sessions n
   pub unstopped : run_stops sessions ≡ false
-  pub state : held.state ≡ (after_sessions m (start_of b.state) sessions).state
-  pub kept : keeps
+  pub kept : keeps (after_sessions m (start_of b.state) sessions).state

@@ -3,7 +3,7 @@ ghost use Rattle.std.specs.Prelude.{◌≡◌, ◌≤◌, ◌<◌, ◌+◌, ◌^
 ghost use Rattle.run_history.specs.Sessions.{Session};
 ghost use Rattle.run_history.specs.Runs.{Beginning};
 ghost use Rattle.run_history.specs.Serving.{Going};
-ghost use Rattle.connection_loop.specs.Turns.{EndsAs, GivesMore, IsBetween, SiteCalls, TellsAll};
+ghost use Rattle.connection_loop.specs.Turns.{EndsAs, GivesMore, IsBetween, SiteCalls, TellsAll, held_with};
 ghost use Rattle.connection_loop.specs.Loops.{NextCalls, NextLeads};
 
 use crate::{Ending, MOST_ANSWERS, Service, Tally};
@@ -29,7 +29,7 @@ fn serve_connection<V: Service, X: Site, C: Clock>(
     clock: &mut C,
     tally: &mut Tally,
 ) -> Ending
-    requires none { (V.held service.old).taken ≡ 0 }
+    requires none { V.taken service.old ≡ 0 }
     requires turns { V.turns service.old ≡ 0 }
     requires room { tally.old.answers + MOST_ANSWERS < 2 ^ 60 }
     requires device { V.size service.old ≤ (X.device site.old).size }
@@ -41,10 +41,11 @@ fn serve_connection<V: Service, X: Site, C: Clock>(
         → GivesMore (C.given clock.old) (C.given clock.new) }
     ensures answers { tally.new.answers ≤ tally.old.answers + MOST_ANSWERS }
     ensures served { TellsAll (X.device site.old) (C.tells clock.new) → (b : Beginning V.State)
-        → (finished : List (Session V.Request)) → V.keeps (V.store service.old) (X.device site.old)
-        → Going V.machine b (X.device site.old) (C.given clock.old) (V.held service.old) finished []
-        tally.old
-        → EndsAs V.machine b (X.device site.new) (C.given clock.new) (V.held service.new)
+        → (finished : List (Session V.Request)) (s : V.State)
+        → V.keeps (V.store service.old) (X.device site.old) s
+        → Going V.machine b (X.device site.old) (C.given clock.old)
+        (held_with s (V.unread service.old) (V.taken service.old)) finished [] tally.old
+        → EndsAs V.machine b (X.device site.new) (C.given clock.new)
         (V.keeps (V.store service.new) (X.device site.new)) finished tally.new result }
 {
     for _ in 0..u64::MAX {
@@ -73,9 +74,9 @@ pub fn serve_next<V: Service, X: Site, C: Clock>(
     ensures answers { tally.new.answers ≤ tally.old.answers + MOST_ANSWERS }
     ensures leads { TellsAll (X.device site.old) (C.tells clock.new) → (b : Beginning V.State)
         → (sessions : List (Session V.Request))
-        → IsBetween V.machine b (X.device site.old) (C.given clock.old) (V.held service.old)
+        → IsBetween V.machine b (X.device site.old) (C.given clock.old)
         (V.keeps (V.store service.old) (X.device site.old)) sessions tally.old
-        → NextLeads V.machine b (X.device site.new) (C.given clock.new) (V.held service.new)
+        → NextLeads V.machine b (X.device site.new) (C.given clock.new)
         (V.keeps (V.store service.new) (X.device site.new)) sessions tally.new result }
 {
     match site.next_peer() {

@@ -43,7 +43,7 @@ pub fn serve<V: Service, X: Site, C: Clock>(
     ensures moments { C.tells clock.new ≡ true
         → GivesMore (C.given clock.old) (C.given clock.new) }
     ensures ended { TellsAll (X.device site.old) (C.tells clock.new) → (b : Beginning V.State)
-        → IsBetween V.machine b (X.device site.old) (C.given clock.old) (V.held service.old)
+        → IsBetween V.machine b (X.device site.old) (C.given clock.old)
         (V.keeps (V.store service.old) (X.device site.old)) [] tally.old
         → HasEnded V.machine b (X.device site.old) (X.device site.new) (C.given clock.new) tally.new
         connections result }

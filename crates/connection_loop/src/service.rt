@@ -1,12 +1,12 @@
 //! What answers the requests of a connection.
-ghost use Rattle.std.specs.Prelude.{◌≡◌, ◌≤◌, ◌<◌, ◌+◌, ◌-◌, ◌^◌, ℕ, List, Bool, true, None, Some, IsNone};
+ghost use Rattle.std.specs.Prelude.{◌≡◌, ◌≤◌, ◌<◌, ◌+◌, ◌-◌, ◌^◌, [], ℕ, List, Bool, true, None, Some, IsNone};
 ghost use Rattle.disk_trait.specs.Device.{Device};
 ghost use Rattle.run_history.specs.Machine.{Machine};
 ghost use Rattle.run_history.specs.Sessions.{Session};
 ghost use Rattle.run_history.specs.Steps.{Step};
 ghost use Rattle.run_history.specs.Runs.{Beginning};
-ghost use Rattle.run_history.specs.Serving.{Going, Held};
-ghost use Rattle.connection_loop.specs.Turns.{GivesMore, SameImages, SiteCalls, TellsAll, TurnLeads, held_afresh};
+ghost use Rattle.run_history.specs.Serving.{Going};
+ghost use Rattle.connection_loop.specs.Turns.{GivesMore, SameImages, SiteCalls, TellsAll, TurnLeads, held_with};
 
 use crate::{Ending, Tally};
 use site_edge::{Clock, Site};
@@ -15,8 +15,8 @@ use std::alloc::Global;
 /// A connection has at most so many answers: the last one ends it.
 pub const MOST_ANSWERS: u64 = 1_000_000;
 
-/// What answers requests: it keeps a state, and the bytes of the connection under way that were heard and
-/// not yet taken.
+/// What answers requests: it keeps a state, in memory or on its device, and the bytes of the connection
+/// under way that were heard and not yet taken.
 pub trait Service {
     ghost State: { Type 0 };
 
@@ -25,16 +25,19 @@ pub trait Service {
     /// What it answers to each request, and what changes with it.
     ghost machine: { Machine State Request };
 
-    /// The state, the unread bytes, and the number of requests of the connection under way.
-    ghost held: { Self → Held State };
+    /// The bytes of the connection under way that were heard and not yet taken.
+    ghost unread: { Self → List ℕ };
 
-    /// What it keeps beside: where the device has the state, say.
+    /// The number of its requests.
+    ghost taken: { Self → ℕ };
+
+    /// What it keeps in memory of the state: all of it, or where the device has it, say.
     ghost Store: { Type 0 };
 
     ghost store: { Self → Store };
 
-    /// Each image that a crash now may leave of this device gives what is kept.
-    ghost keeps: { Store → Device → Type 0 };
+    /// Each image that a crash now may leave of this device gives what is kept, and with it this state.
+    ghost keeps: { Store → Device → State → Type 0 };
 
     /// The bytes of the least device that it can serve on.
     ghost size: { Self → ℕ };
@@ -43,12 +46,13 @@ pub trait Service {
     ghost turns: { Self → ℕ };
 
     /// That hangs on the images alone.
-    ghost kept: { (kept : Store) (old new : Device) → keeps kept old → SameImages old new
-        → keeps kept new };
+    ghost kept: { (kept : Store) (old new : Device) (s : State) → keeps kept old s
+        → SameImages old new → keeps kept new s };
 
     /// Forgets what was heard of the last connection.
     fn begin(&mut self)
-        ensures held { held self.new ≡ held_afresh (held self.old) }
+        ensures unread { unread self.new ≡ [] }
+        ensures taken { taken self.new ≡ 0 }
         ensures store { store self.new ≡ store self.old }
         ensures size { size self.new ≡ size self.old }
         ensures turns { turns self.new ≡ 0 };
@@ -61,7 +65,7 @@ pub trait Service {
         clock: &mut C,
         tally: &mut Tally,
     ) -> Option<Ending>
-        requires few { (held self.old).taken < MOST_ANSWERS }
+        requires few { taken self.old < MOST_ANSWERS }
         requires room { tally.old.answers < 2 ^ 60 }
         requires device { size self.old ≤ (X.device site.old).size }
         requires under_way { (X.device site.old).link.under_way ≡ true }
@@ -70,17 +74,18 @@ pub trait Service {
         ensures clock { C.tells clock.new ≡ true → C.tells clock.old ≡ true }
         ensures moments { C.tells clock.new ≡ true
             → GivesMore (C.given clock.old) (C.given clock.new) }
-        ensures few { IsNone result → (held self.new).taken < MOST_ANSWERS }
-        ensures counted { IsNone result → tally.new.answers + (held self.old).taken
-            ≡ tally.old.answers + (held self.new).taken }
+        ensures few { IsNone result → taken self.new < MOST_ANSWERS }
+        ensures counted { IsNone result → tally.new.answers + taken self.old
+            ≡ tally.old.answers + taken self.new }
         ensures counted_last { tally.new.answers ≤ tally.old.answers + 1 }
         ensures turns { IsNone result → turns self.old < turns self.new }
         ensures most { turns self.new < 2 ^ 64 - 1 }
         ensures goes { TellsAll (X.device site.old) (C.tells clock.new) → (b : Beginning State)
-            → (finished : List (Session Request)) (steps : List (Step Request))
-            → keeps (store self.old) (X.device site.old)
-            → Going machine b (X.device site.old) (C.given clock.old) (held self.old) finished steps
-            tally.old
-            → TurnLeads machine b (X.device site.new) (C.given clock.new) (held self.new)
-            (keeps (store self.new) (X.device site.new)) finished tally.new result };
+            → (finished : List (Session Request)) (steps : List (Step Request)) (s : State)
+            → keeps (store self.old) (X.device site.old) s
+            → Going machine b (X.device site.old) (C.given clock.old)
+            (held_with s (unread self.old) (taken self.old)) finished steps tally.old
+            → TurnLeads machine b (X.device site.new) (C.given clock.new) (unread self.new)
+            (taken self.new) (keeps (store self.new) (X.device site.new)) finished tally.new
+            result };
 }

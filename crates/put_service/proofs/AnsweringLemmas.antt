@@ -23,7 +23,7 @@ use Rattle.put_service.specs.declared.request.Front.TheVariants.{Unbuilt}
 use Rattle.put_service.specs.declared.store.Store.{Store}
 use Rattle.put_service.specs.Answer.{answer_body, body_fields, close_field, closes, is_final, response, status_line}
 use Rattle.put_service.specs.Change.{IsPutChange}
-use Rattle.put_service.specs.Keeping.{EachKeeps, HandledAs, Handles, IsHandled, IsStarved}
+use Rattle.put_service.specs.Keeping.{EachKeeps, HandledAs, Handles, IsHandled, IsStarved, KeepsState}
 use Rattle.put_service.specs.Library.{IsGood}
 use Rattle.put_service.specs.Machine.{PutRequest, Spells, change_of, is_changing, put_answer, put_machine, put_reply, with_put}
 use Rattle.put_service.specs.Opening.{state_of}
@@ -141,8 +141,7 @@ module _ (b : Beginning State) (old mid new : Device) (given : List ℕ) (store 
   -- The machine's answer came with a change.
   changing_leads : (a : Answer) → a ≡ put_answer (state_of store) (change_of r moment) → is_changing a ≡ true → state_of next ≡ after → EachKeeps mid next
       → Elapses (Tells false (response a r.last)) (Tells ok (response a r.last)) mid new → Said ok (response a r.last) mid new
-      → TurnLeads put_machine b new (given ++ moment ∷ []) (holds next rest (taken + 1)) (EachKeeps new next) finished (counted 1 false n)
-      (machine_ending ok r.last)
+      → TurnLeads put_machine b new (given ++ moment ∷ []) rest (taken + 1) (KeepsState next new) finished (counted 1 false n) (machine_ending ok r.last)
   changing_leads a is changing state kept call said =
       answer_leads put_machine b old mid new given (holds store unread taken) finished steps n ask (response a r.last) 1 (after ∷ []) (moment ∷ []) rest
       ok r.last
@@ -162,14 +161,13 @@ module _ (b : Beginning State) (old mid new : Device) (given : List ℕ) (store 
         unstopped = refl;
         written = refl;
       })
-      refl few_open (EachKeeps new next) (keeps_told next mid new ok (response a r.last) kept call) (state_of next) state
+      refl few_open (KeepsState next new) (keeps_told next mid new ok (response a r.last) kept call, state)
 
   -- It came with none.
   staying_leads : (a : Answer) → a ≡ put_answer (state_of store) (change_of r moment) → is_changing a ≡ false → state_of next ≡ state_of store
       → EachKeeps mid next → Elapses Unchanged Unchanged old mid → Elapses (Tells false (response a r.last)) (Tells ok (response a r.last)) mid new
       → Said ok (response a r.last) mid new
-      → TurnLeads put_machine b new (given ++ moment ∷ []) (holds next rest (taken + 1)) (EachKeeps new next) finished (counted 0 false n)
-      (machine_ending ok r.last)
+      → TurnLeads put_machine b new (given ++ moment ∷ []) rest (taken + 1) (KeepsState next new) finished (counted 0 false n) (machine_ending ok r.last)
   staying_leads a is staying state kept quiet call said =
       answer_leads put_machine b old mid new given (holds store unread taken) finished steps n ask (response a r.last) 0 [] (moment ∷ []) rest ok r.last
       (record {
@@ -188,12 +186,12 @@ module _ (b : Beginning State) (old mid new : Device) (given : List ℕ) (store 
         unstopped = refl;
         written = refl;
       })
-      refl few_open (EachKeeps new next) (keeps_told next mid new ok (response a r.last) kept call) (state_of next) state
+      refl few_open (KeepsState next new) (keeps_told next mid new ok (response a r.last) kept call, state)
 
   -- There was no memory.
   starved_leads : IsStarved old mid store next → Elapses (Tells false (response answers.NoMemory true)) (Tells ok (response answers.NoMemory true)) mid new
       → Said ok (response answers.NoMemory true) mid new
-      → EndsAs put_machine b new (given ++ moment ∷ []) (holds next rest (taken + 1)) (EachKeeps new next) finished (counted 0 false n) endings.Starved
+      → EndsAs put_machine b new (given ++ moment ∷ []) (KeepsState next new) finished (counted 0 false n) endings.Starved
   starved_leads starved call said =
       step_ends put_machine b old mid new given (holds store unread taken) finished steps n (Starved ask) (response answers.NoMemory true) 0 []
       (moment ∷ []) rest ok false
@@ -213,8 +211,8 @@ module _ (b : Beginning State) (old mid new : Device) (given : List ℕ) (store 
         unstopped = refl;
         written = refl;
       })
-      endings.Starved refl tt tt (EachKeeps new next) (λ on. keeps_told next mid new ok (response answers.NoMemory true) starved.keeps call)
-      (holds next rest (taken + 1)) (λ on. starved.state)
+      endings.Starved refl tt tt (KeepsState next new)
+      (λ on. (keeps_told next mid new ok (response answers.NoMemory true) starved.keeps call, starved.state))
 
   changes : is_changing (put_answer (state_of store) (change_of r moment)) ≡ true → (put_reply r moment (state_of store)).change ≢ None
   changes changing none =
@@ -224,7 +222,7 @@ module _ (b : Beginning State) (old mid new : Device) (given : List ℕ) (store 
   stopped_leads : is_changing (put_answer (state_of store) (change_of r moment)) ≡ true
       → Elapses (Tells false (response answers.DiskFault true)) (Tells ok (response answers.DiskFault true)) mid new
       → Said ok (response answers.DiskFault true) mid new
-      → EndsAs put_machine b new (given ++ moment ∷ []) (holds next rest (taken + 1)) (EachKeeps new next) finished (counted 1 false n) endings.Stopped
+      → EndsAs put_machine b new (given ++ moment ∷ []) (KeepsState next new) finished (counted 1 false n) endings.Stopped
   stopped_leads changing call said =
       step_ends put_machine b old mid new given (holds store unread taken) finished steps n (Stopped ask (BeforeAnswer true))
       (response answers.DiskFault true) 0 (after ∷ []) (moment ∷ []) rest ok true
@@ -244,13 +242,12 @@ module _ (b : Beginning State) (old mid new : Device) (given : List ℕ) (store 
         unstopped = refl;
         written = refl;
       })
-      endings.Stopped refl tt tt (EachKeeps new next) (λ on. absurd (false≢true (sym on))) (holds next rest (taken + 1))
-      (λ on. absurd (false≢true (sym on)))
+      endings.Stopped refl tt tt (KeepsState next new) (λ on. absurd (false≢true (sym on)))
 
   -- each answer
   answered_leads : (a : Answer) (changing : Bool) → is_changing a ≡ changing → IsHandled old mid store next (change_of r moment) a
       → Elapses (Tells false (response a r.last)) (Tells ok (response a r.last)) mid new → Said ok (response a r.last) mid new
-      → TurnLeads put_machine b new (given ++ moment ∷ []) (holds next rest (taken + 1)) (EachKeeps new next) finished
+      → TurnLeads put_machine b new (given ++ moment ∷ []) rest (taken + 1) (KeepsState next new) finished
       (counted (if changing then 1 else 0) false n) (machine_ending ok r.last)
   answered_leads a true is done call said =
       let accepted : is_changing (put_answer (state_of store) (change_of r moment)) ≡ true = ap is_changing (sym done.answer) ∙ is in
@@ -261,7 +258,7 @@ module _ (b : Beginning State) (old mid new : Device) (given : List ℕ) (store 
 
   pub put_leads : (a : Answer) → HandledAs old mid store next (change_of r moment) a
       → Elapses (Tells false (response a r.last)) (Tells ok (response a r.last)) mid new → Said ok (response a r.last) mid new
-      → TurnLeads put_machine b new (given ++ moment ∷ []) (holds next rest (taken + 1)) (EachKeeps new next) finished (counted (changes_by a) false n)
+      → TurnLeads put_machine b new (given ++ moment ∷ []) rest (taken + 1) (KeepsState next new) finished (counted (changes_by a) false n)
       (ending_after a ok r.last)
   put_leads answers.Created done call said = answered_leads answers.Created true refl done call said
   put_leads answers.Replaced done call said = answered_leads answers.Replaced true refl done call said
@@ -282,12 +279,11 @@ pub refuse_leads : (b : Beginning State) (old new : Device) (given : List ℕ) (
     → Going put_machine b old given (holds store unread taken) finished steps n → IsFront unread Unbuilt → EachKeeps old store → old.tells ≡ true
     → Elapses (Tells false (response answers.NotBuilt true)) (Tells ok (response answers.NotBuilt true)) old new
     → Said ok (response answers.NotBuilt true) old new
-    → EndsAs put_machine b new given (holds store unread taken) (EachKeeps new store) finished (counted 0 false n) (if ok then endings.Complete else
-    endings.Unlinked)
+    → EndsAs put_machine b new given (KeepsState store new) finished (counted 0 false n) (if ok then endings.Complete else endings.Unlinked)
 refuse_leads b old new given store unread taken finished steps n ok g front keeps tells call said =
     let refusal : Refusal = record { interim = None; response = response answers.NotBuilt true } in
     let trace = trace_of put_machine b.state (finished ++ under_way steps Whole ∷ []) in
-    subst (λ l. EndsAs put_machine b new l (holds store unread taken) (EachKeeps new store) finished (counted 0 false n)
+    subst (λ l. EndsAs put_machine b new l (KeepsState store new) finished (counted 0 false n)
     (if ok then endings.Complete else endings.Unlinked)) (append-nil given)
     (step_ends put_machine b old old new given (holds store unread taken) finished steps n (Refused unread refusal) (response answers.NotBuilt true) 0 [] [] []
     ok false
@@ -307,8 +303,8 @@ refuse_leads b old new given store unread taken finished steps n ok g front keep
       unstopped = refl;
       written = refl;
     })
-    (if ok then endings.Complete else endings.Unlinked) (ending_is ok) tt tt (EachKeeps new store)
-    (λ on. keeps_told store old new ok (response answers.NotBuilt true) keeps call) (holds store unread taken) (λ on. refl))
+    (if ok then endings.Complete else endings.Unlinked) (ending_is ok) tt tt (KeepsState store new)
+    (λ on. (keeps_told store old new ok (response answers.NotBuilt true) keeps call, refl)))
   where
     ending_is : (k : Bool) → (if k then endings.Complete else endings.Unlinked) ≡ (if has_failed (if k then Whole else Saying) then endings.Unlinked else
         endings.Complete)

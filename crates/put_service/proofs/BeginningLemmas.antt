@@ -49,6 +49,8 @@ begins old new s sound reads keeps unread taken = λ from given all settled stan
     record {
       served = begun_served old new from given sound all.honest all.tells settled stands reads.time reads.calls.link;
       unstopped = refl;
-      state = one_state old.seen from (state_of s.store) stands (stands_of old.seen s.store kept);
-      kept = opened_keeps old new s.store settled kept reads.time;
+      kept = (
+        opened_keeps old new s.store settled kept reads.time,
+        one_state old.seen from (state_of s.store) stands (stands_of old.seen s.store kept),
+      );
     }

@@ -17,7 +17,7 @@ use Rattle.connection_loop.specs.declared.ending.Ending.TheVariants as endings
 use Rattle.connection_loop.specs.Turns.{EndsAs, GivesMore, GoesOn, ending_of}
 use Rattle.put_service.specs.declared.request.Front.TheVariants.{More}
 use Rattle.put_service.specs.declared.store.Store.{Store}
-use Rattle.put_service.specs.Keeping.{EachKeeps}
+use Rattle.put_service.specs.Keeping.{EachKeeps, KeepsState}
 use Rattle.put_service.specs.Machine.{PutRequest, put_machine}
 use Rattle.put_service.specs.Opening.{state_of}
 use Rattle.put_service.specs.Request.{IsFront}
@@ -61,11 +61,12 @@ module _ (b : Beginning State) (old new : Device) (given : List ℕ) (store : St
 
   -- More was heard.
   pub goes_on : (left : List ℕ) (count : ℕ) → 0 < count → HeardMore old new unread left count
-      → GoesOn put_machine b new given (holds store left taken) (EachKeeps new store) finished n
+      → GoesOn put_machine b new given left taken (KeepsState store new) finished n
   goes_on left zero some heard = absurd (omega (arith, some))
   goes_on left (suc k) some heard = record {
     steps = steps;
-    kept = keeps_unchanged store old new keeps time;
+    state = state_of store;
+    kept = (keeps_unchanged store old new keeps time, refl);
     going = subst (λ l. Going put_machine b new given (holds store l taken) finished steps n) (sym heard.2)
         (goes_heard put_machine b old new given (holds store unread taken) finished steps n heard.0 g time heard.3);
   }
@@ -83,33 +84,33 @@ module _ (b : Beginning State) (old new : Device) (given : List ℕ) (store : St
   -- It ended behind a whole request.
   ends_behind : (link : LinkEnd) (ended : Bool) → new.link.connections ≡ change_last (after_end link ended) old.link.connections → link ≢ Saying
       → (link ≡ Whole → ended ≡ true) → unread ≡ [] → (ending : Ending) → ending ≡ (if has_failed link then endings.Unlinked else endings.Complete)
-      → EndsAs put_machine b new given (holds store unread taken) (EachKeeps new store) finished n ending
+      → EndsAs put_machine b new given (KeepsState store new) finished n ending
   ends_behind link ended connections not_saying whole none ending is = record {
     session = under_way steps link;
     served = ends_heard put_machine b old new given (holds store unread taken) finished steps n link ended g time connections none not_saying whole;
     unstopped = g.unstopped;
     ending_is = is ∙ sym (ending_open link);
-    state = λ on. state_so link;
-    kept = λ on. keeps_unchanged store old new keeps time;
+    kept = λ on. (keeps_unchanged store old new keeps time, state_so link);
   }
 
   -- It ended within one.
   ends_within : (link : LinkEnd) (ended : Bool) → new.link.connections ≡ change_last (after_end link ended) old.link.connections → link ≢ Saying
       → (link ≡ Whole → ended ≡ true) → unread ≢ [] → IsFront unread More → (ending : Ending)
       → ending ≡ (if has_failed link then endings.Unlinked else endings.Cut)
-      → EndsAs put_machine b new given (holds store unread taken) (EachKeeps new store) finished n ending
+      → EndsAs put_machine b new given (KeepsState store new) finished n ending
   ends_within link ended connections not_saying whole some more ending is = record {
     session = under_way (steps ++ cut_silently unread ∷ []) link;
     served = ends_cut put_machine b old new given (holds store unread taken) finished steps n link ended g time connections some not_saying whole
         (record { front = more; cutting_is = refl }) (unfinished taken unread more);
     unstopped = g.unstopped;
     ending_is = is ∙ sym (ending_cut link);
-    state = λ on.
-        g.state
-        ∙ sym (ap (λ (at : Stage State). at.state)
-        (stage-sessions put_machine (start_of b.state) finished (under_way (steps ++ cut_silently unread ∷ []) link)
-        ∙ stage-push put_machine (after_sessions put_machine (start_of b.state) finished) steps (cut_silently unread)));
-    kept = λ on. keeps_unchanged store old new keeps time;
+    kept = λ on. (
+      keeps_unchanged store old new keeps time,
+      g.state
+          ∙ sym (ap (λ (at : Stage State). at.state)
+          (stage-sessions put_machine (start_of b.state) finished (under_way (steps ++ cut_silently unread ∷ []) link)
+          ∙ stage-push put_machine (after_sessions put_machine (start_of b.state) finished) steps (cut_silently unread))),
+    );
   }
 
   not_saying-whole : Whole ≢ Saying
@@ -122,24 +123,24 @@ module _ (b : Beginning State) (old new : Device) (given : List ℕ) (store : St
   not_whole same = absurd cc
 
   pub ended_complete : unread ≡ [] → new.link.connections ≡ change_last (λ c. record c { ended = true }) old.link.connections
-      → EndsAs put_machine b new given (holds store unread taken) (EachKeeps new store) finished n endings.Complete
+      → EndsAs put_machine b new given (KeepsState store new) finished n endings.Complete
   ended_complete none e =
       ends_behind Whole true (changed_so (λ c. record c { ended = true }) (after_end Whole true) refl e) not_saying-whole (λ _. refl) none endings.Complete refl
 
   pub ended_cut : unread ≢ [] → IsFront unread More → new.link.connections ≡ change_last (λ c. record c { ended = true }) old.link.connections
-      → EndsAs put_machine b new given (holds store unread taken) (EachKeeps new store) finished n endings.Cut
+      → EndsAs put_machine b new given (KeepsState store new) finished n endings.Cut
   ended_cut some more e =
       ends_within Whole true (changed_so (λ c. record c { ended = true }) (after_end Whole true) refl e) not_saying-whole (λ _. refl) some more endings.Cut refl
 
   unheard_by : (bytes : List ℕ) → unread ≡ bytes → IsFront unread More
       → new.link.connections ≡ change_last (after_end Hearing false) old.link.connections
-      → EndsAs put_machine b new given (holds store unread taken) (EachKeeps new store) finished n endings.Unlinked
+      → EndsAs put_machine b new given (KeepsState store new) finished n endings.Unlinked
   unheard_by [] is more e = ends_behind Hearing false e not_saying-hearing not_whole is endings.Unlinked refl
   unheard_by (x ∷ xs) is more e =
       ends_within Hearing false e not_saying-hearing not_whole (λ none. absurd (let same : x ∷ xs ≡ [] = sym is ∙ none in cc)) more endings.Unlinked refl
 
   pub ended_unheard : IsFront unread More → new.link.connections ≡ change_last (λ c. record c { failed = true }) old.link.connections
-      → EndsAs put_machine b new given (holds store unread taken) (EachKeeps new store) finished n endings.Unlinked
+      → EndsAs put_machine b new given (KeepsState store new) finished n endings.Unlinked
   ended_unheard more e =
       unheard_by unread refl more (changed_so (λ c. record c { failed = true }) (after_end Hearing false) refl e)
 

@@ -1,5 +1,5 @@
 -- A step whose changes were made and whose reply was said, or a part of it, as a turn of its connection: what it leads to.
-use Rattle.std.proofs.Common.{◌≡◌, ◌≤◌, ◌<◌, ◌+◌, ◌-◌, ℕ, Bool, true, false, List, [], ◌∷◌, ◌++◌, length, All, if◌then◌else◌, refl, sym, ap, ◌∙◌, arith, length-append}
+use Rattle.std.proofs.Common.{◌≡◌, ◌≤◌, ◌<◌, ◌+◌, ◌-◌, ℕ, Bool, true, false, List, [], ◌∷◌, ◌++◌, length, All, if◌then◌else◌, refl, sym, ap, ◌∙◌, subst, arith, length-append}
 use Rattle.std.proofs.lemmas.Bool.{false≢true}
 use Rattle.std.proofs.lemmas.List.{take_all}
 use Rattle.disk_trait.specs.Device.{Device}
@@ -84,10 +84,6 @@ abbrev pub counted_step : {State Request : Type 0} → Counts → List State →
 counted_step n states step =
     record { answers = n.answers + 1; changes = n.changes + length states; skipped = n.skipped + skips_by step }
 
--- what the service holds behind it
-abbrev pub held_behind : {State : Type 0} → ℕ → State → List ℕ → Held State
-held_behind taken state rest = record { state = state; unread = rest; taken = taken + 1 }
-
 module _ {State Request : Type 0} (m : Machine State Request) (b : Beginning State) (old mid new : Device) (given : List ℕ) (held : Held State)
     (finished : List (Session Request)) (steps : List (Step Request)) (n : Counts) (step : Step Request) (bytes : List ℕ) (made : ℕ) (states : List State)
     (moments rest : List ℕ) (ok writing : Bool)
@@ -102,14 +98,14 @@ module _ {State Request : Type 0} (m : Machine State Request) (b : Beginning Sta
       ∙ ap (λ now. last_or now states) (sym s.going.state)
 
   -- The connection goes on.
-  pub step_goes : ok ≡ true → is_last m step ≡ false → held.taken + 1 < most_answers → (keeps : Type 0) → keeps → (state : State)
-      → state ≡ last_or held.state states
-      → GoesOn m b new (given ++ moments) (held_behind held.taken state rest) keeps finished (counted_step n states step)
-  step_goes whole stay few keeps kept state state_is = record {
+  pub step_goes : ok ≡ true → is_last m step ≡ false → held.taken + 1 < most_answers → (keeps : State → Type 0) → keeps (last_or held.state states)
+      → GoesOn m b new (given ++ moments) rest (held.taken + 1) keeps finished (counted_step n states step)
+  step_goes whole stay few keeps kept = record {
     steps = steps ++ step ∷ [];
+    state = last_or held.state states;
     kept = kept;
     going = goes_answered m b old mid new given held finished steps n step bytes made states moments rest ok writing s.going s.is s.text s.effect_is s.sure
-        s.some s.reached s.good s.link s.tells s.call s.said s.unstopped s.written whole stay few state (state_is ∙ sym state_next);
+        s.some s.reached s.good s.link s.tells s.call s.said s.unstopped s.written whole stay few (last_or held.state states) (sym state_next);
   }
 
   -- which call of the link failed
@@ -121,10 +117,9 @@ module _ {State Request : Type 0} (m : Machine State Request) (b : Beginning Sta
 
   -- The connection has ended.
   pub step_ends : (ending : Ending) → ending ≡ ending_of (under_way (step ∷ []) link_behind) → RestIs m held.taken (step ∷ []) link_behind rest
-      → EndIs m (step ∷ []) link_behind false → (keeps : Type 0) → (stops (step ∷ []) ≡ false → keeps) → (later : Held State)
-      → (stops (step ∷ []) ≡ false → later.state ≡ last_or held.state states)
-      → EndsAs m b new (given ++ moments) later keeps finished (counted_step n states step) ending
-  step_ends ending ending_is rest_is end_is keeps kept later state_is =
+      → EndIs m (step ∷ []) link_behind false → (keeps : State → Type 0) → (stops (step ∷ []) ≡ false → keeps (last_or held.state states))
+      → EndsAs m b new (given ++ moments) keeps finished (counted_step n states step) ending
+  step_ends ending ending_is rest_is end_is keeps kept =
       let like = end_like-push m steps step s.going.stay in
       record {
         session = under_way (steps ++ step ∷ []) link_behind;
@@ -132,11 +127,10 @@ module _ {State Request : Type 0} (m : Machine State Request) (b : Beginning Sta
             s.sure s.some s.reached s.good s.link s.tells s.call s.said s.unstopped s.written rest_is end_is;
         unstopped = s.going.unstopped;
         ending_is = ending_is ∙ sym (ending-like like);
-        state = λ on.
-            state_is (sym like.stops ∙ on)
-            ∙ sym (ap (λ (at : Stage State). at.state)
-            (stage-sessions m (start_of b.state) finished (under_way (steps ++ step ∷ []) link_behind)) ∙ state_next);
-        kept = λ on. kept (sym like.stops ∙ on);
+        kept = λ on.
+            subst keeps (sym (ap (λ (at : Stage State). at.state)
+            (stage-sessions m (start_of b.state) finished (under_way (steps ++ step ∷ []) link_behind)) ∙ state_next))
+            (kept (sym like.stops ∙ on));
       }
 
 -- An answer of the machine: the connection goes on, or ends where the answer ends it or couldn't be said whole.
@@ -144,20 +138,16 @@ pub answer_leads : {State Request : Type 0} (m : Machine State Request) (b : Beg
     (finished : List (Session Request)) (steps : List (Step Request)) (n : Counts) (ask : Ask Request) (bytes : List ℕ) (made : ℕ) (states : List State)
     (moments rest : List ℕ) (ok last : Bool)
     → StepSaid m b old mid new given held finished steps n (Answered ask Made) bytes made states moments rest ok false → m.ends ask.request ≡ last
-    → (last ≡ false → held.taken + 1 < most_answers) → (keeps : Type 0) → keeps → (state : State) → state ≡ last_or held.state states
-    → TurnLeads m b new (given ++ moments) (held_behind held.taken state rest) keeps finished (counted_step n states (Answered ask Made)) (machine_ending ok
-    last)
-answer_leads m b old mid new given held finished steps n ask bytes made states moments rest true false s ends few keeps kept state state_is =
+    → (last ≡ false → held.taken + 1 < most_answers) → (keeps : State → Type 0) → keeps (last_or held.state states)
+    → TurnLeads m b new (given ++ moments) rest (held.taken + 1) keeps finished (counted_step n states (Answered ask Made)) (machine_ending ok last)
+answer_leads m b old mid new given held finished steps n ask bytes made states moments rest true false s ends few keeps kept =
     step_goes m b old mid new given held finished steps n (Answered ask Made) bytes made states moments rest true false s refl ends (few refl) keeps kept
-    state state_is
-answer_leads m b old mid new given held finished steps n ask bytes made states moments rest true true s ends few keeps kept state state_is =
+answer_leads m b old mid new given held finished steps n ask bytes made states moments rest true true s ends few keeps kept =
     step_ends m b old mid new given held finished steps n (Answered ask Made) bytes made states moments rest true false s Complete refl
     (λ stays. absurd (false≢true (sym stays ∙ ends))) (λ stays. absurd (false≢true (sym stays ∙ ends))) keeps (λ on. kept)
-    (held_behind held.taken state rest) (λ on. state_is)
-answer_leads m b old mid new given held finished steps n ask bytes made states moments rest false last s ends few keeps kept state state_is =
+answer_leads m b old mid new given held finished steps n ask bytes made states moments rest false last s ends few keeps kept =
     step_ends m b old mid new given held finished steps n (Answered ask Made) bytes made states moments rest false false s Unlinked refl
     (λ stays whole. absurd (whole refl)) (λ stays whole. absurd (saying whole)) keeps (λ on. kept)
-    (held_behind held.taken state rest) (λ on. state_is)
   where
     saying : Saying ≡ Whole → ⊥
     saying same = cc

@@ -23,6 +23,10 @@ pub record EachKeeps (d : Device) (s : Store) : Type 0 where
   pub gives : EachGives d s.journal (contents header records)
   pub folds : Folds records (formatted_library header) s.library
 
+-- the same, and this is the store's state
+abbrev pub KeepsState : Store → Device → State → Type 0
+KeepsState s d state = EachKeeps d s × (state_of s ≡ state)
+
 -- What answering a change may do to what a crash leaves: it tells nothing, and the image stands for
 -- the state before it, or after it where the machine accepts it.
 pub record Handles (s : State) (c : PutChange) (old new : Left) : Type 0 where

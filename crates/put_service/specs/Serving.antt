@@ -12,7 +12,7 @@ use Rattle.connection_loop.specs.Turns.{IsBetween, TellsAll}
 use Rattle.put_service.specs.declared.answer.Answer.{Answer}
 use Rattle.put_service.specs.declared.answer.Answer.TheVariants as answers
 use Rattle.put_service.specs.declared.service.PutService.{PutService}
-use Rattle.put_service.specs.Keeping.{EachKeeps}
+use Rattle.put_service.specs.Keeping.{KeepsState}
 use Rattle.put_service.specs.Machine.{put_machine}
 use Rattle.put_service.specs.Opening.{state_of}
 use Rattle.put_service.specs.Store.{StandsFor, State}
@@ -92,5 +92,5 @@ beginning from old given = record {
 abbrev pub Begins : Device → Device → PutService → Type 0
 Begins old new s = (from : State) (given : List ℕ) → TellsAll old true → IsSettled old
     → StandsFor old.seen from
-    → IsBetween put_machine (beginning from old given) new given (held_of s)
-    (EachKeeps new s.store) [] nothing_counted
+    → IsBetween put_machine (beginning from old given) new given (KeepsState s.store new) []
+    nothing_counted

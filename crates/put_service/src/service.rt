@@ -7,7 +7,7 @@ ghost use Rattle.run_history.specs.Serving.{Counts, Going};
 ghost use Rattle.run_history.specs.Sessions.{Session};
 ghost use Rattle.run_history.specs.Steps.{Step};
 ghost use Rattle.connection_loop.specs.Turns.{GivesMore, SiteCalls, TellsAll, TurnLeads};
-ghost use Rattle.put_service.specs.Keeping.{EachKeeps};
+ghost use Rattle.put_service.specs.Keeping.{EachKeeps, KeepsState};
 ghost use Rattle.put_service.specs.Machine.{PutRequest, put_machine};
 ghost use Rattle.put_service.specs.Opening.{ServiceAnswer};
 ghost use Rattle.put_service.specs.Request.{IsFront};
@@ -91,8 +91,9 @@ impl PutService {
             → EachKeeps (X.device site.old) self.old.store
             → Going put_machine b (X.device site.old) (C.given clock.old) (held_of self.old)
             finished steps tally.old
-            → TurnLeads put_machine b (X.device site.new) (C.given clock.new) (held_of self.new)
-            (EachKeeps (X.device site.new) self.new.store) finished tally.new result }
+            → TurnLeads put_machine b (X.device site.new) (C.given clock.new) self.new.unread
+            self.new.taken (KeepsState self.new.store (X.device site.new)) finished tally.new
+            result }
     {
         let change = PutChange {
             moment: clock.now(),
@@ -120,8 +121,8 @@ impl PutService {
             → (steps : List (Step PutRequest)) → EachKeeps (X.device site.old) self.now.store
             → Going put_machine b (X.device site.old) given (held_of self.now) finished steps
             tally.old
-            → TurnLeads put_machine b (X.device site.new) given (held_of self.now)
-            (EachKeeps (X.device site.new) self.now.store) finished tally.new (Some result) }
+            → TurnLeads put_machine b (X.device site.new) given self.now.unread self.now.taken
+            (KeepsState self.now.store (X.device site.new)) finished tally.new (Some result) }
     {
         tally.count(0, false);
         match site.say(Answer::NotBuilt.response(true)) {
@@ -143,8 +144,8 @@ impl PutService {
             → (n : Counts) (b : Beginning State) (finished : List (Session PutRequest))
             → (steps : List (Step PutRequest)) → EachKeeps (X.device site.old) self.old.store
             → Going put_machine b (X.device site.old) given (held_of self.old) finished steps n
-            → TurnLeads put_machine b (X.device site.new) given (held_of self.new)
-            (EachKeeps (X.device site.new) self.new.store) finished n result }
+            → TurnLeads put_machine b (X.device site.new) given self.new.unread self.new.taken
+            (KeepsState self.new.store (X.device site.new)) finished n result }
     {
         let Ok(count) = self.unread.hear(site) else {
             return Some(Ending::Unlinked);
@@ -160,10 +161,10 @@ impl PutService {
 }
 
 impl Service for PutService {
-    ghost use Rattle.put_service.specs.Keeping.{EachKeeps};
+    ghost use Rattle.put_service.specs.Keeping.{KeepsState};
     ghost use Rattle.put_service.specs.KeepingLaws.{keeps_images};
     ghost use Rattle.put_service.specs.Machine.{PutRequest, put_machine};
-    ghost use Rattle.put_service.specs.Serving.{held_of, size_of, turns_of};
+    ghost use Rattle.put_service.specs.Serving.{size_of, turns_of};
     ghost use Rattle.put_service.specs.Store.{State};
     ghost use Rattle.put_service.specs.declared.store.Store.{Store};
 
@@ -173,15 +174,17 @@ impl Service for PutService {
 
     ghost machine = { put_machine };
 
-    ghost held = { held_of };
+    ghost unread = { λ s. s.unread };
+
+    ghost taken = { λ s. s.taken };
 
     ghost Store = { Store };
 
     ghost store = { λ s. s.store };
 
-    ghost keeps = { λ kept d. EachKeeps d kept };
+    ghost keeps = { KeepsState };
 
-    ghost kept = { keeps_images };
+    ghost kept = { λ kept old new s keeps same. (keeps_images kept old new keeps.0 same, keeps.1) };
 
     ghost size = { size_of };
 

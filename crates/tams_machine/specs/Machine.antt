@@ -2,14 +2,17 @@
 -- objects and its journal, and what it answers to each request of a connection.
 use Rattle.std.specs.Prelude.{ℕ, List}
 use Rattle.library_laws.specs.MediaLaws.{IsGoodArchive}
-use Rattle.store_states.specs.States.{StandsFor, StoreState}
+use Rattle.store_commits.specs.Carrying.{HasArchive}
+use Rattle.store_states.specs.States.{StoreState}
 use Rattle.run_history.specs.Machine.{Machine}
 use Rattle.tams_http.specs.Constants.{failure}
 use Rattle.tams_machine.specs.Requests.{Heads, IsCut, IsRefused, Spells, TamsRequest, interim_of}
 use Rattle.tams_machine.specs.Answers.{answer_in, is_due, turn_in}
 
--- the machine, over the base of its addresses: its disk is called before an answer, within it and
--- in the turn behind it
+-- The machine, over the base of its addresses. Its disk is called before an answer, within it and
+-- in the turn behind it. A file stands for a state by its archive, whatever room its journal has: a
+-- crash within a change that began with a checkpoint leaves the archive before it with another
+-- room.
 abbrev pub tams_machine : List ℕ → Machine StoreState TamsRequest
 tams_machine base = record {
   spells = Spells;
@@ -24,6 +27,6 @@ tams_machine base = record {
   ends = λ r. r.ends;
   due = is_due;
   turn = turn_in;
-  stands = StandsFor;
+  stands = λ image s. HasArchive s.half s.archive image;
   good = λ s. IsGoodArchive s.archive;
 }

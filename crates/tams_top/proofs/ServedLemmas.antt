@@ -6,7 +6,7 @@ use Rattle.disk_trait.specs.Calls.{DiskReads, SameDevice}
 use Rattle.site_edge.specs.Clocks.{IsMoment}
 use Rattle.run_history.specs.Runs.{Beginning}
 use Rattle.run_history.specs.Sessions.{Session, all_moments}
-use Rattle.run_history.specs.Serving.{Counts, HasServed, Held}
+use Rattle.run_history.specs.Serving.{Counts, HasServed}
 use Rattle.run_history.specs.Traces.{start_of}
 use Rattle.run_history.proofs.Going.{has_run}
 use Rattle.connection_loop.specs.declared.connection.Next.{Next}
@@ -19,10 +19,10 @@ use Rattle.connection_loop.specs.Tallies.{nothing_counted}
 use Rattle.connection_loop.proofs.Turning.{tells_later}
 use Rattle.connection_loop.specs.Turns.{GivesMore, IsBetween, TellsAll}
 use Rattle.put_service.specs.declared.service.PutService.{PutService}
-use Rattle.put_service.specs.Keeping.{EachKeeps}
+use Rattle.put_service.specs.Keeping.{KeepsState}
 use Rattle.put_service.specs.Machine.{PutRequest, put_machine}
 use Rattle.put_service.specs.Opening.{Keeps, state_of}
-use Rattle.put_service.specs.Serving.{Begins, beginning, held_of}
+use Rattle.put_service.specs.Serving.{Begins, beginning}
 use Rattle.put_service.specs.Store.{State}
 use Rattle.put_service.proofs.BeginningLemmas.{stands_of}
 use Rattle.tams_top.specs.declared.outcome.Outcome.{Outcome}
@@ -95,13 +95,13 @@ next_cause old new (Ended endings.Starved) n stood = tt
 next_cause old new (Ended endings.Stopped) n stood = tt
 
 -- what a service that was opened leads to
-abbrev pub Leads : Device → Device → Bool → List ℕ → List ℕ → PutService → Held State → Type 0 → Counts → Next → Type 0
-Leads opened new clock begun given s held keeps n next =
+abbrev pub Leads : Device → Device → Bool → List ℕ → List ℕ → PutService → (State → Type 0) → Counts → Next → Type 0
+Leads opened new clock begun given s keeps n next =
     TellsAll opened clock → (b : Beginning State) → (sessions : List (Session PutRequest))
-    → IsBetween put_machine b opened begun (held_of s) (EachKeeps opened s.store) sessions nothing_counted
-    → NextLeads put_machine b new given held keeps sessions n next
+    → IsBetween put_machine b opened begun (KeepsState s.store opened) sessions nothing_counted
+    → NextLeads put_machine b new given keeps sessions n next
 
-module _ (old opened new : Device) (clock : Bool) (begun given : List ℕ) (s : PutService) (held : Held State) (keeps : Type 0) (n : Counts)
+module _ (old opened new : Device) (clock : Bool) (begun given : List ℕ) (s : PutService) (keeps : State → Type 0) (n : Counts)
     (sound : IsDevice new)
     (same_opened : SameDevice old opened)
     (same : SameDevice opened new)
@@ -109,7 +109,7 @@ module _ (old opened new : Device) (clock : Bool) (begun given : List ℕ) (s : 
     (more : clock ≡ true → GivesMore begun given) where
   -- a run begins with what was opened
   between : (from : State) → BeginsFrom from old clock
-      → IsBetween put_machine (beginning from old begun) opened begun (held_of s) (EachKeeps opened s.store) [] nothing_counted
+      → IsBetween put_machine (beginning from old begun) opened begun (KeepsState s.store opened) [] nothing_counted
   between from start =
       begins from begun (record { honest = start.tells.honest; shows = start.tells.shows; tells = start.tells.tells; clock_tells = refl }) start.settled
       start.stands
@@ -125,7 +125,7 @@ module _ (old opened new : Device) (clock : Bool) (begun given : List ℕ) (s : 
       runs_as (beginning from old begun) new begun given sessions m served sound all.honest all.shows all.tells refl (more all.clock_tells)
 
   -- one that came
-  pub one_peer : (ending : Ending) → Leads opened new clock begun given s held keeps n (Ended ending) → (from : State) → BeginsFrom from old clock
+  pub one_peer : (ending : Ending) → Leads opened new clock begun given s keeps n (Ended ending) → (from : State) → BeginsFrom from old clock
       → OnePeer (beginning from old begun) new given (replay_outcome ending n)
   one_peer ending leads from start =
       let ended = leads (tells_later old opened clock same_opened start.tells) (beginning from old begun) [] (between from start) in
@@ -136,7 +136,7 @@ module _ (old opened new : Device) (clock : Bool) (begun given : List ℕ) (s : 
       }
 
   -- a run of `replay`
-  pub replayed : (next : Next) → Leads opened new clock begun given s held keeps n next → (from : State) → BeginsFrom from old clock
+  pub replayed : (next : Next) → Leads opened new clock begun given s keeps n next → (from : State) → BeginsFrom from old clock
       → Replayed (beginning from old begun) new given (next_outcome next n)
   replayed (Ended ending) leads from start = inl (one_peer ending leads from start)
   replayed NoMore leads from start =
@@ -151,7 +151,7 @@ module _ (old opened new : Device) (clock : Bool) (begun given : List ℕ) (s : 
       inr record { runs = as_run from start [] n none.served; ends = tt }
 
   -- which ends for want of memory only with a request of its connection, or the turn behind it
-  pub starved_peer : (next : Next) → Leads opened new clock begun given s held keeps n next → next_outcome next n ≡ NoMemory → (from : State)
+  pub starved_peer : (next : Next) → Leads opened new clock begun given s keeps n next → next_outcome next n ≡ NoMemory → (from : State)
       → BeginsFrom from old clock → OnePeer (beginning from old begun) new given (next_outcome next n)
   starved_peer (Ended ending) leads is from start = one_peer ending leads from start
   starved_peer NoMore leads is from start = absurd cc
@@ -162,7 +162,7 @@ pub served_all : (old opened new : Device) (clock : Bool) (begun given : List �
     → SameDevice opened new → Begins old opened s → (clock ≡ true → GivesMore begun given) → (end : RunEnd) (connections : ℕ)
     → old.link.faults ≡ opened.link.faults
     → (TellsAll opened clock → (b : Beginning State)
-    → IsBetween put_machine b opened begun (held_of s) (EachKeeps opened s.store) [] nothing_counted
+    → IsBetween put_machine b opened begun (KeepsState s.store opened) [] nothing_counted
     → HasEnded put_machine b opened new given n connections end)
     → (from : State) → BeginsFrom from old clock → ServedAll (beginning from old begun) old new given connections (serve_outcome end n)
 served_all old opened new clock begun given s n sound same_opened same begins more end connections faults leads from start =
@@ -183,7 +183,7 @@ served_all old opened new clock begun given s n sound same_opened same begins mo
 
 -- ---- the ends of both commands
 
-module _ (old opened new : Device) (clock : Bool) (begun given : List ℕ) (s : PutService) (held : Held State) (keeps : Type 0) (n : Counts)
+module _ (old opened new : Device) (clock : Bool) (begun given : List ℕ) (s : PutService) (keeps : State → Type 0) (n : Counts)
     (sound : IsDevice new)
     (reads : DiskReads true old opened)
     (answer : old.shows ≡ true → Keeps old.seen s.store)
@@ -195,13 +195,13 @@ module _ (old opened new : Device) (clock : Bool) (begun given : List ℕ) (s : 
   faults-opened : old.link.faults ≡ opened.link.faults
   faults-opened = ap (λ (l : Link). l.faults) (sym reads.calls.link)
 
-  pub replay_ends : (next : Next) → NextCalls next opened new → Leads opened new clock begun given s held keeps n next
+  pub replay_ends : (next : Next) → NextCalls next opened new → Leads opened new clock begun given s keeps n next
       → ReplayEnds old new clock begun given (next_outcome next n)
   replay_ends next calls leads = record {
     cause = next_cause old new next n stood;
     link = rw faults-opened (next_link next n opened.link.faults new.link.faults calls.link_faults);
-    history = replayed old opened new clock begun given s held keeps n sound reads.calls.same calls.same begins more next leads;
-    starved = λ e. inr (starved_peer old opened new clock begun given s held keeps n sound reads.calls.same calls.same begins more next leads e);
+    history = replayed old opened new clock begun given s keeps n sound reads.calls.same calls.same begins more next leads;
+    starved = λ e. inr (starved_peer old opened new clock begun given s keeps n sound reads.calls.same calls.same begins more next leads e);
   }
 
 module _ (old opened new : Device) (clock : Bool) (begun given : List ℕ) (s : PutService) (n : Counts)
@@ -212,7 +212,7 @@ module _ (old opened new : Device) (clock : Bool) (begun given : List ℕ) (s : 
     (more : clock ≡ true → GivesMore begun given) where
   pub serve_ends : (end : RunEnd) (connections : ℕ) → RunCalls end opened new
       → (TellsAll opened clock → (b : Beginning State)
-      → IsBetween put_machine b opened begun (held_of s) (EachKeeps opened s.store) [] nothing_counted
+      → IsBetween put_machine b opened begun (KeepsState s.store opened) [] nothing_counted
       → HasEnded put_machine b opened new given n connections end)
       → ServeEnds old new clock begun given connections (serve_outcome end n)
   serve_ends end connections calls leads =

@@ -3,7 +3,7 @@ use Rattle.connection_loop.proofs.Turning.{calls_more, gives_twice, tells_later,
 use Rattle.connection_loop.proofs.connection.serve_connection.Goals as goal
 
 pub loop-init : goal.loop-init
-loop-init g c = turned_first _ _ _ _ _ _ _ _ _ c.requires.none c.requires.turns
+loop-init g c = turned_first _ _ _ _ _ _ _ _ _ _ c.requires.none c.requires.turns
 
 pub take_turn-requires-clause-few : goal.take_turn-requires-clause-few
 take_turn-requires-clause-few g c = c.loop.invariant.few
@@ -44,18 +44,18 @@ returns-in-Some-clause-answers g c =
 
 -- The last turn ended what the turns before it had reached.
 pub returns-in-Some-clause-served : goal.returns-in-Some-clause-served
-returns-in-Some-clause-served g c = λ all b finished kept going.
+returns-in-Some-clause-served g c = λ all b finished s kept going.
     let so_far = c.loop.invariant in
     let before =
     so_far.reached (record { honest = all.honest; shows = all.shows; tells = all.tells; clock_tells = c.in-Some.ensures.clock all.clock_tells }) b finished
-    kept going in
-    c.in-Some.ensures.goes (tells_later _ _ _ so_far.calls.same all) b finished before.steps before.kept before.going
+    s kept going in
+    c.in-Some.ensures.goes (tells_later _ _ _ so_far.calls.same all) b finished before.steps before.state before.kept before.going
 
 pub loop-preserved : goal.loop-preserved
 loop-preserved g c =
     let turn = c.in_default.ensures in
     turned_more g.V.Service.machine (g.X.Disk.device c.args.site.now) (g.X.Disk.device c.loop.site) (g.X.Disk.device c.take_turn.new.site)
-    _ _ _ _ _ _ _ _ _ _ _ _ _ _ _ _ _ _ _ _ c.loop.counter
+    _ _ _ _ _ _ _ _ _ _ _ _ _ _ _ _ _ _ _ _ _ _ _ c.loop.counter
     c.loop.invariant turn.calls turn.size turn.clock turn.moments (turn.few refl) (turn.counted refl) (turn.turns refl) turn.most turn.goes
 
 -- More turns than a connection has.

@@ -44,14 +44,14 @@ returns-then-is_stopped-clause-ended g c = λ all b between.
     between in
     let leads = c.in-Ended.ensures.leads (tells_later _ _ _ c.loop.invariant.calls.same all) b so_far.sessions so_far.between in
     ended_stopped g.V.Service.machine b (g.X.Disk.device c.args.site.now) (g.X.Disk.device c.loop.site) (g.X.Disk.device c.serve_next.new.site)
-    _ _ _ so_far.sessions _ c.in-Ended.ending c.loop.counter c.args.connections leads (sym c.is_stopped.ensures ∙ c.if-is_stopped.true) so_far.count
+    _ _ so_far.sessions _ c.in-Ended.ending c.loop.counter c.args.connections leads (sym c.is_stopped.ensures ∙ c.if-is_stopped.true) so_far.count
     (omega (arith, c.loop-test.true)) so_far.counted c.loop.invariant.calls.link_faults c.in-Ended.ensures.calls.link_faults
 
 pub loop-preserved : goal.loop-preserved
 loop-preserved g c =
     let next = c.in-Ended.ensures in
     served_more g.V.Service.machine (g.X.Disk.device c.args.site.now) (g.X.Disk.device c.loop.site) (g.X.Disk.device c.serve_next.new.site)
-    _ _ _ _ _ _ _ _ _ _ _ _ _ _ _ _ _ _ c.loop.counter c.in-Ended.ending
+    _ _ _ _ _ _ _ _ _ _ _ _ _ _ _ c.loop.counter c.in-Ended.ending
     c.loop.invariant next.calls (sym c.is_stopped.ensures ∙ c.if-is_stopped.false) next.size next.clock next.moments next.answers next.leads
 
 -- There were as many as were asked for.

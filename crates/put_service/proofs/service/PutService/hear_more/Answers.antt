@@ -10,9 +10,8 @@ hear-requires-clause-room g c = omega (arith, more_bound c.args.self.now.unread 
 -- Hearing failed.
 pub returns-in_default-clause-goes : goal.returns-in_default-clause-goes
 returns-in_default-clause-goes g c = λ clock all given n b finished steps keeps going.
-    rw c.in_default.ensures.err
-    (ended_unheard b (g.X.Disk.device c.args.site.now) (g.X.Disk.device c.hear.new.site) given c.args.self.now.store c.args.self.now.unread
-    c.args.self.now.taken finished steps n going keeps c.in_default.ensures.call.time c.requires.more (c.in_default.ensures.failed all.tells))
+    ended_unheard b (g.X.Disk.device c.args.site.now) (g.X.Disk.device c.hear.new.site) given c.args.self.now.store c.args.self.now.unread
+    c.args.self.now.taken finished steps n going keeps c.in_default.ensures.call.time c.requires.more (c.in_default.ensures.failed all.tells)
 
 -- More bytes were heard.
 pub returns-then-count-gt0-clause-goes : goal.returns-then-count-gt0-clause-goes
@@ -26,9 +25,8 @@ returns-then-is_empty-clause-goes g c = λ clock all given n b finished steps ke
     let heard = heard_end (g.X.Disk.device c.args.site.now) (g.X.Disk.device c.hear.new.site) _ _ c.in-Ok.count (omega (arith, c.if-count-gt0.false))
     (c.in-Ok.ensures.heard all.tells) in
     let none : c.args.self.now.unread ≡ [] = sym heard.0 ∙ c.is_empty.ensures.0 c.if-is_empty.true in
-    rw heard.0
-    (ended_complete b (g.X.Disk.device c.args.site.now) (g.X.Disk.device c.hear.new.site) given c.args.self.now.store c.args.self.now.unread
-    c.args.self.now.taken finished steps n going keeps c.in-Ok.ensures.call.time none heard.1)
+    ended_complete b (g.X.Disk.device c.args.site.now) (g.X.Disk.device c.hear.new.site) given c.args.self.now.store c.args.self.now.unread
+    c.args.self.now.taken finished steps n going keeps c.in-Ok.ensures.call.time none heard.1
 
 -- They ended within one.
 pub returns-else-is_empty-clause-goes : goal.returns-else-is_empty-clause-goes
@@ -36,6 +34,5 @@ returns-else-is_empty-clause-goes g c = λ clock all given n b finished steps ke
     let heard = heard_end (g.X.Disk.device c.args.site.now) (g.X.Disk.device c.hear.new.site) _ _ c.in-Ok.count (omega (arith, c.if-count-gt0.false))
     (c.in-Ok.ensures.heard all.tells) in
     let some : c.args.self.now.unread ≢ [] = λ none. false≢true (sym c.if-is_empty.false ∙ c.is_empty.ensures.1 (heard.0 ∙ none)) in
-    rw heard.0
-    (ended_cut b (g.X.Disk.device c.args.site.now) (g.X.Disk.device c.hear.new.site) given c.args.self.now.store c.args.self.now.unread
-    c.args.self.now.taken finished steps n going keeps c.in-Ok.ensures.call.time some c.requires.more heard.1)
+    ended_cut b (g.X.Disk.device c.args.site.now) (g.X.Disk.device c.hear.new.site) given c.args.self.now.store c.args.self.now.unread
+    c.args.self.now.taken finished steps n going keeps c.in-Ok.ensures.call.time some c.requires.more heard.1
