@@ -1,0 +1,10 @@
+mod Lists
+mod Refused
+mod Shown
+mod MadeIds
+mod Answered
+mod MediaAnswered
+mod Lossy
+mod Bodies
+mod Requests
+mod Wire

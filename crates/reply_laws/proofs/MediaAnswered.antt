@@ -1,0 +1,64 @@
+-- What is answered to the bytes of an object and to a question of them has its texts, and so has what the journal refuses.
+use Rattle.std.proofs.Common.{◌≡◌, ℕ, Bool, true, false, List, length, Option, Some, None, refl}
+use Rattle.std.specs.Prelude.{bytes_eq}
+use Rattle.std.proofs.lemmas.Bool.{cond_both}
+use Rattle.change_codec.specs.Fitting.{State, fits}
+use Rattle.json_replies.specs.Texts.{has_reply_texts}
+use Rattle.media_rows.specs.declared.change.Change.{Change}
+use Rattle.media_rows.specs.declared.object.ObjectRow.{ObjectRow}
+use Rattle.media_rows.specs.declared.object.ObjectState.{ObjectState}
+use Rattle.media_rows.specs.declared.object.ObjectState.TheVariants.{Allocated, Stored}
+use Rattle.media_rows.specs.declared.refusal.Refusal.TheVariants.{JournalFull}
+use Rattle.media_rows.specs.declared.reply.Reply.TheVariants.{Refused}
+use Rattle.media_rows.specs.Answer.{Outcome, unchanged, put_answer_by, put_by_state, placed_put, stored_put, media_of, media_reply}
+use Rattle.media_rows.specs.Objects.{object_of, free_place, blocks_of, bytes_of}
+use Rattle.store_states.specs.Fitting.{fitted_by}
+use Rattle.reply_laws.specs.Replies.{FittedHaveTexts, MediaAnswersHaveTexts}
+
+-- a reply of an outcome has its texts
+pub record Printed (outcome : Outcome) : Type 0 where
+  pub is : has_reply_texts outcome.reply ≡ true
+
+placed : (place : Option ℕ) (object : List ℕ) (size moment : ℕ) → Printed (placed_put place object size moment)
+placed None object size moment = record { is = refl }
+placed (Some start) object size moment = record { is = refl }
+
+again : (same : Bool) → Printed (stored_put same)
+again true = record { is = refl }
+again false = record { is = refl }
+
+by_state : (state : ObjectState) (first second : Outcome) → Printed first → Printed second → Printed (put_by_state state first second)
+by_state Allocated first second h k = h
+by_state (Stored start size) first second h k = k
+
+by_row : (row : Option ObjectRow) (first second : Outcome) → Printed first → Printed second → Printed (put_answer_by row first second)
+by_row None first second h k = record { is = refl }
+by_row (Some row) first second h k = by_state row.state first second h k
+
+given_state : (state : ObjectState) → has_reply_texts (media_of state) ≡ true
+given_state Allocated = refl
+given_state (Stored start size) = refl
+
+given : (row : Option ObjectRow) → has_reply_texts (media_reply row) ≡ true
+given None = refl
+given (Some row) = given_state row.state
+
+pub media_answers_have_texts : MediaAnswersHaveTexts
+media_answers_have_texts = record {
+  put = λ archive object bytes moment.
+      (by_row (object_of object archive.library.objects) _ _
+      (placed (free_place archive.library.objects archive.library.blocks (blocks_of (length bytes))) object (length bytes) moment)
+      (again (bytes_eq (bytes_of object archive.library.objects archive.held) bytes))).is;
+  get = λ archive object moment. given (object_of object archive.library.objects);
+}
+
+-- ---- the journal
+
+by_change : (journal : State) (outcome : Outcome) (change : Option Change) → has_reply_texts outcome.reply ≡ true
+    → has_reply_texts (fitted_by journal outcome change).reply ≡ true
+by_change journal outcome None e = e
+by_change journal outcome (Some change) e =
+    cond_both (fits journal change) outcome (unchanged (Refused JournalFull)) (λ o. has_reply_texts o.reply ≡ true) (λ _. e) (λ _. refl)
+
+pub fitted_have_texts : FittedHaveTexts
+fitted_have_texts journal outcome e = by_change journal outcome outcome.change e
