@@ -1,4 +1,5 @@
 pub mod Agreements
+pub mod Alone
 pub mod ChunkLine
 pub mod ChunkSteps
 pub mod Digits

@@ -91,7 +91,13 @@ StaysDecided =
     (bytes later : List ℕ) (got : Got) (n : ℕ) → IsNext bytes (whole got n) → n ≤ length bytes
     → IsNext (bytes ++ later) (whole got n)
 
--- and so does a refusal
+-- and it stands there of its own bytes
+abbrev pub StandsAlone : Type 0
+StandsAlone =
+    (bytes : List ℕ) (got : Got) (n : ℕ) → IsNext bytes (whole got n)
+    → IsNext (take n bytes) (whole got n)
+
+-- a refusal stays too
 abbrev pub StaysRefused : Type 0
 StaysRefused =
     (left : ℕ) (bytes later : List ℕ) (fault : WireFault) → IsNext bytes (refused fault)

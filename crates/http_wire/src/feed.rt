@@ -1,5 +1,5 @@
 //! A feed cuts the bytes of a connection into requests, in whatever pieces they come.
-ghost use Rattle.std.specs.Prelude.{◌≡◌, ◌-◌, ◌+◌, ◌++◌, ◌↔◌, ◌≤◌, IfOk, IsFalse, IsTrue, drop, length, min, take};
+ghost use Rattle.std.specs.Prelude.{◌≡◌, ◌-◌, ◌+◌, ◌++◌, ◌↔◌, ◌≤◌, [], IfOk, IsFalse, IsTrue, drop, length, min, take};
 ghost use Rattle.http_wire.specs.Feeds.{StepsTo, IsInterimDue, IsPlace, span_bytes, feed_room, handed_on, heard, is_last_request, kept_count, left_of, new_feed};
 ghost use Rattle.http_wire.specs.Within.Seeing.{IsShown, KnowsHead};
 
@@ -91,6 +91,20 @@ impl Feed {
         self.requests = 0;
         self.ended = false;
         self.seen = UNSEEN;
+    }
+
+    /// How many bytes more it takes.
+    pub fn room(&self) -> usize
+        ensures { result ≡ feed_room - kept_count self.now }
+    {
+        KEPT_ROOM - self.kept.len()
+    }
+
+    /// Whether no byte is kept that wasn't given yet.
+    pub fn is_read(&self) -> bool
+        ensures { IsTrue result ↔ (self.now.unread ≡ []) }
+    {
+        matches!(self.kept.unread(), [])
     }
 
     /// Takes the first bytes of a piece for which there is room, and says how many. It takes no memory.

@@ -2,13 +2,14 @@
 //! whole list of bytes.
 ghost use Rattle.http_wire.specs.Agreeing.{AgreesAtStart, AgreesOnBody, AgreesOnHead, AgreesOnPush, AgreesOnRefusal, AgreesOnWait, AgreesOnWhole};
 ghost use Rattle.http_wire.specs.Feeds.{HeadHasRoom, WaitsWithRoom};
-ghost use Rattle.http_wire.specs.Hearing.{EndsLast, EndsLastMedia, HearsOn, HearsOnMedia, IsOneHearing, StaysDecided, StaysRefused};
+ghost use Rattle.http_wire.specs.Hearing.{EndsLast, EndsLastMedia, HearsOn, HearsOnMedia, IsOneHearing, StandsAlone, StaysDecided, StaysRefused};
 
 /// A list of bytes spells one thing. What stands at the front of some bytes stands there whatever follows,
-/// and behind a request the rest is heard as a list of its own.
+/// and of its own bytes, and behind a request the rest is heard as a list of its own.
 pub fn hearing_is_one()
     ensures one { IsOneHearing }
     ensures decided { StaysDecided }
+    ensures alone { StandsAlone }
     ensures refused { StaysRefused }
     ensures on { HearsOn }
     ensures on_media { HearsOnMedia }

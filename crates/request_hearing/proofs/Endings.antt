@@ -1,0 +1,200 @@
+-- How a connection ends with what was heard: behind a whole request, or within one that had its interim response at most.
+use Rattle.std.proofs.Common.{◌≡◌, ◌≢◌, ◌||◌, not, ℕ, Bool, true, false, List, [], ◌∷◌, ◌++◌, length, All, Option, None, refl, sym, ap, ◌∙◌, subst, arith}
+use Rattle.std.specs.Prelude.{option_to_list}
+use Rattle.std.proofs.lemmas.Bool.{false≢true}
+use Rattle.std.proofs.lemmas.List.{append-nil, append_assoc}
+use Rattle.std.proofs.lemmas.List.Concat.{flat_map-append}
+use Rattle.disk_trait.specs.Device.{Device}
+use Rattle.site_edge.specs.Links.{Sends, change_last}
+use Rattle.run_history.specs.Machine.{Machine}
+use Rattle.run_history.specs.Steps.{Cut, Interim, Piece, Stage, Step, interim_pieces, is_there, piece_bytes}
+use Rattle.run_history.specs.Sessions.{Hearing, IsTold, IsUnfinished, LinkEnd, Saying, Session, Whole, after_sessions, all_moments, answers_in, bytes_of, has_failed, pieces_of, scripts_of, texts_of}
+use Rattle.run_history.specs.Traces.{Trace, start_of, states_of, trace_of, with_effect}
+use Rattle.run_history.specs.Runs.{Beginning, Reached}
+use Rattle.run_history.specs.Laws.{under_way}
+use Rattle.run_history.specs.Serving.{Counts, Going, HasServed, Held, all_answers, connection_with, counts_of}
+use Rattle.run_history.proofs.Growth.{pieces-push, scripts-push, steps_grow, trace-same, traces_grow}
+use Rattle.run_history.proofs.Invariant.{parts_suffice}
+use Rattle.run_history.proofs.Ends.{all_answers-push, all_skips-push, answers-append, end-push, end_like-push, rest-push, skips-push, steps-push}
+use Rattle.run_history.proofs.Going.{after_end, counts-same, ends_heard, ends_with, last_changed}
+use Rattle.tams_machine.specs.Requests.{interim_text}
+use Rattle.request_hearing.specs.Hearing.{HearsAndSays, after_hearing, interim_bytes, interim_where, with_interim}
+use Rattle.request_hearing.proofs.SiteLemmas.{change_last-none, sends_none}
+use Rattle.request_hearing.proofs.Theorems.{reached_heard, says_nothing}
+
+-- no saying failed on a connection
+abbrev pub saying_held_on : LinkEnd → Bool
+saying_held_on Whole = true
+saying_held_on Hearing = true
+saying_held_on Saying = false
+
+-- a step that tells the interim response at most, and changes nothing
+effect-interim : {State : Type 0} (said : Bool) (moments : List ℕ) (t : Trace State)
+    → with_effect (record { pieces = interim_pieces (interim_where said); changes = []; moments = moments }) t ≡ with_interim said t
+effect-interim true moments t = trace-same t.first _ _ _ _ refl (append-nil t.changes)
+effect-interim false moments t = trace-same t.first _ _ _ _ (change_last-none t.scripts) (append-nil t.changes)
+
+pub bytes-interim : (said : Bool) → bytes_of (interim_pieces (interim_where said)) ≡ interim_bytes said
+bytes-interim true = append-nil interim_text
+bytes-interim false = refl
+
+pub answers-interim : (said : Bool) → answers_in (interim_pieces (interim_where said)) ≡ 0
+answers-interim true = refl
+answers-interim false = refl
+
+failed_is : (link : LinkEnd) → (not (not (has_failed link)) || false) ≡ has_failed link
+failed_is Whole = refl
+failed_is Hearing = refl
+failed_is Saying = refl
+
+or_nothing : (x : Bool) → (x || false) ≡ x
+or_nothing true = refl
+or_nothing false = refl
+
+interim_there : (said : Bool) → said ≡ true → interim_where said ≢ None
+interim_there true is none = cc
+interim_there false is none = false≢true is
+
+-- what was told of the interim response behind the pieces before it
+told_with : (link : LinkEnd) (said : Bool) (sent : List ℕ) (pieces : List Piece) → Sends (saying_held_on link) (interim_bytes said) sent
+    → (link ≡ Saying → said ≡ true) → IsTold false link (bytes_of pieces ++ sent) (pieces ++ interim_pieces (interim_where said))
+told_with Whole said sent pieces sends ok =
+    ap (λ s. bytes_of pieces ++ s) (sends.whole refl ∙ sym (bytes-interim said))
+    ∙ sym (flat_map-append piece_bytes pieces (interim_pieces (interim_where said)))
+told_with Hearing said sent pieces sends ok =
+    ap (λ s. bytes_of pieces ++ s) (sends.whole refl ∙ sym (bytes-interim said))
+    ∙ sym (flat_map-append piece_bytes pieces (interim_pieces (interim_where said)))
+told_with Saying true sent pieces sends ok = record {
+  front = pieces;
+  last = Interim interim_text;
+  part = sent;
+  pieces_are = refl;
+  told_is = refl;
+  prefix = sends.prefix;
+}
+told_with Saying false sent pieces sends ok = absurd (false≢true (ok refl))
+
+both_none : (xs ys : List ℕ) → xs ++ ys ≡ [] → (xs ≡ []) × (ys ≡ [])
+both_none [] ys is = (refl, is)
+both_none (x ∷ xs) ys is = absurd cc
+
+-- a connection that heard and was told nothing more
+ended_as : (link : LinkEnd) (ended : Bool) (heard told bytes sent : List ℕ) → bytes ≡ [] → sent ≡ []
+    → after_hearing bytes sent ended (not (not (has_failed link))) (connection_with heard told) ≡ after_end link ended (connection_with heard told)
+ended_as link ended heard told bytes sent none silent =
+    rw (none, silent, append-nil heard, append-nil told, or_nothing ended, failed_is link) refl
+
+-- A connection under way heard these bytes and was told the interim response at most; then its peer's end came, or a call of its link
+-- failed.
+module _ {State Request : Type 0} (m : Machine State Request) (b : Beginning State) (old new : Device) (given : List ℕ) (held : Held State)
+    (finished : List (Session Request)) (steps : List (Step Request)) (n : Counts) (bytes : List ℕ) (said ended : Bool) (link : LinkEnd)
+    (g : Going m b old given held finished steps n)
+    (h : HearsAndSays bytes said (saying_held_on link) (not (has_failed link)) ended old new)
+    (tells : old.tells ≡ true) (at_end : link ≡ Whole → ended ≡ true) where
+  -- Nothing of what it heard was unread: it ends behind a whole request.
+  pub ends_behind_request : held.unread ++ bytes ≡ [] → said ≡ false → link ≢ Saying → HasServed m b new given (finished ++ under_way steps link ∷ []) n
+  ends_behind_request none silent not_saying =
+      let quiet = says_nothing bytes (saying_held_on link) (not (has_failed link)) ended old new (rw silent at h) in
+      let told = h.connections tells in
+      let sent : told.0 ≡ [] = sends_none (saying_held_on link) told.0 (rw silent at told.1) in
+      let (unread, heard) = both_none held.unread bytes none in
+      let heard_as = after_hearing bytes told.0 ended (not (not (has_failed link))) in
+      let now = connection_with (texts_of steps ++ held.unread) (bytes_of (pieces_of m (after_sessions m (start_of b.state) finished) steps)) in
+      let same : heard_as now ≡ after_end link ended now =
+      ended_as link ended (texts_of steps ++ held.unread) (bytes_of (pieces_of m (after_sessions m (start_of b.state) finished) steps)) bytes told.0
+      heard sent in
+      ends_heard m b old new given held finished steps n link ended g quiet
+      (last_changed heard_as b.before g.connections _ new.link.connections old.link.connections g.connections_are told.2
+      ∙ ap (λ c. b.before ++ (g.connections ++ c ∷ [])) same
+      ∙ sym (last_changed (after_end link ended) b.before g.connections _ (change_last (after_end link ended) old.link.connections) old.link.connections
+      g.connections_are refl))
+      unread not_saying at_end
+
+  module _ (text rest : List ℕ) (moment : Option ℕ) (text_is : held.unread ++ bytes ≡ text ++ rest) (some : text ≢ [])
+      (cuts : m.cuts text (record { interim = interim_where said; takes_moment = is_there moment }))
+      (unfinished : link ≢ Saying → (rest ≡ []) × IsUnfinished m held.taken text) (saying : link ≡ Saying → said ≡ true) where
+    abbrev at : Stage State
+    at = after_sessions m (start_of b.state) finished
+
+    abbrev step : Step Request
+    step = Cut text (interim_where said) moment
+
+    abbrev before : Trace State
+    before = trace_of m b.state (finished ++ under_way steps Whole ∷ [])
+
+    grown : trace_of m b.state (finished ++ under_way (steps ++ step ∷ []) link ∷ []) ≡ with_interim said before
+    grown = (traces_grow State Request m b.state finished steps step Whole link).grown ∙ effect-interim said (option_to_list moment) before
+
+    pieces_now : pieces_of m at (steps ++ step ∷ []) ≡ pieces_of m at steps ++ interim_pieces (interim_where said)
+    pieces_now = pieces-push m at steps step
+
+    answers_now : answers_in (pieces_of m at (steps ++ step ∷ [])) ≡ answers_in (pieces_of m at steps)
+    answers_now =
+        let sum = answers-append (pieces_of m at steps) (interim_pieces (interim_where said)) in
+        omega (arith, ap answers_in pieces_now, sum, answers-interim said)
+
+    moments_now : given ++ option_to_list moment ≡ b.given ++ all_moments m (start_of b.state) (finished ++ under_way (steps ++ step ∷ []) link ∷ [])
+    moments_now =
+        ap (λ l. l ++ option_to_list moment) g.given_is
+        ∙ append_assoc b.given (all_moments m (start_of b.state) (finished ++ under_way steps Whole ∷ [])) (option_to_list moment)
+        ∙ ap (λ l. b.given ++ l) (sym (traces_grow State Request m b.state finished steps step Whole link).moments)
+
+    changes-interim : (s : Bool) (t : Trace State) → (with_interim s t).changes ≡ t.changes
+    changes-interim true t = refl
+    changes-interim false t = refl
+
+    counts_now : n ≡ counts_of m b.state (finished ++ under_way (steps ++ step ∷ []) link ∷ [])
+    counts_now =
+        let scripts_before = scripts-push m (start_of b.state) finished (under_way steps Whole) in
+        let scripts_after = scripts-push m (start_of b.state) finished (under_way (steps ++ step ∷ []) link) in
+        let before_sum = all_answers-push (scripts_of m (start_of b.state) finished) (pieces_of m at steps) in
+        let after_sum = all_answers-push (scripts_of m (start_of b.state) finished) (pieces_of m at (steps ++ step ∷ [])) in
+        counts-same _ _
+        (omega (
+          arith,
+          ap (λ (c : Counts). c.answers) g.counts,
+          ap all_answers scripts_before,
+          ap all_answers scripts_after,
+          before_sum,
+          after_sum,
+          answers_now,
+        ))
+        (ap (λ (c : Counts). c.changes) g.counts ∙ sym (ap (λ (t : Trace State). length t.changes) grown ∙ ap length (changes-interim said before)))
+        (omega (
+          arith,
+          ap (λ (c : Counts). c.skipped) g.counts,
+          all_skips-push finished (under_way steps Whole),
+          all_skips-push finished (under_way (steps ++ step ∷ []) link),
+          skips-push steps step,
+        ))
+
+    -- It ends within a request, which is cut.
+    pub ends_within_request : HasServed m b new (given ++ option_to_list moment) (finished ++ under_way (steps ++ step ∷ []) link ∷ []) n
+    ends_within_request =
+        let like = end_like-push m steps step g.stay in
+        let told = h.connections tells in
+        ends_with m b new (given ++ option_to_list moment) finished (under_way (steps ++ step ∷ []) link) n g.connections _
+        (last_changed (after_hearing bytes told.0 ended (not (not (has_failed link)))) b.before g.connections _ _ _ g.connections_are told.2)
+        g.served g.unstopped
+        (record {
+          rest = rest;
+          steps = steps-push m 0 held.taken at steps step g.steps_are g.stay (omega (arith, g.taken)) (some, cuts);
+          few = omega (arith, g.few, g.answers, answers_now);
+          heard = append_assoc (texts_of steps) held.unread bytes ∙ ap (λ u. texts_of steps ++ u) text_is ∙ sym (append_assoc (texts_of steps) text rest)
+              ∙ ap (λ l. l ++ rest) (sym (steps_grow State Request m at steps step).texts);
+          rest_is = rest-push m 0 held.taken steps step link rest (omega (arith, g.taken)) (unfinished, λ is. interim_there said (saying is));
+          told = subst (λ s. IsTold s link (bytes_of (pieces_of m at steps) ++ told.0) (pieces_of m at (steps ++ step ∷ []))) (sym like.in_answer)
+              (subst (IsTold false link (bytes_of (pieces_of m at steps) ++ told.0)) (sym pieces_now)
+              (told_with link said told.0 (pieces_of m at steps) told.1 saying));
+          failed = failed_is link;
+          ended = end-push m steps step link (ended || false) (λ is. or_nothing ended ∙ at_end is);
+        })
+        moments_now counts_now
+        (subst (λ w. Reached m b (trace_of m b.state (finished ++ under_way (steps ++ step ∷ []) link ∷ [])) false w new) (sym like.writing)
+        (parts_suffice State Request m b _ (saying_held_on link) false new (subst (λ t. Reached m b t (saying_held_on link) false new) (sym grown)
+        (reached_heard m b before false bytes said (saying_held_on link) (not (has_failed link)) ended old new g.reached h))))
+        (subst (λ t. All m.good (states_of t)) (sym grown) (good-interim said before g.good))
+      where
+        good-interim : (s : Bool) (t : Trace State) → All m.good (states_of t) → All m.good (states_of (with_interim s t))
+        good-interim true t good = good
+        good-interim false t good = good

@@ -1,0 +1,6 @@
+pub mod Answering
+mod BodyLemmas
+mod SiteLemmas
+mod TurnLemmas
+pub mod Endings
+pub mod Theorems

@@ -1,0 +1,11 @@
+use Rattle.request_hearing.proofs.Theorems.{media_unsaid_step, refused_step, unfinished, unsaid_step, waiting_step}
+use Rattle.request_hearing.proofs.laws.heard_are_steps.Goals as goal
+
+pub returns : goal.returns
+returns c = record {
+  refused = refused_step;
+  cut = waiting_step;
+  unfinished = unfinished;
+  unsaid = unsaid_step;
+  media_unsaid = media_unsaid_step;
+}

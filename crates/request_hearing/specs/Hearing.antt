@@ -1,0 +1,212 @@
+-- What hearing a request comes to: what it leaves of a site, and what is given of the bytes that
+-- were heard (RFC 9112, sections 2 and 9; RFC 9110, section 10.1.1).
+use Rattle.std.specs.Prelude.{◌≡◌, ◌≢◌, ◌<◌, ◌≤◌, ◌+◌, ℕ, Bool, true, false, ◌||◌, not, List, [], ◌++◌, length, take, Option, Some, None, if◌then◌else◌}
+use Rattle.httparse.specs.Grammar.{RequestHead}
+use Rattle.disk_trait.specs.Device.{Connection, Device}
+use Rattle.site_edge.specs.Links.{LinkCall, SamePeers, Sends, Tells, change_last}
+use Rattle.http_wire.specs.Feeds.{Fed, TellsBody, TellsHead, feed_room, handed_on, heard, left_of}
+use Rattle.http_wire.specs.Framing.{wants_interim}
+use Rattle.http_wire.specs.Heads.{more, refused, whole}
+use Rattle.http_wire.specs.Requests.{IsNext, opened}
+use Rattle.http_wire.specs.Steps.{wire_refusal}
+use Rattle.http_wire.specs.declared.framing.WireFault.{WireFault}
+use Rattle.http_wire.specs.declared.stage.Head.{Head}
+use Rattle.http_wire.specs.declared.stage.Stage.{Stage}
+use Rattle.http_wire.specs.declared.stage.Stage.TheVariants as stages
+use Rattle.media_rows.specs.declared.refusal.Refusal.{Refusal}
+use Rattle.run_history.specs.Steps.{Interim}
+use Rattle.run_history.specs.Traces.{Trace, with_piece}
+use Rattle.tams_machine.specs.Requests.{HadInterim, IsCut, Spells, TamsRequest, ends_behind, interim_text}
+use Rattle.request_hearing.specs.declared.heard.Heard.{Heard}
+use Rattle.request_hearing.specs.declared.heard.Heard.TheVariants.{Whole, Media, Refused, Ended, Cut, Unheard, Unsaid, MediaUnsaid}
+use Rattle.request_hearing.specs.declared.heard.Body.{Body}
+use Rattle.request_hearing.specs.declared.heard.Body.TheVariants as bodies
+
+-- ---- the site
+
+-- the interim response, where it was said
+abbrev pub interim_where : Bool → Option (List ℕ)
+interim_where said = if said then Some interim_text else None
+
+-- its bytes
+abbrev pub interim_bytes : Bool → List ℕ
+interim_bytes said = if said then interim_text else []
+
+-- a connection that heard and was told these bytes more, that heard its peer's end, or on which a
+-- call failed
+abbrev pub after_hearing : List ℕ → List ℕ → Bool → Bool → Connection → Connection
+after_hearing bytes sent ended failed c = record {
+  heard = c.heard ++ bytes;
+  ended = ended || c.ended;
+  failed = failed || c.failed;
+  told = c.told ++ sent;
+}
+
+-- What calls leave of a site that heard these bytes, and said the interim response where `said` is
+-- true: all of it where `whole` is, and otherwise a prefix. They are seen as one call of the link,
+-- which succeeds where `held` is true. The end of the peer's bytes was heard where `ended` is.
+pub record HearsAndSays (bytes : List ℕ) (said whole held ended : Bool) (old new : Device) : Type 0
+  where
+    pub call : LinkCall (Tells false (interim_bytes said)) (Tells whole (interim_bytes said)) held
+        old new
+    pub peers : SamePeers old new
+    pub under_way : new.link.under_way ≡ old.link.under_way
+    pub connections : old.tells ≡ true → (sent : List ℕ) × Sends whole (interim_bytes said) sent
+        × (new.link.connections
+        ≡ change_last (after_hearing bytes sent ended (not held)) old.link.connections)
+
+-- a trace, and the interim response where it was said
+abbrev pub with_interim : {State : Type 0} → Bool → Trace State → Trace State
+with_interim said t = if said then with_piece (Interim interim_text) t else t
+
+-- ---- a request
+
+-- no saying failed
+abbrev pub saying_held : Heard → Bool
+saying_held (Whole shown) = true
+saying_held (Media shown) = true
+saying_held (Refused refusal) = true
+saying_held Ended = true
+saying_held Cut = true
+saying_held Unheard = true
+saying_held Unsaid = false
+saying_held MediaUnsaid = false
+
+-- no call of the link failed
+abbrev pub link_held : Heard → Bool
+link_held (Whole shown) = true
+link_held (Media shown) = true
+link_held (Refused refusal) = true
+link_held Ended = true
+link_held Cut = true
+link_held Unheard = false
+link_held Unsaid = false
+link_held MediaUnsaid = false
+
+-- the end of the peer's bytes was heard
+abbrev pub has_ended : Heard → Bool
+has_ended (Whole shown) = false
+has_ended (Media shown) = false
+has_ended (Refused refusal) = false
+has_ended Ended = true
+has_ended Cut = true
+has_ended Unheard = false
+has_ended Unsaid = false
+has_ended MediaUnsaid = false
+
+-- how a feed stands behind a request that was given, which so many came before
+pub record IsBehind (taken : ℕ) (stage : Stage) (shown : Head) (new : Fed) : Type 0 where
+  pub stage_is : new.stage ≡ stage
+  pub requests_are : new.requests ≡ taken + 1
+  pub ended_is : new.ended ≡ shown.ends
+
+-- A request came whole. Its text stands in front of what is unread now.
+pub record IsGiven (taken : ℕ) (all : List ℕ) (said : Bool) (new : Fed) (shown : Head) : Type 0
+  where
+    pub text : List ℕ
+    pub request : TamsRequest
+    pub text_is : all ≡ text ++ new.unread
+    pub spells : Spells taken text request
+    pub interim : said ≡ wants_interim request.head
+    pub ends : shown.ends ≡ request.ends
+    pub tells : TellsHead new request.head (taken + 1) shown
+    pub tells_body : TellsBody new request.body shown
+    pub behind : IsBehind taken stages.Open shown new
+
+-- The head of a media PUT came whole.
+pub record IsOpened (taken : ℕ) (all : List ℕ) (said : Bool) (new : Fed) (shown : Head) : Type 0
+  where
+    pub text : List ℕ
+    pub head : RequestHead
+    pub text_is : all ≡ text ++ new.unread
+    pub next : IsNext text (whole (opened head shown.length) (length text))
+    pub interim : said ≡ wants_interim head
+    pub ends : shown.ends ≡ ends_behind taken head
+    pub tells : TellsHead new head (taken + 1) shown
+    pub behind : IsBehind taken (stages.Media shown.length) shown new
+    pub room : length new.last < feed_room
+
+-- The wire refuses what stands there.
+pub record IsRefusedAt (all : List ℕ) (said : Bool) (new : Fed) (refusal : Refusal) : Type 0 where
+  pub fault : WireFault
+  pub refusal_is : refusal ≡ wire_refusal fault
+  pub next : IsNext all (refused fault)
+  pub interim : HadInterim all (interim_where said)
+  pub unread : new.unread ≡ all
+
+-- Nothing whole stands there.
+pub record IsWaiting (all : List ℕ) (said : Bool) (new : Fed) : Type 0 where
+  pub next : IsNext all more
+  pub interim : HadInterim all (interim_where said)
+  pub silent : all ≡ [] → said ≡ false
+  pub unread : new.unread ≡ all
+
+-- Saying the interim failed, of a request of which this was heard, which is cut.
+pub record IsUnsaid (all : List ℕ) (said takes : Bool) : Type 0 where
+  pub text : List ℕ
+  pub rest : List ℕ
+  pub text_is : all ≡ text ++ rest
+  pub some : text ≢ []
+  pub said_is : said ≡ true
+  pub cut : IsCut text (record { interim = Some interim_text; takes_moment = takes })
+
+-- what stands in front of all bytes that were heard and not given, behind so many requests, by what
+-- came of hearing them
+abbrev pub ComesTo : ℕ → List ℕ → Bool → Fed → Heard → Type 0
+ComesTo taken all said new (Whole shown) = IsGiven taken all said new shown
+ComesTo taken all said new (Media shown) = IsOpened taken all said new shown
+ComesTo taken all said new (Refused refusal) = IsRefusedAt all said new refusal
+ComesTo taken all said new Ended = (all ≡ []) × IsWaiting all said new
+ComesTo taken all said new Cut = (all ≢ []) × IsWaiting all said new
+ComesTo taken all said new Unheard = IsWaiting all said new
+ComesTo taken all said new Unsaid = IsUnsaid all said false
+ComesTo taken all said new MediaUnsaid = IsUnsaid all said true
+
+-- What hearing a request comes to, from one state of the feed and the site to another.
+pub record HearsRequest (old new : Fed) (before now : Device) (result : Heard) : Type 0 where
+  pub bytes : List ℕ
+  pub said : Bool
+  pub leaves : HearsAndSays bytes said (saying_held result) (link_held result) (has_ended result)
+      before now
+  pub comes : ComesTo old.requests (old.unread ++ bytes) said new result
+
+-- ---- the body of a media PUT
+
+-- a hearing failed
+abbrev pub body_held : Body → Bool
+body_held (bodies.Piece count) = true
+body_held bodies.Ended = true
+body_held bodies.Unheard = false
+
+-- the end of the peer's bytes was heard
+abbrev pub body_ended : Body → Bool
+body_ended (bodies.Piece count) = false
+body_ended bodies.Ended = true
+body_ended bodies.Unheard = false
+
+-- The next bytes of the body stand at the front of `out`, in front of what is unread now.
+pub record IsPiece (old : Fed) (bytes out : List ℕ) (count : ℕ) (new : Fed) : Type 0 where
+  pub some : 0 < count
+  pub within : count ≤ length out
+  pub few : count ≤ left_of old.stage
+  pub text_is : old.unread ++ bytes ≡ take count out ++ new.unread
+  pub feed : new ≡ handed_on (heard old bytes) count
+
+-- nothing came, and nothing was unread
+pub record IsBare (old : Fed) (bytes : List ℕ) (new : Fed) : Type 0 where
+  pub none : old.unread ≡ []
+  pub silent : bytes ≡ []
+  pub feed : new ≡ old
+
+-- what came of hearing a piece
+abbrev pub BodyComesTo : Fed → List ℕ → List ℕ → Fed → Body → Type 0
+BodyComesTo old bytes out new (bodies.Piece count) = IsPiece old bytes out count new
+BodyComesTo old bytes out new bodies.Ended = IsBare old bytes new
+BodyComesTo old bytes out new bodies.Unheard = IsBare old bytes new
+
+-- What hearing a piece of the body of a media PUT comes to.
+pub record HearsBody (old new : Fed) (out : List ℕ) (before now : Device) (result : Body) : Type 0
+  where
+    pub bytes : List ℕ
+    pub leaves : HearsAndSays bytes false true (body_held result) (body_ended result) before now
+    pub comes : BodyComesTo old bytes out new result
