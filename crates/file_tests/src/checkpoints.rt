@@ -1,12 +1,11 @@
-//! Stops within each write of a checkpoint, what each value of the selector names then, and a checkpoint
-//! back.
-use crate::stops::{append_payload, count, stopped, store_of};
-use disk_trait::{Disk, MemoryDisk};
-use media_journal::*;
+//! Stops within each write of a checkpoint, and a checkpoint back.
+use crate::devices::{ID, PAYLOAD, device};
+use disk_trait::{MemoryDisk, NumberList, same_bytes};
+use media_journal::{Frame, JournalFault, format_device, open_journal};
 use std::alloc::Global;
 use std::test::Fail;
 
-/// Rows as a checkpoint writes them, with this byte at their end.
+/// Rows of an empty library, with this byte at their end.
 fn rows(last: u8) -> [u8; 13] {
     [8, 0, 0, 0, 8, 0, 0, 0, 0, 0, 0, 0, last]
 }
@@ -18,24 +17,23 @@ struct Has {
     records: usize,
 }
 
-/// What stands before the checkpoint, and behind it.
-const OLD: Has = Has {
-    last: 1,
-    records: 1,
-};
-
-const NEW: Has = Has {
-    last: 2,
-    records: 0,
-};
-
 fn opened_as(alloc: Global, disk: &mut MemoryDisk) -> Result<Has, JournalFault> {
     let opened = open_journal(alloc, disk)?;
     let last = opened.rows.bytes().last().copied().unwrap_or(0);
-    Ok(Has {
-        last,
-        records: count(&opened.found),
-    })
+    let records = opened
+        .found
+        .items()
+        .iter()
+        .filter(|record| same_bytes(record.payload.bytes(), &PAYLOAD))
+        .count();
+    Ok(Has { last, records })
+}
+
+/// Opens a journal and appends the payload.
+fn append_payload(alloc: Global, disk: &mut MemoryDisk) -> Result<(), Fail> {
+    let mut opened = open_journal(alloc, disk)?;
+    opened.journal.append(disk, &Frame::new(alloc, &PAYLOAD)?)?;
+    Ok(())
 }
 
 /// Opens a journal and makes a checkpoint of such rows. The answer is the number of its first call.
@@ -48,22 +46,31 @@ fn checkpoint_of(alloc: Global, disk: &mut MemoryDisk, last: u8) -> Result<u64, 
     Ok(first)
 }
 
-/// Makes the selector this byte.
-fn select(disk: &mut MemoryDisk, selector: u8) -> Result<(), Fail> {
-    if disk.len() > BLOCK {
-        disk.write_at(BLOCK, &[selector])?;
+/// What is found where a call is stopped after so many bytes. None where it has fewer.
+fn found_after(
+    alloc: Global,
+    disk: &MemoryDisk,
+    call: u64,
+    kept: u64,
+) -> Result<Option<Has>, Fail> {
+    match disk.range_length(call) {
+        Some(length) if kept <= length => {
+            let image = disk.stop_image(alloc, call, kept)?;
+            let mut left = MemoryDisk::from_bytes(alloc, image, NumberList::new(alloc));
+            Ok(Some(opened_as(alloc, &mut left)?))
+        }
+        _ => Ok(None),
     }
-    Ok(())
 }
 
-/// Behind a record more, and behind a checkpoint then.
-const BEHIND: Has = Has {
-    last: 2,
+/// What stands before the checkpoint, and behind it.
+const OLD: Has = Has {
+    last: 1,
     records: 1,
 };
 
-const BACK: Has = Has {
-    last: 3,
+const NEW: Has = Has {
+    last: 2,
     records: 0,
 };
 
@@ -84,53 +91,48 @@ const STOPS: [(u64, u64, Has); 12] = [
     (4, 1, NEW),
 ];
 
-/// The values of the selector over two halves that differ.
-const SELECTORS: [(u8, Has); 4] = [(0, OLD), (254, OLD), (1, NEW), (255, NEW)];
+/// Behind a record more, and behind a checkpoint then.
+const BEHIND: Has = Has {
+    last: 2,
+    records: 1,
+};
 
-/// What is found where a call is stopped after so many bytes. None where it has fewer.
-fn found_after(
-    alloc: Global,
-    disk: &MemoryDisk,
-    call: u64,
-    kept: u64,
-) -> Result<Option<Has>, Fail> {
-    match stopped(alloc, disk, call, kept)? {
-        Some(mut left) => Ok(Some(opened_as(alloc, &mut left)?)),
-        None => Ok(None),
+const BACK: Has = Has {
+    last: 3,
+    records: 0,
+};
+
+/// A store with a record and then a checkpoint, and the number of the checkpoint's first call.
+fn checkpointed(alloc: Global) -> Result<(MemoryDisk, u64), Fail> {
+    let mut disk = device(alloc, 20_480)?;
+    format_device(alloc, &mut disk, 5, 1, ID, &rows(1))?;
+    append_payload(alloc, &mut disk)?;
+    let first = checkpoint_of(alloc, &mut disk, 2)?;
+    Ok((disk, first))
+}
+
+/// The number of the first row of the table that isn't found so.
+fn first_wrong(alloc: Global, disk: &MemoryDisk, first: u64) -> Result<Option<usize>, Fail> {
+    for (row, (call, kept, has)) in STOPS.iter().enumerate() {
+        if found_after(alloc, disk, first.saturating_add(*call), *kept)? != Some(*has) {
+            return Ok(Some(row));
+        }
     }
+    Ok(None)
 }
 
-/// What is found where the selector is this byte.
-fn found_at(alloc: Global, disk: &mut MemoryDisk, selector: u8) -> Result<Has, Fail> {
-    select(disk, selector)?;
-    Ok(opened_as(alloc, disk)?)
-}
-
-/// What is found after a record more, and after a checkpoint then.
+/// What is found behind a record more, and behind a checkpoint then.
 fn found_behind(alloc: Global, disk: &mut MemoryDisk) -> Result<(Has, Has), Fail> {
     append_payload(alloc, disk)?;
-    let appended = opened_as(alloc, disk)?;
+    let behind = opened_as(alloc, disk)?;
     checkpoint_of(alloc, disk, 3)?;
-    Ok((appended, opened_as(alloc, disk)?))
+    Ok((behind, opened_as(alloc, disk)?))
 }
 
 #[test]
 fn a_stopped_checkpoint_leaves_the_old_half_or_the_new(rt: HostRuntime) -> Result<(), Fail> {
-    let alloc = rt.alloc();
-    let mut disk = store_of(alloc, 1)?;
-    let first = checkpoint_of(alloc, &mut disk, 2)?;
-    for (call, kept, has) in STOPS {
-        let found = found_after(alloc, &disk, first.saturating_add(call), kept)?;
-        assert_eq!(rt; found, Some(has), "call {call} after {kept} bytes");
-    }
-    for (selector, has) in SELECTORS {
-        assert_eq!(rt;
-            found_at(alloc, &mut disk, selector)?,
-            has,
-            "selector {selector}"
-        );
-    }
-    // It stands at 255 now: a record goes to half B, and a checkpoint back to half A.
-    assert_eq!(rt; found_behind(alloc, &mut disk)?, (BEHIND, BACK));
+    let (mut disk, first) = checkpointed(rt.alloc())?;
+    assert_eq!(rt; first_wrong(rt.alloc(), &disk, first)?, None);
+    assert_eq!(rt; found_behind(rt.alloc(), &mut disk)?, (BEHIND, BACK));
     Ok(())
 }

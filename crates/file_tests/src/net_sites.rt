@@ -1,9 +1,22 @@
 //! A client of a TCP listener.
 use disk_trait::Text;
-use site_edge::{NetSite, Site, StoreFile};
+use site_edge::{LinkFailed, NetSite, Site, StoreFile};
 use std::io::{Read, Write};
 use std::net::{Shutdown, TcpListener, TcpStream};
 use std::test::Fail;
+
+/// What one peer sends: how many bytes are heard, these, and how many behind them. It is told `said`.
+fn serve_once<S: Site>(site: &mut S) -> Result<(usize, [u8; 5], usize), LinkFailed> {
+    let mut heard = [0; 5];
+    if !site.next_peer()? {
+        return Ok((0, heard, 0));
+    }
+    let count = site.hear(&mut heard)?;
+    let behind = site.hear(&mut [0; 5])?;
+    site.say(b"said")?;
+    site.close_peer();
+    Ok((count, heard, behind))
+}
 
 #[test]
 fn a_client_is_heard_and_told(rt: HostRuntime) -> Result<(), Fail> {
@@ -15,14 +28,7 @@ fn a_client_is_heard_and_told(rt: HostRuntime) -> Result<(), Fail> {
     client.shutdown(Shutdown::Write)?;
 
     let mut site = NetSite::new(file, listener);
-    assert_eq!(rt; site.next_peer(), Ok(true));
-    let mut heard = [0; 5];
-    assert_eq!(rt; site.hear(&mut heard), Ok(3));
-    assert_eq!(rt; heard.as_slice(), b"GET\0\0".as_slice());
-    assert_eq!(rt; site.hear(&mut heard), Ok(0));
-    site.say(b"said")?;
-    site.close_peer();
-
+    assert_eq!(rt; serve_once(&mut site)?, (3, *b"GET\0\0", 0));
     let mut told = [0; 5];
     assert_eq!(rt; client.read(&mut told)?, 4);
     assert_eq!(rt; told.as_slice(), b"said\0".as_slice());

@@ -2,13 +2,17 @@
 ghost use Rattle.std.specs.Prelude.{◌≤◌, ◌*◌, length};
 ghost use Rattle.media_journal.specs.Journal.{IsWhole};
 
-use crate::journal::{ID, PAYLOAD, ROWS, device};
-use disk_trait::{Disk, Failed, MemoryDisk};
+use crate::devices::{ID, PAYLOAD, device};
+use disk_trait::{Disk, Failed, MemoryDisk, Text};
 use media_journal::{BLOCK, Frame, Journal, format_device, open_journal};
 use media_rows::Extent;
 use std::alloc::Global;
 use std::test::Fail;
-use store_writes::{append_change, checkpoint, read_kept, sync_and_append, write_free};
+use store_commits::{store_change, write_change};
+use store_writes::{read_kept, write_free};
+
+/// The rows of the empty library.
+const ROWS: [u8; 13] = [8, 0, 0, 0, 8, 0, 0, 0, 0, 0, 0, 0, 1];
 
 /// The media blocks of a store with halves of 8 blocks stand behind 18 blocks.
 const AREA: u64 = 18 * BLOCK;
@@ -28,39 +32,45 @@ fn piece_read<D: Disk>(disk: &mut D) -> Result<[u8; 3], Failed> {
     Ok(out)
 }
 
-/// Appends a record twice, where there is room for it.
-fn append_twice<D: Disk>(disk: &mut D, journal: &mut Journal, frame: &Frame) -> Result<(), Failed>
+/// Writes a change in the room that there is, and one behind a checkpoint.
+fn change_twice<D: Disk>(
+    disk: &mut D,
+    journal: &mut Journal,
+    rows: &Text,
+    frame: &Frame,
+) -> Result<(), Failed>
     requires device { BLOCK * journal.old.blocks ≤ (D.device disk.old).size }
+    requires whole { IsWhole journal.old }
     requires short { length frame.now ≤ 58 }
-    ensures whole { IsWhole journal.old → IsWhole journal.new }
+    requires few { length rows.now ≤ 13 }
 {
-    if journal.room() < 200 {
+    if journal.room() < 200 || journal.half() == 0 {
         return Err(Failed);
     }
-    append_change(disk, journal, frame)?;
-    sync_and_append(disk, journal, frame)
+    write_change(disk, journal, None, frame)?;
+    store_change(disk, journal, Some(rows), frame)
 }
 
-/// How many records a store has once two were appended, and once a checkpoint was made.
-fn record_counts(alloc: Global, disk: &mut MemoryDisk) -> Result<[usize; 2], Fail> {
+/// The calls that two changes make, and how many records are found behind them.
+fn changes_found(alloc: Global, disk: &mut MemoryDisk) -> Result<(u64, usize), Fail> {
     let mut opened = open_journal(alloc, disk)?;
     let frame = Frame::new(alloc, &PAYLOAD)?;
-    append_twice(disk, &mut opened.journal, &frame)?;
-    let appended = open_journal(alloc, disk)?.found.items().len();
-    let mut again = open_journal(alloc, disk)?;
-    if again.torn.is_none() && again.journal.room() > 22 {
-        checkpoint(disk, &mut again.journal, &ROWS)?;
+    let rows = Text::from_bytes(alloc, &ROWS)?;
+    let before = disk.calls();
+    if opened.torn.is_none() {
+        change_twice(disk, &mut opened.journal, &rows, &frame)?;
     }
-    let checked = open_journal(alloc, disk)?.found.items().len();
-    Ok([appended, checked])
+    let calls = disk.calls().saturating_sub(before);
+    Ok((calls, open_journal(alloc, disk)?.found.items().len()))
 }
 
 #[test]
-fn writes_are_found_again(rt: HostRuntime) -> Result<(), Fail> {
+fn pieces_and_changes_are_found_again(rt: HostRuntime) -> Result<(), Fail> {
     let alloc = rt.alloc();
     let mut disk = device(alloc, 64 * 4096)?;
     format_device(alloc, &mut disk, 64, 8, ID, &ROWS)?;
     assert_eq!(rt; piece_read(&mut disk)?, *b"abc");
-    assert_eq!(rt; record_counts(alloc, &mut disk)?, [2, 0]);
+    // Four calls a record, six the checkpoint, and a sync before it.
+    assert_eq!(rt; changes_found(alloc, &mut disk)?, (15, 1));
     Ok(())
 }

@@ -3,7 +3,45 @@ use disk_trait::{Disk, Failed, Text};
 use site_edge::StoreFile;
 use std::fs;
 use std::fs::File;
+use std::rt::Files;
 use std::test::Fail;
+
+/// The last eight bytes of the first block; ones where the file is shorter.
+fn bytes_at_the_border(file: &mut StoreFile) -> Result<[u8; 8], Failed> {
+    let mut bytes = [1; 8];
+    if file.len() >= 4096 {
+        file.read_at(4088, &mut bytes)?;
+    }
+    Ok(bytes)
+}
+
+/// Makes a file of a block, writes to it, and says whether it can be opened once more meanwhile.
+fn made<R: Files<File = File>>(rt: &R, path: &Text) -> Result<bool, Fail> {
+    let mut file = StoreFile::make(rt, path, 4096)?;
+    if file.len() >= 4096 {
+        file.write_at(4090, b"flow")?;
+    }
+    file.sync()?;
+    Ok(StoreFile::open(rt, path).is_ok())
+}
+
+/// The length of a file that is made this long, and its bytes at the border.
+fn made_longer<R: Files<File = File>>(
+    rt: &R,
+    path: &Text,
+    length: u64,
+) -> Result<(u64, [u8; 8]), Fail> {
+    let mut file = StoreFile::make(rt, path, length)?;
+    Ok((file.len(), bytes_at_the_border(&mut file)?))
+}
+
+/// The length of a file that is opened, and its bytes at the border.
+fn opened<R: Files<File = File>>(rt: &R, path: &Text) -> Result<(u64, [u8; 8]), Fail> {
+    let mut file = StoreFile::open(rt, path)?;
+    Ok((file.len(), bytes_at_the_border(&mut file)?))
+}
+
+const BORDER: [u8; 8] = *b"\0\0flow\0\0";
 
 #[test]
 fn a_file_keeps_what_was_written(rt: HostRuntime) -> Result<(), Fail> {
@@ -12,30 +50,14 @@ fn a_file_keeps_what_was_written(rt: HostRuntime) -> Result<(), Fail> {
         StoreFile::open(&rt, &path).is_err(),
         "no file is there yet"
     );
-
-    let mut made = StoreFile::make(&rt, &path, 4096)?;
-    assert_eq!(rt; made.len(), 4096);
-    made.write_at(4090, b"flow")?;
-    made.sync()?;
-    assert!(rt; StoreFile::open(&rt, &path).is_err(), "it is open already");
-    drop(made);
-
-    let mut longer = StoreFile::make(&rt, &path, 8192)?;
-    assert_eq!(rt; longer.len(), 8192);
-    let mut bytes = [1; 8];
-    longer.read_at(4088, &mut bytes)?;
-    assert_eq!(rt; bytes.as_slice(), b"\0\0flow\0\0".as_slice());
-    drop(longer);
-
+    assert!(rt; !made(&rt, &path)?, "it is open already");
+    assert_eq!(rt; made_longer(&rt, &path, 8192)?, (8192, BORDER));
     assert_eq!(rt;
-        StoreFile::make(&rt, &path, 4096)?.len(),
-        8192,
+        made_longer(&rt, &path, 4096)?,
+        (8192, BORDER),
         "no file is shortened"
     );
-    let mut opened = StoreFile::open(&rt, &path)?;
-    assert_eq!(rt; opened.len(), 8192);
-    opened.read_at(4088, &mut bytes)?;
-    assert_eq!(rt; bytes.as_slice(), b"\0\0flow\0\0".as_slice());
+    assert_eq!(rt; opened(&rt, &path)?, (8192, BORDER));
     fs::remove_file(&rt, "kept")?;
     Ok(())
 }

@@ -14,8 +14,6 @@ mod requests;
 mod segments;
 mod shows;
 mod sources;
-#[cfg(test)]
-mod tests;
 mod values;
 mod views;
 

@@ -28,21 +28,6 @@ pub fn print_reply(alloc: Global, reply: &Reply, store: u128, base: &Text) -> Re
     ensures reads_back { IfOk result (λ text. tokens text ≡ reply_value store base.now reply.now) }
     ensures utf8 { IfOk result IsUtf8 }
 {
-    print_any(alloc, reply, store, base)
-}
-
-/// The body of a reply. A text that isn't UTF-8, an essence text that isn't JSON and a moment past the
-/// last one would be answered as want of memory.
-pub(crate) fn print_any(
-    alloc: Global,
-    reply: &Reply,
-    store: u128,
-    base: &Text,
-) -> Result<Text, Memory>
-    ensures text { IfOk result (λ text. text ≡ reply_text store base.now reply.now) }
-    ensures reads_back { IfOk result (λ text. tokens text ≡ reply_value store base.now reply.now) }
-    ensures utf8 { IfOk result IsUtf8 }
-{
     let mut out = JsonText::new(alloc);
     show_reply(alloc, reply, store, base, &mut out)?;
     Ok(out.into_text())

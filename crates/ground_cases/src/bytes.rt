@@ -1,0 +1,62 @@
+//! Changes and rows in bytes.
+use crate::digits::bytes_of;
+use change_codec::{CodecFault, decode_change, decode_row, encode_change, encode_row};
+use disk_trait::{Text, same_bytes};
+use snapshot_rows::{RowsFault, read_rows};
+use std::alloc::Global;
+use std::io;
+
+/// Prints whether bytes are a change that is written as these bytes again, or where they are faulty.
+pub(crate) fn print_change<R: Print + AllocGlobal>(rt: &R, digits: &str) -> io::Result<()> {
+    match change_again(rt.alloc(), digits) {
+        Ok(same) => println!(rt; "{}", if same { "the same" } else { "other bytes" }),
+        Err(fault) => print_fault(rt, fault),
+    }
+}
+
+fn change_again(alloc: Global, digits: &str) -> Result<bool, CodecFault> {
+    let bytes = bytes_of(alloc, digits)?;
+    let change = decode_change(alloc, bytes.bytes())?;
+    let text = encode_change(alloc, &change)?;
+    Ok(same_bytes(text.bytes(), bytes.bytes()))
+}
+
+/// Prints how many bytes the row takes with which bytes begin, where it is written as these again, or where they
+/// are faulty.
+pub(crate) fn print_row<R: Print + AllocGlobal>(rt: &R, digits: &str) -> io::Result<()> {
+    match row_again(rt.alloc(), digits) {
+        Ok(Some(taken)) => println!(rt; "the same, {taken} bytes"),
+        Ok(None) => println!(rt; "other bytes"),
+        Err(fault) => print_fault(rt, fault),
+    }
+}
+
+fn row_again(alloc: Global, digits: &str) -> Result<Option<u64>, CodecFault> {
+    let bytes = bytes_of(alloc, digits)?;
+    let (row, taken) = decode_row(alloc, bytes.bytes())?;
+    let mut text = Text::new(alloc);
+    encode_row(alloc, &row, &mut text)?;
+    let is_same = text.bytes().len() as u64 == taken && bytes.bytes().starts_with(text.bytes());
+    Ok(if is_same { Some(taken) } else { None })
+}
+
+fn print_fault<R: Print>(rt: &R, fault: CodecFault) -> io::Result<()> {
+    match fault {
+        CodecFault::Bad(at) => println!(rt; "bad at {at}"),
+        CodecFault::Memory => println!(rt; "no memory"),
+    }
+}
+
+/// Prints how many rows bytes are, or where they are damaged.
+pub(crate) fn print_rows<R: Print + AllocGlobal>(rt: &R, digits: &str) -> io::Result<()> {
+    match rows_in(rt.alloc(), digits) {
+        Ok(count) => println!(rt; "{count} rows"),
+        Err(RowsFault::Damaged(at)) => println!(rt; "damaged at {at}"),
+        Err(RowsFault::Memory) => println!(rt; "no memory"),
+    }
+}
+
+fn rows_in(alloc: Global, digits: &str) -> Result<usize, RowsFault> {
+    let bytes = bytes_of(alloc, digits)?;
+    Ok(read_rows(alloc, bytes.bytes())?.items().len())
+}
