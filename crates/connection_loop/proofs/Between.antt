@@ -246,11 +246,12 @@ no_run_calls d = record {
 }
 
 -- before the first connection
-pub served_first : {State Request : Type 0} (m : Machine State Request) (d : Device) (tells : Bool) (given : List ℕ) (keeps : State → Type 0)
-    (n : Counts) (size : ℕ) → n.answers ≡ 0 → HasServedSo m d d tells tells given given keeps keeps n n size size 0
-served_first m d tells given keeps n size none = record {
+pub served_first : {State Request Setting : Type 0} (m : Machine State Request) (setting : Setting) (d : Device) (tells : Bool) (given : List ℕ)
+    (keeps : State → Type 0) (n : Counts) (size : ℕ) → n.answers ≡ 0 → HasServedSo m setting setting d d tells tells given given keeps keeps n n size size 0
+served_first m setting d tells given keeps n size none = record {
   calls = no_run_calls d;
-  size_is = refl;
+  setting_is = refl;
+  size_is = omega arith;
   clock = λ t. t;
   moments = λ t. gives_none given;
   answers = omega (arith, none);
@@ -258,25 +259,30 @@ served_first m d tells given keeps n size none = record {
 }
 
 -- a connection more
-pub served_more : {State Request : Type 0} (m : Machine State Request) (first now last : Device) (tells_first tells_now tells_next : Bool)
+pub served_more : {State Request Setting : Type 0} (machine : Setting → Machine State Request) (setting_first setting setting_next : Setting)
+    (first now last : Device) (tells_first tells_now tells_next : Bool)
     (given_first given more : List ℕ) (keeps_first keeps keeps_next : State → Type 0) (n_first n n_next : Counts)
     (size_first size size_next counter : ℕ) (ending : Ending)
-    → HasServedSo m first now tells_first tells_now given_first given keeps_first keeps n_first n size_first size counter
-    → NextCalls (next.Ended ending) now last → is_stopped ending ≡ false → size_next ≡ size → (tells_next ≡ true → tells_now ≡ true)
+    → HasServedSo (machine setting_first) setting_first setting first now tells_first tells_now given_first given keeps_first keeps n_first n size_first size
+    counter
+    → NextCalls (next.Ended ending) now last → is_stopped ending ≡ false → size_next ≤ size → setting_next ≡ setting → (tells_next ≡ true → tells_now ≡ true)
     → (tells_next ≡ true → GivesMore given more) → n_next.answers ≤ n.answers + 1000000
-    → (TellsAll now tells_next → (b : Beginning State) → (sessions : List (Session Request)) → IsBetween m b now given keeps sessions n
-    → NextLeads m b last more keeps_next sessions n_next (next.Ended ending))
-    → HasServedSo m first last tells_first tells_next given_first more keeps_first keeps_next n_first n_next size_first size_next (counter + 1)
-served_more m first now last tells_first tells_now tells_next given_first given more keeps_first keeps keeps_next n_first n n_next
-    size_first size size_next counter ending h calls on size_is clock gives answers leads = record {
+    → (TellsAll now tells_next → (b : Beginning State) → (sessions : List (Session Request))
+    → IsBetween (machine setting) b now given keeps sessions n
+    → NextLeads (machine setting) b last more keeps_next sessions n_next (next.Ended ending))
+    → HasServedSo (machine setting_first) setting_first setting_next first last tells_first tells_next given_first more keeps_first keeps_next n_first n_next
+    size_first size_next (counter + 1)
+served_more machine setting_first setting setting_next first now last tells_first tells_now tells_next given_first given more keeps_first keeps keeps_next
+    n_first n n_next size_first size size_next counter ending h calls on size_is same_setting clock gives answers leads = record {
       calls = calls_on ending first now last h.calls calls on;
-      size_is = size_is ∙ h.size_is;
+      setting_is = same_setting ∙ h.setting_is;
+      size_is = omega (arith, size_is, h.size_is);
       clock = λ yes. h.clock (clock yes);
       moments = λ yes. gives_twice given_first given more (h.moments (clock yes)) (gives yes);
       answers = omega (arith, answers, h.answers);
       reached = λ all b between.
           let so_far = h.reached (record { honest = all.honest; shows = all.shows; tells = all.tells; clock_tells = clock all.clock_tells }) b between in
-          between_more m b first now last more keeps_next so_far.sessions n_next ending counter
-          (leads (tells_later first now tells_next h.calls.same all) b so_far.sessions so_far.between) on so_far.count so_far.counted h.calls.link_faults
+          between_more (machine setting_first) b first now last more keeps_next so_far.sessions n_next ending counter
+          ((rw h.setting_is at leads) (tells_later first now tells_next h.calls.same all) b so_far.sessions so_far.between) on so_far.count so_far.counted h.calls.link_faults
           calls.link_faults;
     }

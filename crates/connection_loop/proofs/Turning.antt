@@ -1,5 +1,5 @@
 -- Turns of a connection, one behind another, and connections one behind another.
-use Rattle.std.proofs.Common.{◌≡◌, ◌<◌, ◌+◌, ◌-◌, ◌^◌, ℕ, Bool, true, List, [], ◌++◌, Option, Some, None, refl, sym, ap, ◌∙◌, arith}
+use Rattle.std.proofs.Common.{◌≡◌, ◌≤◌, ◌<◌, ◌+◌, ◌-◌, ◌^◌, ℕ, Bool, true, List, [], ◌++◌, Option, Some, None, refl, sym, ap, ◌∙◌, arith}
 use Rattle.std.proofs.lemmas.Bool.{false≢true}
 use Rattle.std.proofs.lemmas.List.{append-nil, append_assoc}
 use Rattle.std.proofs.lemmas.List.Elements.{All-append, All-nil}
@@ -77,12 +77,14 @@ gives_twice a b c first second = record {
 }
 
 -- before the first turn
-pub turned_first : {State Request : Type 0} (m : Machine State Request) (d : Device) (tells : Bool) (given unread : List ℕ) (taken : ℕ)
-    (keeps : State → Type 0) (n : Counts) (size turns : ℕ) → taken ≡ 0 → turns ≡ 0
-    → HasTurned m d d tells tells given given unread unread taken taken keeps keeps n n size size turns 0
-turned_first m d tells given unread taken keeps n size turns none zero = record {
+pub turned_first : {State Request Setting : Type 0} (m : Machine State Request) (setting : Setting) (ready : Type 0) (d : Device) (tells : Bool)
+    (given unread : List ℕ) (taken : ℕ) (keeps : State → Type 0) (n : Counts) (size turns : ℕ) → ready → taken ≡ 0 → turns ≡ 0
+    → HasTurned m setting setting ready d d tells tells given given unread unread taken taken keeps keeps n n size size turns 0
+turned_first m setting ready d tells given unread taken keeps n size turns is_ready none zero = record {
   calls = no_calls d;
-  size_is = refl;
+  setting_is = refl;
+  is_ready = is_ready;
+  size_is = omega arith;
   clock = λ t. t;
   moments = λ t. gives_none given;
   few = omega (arith, none);
@@ -93,23 +95,28 @@ turned_first m d tells given unread taken keeps n size turns none zero = record 
 }
 
 -- a turn that goes on
-pub turned_more : {State Request : Type 0} (m : Machine State Request) (first now next : Device) (tells_first tells_now tells_next : Bool)
+pub turned_more : {State Request Setting : Type 0} (machine : Setting → Machine State Request) (setting_first setting setting_next : Setting)
+    (ready ready_next : Type 0) (first now next : Device) (tells_first tells_now tells_next : Bool)
     (given_first given more unread_first unread unread_next : List ℕ) (taken_first taken taken_next : ℕ) (keeps_first keeps keeps_next : State → Type 0)
     (n_first n n_next : Counts) (size_first size size_next turns turns_next counter : ℕ)
-    → HasTurned m first now tells_first tells_now given_first given unread_first unread taken_first taken keeps_first keeps n_first n size_first size turns
-    counter
-    → SiteCalls None now next → size_next ≡ size → (tells_next ≡ true → tells_now ≡ true)
+    → HasTurned (machine setting_first) setting_first setting ready first now tells_first tells_now given_first given unread_first unread taken_first taken
+    keeps_first keeps n_first n size_first size turns counter
+    → SiteCalls None now next → setting_next ≡ setting → ready_next → size_next ≤ size → (tells_next ≡ true → tells_now ≡ true)
     → (tells_next ≡ true → GivesMore given more) → taken_next < 1000000
     → n_next.answers + taken ≡ n.answers + taken_next → turns < turns_next → turns_next < 2 ^ 64 - 1
     → (TellsAll now tells_next → (b : Beginning State) → (finished : List (Session Request)) (steps : List (Step Request)) (s : State) → keeps s
-    → Going m b now given (held_with s unread taken) finished steps n → GoesOn m b next more unread_next taken_next keeps_next finished n_next)
-    → HasTurned m first next tells_first tells_next given_first more unread_first unread_next taken_first taken_next keeps_first keeps_next n_first n_next
-    size_first size_next turns_next (counter + 1)
-turned_more m first now next tells_first tells_now tells_next given_first given more unread_first unread unread_next taken_first taken taken_next
-    keeps_first keeps keeps_next n_first n n_next size_first size size_next turns turns_next counter h calls size_is clock gives few counted moves most goes =
+    → Going (machine setting) b now given (held_with s unread taken) finished steps n
+    → GoesOn (machine setting) b next more unread_next taken_next keeps_next finished n_next)
+    → HasTurned (machine setting_first) setting_first setting_next ready_next first next tells_first tells_next given_first more unread_first unread_next
+    taken_first taken_next keeps_first keeps_next n_first n_next size_first size_next turns_next (counter + 1)
+turned_more machine setting_first setting setting_next ready ready_next first now next tells_first tells_now tells_next given_first given more
+    unread_first unread unread_next taken_first taken taken_next keeps_first keeps keeps_next n_first n n_next size_first size size_next turns turns_next
+    counter h calls same_setting is_ready size_is clock gives few counted moves most goes =
     record {
       calls = calls_more None first now next h.calls calls;
-      size_is = size_is ∙ h.size_is;
+      setting_is = same_setting ∙ h.setting_is;
+      is_ready = is_ready;
+      size_is = omega (arith, size_is, h.size_is);
       clock = λ yes. h.clock (clock yes);
       moments = λ yes. gives_twice given_first given more (h.moments (clock yes)) (gives yes);
       few = few;
@@ -119,5 +126,5 @@ turned_more m first now next tells_first tells_now tells_next given_first given 
       reached = λ all b finished s kept going.
           let so_far =
           h.reached (record { honest = all.honest; shows = all.shows; tells = all.tells; clock_tells = clock all.clock_tells }) b finished s kept going in
-          goes (tells_later first now tells_next h.calls.same all) b finished so_far.steps so_far.state so_far.kept so_far.going;
+          (rw h.setting_is at goes) (tells_later first now tells_next h.calls.same all) b finished so_far.steps so_far.state so_far.kept so_far.going;
     }

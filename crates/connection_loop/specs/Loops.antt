@@ -17,13 +17,16 @@ use Rattle.connection_loop.specs.Turns.{EndsAs, GivesMore, GoesOn, IsBetween, Li
 
 -- Turns of a connection so far: no call failed, each turn was counted, and the connection has come
 -- so far from wherever it had come at first.
-pub record HasTurned {State Request : Type 0} (m : Machine State Request) (first now : Device)
+pub record HasTurned {State Request Setting : Type 0} (m : Machine State Request)
+    (setting_first setting : Setting) (ready : Type 0) (first now : Device)
     (tells_first tells_now : Bool) (given_first given unread_first unread : List ℕ)
     (taken_first taken : ℕ) (keeps_first keeps : State → Type 0) (n_first n : Counts)
     (size_first size turns counter : ℕ) : Type 0
   where
     pub calls : SiteCalls None first now
-    pub size_is : size ≡ size_first
+    pub setting_is : setting ≡ setting_first
+    pub is_ready : ready
+    pub size_is : size ≤ size_first
     pub clock : tells_now ≡ true → tells_first ≡ true
     pub moments : tells_now ≡ true → GivesMore given_first given
     pub few : taken < 1000000
@@ -130,12 +133,14 @@ pub record GoesOnBetween {State Request : Type 0} (m : Machine State Request) (b
   pub counted : AreCounted first.link.faults d.link.faults sessions
 
 -- the same from wherever the run had come at first
-pub record HasServedSo {State Request : Type 0} (m : Machine State Request) (first now : Device)
+pub record HasServedSo {State Request Setting : Type 0} (m : Machine State Request)
+    (setting_first setting : Setting) (first now : Device)
     (tells_first tells_now : Bool) (given_first given : List ℕ)
     (keeps_first keeps : State → Type 0) (n_first n : Counts) (size_first size counter : ℕ) : Type 0
   where
     pub calls : RunCalls Complete first now
-    pub size_is : size ≡ size_first
+    pub setting_is : setting ≡ setting_first
+    pub size_is : size ≤ size_first
     pub clock : tells_now ≡ true → tells_first ≡ true
     pub moments : tells_now ≡ true → GivesMore given_first given
     pub answers : n.answers ≤ 1000000 * counter

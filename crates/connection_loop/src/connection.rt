@@ -29,13 +29,15 @@ fn serve_connection<V: Service, X: Site, C: Clock>(
     clock: &mut C,
     tally: &mut Tally,
 ) -> Ending
+    requires ready { V.ready service.old }
     requires none { V.taken service.old ≡ 0 }
     requires turns { V.turns service.old ≡ 0 }
     requires room { tally.old.answers + MOST_ANSWERS < 2 ^ 60 }
     requires device { V.size service.old ≤ (X.device site.old).size }
     requires under_way { (X.device site.old).link.under_way ≡ true }
     ensures calls { SiteCalls (Some result) (X.device site.old) (X.device site.new) }
-    ensures size { V.size service.new ≡ V.size service.old }
+    ensures size { V.size service.new ≤ V.size service.old }
+    ensures setting { V.setting service.new ≡ V.setting service.old }
     ensures clock { C.tells clock.new ≡ true → C.tells clock.old ≡ true }
     ensures moments { C.tells clock.new ≡ true
         → GivesMore (C.given clock.old) (C.given clock.new) }
@@ -43,9 +45,9 @@ fn serve_connection<V: Service, X: Site, C: Clock>(
     ensures served { TellsAll (X.device site.old) (C.tells clock.new) → (b : Beginning V.State)
         → (finished : List (Session V.Request)) (s : V.State)
         → V.keeps (V.store service.old) (X.device site.old) s
-        → Going V.machine b (X.device site.old) (C.given clock.old)
+        → Going (V.machine (V.setting service.old)) b (X.device site.old) (C.given clock.old)
         (held_with s (V.unread service.old) (V.taken service.old)) finished [] tally.old
-        → EndsAs V.machine b (X.device site.new) (C.given clock.new)
+        → EndsAs (V.machine (V.setting service.old)) b (X.device site.new) (C.given clock.new)
         (V.keeps (V.store service.new) (X.device site.new)) finished tally.new result }
 {
     for _ in 0..u64::MAX {
@@ -67,16 +69,17 @@ pub fn serve_next<V: Service, X: Site, C: Clock>(
     requires room { tally.old.answers + MOST_ANSWERS < 2 ^ 60 }
     requires device { V.size service.old ≤ (X.device site.old).size }
     ensures calls { NextCalls result (X.device site.old) (X.device site.new) }
-    ensures size { V.size service.new ≡ V.size service.old }
+    ensures size { V.size service.new ≤ V.size service.old }
+    ensures setting { V.setting service.new ≡ V.setting service.old }
     ensures clock { C.tells clock.new ≡ true → C.tells clock.old ≡ true }
     ensures moments { C.tells clock.new ≡ true
         → GivesMore (C.given clock.old) (C.given clock.new) }
     ensures answers { tally.new.answers ≤ tally.old.answers + MOST_ANSWERS }
     ensures leads { TellsAll (X.device site.old) (C.tells clock.new) → (b : Beginning V.State)
         → (sessions : List (Session V.Request))
-        → IsBetween V.machine b (X.device site.old) (C.given clock.old)
+        → IsBetween (V.machine (V.setting service.old)) b (X.device site.old) (C.given clock.old)
         (V.keeps (V.store service.old) (X.device site.old)) sessions tally.old
-        → NextLeads V.machine b (X.device site.new) (C.given clock.new)
+        → NextLeads (V.machine (V.setting service.old)) b (X.device site.new) (C.given clock.new)
         (V.keeps (V.store service.new) (X.device site.new)) sessions tally.new result }
 {
     match site.next_peer() {

@@ -43,10 +43,10 @@ pub fn serve<V: Service, X: Site, C: Clock>(
     ensures moments { C.tells clock.new ≡ true
         → GivesMore (C.given clock.old) (C.given clock.new) }
     ensures ended { TellsAll (X.device site.old) (C.tells clock.new) → (b : Beginning V.State)
-        → IsBetween V.machine b (X.device site.old) (C.given clock.old)
+        → IsBetween (V.machine (V.setting service.old)) b (X.device site.old) (C.given clock.old)
         (V.keeps (V.store service.old) (X.device site.old)) [] tally.old
-        → HasEnded V.machine b (X.device site.old) (X.device site.new) (C.given clock.new) tally.new
-        connections result }
+        → HasEnded (V.machine (V.setting service.old)) b (X.device site.old) (X.device site.new)
+        (C.given clock.new) tally.new connections result }
 {
     for _ in 0..connections {
         match serve_next(alloc, service, site, clock, tally) {

@@ -22,8 +22,13 @@ pub trait Service {
 
     ghost Request: { Type 0 };
 
+    /// What it was told at first, on which its answers depend: the base of addresses, say.
+    ghost Setting: { Type 0 };
+
+    ghost setting: { Self → Setting };
+
     /// What it answers to each request, and what changes with it.
-    ghost machine: { Machine State Request };
+    ghost machine: { Setting → Machine State Request };
 
     /// The bytes of the connection under way that were heard and not yet taken.
     ghost unread: { Self → List ℕ };
@@ -45,6 +50,9 @@ pub trait Service {
     /// At least the number of turns of the connection under way so far.
     ghost turns: { Self → ℕ };
 
+    /// It may take a turn of the connection under way.
+    ghost ready: { Self → Type 0 };
+
     /// That hangs on the images alone.
     ghost kept: { (kept : Store) (old new : Device) (s : State) → keeps kept old s
         → SameImages old new → keeps kept new s };
@@ -55,9 +63,12 @@ pub trait Service {
         ensures taken { taken self.new ≡ 0 }
         ensures store { store self.new ≡ store self.old }
         ensures size { size self.new ≡ size self.old }
+        ensures setting { setting self.new ≡ setting self.old }
+        ensures ready { ready self.new }
         ensures turns { turns self.new ≡ 0 };
 
-    /// One turn of the connection under way: a request is answered, or more bytes are heard.
+    /// One turn of the connection under way: a request is answered, or more bytes are heard. Where it
+    /// kept nothing, it may serve on less.
     fn take_turn<X: Site, C: Clock>(
         &mut self,
         alloc: Global,
@@ -65,12 +76,15 @@ pub trait Service {
         clock: &mut C,
         tally: &mut Tally,
     ) -> Option<Ending>
+        requires ready { ready self.old }
         requires few { taken self.old < MOST_ANSWERS }
         requires room { tally.old.answers < 2 ^ 60 }
         requires device { size self.old ≤ (X.device site.old).size }
         requires under_way { (X.device site.old).link.under_way ≡ true }
         ensures calls { SiteCalls result (X.device site.old) (X.device site.new) }
-        ensures size { size self.new ≡ size self.old }
+        ensures size { size self.new ≤ size self.old }
+        ensures setting { setting self.new ≡ setting self.old }
+        ensures ready { IsNone result → ready self.new }
         ensures clock { C.tells clock.new ≡ true → C.tells clock.old ≡ true }
         ensures moments { C.tells clock.new ≡ true
             → GivesMore (C.given clock.old) (C.given clock.new) }
@@ -79,13 +93,13 @@ pub trait Service {
             ≡ tally.old.answers + taken self.new }
         ensures counted_last { tally.new.answers ≤ tally.old.answers + 1 }
         ensures turns { IsNone result → turns self.old < turns self.new }
-        ensures most { turns self.new < 2 ^ 64 - 1 }
+        ensures most { IsNone result → turns self.new < 2 ^ 64 - 1 }
         ensures goes { TellsAll (X.device site.old) (C.tells clock.new) → (b : Beginning State)
             → (finished : List (Session Request)) (steps : List (Step Request)) (s : State)
             → keeps (store self.old) (X.device site.old) s
-            → Going machine b (X.device site.old) (C.given clock.old)
+            → Going (machine (setting self.old)) b (X.device site.old) (C.given clock.old)
             (held_with s (unread self.old) (taken self.old)) finished steps tally.old
-            → TurnLeads machine b (X.device site.new) (C.given clock.new) (unread self.new)
-            (taken self.new) (keeps (store self.new) (X.device site.new)) finished tally.new
-            result };
+            → TurnLeads (machine (setting self.old)) b (X.device site.new) (C.given clock.new)
+            (unread self.new) (taken self.new) (keeps (store self.new) (X.device site.new)) finished
+            tally.new result };
 }

@@ -172,7 +172,11 @@ impl Service for PutService {
 
     ghost Request = { PutRequest };
 
-    ghost machine = { put_machine };
+    ghost Setting = { Unit {0} };
+
+    ghost setting = { λ s. tt };
+
+    ghost machine = { λ setting. put_machine };
 
     ghost unread = { λ s. s.unread };
 
@@ -189,6 +193,8 @@ impl Service for PutService {
     ghost size = { size_of };
 
     ghost turns = { turns_of };
+
+    ghost ready = { λ s. Unit {0} };
 
     fn begin(&mut self) {
         let waiting = self.unread.bytes().len();

@@ -3,7 +3,10 @@ use Rattle.connection_loop.proofs.Turning.{calls_more, gives_twice, tells_later,
 use Rattle.connection_loop.proofs.connection.serve_connection.Goals as goal
 
 pub loop-init : goal.loop-init
-loop-init g c = turned_first _ _ _ _ _ _ _ _ _ _ c.requires.none c.requires.turns
+loop-init g c = turned_first _ _ _ _ _ _ _ _ _ _ _ _ c.requires.ready c.requires.none c.requires.turns
+
+pub take_turn-requires-clause-ready : goal.take_turn-requires-clause-ready
+take_turn-requires-clause-ready g c = c.loop.invariant.is_ready
 
 pub take_turn-requires-clause-few : goal.take_turn-requires-clause-few
 take_turn-requires-clause-few g c = c.loop.invariant.few
@@ -17,7 +20,10 @@ take_turn-requires-clause-room g c =
 
 pub take_turn-requires-clause-device : goal.take_turn-requires-clause-device
 take_turn-requires-clause-device g c =
-    let so_far = c.loop.invariant in rw (so_far.size_is, so_far.calls.same.size) c.requires.device
+    let so_far = c.loop.invariant in
+    let least = so_far.size_is in
+    let same = so_far.calls.same.size in
+    omega (arith, least, same, c.requires.device)
 
 pub take_turn-requires-clause-under_way : goal.take_turn-requires-clause-under_way
 take_turn-requires-clause-under_way g c = c.loop.invariant.calls.under_way ∙ c.requires.under_way
@@ -26,7 +32,11 @@ pub returns-in-Some-clause-calls : goal.returns-in-Some-clause-calls
 returns-in-Some-clause-calls g c = calls_more _ _ _ _ c.loop.invariant.calls c.in-Some.ensures.calls
 
 pub returns-in-Some-clause-size : goal.returns-in-Some-clause-size
-returns-in-Some-clause-size g c = c.in-Some.ensures.size ∙ c.loop.invariant.size_is
+returns-in-Some-clause-size g c =
+    let so_far = c.loop.invariant.size_is in omega (arith, so_far, c.in-Some.ensures.size)
+
+pub returns-in-Some-clause-setting : goal.returns-in-Some-clause-setting
+returns-in-Some-clause-setting g c = c.in-Some.ensures.setting ∙ c.loop.invariant.setting_is
 
 pub returns-in-Some-clause-clock : goal.returns-in-Some-clause-clock
 returns-in-Some-clause-clock g c = λ tells. c.loop.invariant.clock (c.in-Some.ensures.clock tells)
@@ -49,14 +59,15 @@ returns-in-Some-clause-served g c = λ all b finished s kept going.
     let before =
     so_far.reached (record { honest = all.honest; shows = all.shows; tells = all.tells; clock_tells = c.in-Some.ensures.clock all.clock_tells }) b finished
     s kept going in
-    c.in-Some.ensures.goes (tells_later _ _ _ so_far.calls.same all) b finished before.steps before.state before.kept before.going
+    (rw so_far.setting_is at c.in-Some.ensures.goes) (tells_later _ _ _ so_far.calls.same all) b finished before.steps before.state before.kept before.going
 
 pub loop-preserved : goal.loop-preserved
 loop-preserved g c =
     let turn = c.in_default.ensures in
-    turned_more g.V.Service.machine (g.X.Disk.device c.args.site.now) (g.X.Disk.device c.loop.site) (g.X.Disk.device c.take_turn.new.site)
+    turned_more g.V.Service.machine (g.V.Service.setting c.args.service.now) (g.V.Service.setting c.loop.service) _ _ _ (g.X.Disk.device c.args.site.now) (g.X.Disk.device c.loop.site) (g.X.Disk.device c.take_turn.new.site)
     _ _ _ _ _ _ _ _ _ _ _ _ _ _ _ _ _ _ _ _ _ _ _ c.loop.counter
-    c.loop.invariant turn.calls turn.size turn.clock turn.moments (turn.few refl) (turn.counted refl) (turn.turns refl) turn.most turn.goes
+    c.loop.invariant turn.calls turn.setting (turn.ready refl) turn.size turn.clock turn.moments (turn.few refl) (turn.counted refl) (turn.turns refl)
+    (turn.most refl) turn.goes
 
 -- More turns than a connection has.
 pub unreachable-requires : goal.unreachable-requires
