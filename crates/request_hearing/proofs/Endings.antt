@@ -1,24 +1,27 @@
 -- How a connection ends with what was heard: behind a whole request, or within one that had its interim response at most.
-use Rattle.std.proofs.Common.{◌≡◌, ◌≢◌, ◌||◌, not, ℕ, Bool, true, false, List, [], ◌∷◌, ◌++◌, length, All, Option, None, refl, sym, ap, ◌∙◌, subst, arith}
+use Rattle.std.proofs.Common.{◌≡◌, ◌≢◌, ◌+◌, ◌||◌, not, ℕ, Bool, true, false, List, [], ◌∷◌, ◌++◌, Option, None, refl, sym, ap, ◌∙◌, subst, arith}
 use Rattle.std.specs.Prelude.{option_to_list}
 use Rattle.std.proofs.lemmas.Bool.{false≢true}
 use Rattle.std.proofs.lemmas.List.{append-nil, append_assoc}
 use Rattle.std.proofs.lemmas.List.Concat.{flat_map-append}
-use Rattle.disk_trait.specs.Device.{Device}
+use Rattle.std.proofs.lemmas.List.Elements.{All-nil}
+use Rattle.disk_trait.specs.Device.{Connection, Device}
 use Rattle.site_edge.specs.Links.{Sends, change_last}
 use Rattle.run_history.specs.Machine.{Machine}
-use Rattle.run_history.specs.Steps.{Cut, Interim, Piece, Stage, Step, interim_pieces, is_there, piece_bytes}
-use Rattle.run_history.specs.Sessions.{Hearing, IsTold, IsUnfinished, LinkEnd, Saying, Session, Whole, after_sessions, all_moments, answers_in, bytes_of, has_failed, pieces_of, scripts_of, texts_of}
-use Rattle.run_history.specs.Traces.{Trace, start_of, states_of, trace_of, with_effect}
+use Rattle.run_history.specs.Steps.{Cut, Effect, Interim, Piece, Step, interim_pieces, is_there, piece_bytes}
+use Rattle.run_history.specs.Sessions.{Hearing, IsTold, IsUnfinished, LinkEnd, Saying, Session, Whole, after_sessions, answers_in, bytes_of, has_failed, pieces_of, texts_of}
+use Rattle.run_history.specs.Traces.{Trace, start_of, trace_of, with_effect}
 use Rattle.run_history.specs.Runs.{Beginning, Reached}
 use Rattle.run_history.specs.Laws.{under_way}
-use Rattle.run_history.specs.Serving.{Counts, Going, HasServed, Held, all_answers, connection_with, counts_of}
-use Rattle.run_history.proofs.Growth.{pieces-push, scripts-push, steps_grow, trace-same, traces_grow}
+use Rattle.run_history.specs.Serving.{Counts, Going, HasServed, Held, connection_with}
+use Rattle.run_history.proofs.Growth.{trace-same}
 use Rattle.run_history.proofs.Invariant.{parts_suffice}
-use Rattle.run_history.proofs.Ends.{all_answers-push, all_skips-push, answers-append, end-push, end_like-push, rest-push, skips-push, steps-push}
-use Rattle.run_history.proofs.Going.{after_end, counts-same, ends_heard, ends_with, last_changed}
+use Rattle.run_history.proofs.Going.{after_end, counts-same, ends_heard, last_changed}
 use Rattle.tams_machine.specs.Requests.{interim_text}
 use Rattle.request_hearing.specs.Hearing.{HearsAndSays, after_hearing, interim_bytes, interim_where, with_interim}
+use Rattle.request_hearing.specs.Asking.{IsUnderWay}
+use Rattle.request_hearing.proofs.Asking.{under_way-going}
+use Rattle.request_hearing.proofs.AskingSteps.{counted_effect, ends_with_step, pieces_grown, state_behind, texts_grown}
 use Rattle.request_hearing.proofs.SiteLemmas.{change_last-none, sends_none}
 use Rattle.request_hearing.proofs.Theorems.{reached_heard, says_nothing}
 
@@ -29,7 +32,7 @@ saying_held_on Hearing = true
 saying_held_on Saying = false
 
 -- a step that tells the interim response at most, and changes nothing
-effect-interim : {State : Type 0} (said : Bool) (moments : List ℕ) (t : Trace State)
+pub effect-interim : {State : Type 0} (said : Bool) (moments : List ℕ) (t : Trace State)
     → with_effect (record { pieces = interim_pieces (interim_where said); changes = []; moments = moments }) t ≡ with_interim said t
 effect-interim true moments t = trace-same t.first _ _ _ _ refl (append-nil t.changes)
 effect-interim false moments t = trace-same t.first _ _ _ _ (change_last-none t.scripts) (append-nil t.changes)
@@ -42,12 +45,12 @@ pub answers-interim : (said : Bool) → answers_in (interim_pieces (interim_wher
 answers-interim true = refl
 answers-interim false = refl
 
-failed_is : (link : LinkEnd) → (not (not (has_failed link)) || false) ≡ has_failed link
+pub failed_is : (link : LinkEnd) → (not (not (has_failed link)) || false) ≡ has_failed link
 failed_is Whole = refl
 failed_is Hearing = refl
 failed_is Saying = refl
 
-or_nothing : (x : Bool) → (x || false) ≡ x
+pub or_nothing : (x : Bool) → (x || false) ≡ x
 or_nothing true = refl
 or_nothing false = refl
 
@@ -84,6 +87,26 @@ ended_as : (link : LinkEnd) (ended : Bool) (heard told bytes sent : List ℕ) �
 ended_as link ended heard told bytes sent none silent =
     rw (none, silent, append-nil heard, append-nil told, or_nothing ended, failed_is link) refl
 
+plus_nothing : (k : ℕ) → k + 0 ≡ k
+plus_nothing k = omega arith
+
+-- what a request comes to that was cut
+abbrev pub cut_effect : {State : Type 0} → Bool → Option ℕ → Effect State
+cut_effect said moment = record { pieces = interim_pieces (interim_where said); changes = []; moments = option_to_list moment }
+
+-- it counts nothing
+pub counts-cut : (State Request : Type 0) (n : Counts) (said : Bool) (moment : Option ℕ) (text : List ℕ)
+    → counted_effect {State = State} {Request = Request} n (cut_effect said moment) (Cut text (interim_where said) moment) ≡ n
+counts-cut State Request n said moment text =
+    counts-same _ _ (omega (arith, answers-interim said)) (plus_nothing n.changes) (plus_nothing n.skipped)
+
+-- and the state stays
+pub cut_state : {State Request : Type 0} {m : Machine State Request} {b : Beginning State} {connections : List Connection} {given : List ℕ} {state : State}
+    {taken : ℕ} {finished : List (Session Request)} {steps : List (Step Request)} {n : Counts}
+    → IsUnderWay m b connections given state taken finished steps n → (said : Bool) (text : List ℕ) (moment : Option ℕ) (link : LinkEnd)
+    → (after_sessions m (start_of b.state) (finished ++ under_way (steps ++ Cut text (interim_where said) moment ∷ []) link ∷ [])).state ≡ state
+cut_state u said text moment link = state_behind u (Cut text (interim_where said) moment) (cut_effect said moment) refl link
+
 -- A connection under way heard these bytes and was told the interim response at most; then its peer's end came, or a call of its link
 -- failed.
 module _ {State Request : Type 0} (m : Machine State Request) (b : Beginning State) (old new : Device) (given : List ℕ) (held : Held State)
@@ -113,88 +136,27 @@ module _ {State Request : Type 0} (m : Machine State Request) (b : Beginning Sta
   module _ (text rest : List ℕ) (moment : Option ℕ) (text_is : held.unread ++ bytes ≡ text ++ rest) (some : text ≢ [])
       (cuts : m.cuts text (record { interim = interim_where said; takes_moment = is_there moment }))
       (unfinished : link ≢ Saying → (rest ≡ []) × IsUnfinished m held.taken text) (saying : link ≡ Saying → said ≡ true) where
-    abbrev at : Stage State
-    at = after_sessions m (start_of b.state) finished
-
     abbrev step : Step Request
     step = Cut text (interim_where said) moment
-
-    abbrev before : Trace State
-    before = trace_of m b.state (finished ++ under_way steps Whole ∷ [])
-
-    grown : trace_of m b.state (finished ++ under_way (steps ++ step ∷ []) link ∷ []) ≡ with_interim said before
-    grown = (traces_grow State Request m b.state finished steps step Whole link).grown ∙ effect-interim said (option_to_list moment) before
-
-    pieces_now : pieces_of m at (steps ++ step ∷ []) ≡ pieces_of m at steps ++ interim_pieces (interim_where said)
-    pieces_now = pieces-push m at steps step
-
-    answers_now : answers_in (pieces_of m at (steps ++ step ∷ [])) ≡ answers_in (pieces_of m at steps)
-    answers_now =
-        let sum = answers-append (pieces_of m at steps) (interim_pieces (interim_where said)) in
-        omega (arith, ap answers_in pieces_now, sum, answers-interim said)
-
-    moments_now : given ++ option_to_list moment ≡ b.given ++ all_moments m (start_of b.state) (finished ++ under_way (steps ++ step ∷ []) link ∷ [])
-    moments_now =
-        ap (λ l. l ++ option_to_list moment) g.given_is
-        ∙ append_assoc b.given (all_moments m (start_of b.state) (finished ++ under_way steps Whole ∷ [])) (option_to_list moment)
-        ∙ ap (λ l. b.given ++ l) (sym (traces_grow State Request m b.state finished steps step Whole link).moments)
-
-    changes-interim : (s : Bool) (t : Trace State) → (with_interim s t).changes ≡ t.changes
-    changes-interim true t = refl
-    changes-interim false t = refl
-
-    counts_now : n ≡ counts_of m b.state (finished ++ under_way (steps ++ step ∷ []) link ∷ [])
-    counts_now =
-        let scripts_before = scripts-push m (start_of b.state) finished (under_way steps Whole) in
-        let scripts_after = scripts-push m (start_of b.state) finished (under_way (steps ++ step ∷ []) link) in
-        let before_sum = all_answers-push (scripts_of m (start_of b.state) finished) (pieces_of m at steps) in
-        let after_sum = all_answers-push (scripts_of m (start_of b.state) finished) (pieces_of m at (steps ++ step ∷ [])) in
-        counts-same _ _
-        (omega (
-          arith,
-          ap (λ (c : Counts). c.answers) g.counts,
-          ap all_answers scripts_before,
-          ap all_answers scripts_after,
-          before_sum,
-          after_sum,
-          answers_now,
-        ))
-        (ap (λ (c : Counts). c.changes) g.counts ∙ sym (ap (λ (t : Trace State). length t.changes) grown ∙ ap length (changes-interim said before)))
-        (omega (
-          arith,
-          ap (λ (c : Counts). c.skipped) g.counts,
-          all_skips-push finished (under_way steps Whole),
-          all_skips-push finished (under_way (steps ++ step ∷ []) link),
-          skips-push steps step,
-        ))
 
     -- It ends within a request, which is cut.
     pub ends_within_request : HasServed m b new (given ++ option_to_list moment) (finished ++ under_way (steps ++ step ∷ []) link ∷ []) n
     ends_within_request =
-        let like = end_like-push m steps step g.stay in
         let told = h.connections tells in
-        ends_with m b new (given ++ option_to_list moment) finished (under_way (steps ++ step ∷ []) link) n g.connections _
+        let so_far = pieces_of m (after_sessions m (start_of b.state) finished) steps in
+        let before = trace_of m b.state (finished ++ under_way steps Whole ∷ []) in
+        let u = under_way-going g in
+        subst (HasServed m b new (given ++ option_to_list moment) (finished ++ under_way (steps ++ step ∷ []) link ∷ []))
+        (counts-cut State Request n said moment text)
+        (ends_with_step u step (cut_effect said moment) refl new link _ rest (some, cuts) (omega (arith, answers-interim said)) (All-nil m.good)
         (last_changed (after_hearing bytes told.0 ended (not (not (has_failed link)))) b.before g.connections _ _ _ g.connections_are told.2)
-        g.served g.unstopped
-        (record {
-          rest = rest;
-          steps = steps-push m 0 held.taken at steps step g.steps_are g.stay (omega (arith, g.taken)) (some, cuts);
-          few = omega (arith, g.few, g.answers, answers_now);
-          heard = append_assoc (texts_of steps) held.unread bytes ∙ ap (λ u. texts_of steps ++ u) text_is ∙ sym (append_assoc (texts_of steps) text rest)
-              ∙ ap (λ l. l ++ rest) (sym (steps_grow State Request m at steps step).texts);
-          rest_is = rest-push m 0 held.taken steps step link rest (omega (arith, g.taken)) (unfinished, λ is. interim_there said (saying is));
-          told = subst (λ s. IsTold s link (bytes_of (pieces_of m at steps) ++ told.0) (pieces_of m at (steps ++ step ∷ []))) (sym like.in_answer)
-              (subst (IsTold false link (bytes_of (pieces_of m at steps) ++ told.0)) (sym pieces_now)
-              (told_with link said told.0 (pieces_of m at steps) told.1 saying));
-          failed = failed_is link;
-          ended = end-push m steps step link (ended || false) (λ is. or_nothing ended ∙ at_end is);
-        })
-        moments_now counts_now
-        (subst (λ w. Reached m b (trace_of m b.state (finished ++ under_way (steps ++ step ∷ []) link ∷ [])) false w new) (sym like.writing)
-        (parts_suffice State Request m b _ (saying_held_on link) false new (subst (λ t. Reached m b t (saying_held_on link) false new) (sym grown)
+        (append_assoc (texts_of steps) held.unread bytes ∙ ap (λ x. texts_of steps ++ x) text_is ∙ sym (append_assoc (texts_of steps) text rest)
+        ∙ ap (λ x. x ++ rest) (sym (texts_grown u step (cut_effect said moment) refl)))
+        (unfinished, λ is. interim_there said (saying is))
+        (subst (IsTold false link (bytes_of so_far ++ told.0)) (sym (pieces_grown u step (cut_effect said moment) refl))
+        (told_with link said told.0 so_far told.1 saying))
+        (failed_is link)
+        (λ is. or_nothing ended ∙ at_end is)
+        (subst (λ t. Reached m b t false false new) (sym (effect-interim said (option_to_list moment) before))
+        (parts_suffice State Request m b _ (saying_held_on link) false new
         (reached_heard m b before false bytes said (saying_held_on link) (not (has_failed link)) ended old new g.reached h))))
-        (subst (λ t. All m.good (states_of t)) (sym grown) (good-interim said before g.good))
-      where
-        good-interim : (s : Bool) (t : Trace State) → All m.good (states_of t) → All m.good (states_of (with_interim s t))
-        good-interim true t good = good
-        good-interim false t good = good

@@ -1,6 +1,10 @@
-pub mod Answering
 mod BodyLemmas
-mod SiteLemmas
+pub mod SiteLemmas
 mod TurnLemmas
+pub mod Asking
+pub mod AskingAnswered
+pub mod AskingCut
+pub mod AskingReached
+pub mod AskingSteps
 pub mod Endings
 pub mod Theorems

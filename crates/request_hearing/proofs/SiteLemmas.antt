@@ -35,7 +35,7 @@ change_last-none [] = refl
 change_last-none (t ∷ []) = ap (λ x. x ∷ []) (append-nil t)
 change_last-none (t ∷ u ∷ l) = ap (λ x. t ∷ x) (change_last-none (u ∷ l))
 
-change_last-itself : {A : Type 0} (f : A → A) (l : List A) → ((x : A) → f x ≡ x) → change_last f l ≡ l
+pub change_last-itself : {A : Type 0} (f : A → A) (l : List A) → ((x : A) → f x ≡ x) → change_last f l ≡ l
 change_last-itself f [] same = refl
 change_last-itself f (x ∷ []) same = ap (λ y. y ∷ []) (same x)
 change_last-itself f (x ∷ y ∷ xs) same = ap (λ l. x ∷ l) (change_last-itself f (y ∷ xs) same)

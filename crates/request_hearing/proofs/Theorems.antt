@@ -1,5 +1,5 @@
 -- What a service concludes from what was heard: where its run has come to, and the step that a request is.
-use Rattle.std.proofs.Common.{◌≡◌, ◌≢◌, ◌<◌, ◌≤◌, ℕ, Bool, true, false, List, [], ◌∷◌, ◌++◌, length, drop, refl, sym, ap, ◌∙◌, subst, arith, length-append}
+use Rattle.std.proofs.Common.{◌≡◌, ◌≢◌, ◌<◌, ◌≤◌, ◌+◌, ℕ, Bool, true, false, List, [], ◌∷◌, ◌++◌, length, drop, refl, sym, ap, ◌∙◌, subst, arith, length-append}
 use Rattle.std.proofs.lemmas.List.{append_assoc}
 use Rattle.httparse.specs.Grammar.{RequestHead}
 use Rattle.disk_trait.specs.Device.{Device, Left, may_leave}
@@ -16,10 +16,12 @@ use Rattle.http_wire.specs.declared.stage.Stage.TheVariants as stages
 use Rattle.http_wire.proofs.Hearings.{next_unique, stays_decided}
 use Rattle.http_wire.proofs.Staying.{next_stays}
 use Rattle.run_history.specs.Machine.{Machine}
+use Rattle.run_history.specs.Sessions.{IsUnfinished}
 use Rattle.run_history.specs.Steps.{Interim}
 use Rattle.run_history.specs.Traces.{Trace}
 use Rattle.run_history.specs.Runs.{Beginning, Reached}
 use Rattle.run_history.proofs.Invariant.{parts_suffice, quiet_calls, said_pieces}
+use Rattle.tams_machine.specs.Machine.{tams_machine}
 use Rattle.tams_machine.specs.Requests.{Heads, IsCut, IsRefused, IsWhole, Spells, interim_text, media, other, waiting, within}
 use Rattle.request_hearing.specs.Hearing.{HearsAndSays, IsGiven, IsOpened, interim_where, with_interim}
 use Rattle.request_hearing.specs.Laws.{MediaIsOpened, MediaUnsaidIsCut, RefusalsAreSteps, UnsaidIsCut, WaitingIsCut, WaitingIsUnfinished, media_request}
@@ -128,6 +130,31 @@ unfinished base n all waits = record {
 
 -- ---- media PUTs
 
+-- the heads of two are of one length, and their bodies of one length
+opened_same : (head head_too : RequestHead) (size size_too n n_too : ℕ) → whole (opened head size) n ≡ whole (opened head_too size_too) n_too
+    → (size ≡ size_too) × (n ≡ n_too)
+opened_same head head_too size size_too n n_too same = (cc, cc)
+
+-- in front of one that isn't whole stands no whole request
+short_whole : (text : List ℕ) (head : RequestHead) (size n : ℕ) → IsNext text (whole (opened head size) n) → length text < n + size
+    → (front rest : List ℕ) → text ≡ front ++ rest → (first : RequestHead) (body : List ℕ) → IsWhole front first body → ⊥
+short_whole text head size n found short front rest is first body (media k next long body_is) =
+    let same = next_unique text (whole (opened head size) n) (whole (opened first (length body)) k) found
+    (rw is (stays_decided front rest (opened first (length body)) k next (omega (arith, long)))) in
+    let sizes = opened_same head first size (length body) n k same in
+    omega (arith, short, long, sizes.0, sizes.1, ap length is, length-append front rest)
+short_whole text head size n found short front rest is first body (other next) =
+    let same = next_unique text (whole (opened head size) n) (whole (given first body) (length front)) found
+    (rw is (stays_decided front rest (given first body) (length front) next (omega arith))) in
+    absurd cc
+
+-- and nothing that the wire refuses
+short_refused : (text : List ℕ) (head : RequestHead) (size n : ℕ) → IsNext text (whole (opened head size) n) → (front rest : List ℕ) → text ≡ front ++ rest
+    → (fault : WireFault) → IsNext front (refused fault) → ⊥
+short_refused text head size n found front rest is fault next =
+    let same = next_unique text (whole (opened head size) n) (refused fault) found (rw is (next_stays front rest (refused fault) next tt)) in
+    absurd cc
+
 module _ (taken : ℕ) (all : List ℕ) (said : Bool) (new : Fed) (shown : Head) (o : IsOpened taken all said new shown) (part : List ℕ) where
   next_with : IsNext (o.text ++ part) (whole (opened o.head shown.length) (length o.text))
   next_with = stays_decided o.text part (opened o.head shown.length) (length o.text) o.next (omega arith)
@@ -165,10 +192,21 @@ module _ (taken : ℕ) (all : List ℕ) (said : Bool) (new : Fed) (shown : Head)
       subst (λ i. IsCut (o.text ++ part) (record { interim = i; takes_moment = true })) (sym (ap interim_where o.interim))
       (within o.head shown.length (length o.text) next_with (omega (arith, length-append o.text part, short)))
 
+  -- nothing whole stands in front of it there, and nothing that is refused
+  media_unfinished : (base : List ℕ) → length part < shown.length → IsUnfinished (tams_machine base) taken (o.text ++ part)
+  media_unfinished base short = record {
+    request = λ front rest r is spells.
+        short_whole (o.text ++ part) o.head shown.length (length o.text) next_with (omega (arith, length-append o.text part, short)) front rest is r.head
+        r.body spells.is_whole;
+    refusal = λ front rest r is refuses.
+        short_refused (o.text ++ part) o.head shown.length (length o.text) next_with front rest is refuses.fault refuses.next;
+  }
+
 -- a media PUT by what was heard of its body
 pub media_opened : MediaIsOpened
 media_opened taken all said new shown o part = record {
   whole = media_spells taken all said new shown o part;
   begun = media_heads taken all said new shown o part;
   cut = media_cut taken all said new shown o part;
+  unfinished = media_unfinished taken all said new shown o part;
 }

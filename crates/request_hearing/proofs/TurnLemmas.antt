@@ -178,6 +178,7 @@ module _ (old new : Fed) (due : Bool) (tells : IsTrue due ↔ IsInterimDue old.u
         request = record { head = g.head; body = g.body; ends = shown.ends };
         text_is = split g.n g.leaves.unread;
         spells = record { is_whole = other (rw size (stands_alone old.unread (given g.head g.body) g.n g.next)); ends_is = ends };
+        other = (given_head old.unread g.head g.body g.n g.next).media_is;
         interim = due_is old.unread g.head false due (given_head old.unread g.head g.body g.n g.next) tells;
         ends = refl;
         tells = g.tells;

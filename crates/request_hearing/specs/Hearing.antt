@@ -5,7 +5,7 @@ use Rattle.httparse.specs.Grammar.{RequestHead}
 use Rattle.disk_trait.specs.Device.{Connection, Device}
 use Rattle.site_edge.specs.Links.{LinkCall, SamePeers, Sends, Tells, change_last}
 use Rattle.http_wire.specs.Feeds.{Fed, TellsBody, TellsHead, feed_room, handed_on, heard, left_of}
-use Rattle.http_wire.specs.Framing.{wants_interim}
+use Rattle.http_wire.specs.Framing.{is_media, wants_interim}
 use Rattle.http_wire.specs.Heads.{more, refused, whole}
 use Rattle.http_wire.specs.Requests.{IsNext, opened}
 use Rattle.http_wire.specs.Steps.{wire_refusal}
@@ -100,13 +100,14 @@ pub record IsBehind (taken : ℕ) (stage : Stage) (shown : Head) (new : Fed) : T
   pub requests_are : new.requests ≡ taken + 1
   pub ended_is : new.ended ≡ shown.ends
 
--- A request came whole. Its text stands in front of what is unread now.
+-- A request came whole that is no media PUT. Its text stands in front of what is unread now.
 pub record IsGiven (taken : ℕ) (all : List ℕ) (said : Bool) (new : Fed) (shown : Head) : Type 0
   where
     pub text : List ℕ
     pub request : TamsRequest
     pub text_is : all ≡ text ++ new.unread
     pub spells : Spells taken text request
+    pub other : is_media request.head.method request.head.target ≡ false
     pub interim : said ≡ wants_interim request.head
     pub ends : shown.ends ≡ request.ends
     pub tells : TellsHead new request.head (taken + 1) shown

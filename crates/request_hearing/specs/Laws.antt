@@ -48,7 +48,8 @@ MediaUnsaidIsCut = (base : List ℕ) (n : ℕ) (s : StoreState) (moment : ℕ) (
 abbrev pub media_request : RequestHead → Bool → List ℕ → TamsRequest
 media_request head ends body = record { head = head; body = body; ends = ends }
 
--- What a media PUT is by a part of its body: a whole request, or the head of one, which may be cut.
+-- What a media PUT is by a part of its body: a whole request, or the head of one, which may be cut,
+-- and in front of which no whole one stands, nor a refusal.
 pub record OpenedAs (taken : ℕ) (said : Bool) (text : List ℕ) (head : RequestHead) (shown : Head)
     (part : List ℕ) : Type 0 where
   pub whole : length part ≡ shown.length
@@ -57,6 +58,8 @@ pub record OpenedAs (taken : ℕ) (said : Bool) (text : List ℕ) (head : Reques
       → Heads taken (text ++ part) (media_request head shown.ends part)
   pub cut : length part < shown.length
       → IsCut (text ++ part) (record { interim = interim_where said; takes_moment = true })
+  pub unfinished : (base : List ℕ) → length part < shown.length
+      → IsUnfinished (tams_machine base) taken (text ++ part)
 
 abbrev pub MediaIsOpened : Type 0
 MediaIsOpened = (taken : ℕ) (all : List ℕ) (said : Bool) (new : Fed) (shown : Head)

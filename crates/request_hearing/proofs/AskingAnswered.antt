@@ -1,0 +1,175 @@
+-- How the request that has begun is answered: what stands behind its interim response, its changes, its reply and the turn behind it.
+use Rattle.std.proofs.Common.{◌≡◌, ◌<◌, ◌+◌, ◌||◌, not, ℕ, Bool, true, false, List, [], ◌∷◌, ◌++◌, length, if◌then◌else◌, refl, sym, ap, ◌∙◌, subst, arith}
+use Rattle.std.proofs.lemmas.List.{append_assoc}
+use Rattle.std.proofs.lemmas.List.Concat.{flat_map-append}
+use Rattle.disk_trait.specs.Device.{Connection, Device}
+use Rattle.site_edge.specs.Links.{Sends, after_say}
+use Rattle.run_history.specs.Machine.{Machine}
+use Rattle.run_history.specs.Steps.{Effect, Interim, Piece, Reply, Stage, Step, effect, interim_pieces, is_last, last_or, piece_bytes, step_text}
+use Rattle.run_history.specs.Sessions.{EndIs, IsTold, LinkEnd, RestIs, Saying, Session, Whole, after_sessions, after_steps, answers_in, bytes_of, has_failed, most_answers, pieces_of, stops_in_answer, texts_of}
+use Rattle.run_history.specs.Traces.{Trace, start_of, trace_of, with_effect}
+use Rattle.run_history.specs.Runs.{Beginning, Reached}
+use Rattle.run_history.specs.Laws.{under_way}
+use Rattle.run_history.specs.Serving.{Counts, Going, HasServed, Held, connection_with}
+use Rattle.run_history.proofs.Pieces.{bytes-push}
+use Rattle.run_history.proofs.Growth.{trace-same}
+use Rattle.run_history.proofs.Invariant.{parts_suffice}
+use Rattle.run_history.proofs.Ends.{answers-append, open-going}
+use Rattle.run_history.proofs.Going.{counts-same, last_changed, made-now}
+use Rattle.tams_machine.specs.Requests.{interim_text}
+use Rattle.request_hearing.specs.Hearing.{interim_bytes, interim_where, with_interim}
+use Rattle.request_hearing.specs.Asking.{IsAnswered, answered_trace, asked_trace, counted_more}
+use Rattle.request_hearing.proofs.AskingSteps.{counted_effect, ends_with_step, goes_with_step, pieces_grown, state_behind, texts_grown}
+use Rattle.request_hearing.proofs.Endings.{answers-interim, bytes-interim}
+use Rattle.request_hearing.proofs.SiteLemmas.{change_last-twice}
+
+-- a step that has its interim response at most, a reply, and changes before and behind it
+effect-answered : {State : Type 0} (said : Bool) (states : List State) (bytes : List ℕ) (made : ℕ) (later : List State) (moments : List ℕ) (t : Trace State)
+    → with_effect (record {
+      pieces = interim_pieces (interim_where said) ++ Reply bytes (length t.changes + made) ∷ [];
+      changes = states ++ later;
+      moments = moments;
+    }) t
+    ≡ answered_trace states bytes made later (with_interim said t)
+effect-answered true states bytes made later moments t =
+    let piece = Reply bytes (length t.changes + made) in
+    trace-same t.first _ _ _ _
+    (sym (change_last-twice (λ s. s ++ piece ∷ []) (λ s. s ++ Interim interim_text ∷ []) (λ s. s ++ (Interim interim_text ∷ piece ∷ [])) t.scripts
+    (λ s. append_assoc s (Interim interim_text ∷ []) (piece ∷ []))))
+    (sym (append_assoc t.changes states later))
+effect-answered false states bytes made later moments t =
+    trace-same t.first _ _ _ _ refl (sym (append_assoc t.changes states later))
+
+-- what was told of the last piece behind the pieces before it: all of it, or a part where a saying failed or the disk within it
+told-last : (stopped linked whole : Bool) (front : List Piece) (piece : Piece) (sent : List ℕ) → Sends whole (piece_bytes piece) sent
+    → (linked ≡ true → stopped ≡ false → whole ≡ true) → IsTold stopped (if linked then Whole else Saying) (bytes_of front ++ sent) (front ++ piece ∷ [])
+told-last true linked whole front piece sent sends full = record {
+  front = front;
+  last = piece;
+  part = sent;
+  pieces_are = refl;
+  told_is = refl;
+  prefix = sends.prefix;
+}
+told-last false true whole front piece sent sends full =
+    ap (λ s. bytes_of front ++ s) (sends.whole (full refl refl)) ∙ sym (bytes-push front piece)
+told-last false false whole front piece sent sends full = record {
+  front = front;
+  last = piece;
+  part = sent;
+  pieces_are = refl;
+  told_is = refl;
+  prefix = sends.prefix;
+}
+
+failed_by : (linked : Bool) → false || not linked ≡ has_failed (if linked then Whole else Saying)
+failed_by true = refl
+failed_by false = refl
+
+module _ {State Request : Type 0} {m : Machine State Request} {b : Beginning State} {old new : Device} {given : List ℕ} {held : Held State} {said : Bool}
+    {finished : List (Session Request)} {steps : List (Step Request)} {n : Counts} {step : Step Request} {bytes : List ℕ} {made : ℕ}
+    {states later : List State} {moments rest : List ℕ} {whole linked writing : Bool}
+    (s : IsAnswered m b old new given held said finished steps n step bytes made states later moments rest whole linked writing) where
+  abbrev first : Stage State
+  first = after_sessions m (start_of b.state) finished
+
+  abbrev begun : Trace State
+  begun = trace_of m b.state (finished ++ under_way steps Whole ∷ [])
+
+  -- its reply counts the changes so far and some of its own
+  abbrev piece : Piece
+  piece = Reply bytes (length begun.changes + made)
+
+  abbrev comes_to : Effect State
+  comes_to = record { pieces = interim_pieces (interim_where said) ++ piece ∷ []; changes = states ++ later; moments = moments }
+
+  this : effect m (after_steps m first steps) step ≡ comes_to
+  this =
+      s.effect_is (after_steps m first steps) (sym s.begun.so_far.state_is)
+      ∙ ap (λ k. record {
+        pieces = interim_pieces (interim_where said) ++ Reply bytes (k + made) ∷ [];
+        changes = states ++ later;
+        moments = moments;
+      }) (made-now m b.state finished steps)
+
+  one_answer : answers_in comes_to.pieces ≡ 1
+  one_answer = omega (arith, answers-append (interim_pieces (interim_where said)) (piece ∷ []), answers-interim said)
+
+  counts_are : counted_effect n comes_to step ≡ counted_more n (states ++ later) step
+  counts_are = counts-same _ _ (omega (arith, one_answer)) refl refl
+
+  -- the trace with the step
+  trace_is : with_effect comes_to begun ≡ answered_trace states bytes made later (asked_trace m b said finished steps)
+  trace_is = effect-answered said states bytes made later moments begun
+
+  reached_now : Reached m b (with_effect comes_to begun) whole writing new
+  reached_now = subst (λ t. Reached m b t whole writing new) (sym trace_is) s.reached
+
+  -- what the connection was told before the reply, in pieces
+  abbrev front : List Piece
+  front = pieces_of m first steps ++ interim_pieces (interim_where said)
+
+  front_is : bytes_of (pieces_of m first steps) ++ interim_bytes said ≡ bytes_of front
+  front_is =
+      ap (λ x. bytes_of (pieces_of m first steps) ++ x) (sym (bytes-interim said))
+      ∙ sym (flat_map-append piece_bytes (pieces_of m first steps) (interim_pieces (interim_where said)))
+
+  pieces_are : front ++ piece ∷ [] ≡ pieces_of m first (steps ++ step ∷ [])
+  pieces_are =
+      append_assoc (pieces_of m first steps) (interim_pieces (interim_where said)) (piece ∷ []) ∙ sym (pieces_grown s.begun.so_far step comes_to this)
+
+  heard_is : texts_of steps ++ held.unread ≡ texts_of (steps ++ step ∷ []) ++ rest
+  heard_is =
+      ap (λ x. texts_of steps ++ x) s.text ∙ sym (append_assoc (texts_of steps) (step_text step) rest)
+      ∙ ap (λ x. x ++ rest) (sym (texts_grown s.begun.so_far step comes_to this))
+
+  -- what it heard and was told
+  abbrev connection : Connection
+  connection = after_say linked s.told.0 (connection_with (texts_of steps ++ held.unread) (bytes_of (pieces_of m first steps) ++ interim_bytes said))
+
+  connections_are : new.link.connections ≡ b.before ++ (s.begun.connections ++ connection ∷ [])
+  connections_are =
+      last_changed (after_say linked s.told.0) b.before s.begun.connections _ _ _ s.begun.connections_are s.told.2
+
+  -- the state behind it
+  pub answered_state : (link : LinkEnd)
+      → (after_sessions m (start_of b.state) (finished ++ under_way (steps ++ step ∷ []) link ∷ [])).state ≡ last_or held.state (states ++ later)
+  answered_state link = state_behind s.begun.so_far step comes_to this link
+
+  -- It was said whole, and leaves the connection stay.
+  pub answered_goes : whole ≡ true → linked ≡ true → is_last m step ≡ false → held.taken + 1 < most_answers
+      → Going m b new (given ++ moments) (record { state = last_or held.state (states ++ later); unread = rest; taken = held.taken + 1 }) finished
+      (steps ++ step ∷ []) (counted_more n (states ++ later) step)
+  answered_goes all held_on stay few =
+      let next : Held State = record { state = last_or held.state (states ++ later); unread = rest; taken = held.taken + 1 } in
+      let written : writing ≡ false = sym s.written ∙ (open-going m (step ∷ []) (stay, tt)).writing in
+      let told : (bytes_of (pieces_of m first steps) ++ interim_bytes said) ++ s.told.0 ≡ bytes_of (pieces_of m first (steps ++ step ∷ [])) =
+      ap (λ x. x ++ s.told.0) front_is ∙ ap (λ x. bytes_of front ++ x) (s.told.1.whole all) ∙ sym (bytes-push front piece) ∙ ap bytes_of pieces_are in
+      subst (Going m b new (given ++ moments) next finished (steps ++ step ∷ [])) counts_are
+      (goes_with_step s.begun.so_far step comes_to this new rest s.is stay few one_answer s.good
+      (connections_are
+      ∙ ap (λ (o : Bool). b.before ++ (s.begun.connections ++ after_say o s.told.0 (connection_with (texts_of steps ++ held.unread)
+      (bytes_of (pieces_of m first steps) ++ interim_bytes said)) ∷ [])) held_on
+      ∙ ap (λ x. b.before ++ (s.begun.connections
+      ++ connection_with x ((bytes_of (pieces_of m first steps) ++ interim_bytes said) ++ s.told.0) ∷ [])) heard_is
+      ∙ ap (λ x. b.before ++ (s.begun.connections ++ connection_with (texts_of (steps ++ step ∷ []) ++ rest) x ∷ [])) told)
+      (subst (λ w. Reached m b (with_effect comes_to begun) true w new) written
+      (subst (λ w. Reached m b (with_effect comes_to begun) w writing new) all reached_now)))
+
+  -- which call of the link failed
+  abbrev pub link_behind : LinkEnd
+  link_behind = if linked then Whole else Saying
+
+  -- It ends the connection: as an answer that ends it, or since it couldn't be said whole.
+  pub answered_ends : RestIs m held.taken (step ∷ []) link_behind rest → EndIs m (step ∷ []) link_behind false
+      → HasServed m b new (given ++ moments) (finished ++ under_way (steps ++ step ∷ []) link_behind ∷ []) (counted_more n (states ++ later) step)
+  answered_ends rest_is end_is =
+      subst (HasServed m b new (given ++ moments) (finished ++ under_way (steps ++ step ∷ []) link_behind ∷ [])) counts_are
+      (ends_with_step s.begun.so_far step comes_to this new link_behind connection rest s.is (omega (arith, one_answer)) s.good connections_are heard_is
+      rest_is
+      (subst (λ t. IsTold (stops_in_answer (step ∷ [])) link_behind t (pieces_of m first (steps ++ step ∷ []))) (ap (λ x. x ++ s.told.0) (sym front_is))
+      (subst (IsTold (stops_in_answer (step ∷ [])) link_behind (bytes_of front ++ s.told.0)) pieces_are
+      (told-last (stops_in_answer (step ∷ [])) linked whole front piece s.told.0 s.told.1 s.full)))
+      (failed_by linked) end_is
+      (subst (λ w. Reached m b (with_effect comes_to begun) false w new) (sym s.written)
+      (parts_suffice State Request m b (with_effect comes_to begun) whole writing new reached_now)))

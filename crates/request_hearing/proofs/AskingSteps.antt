@@ -1,0 +1,157 @@
+-- What a step more makes of a connection that is under way: what it counts, and how it ends the connection or leaves it stay.
+use Rattle.std.proofs.Common.{◌≡◌, ◌≤◌, ◌<◌, ◌+◌, ℕ, true, false, List, [], ◌∷◌, ◌++◌, length, All, sym, ap, ◌∙◌, subst, arith, length-append}
+use Rattle.std.proofs.lemmas.List.{append_assoc}
+use Rattle.std.proofs.lemmas.List.Elements.{All-append}
+use Rattle.disk_trait.specs.Device.{Connection, Device}
+use Rattle.run_history.specs.Machine.{Machine}
+use Rattle.run_history.specs.Steps.{Effect, IsStep, Stage, Step, effect, is_last, last_or, step_text}
+use Rattle.run_history.specs.Sessions.{AreSteps, EndIs, IsTold, LinkEnd, RestIs, Session, Whole, after_sessions, after_steps, all_moments, answers_in, bytes_of, has_failed, most_answers, pieces_of, scripts_of, skips_by, stops_in_answer, texts_of}
+use Rattle.run_history.specs.Traces.{Trace, start_of, states_of, trace_of, with_effect}
+use Rattle.run_history.specs.Runs.{Beginning, Reached, stops_writing}
+use Rattle.run_history.specs.Laws.{under_way}
+use Rattle.run_history.specs.Serving.{Counts, Going, HasServed, all_answers, connection_with, counts_of}
+use Rattle.run_history.proofs.Growth.{pieces-push, scripts-push, stage-push, steps_grow, traces_grow}
+use Rattle.run_history.proofs.Ends.{all_answers-push, all_skips-push, answers-append, end-push, end_like-push, open-push, rest-push, skips-push, stage-sessions, steps-push}
+use Rattle.run_history.proofs.Going.{counts-same, ends_with}
+use Rattle.request_hearing.specs.Asking.{IsUnderWay}
+
+-- the counts with what a step comes to
+abbrev pub counted_effect : {State Request : Type 0} → Counts → Effect State → Step Request → Counts
+counted_effect n e step = record {
+  answers = n.answers + answers_in e.pieces;
+  changes = n.changes + length e.changes;
+  skipped = n.skipped + skips_by step;
+}
+
+module _ {State Request : Type 0} {m : Machine State Request} {b : Beginning State} {connections : List Connection} {given : List ℕ} {state : State}
+    {taken : ℕ} {finished : List (Session Request)} {steps : List (Step Request)} {n : Counts}
+    (u : IsUnderWay m b connections given state taken finished steps n) (step : Step Request) (e : Effect State)
+    (effect_is : effect m (after_steps m (after_sessions m (start_of b.state) finished) steps) step ≡ e) where
+  abbrev first : Stage State
+  first = after_sessions m (start_of b.state) finished
+
+  abbrev before : Trace State
+  before = trace_of m b.state (finished ++ under_way steps Whole ∷ [])
+
+  -- the trace with the step
+  pub trace_grown : (link : LinkEnd) → trace_of m b.state (finished ++ under_way (steps ++ step ∷ []) link ∷ []) ≡ with_effect e before
+  trace_grown link =
+      (traces_grow State Request m b.state finished steps step Whole link).grown ∙ ap (λ x. with_effect x before) effect_is
+
+  moments_grown : (link : LinkEnd)
+      → given ++ e.moments ≡ b.given ++ all_moments m (start_of b.state) (finished ++ under_way (steps ++ step ∷ []) link ∷ [])
+  moments_grown link =
+      let so_far = all_moments m (start_of b.state) (finished ++ under_way steps Whole ∷ []) in
+      ap (λ l. l ++ e.moments) u.given_is ∙ append_assoc b.given so_far e.moments
+      ∙ ap (λ l. b.given ++ l) (sym ((traces_grow State Request m b.state finished steps step Whole link).moments
+      ∙ ap (λ (x : Effect State). so_far ++ x.moments) effect_is))
+
+  good_grown : All m.good e.changes → (link : LinkEnd)
+      → All m.good (states_of (trace_of m b.state (finished ++ under_way (steps ++ step ∷ []) link ∷ [])))
+  good_grown good link =
+      subst (λ t. All m.good (states_of t)) (sym (trace_grown link)) (All-append m.good (before.first ∷ before.changes) e.changes u.good good)
+
+  -- what the connection is to be told with it
+  pub pieces_grown : pieces_of m first (steps ++ step ∷ []) ≡ pieces_of m first steps ++ e.pieces
+  pieces_grown =
+      pieces-push m first steps step ∙ ap (λ (x : Effect State). pieces_of m first steps ++ x.pieces) effect_is
+
+  answers_grown : answers_in (pieces_of m first (steps ++ step ∷ [])) ≡ length steps + answers_in e.pieces
+  answers_grown =
+      omega (arith, ap answers_in pieces_grown, answers-append (pieces_of m first steps) e.pieces, u.answers)
+
+  -- the bytes that its steps took
+  pub texts_grown : texts_of (steps ++ step ∷ []) ≡ texts_of steps ++ step_text step
+  texts_grown = (steps_grow State Request m first steps step).texts
+
+  steps_grown : IsStep m taken state step → AreSteps m 0 first (steps ++ step ∷ [])
+  steps_grown is =
+      steps-push m 0 taken first steps step u.steps_are u.stay (omega (arith, u.taken_is)) (subst (λ s. IsStep m taken s step) u.state_is is)
+
+  -- the state behind it
+  state_grown : (after_steps m first (steps ++ step ∷ [])).state ≡ last_or state e.changes
+  state_grown =
+      ap (λ (at : Stage State). at.state) (stage-push m first steps step)
+      ∙ ap (λ (x : Effect State). last_or (after_steps m first steps).state x.changes) effect_is
+      ∙ ap (λ s. last_or s e.changes) (sym u.state_is)
+
+  pub state_behind : (link : LinkEnd)
+      → (after_sessions m (start_of b.state) (finished ++ under_way (steps ++ step ∷ []) link ∷ [])).state ≡ last_or state e.changes
+  state_behind link =
+      ap (λ (at : Stage State). at.state) (stage-sessions m (start_of b.state) finished (under_way (steps ++ step ∷ []) link)) ∙ state_grown
+
+  counts_grown : (link : LinkEnd) → counted_effect n e step ≡ counts_of m b.state (finished ++ under_way (steps ++ step ∷ []) link ∷ [])
+  counts_grown link =
+      let scripts_before = scripts-push m (start_of b.state) finished (under_way steps Whole) in
+      let scripts_after = scripts-push m (start_of b.state) finished (under_way (steps ++ step ∷ []) link) in
+      let before_sum = all_answers-push (scripts_of m (start_of b.state) finished) (pieces_of m first steps) in
+      let after_sum = all_answers-push (scripts_of m (start_of b.state) finished) (pieces_of m first (steps ++ step ∷ [])) in
+      counts-same _ _
+      (omega (
+        arith,
+        ap (λ (c : Counts). c.answers) u.counts,
+        ap all_answers scripts_before,
+        ap all_answers scripts_after,
+        before_sum,
+        after_sum,
+        answers_grown,
+        u.answers,
+      ))
+      (ap (λ (c : Counts). c.changes + length e.changes) u.counts
+      ∙ sym (ap (λ (t : Trace State). length t.changes) (trace_grown link) ∙ length-append before.changes e.changes))
+      (omega (
+        arith,
+        ap (λ (c : Counts). c.skipped) u.counts,
+        all_skips-push finished (under_way steps Whole),
+        all_skips-push finished (under_way (steps ++ step ∷ []) link),
+        skips-push steps step,
+      ))
+
+  -- It is the last one.
+  pub ends_with_step : (d : Device) (link : LinkEnd) (c : Connection) (rest : List ℕ) → IsStep m taken state step → answers_in e.pieces ≤ 1
+      → All m.good e.changes → d.link.connections ≡ b.before ++ (connections ++ c ∷ []) → c.heard ≡ texts_of (steps ++ step ∷ []) ++ rest
+      → RestIs m taken (step ∷ []) link rest → IsTold (stops_in_answer (step ∷ [])) link c.told (pieces_of m first (steps ++ step ∷ []))
+      → c.failed ≡ has_failed link → EndIs m (step ∷ []) link c.ended → Reached m b (with_effect e before) false (stops_writing (step ∷ [])) d
+      → HasServed m b d (given ++ e.moments) (finished ++ under_way (steps ++ step ∷ []) link ∷ []) (counted_effect n e step)
+  ends_with_step d link c rest is answers good are heard rest_is told failed ended reached =
+      let like = end_like-push m steps step u.stay in
+      ends_with m b d (given ++ e.moments) finished (under_way (steps ++ step ∷ []) link) (counted_effect n e step) connections c are u.served u.unstopped
+      (record {
+        rest = rest;
+        steps = steps_grown is;
+        few = omega (arith, answers_grown, answers, u.few);
+        heard = heard;
+        rest_is = rest-push m 0 taken steps step link rest (omega (arith, u.taken_is)) rest_is;
+        told = subst (λ stopped. IsTold stopped link c.told (pieces_of m first (steps ++ step ∷ []))) (sym like.in_answer) told;
+        failed = failed;
+        ended = end-push m steps step link c.ended ended;
+      })
+      (moments_grown link)
+      (counts_grown link)
+      (subst (λ w. Reached m b (trace_of m b.state (finished ++ under_way (steps ++ step ∷ []) link ∷ [])) false w d) (sym like.writing)
+      (subst (λ t. Reached m b t false (stops_writing (step ∷ [])) d) (sym (trace_grown link)) reached))
+      (good_grown good link)
+
+  -- It leaves the connection stay.
+  pub goes_with_step : (d : Device) (rest : List ℕ) → IsStep m taken state step → is_last m step ≡ false → taken + 1 < most_answers
+      → answers_in e.pieces ≡ 1 → All m.good e.changes → d.link.connections ≡ b.before ++ (connections
+      ++ connection_with (texts_of (steps ++ step ∷ []) ++ rest) (bytes_of (pieces_of m first (steps ++ step ∷ []))) ∷ [])
+      → Reached m b (with_effect e before) true false d
+      → Going m b d (given ++ e.moments) (record { state = last_or state e.changes; unread = rest; taken = taken + 1 }) finished (steps ++ step ∷ [])
+      (counted_effect n e step)
+  goes_with_step d rest is stay few one good are reached = record {
+    connections = connections;
+    connections_are = are;
+    served = u.served;
+    unstopped = u.unstopped;
+    given_is = moments_grown Whole;
+    steps_are = steps_grown is;
+    stay = open-push m steps step u.stay stay;
+    taken = omega (arith, u.taken_is, length-append steps (step ∷ []));
+    answers = omega (arith, answers_grown, one, length-append steps (step ∷ []));
+    few = omega (arith, few, u.taken_is, length-append steps (step ∷ []));
+    state = sym state_grown;
+    counts = counts_grown Whole;
+    reached = subst (λ t. Reached m b t true false d) (sym (trace_grown Whole)) reached;
+    good = good_grown good Whole;
+  }
