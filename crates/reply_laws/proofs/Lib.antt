@@ -8,3 +8,5 @@ mod Lossy
 mod Bodies
 mod Requests
 mod Wire
+mod MediaPaths
+mod MediaPuts

@@ -1,5 +1,6 @@
 //! Laws over all libraries, requests and replies.
 ghost use Rattle.reply_laws.specs.Asks.{AsksAreGood};
+ghost use Rattle.reply_laws.specs.MediaPuts.{MediaAsksAreMedia, MediaPutsAsk};
 ghost use Rattle.reply_laws.specs.Refusals.{AskRefusalsHaveTexts, WireRefusalsHaveTexts};
 ghost use Rattle.reply_laws.specs.Replies.{AnswersHaveTexts, FittedHaveTexts, MediaAnswersHaveTexts};
 
@@ -25,4 +26,11 @@ pub fn media_answers_have_texts()
 pub fn ask_refusals_have_texts()
     ensures asks { AskRefusalsHaveTexts }
     ensures wire { WireRefusalsHaveTexts }
+{}
+
+/// The wire and the routes mean the same by a media PUT: what asks for a put of an object's bytes is one of the
+/// wire, and each one of the wire asks for such a put or is refused, whatever its body is.
+pub fn media_puts_agree()
+    ensures asks { MediaAsksAreMedia }
+    ensures puts { MediaPutsAsk }
 {}

@@ -7,4 +7,5 @@ mod laws;
 
 pub use crate::laws::{
     answers_have_texts, ask_refusals_have_texts, asks_are_good, media_answers_have_texts,
+    media_puts_agree,
 };
