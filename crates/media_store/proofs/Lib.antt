@@ -1,8 +1,9 @@
 mod Making
-mod Planning
-mod Commands
+pub mod Planning
+pub mod Commands
 mod Written
 mod Places
 mod Storing
 mod Outcomes
 mod PutFacts
+mod PutReplies

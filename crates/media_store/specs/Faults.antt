@@ -24,3 +24,9 @@ abbrev pub OnCalls : {X : Type 0} → Result X StoreFault → (Bool → Type 0) 
 OnCalls (Ok x) Holds = Holds true
 OnCalls (Err Disk) Holds = Holds false
 OnCalls (Err Memory) Holds = Unit {0}
+
+-- what holds where a call of the disk failed
+abbrev pub OnDisk : {X : Type 0} → Result X StoreFault → Type 0 → Type 0
+OnDisk (Ok x) Holds = Unit {0}
+OnDisk (Err Disk) Holds = Holds
+OnDisk (Err Memory) Holds = Unit {0}

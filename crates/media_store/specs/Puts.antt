@@ -78,6 +78,13 @@ pub record HasBegun (kept : StoreView) (object : List ℕ) (size moment : ℕ)
   pub plan : IsPutPlan (journal_of kept) object size moment put.plan
   pub extent : HasExtent (journal_of kept) object size moment put.plan
 
+-- a put has begun, of some object of some store
+pub record IsBegun (put : PutSeen) : Type 0 where
+  pub kept : StoreView
+  pub object : List ℕ
+  pub moment : ℕ
+  pub begun : HasBegun kept object put.size moment put
+
 -- ---- pieces
 
 -- the bytes of an extent of a store in an image
@@ -112,6 +119,12 @@ abbrev pub refusal_of : PutPlan → Option Refusal
 refusal_of (Refused why) = Some why
 refusal_of (Kept extent) = None
 refusal_of (Write extent planned) = None
+
+-- whether the end of a put writes a change
+abbrev pub writes_by : PutPlan → Bool
+writes_by (Refused why) = false
+writes_by (Kept extent) = false
+writes_by (Write extent planned) = true
 
 -- a put goes on behind a piece
 pub record GoesOn (old new : PutSeen) (piece : List ℕ) : Type 0 where

@@ -1,5 +1,7 @@
 -- Words that the calls within this crate cite, and no other crate.
-use Rattle.std.specs.Prelude.{◌≡◌, ◌≤◌, ◌+◌, ◌&&◌, ℕ, Bool, true, List, ◌++◌, length, take, bytes_eq}
+use Rattle.std.specs.Prelude.{◌≡◌, ◌≤◌, ◌+◌, ◌&&◌, ℕ, Bool, true, false, List, ◌++◌, length, take, bytes_eq}
+use Rattle.media_rows.specs.declared.refusal.Refusal.{Refusal}
+use Rattle.media_rows.specs.declared.refusal.Refusal.TheVariants as refusals
 use Rattle.media_rows.specs.Library.{Library}
 use Rattle.disk_trait.specs.Calls.{bytes_at}
 use Rattle.object_blobs.specs.Extents.{IsOnDevice, extent_bytes}
@@ -31,3 +33,11 @@ TakesAt area (Kept extent) piece at same still before after =
 TakesAt area (Write extent planned) piece at same still before after =
     take (at + length piece) (extent_bytes area extent after)
     ≡ take at (extent_bytes area extent before) ++ piece
+
+-- the refusals that a put may have
+abbrev pub is_put_refusal : Refusal → Bool
+is_put_refusal refusals.UnknownObject = true
+is_put_refusal refusals.OtherBytes = true
+is_put_refusal refusals.JournalFull = true
+is_put_refusal refusals.MediaFull = true
+is_put_refusal other = false

@@ -2,7 +2,7 @@
 ghost use Rattle.std.specs.Prelude.{◌≡◌, ◌≤◌, ◌+◌, ℕ, true, List, None, IfOk, IsFalse, IsTrue, OnOk, is_ok};
 ghost use Rattle.std.specs.Result.{is_err};
 ghost use Rattle.media_rows.specs.declared.change.Change.{Change};
-ghost use Rattle.media_rows.specs.Answer.{Outcome, answer};
+ghost use Rattle.media_rows.specs.Answer.{Outcome, answer, unchanged};
 ghost use Rattle.media_rows.specs.Media.{fits_bytes};
 ghost use Rattle.media_rows.specs.Moments.{is_moment};
 ghost use Rattle.media_rows.specs.Sound.{is_good_command};
@@ -37,6 +37,19 @@ impl Store {
         store_stays();
         let planned = plan(alloc, &self.library, &self.journal, command, now)?;
         Ok(planned)
+    }
+
+    /// The plan that leaves the store as it is, with this reply. The error is for a count of owners that is full.
+    pub fn keep(&self, reply: Reply) -> Result<Planned, Memory>
+        ensures planned { IfOk result (IsPlanned (journal_of self.now.kept) (unchanged reply)) }
+        ensures ready { IfOk result (CanCommit self.now.kept) }
+    {
+        Ok(Planned {
+            next: self.library.share()?,
+            frame: None,
+            rows: None,
+            reply,
+        })
     }
 
     /// Writes what was planned of this store, and becomes it: a checkpoint first where the plan has rows, then the
@@ -86,8 +99,10 @@ impl Store {
             }
         }
     }
-    /// Writes the plan of an outcome whose change needs no bytes, if it has one, and becomes what it makes.
-    pub(crate) fn make<D: Disk>(&mut self, disk: &mut D, planned: Planned) -> Result<Reply, Failed>
+
+    /// Writes the plan of an outcome whose change needs no bytes, if it has one, and becomes what it makes. It
+    /// takes no memory. After `Failed` the store is spent.
+    pub fn make<D: Disk>(&mut self, disk: &mut D, planned: Planned) -> Result<Reply, Failed>
         requires unspent { IsFalse self.old.spent }
         requires device { size_of self.old.kept ≤ (D.device disk.old).size }
         requires ready { CanCommit self.old.kept planned }

@@ -13,9 +13,9 @@ ghost use Rattle.store_states.specs.Kept.{AgreesWith, StoreView};
 ghost use Rattle.store_states.specs.States.{media_start};
 ghost use Rattle.store_writes.specs.Writes.{Keeps};
 ghost use Rattle.media_store.specs.Changes.{CanCommit, Makes, bytes_by, kept_by};
-ghost use Rattle.media_store.specs.Puts.{EndsPut, GoesOn, HasBegun, HasRoom, IsPutOf, StoresAs, TakesPiece, bytes_in, handed_by, kept_behind, may_be_same, piece_bytes, put_reply, refusal_of, stores_at};
+ghost use Rattle.media_store.specs.Puts.{EndsPut, GoesOn, HasBegun, HasRoom, IsBegun, IsPutOf, StoresAs, TakesPiece, bytes_in, handed_by, kept_behind, may_be_same, piece_bytes, put_reply, refusal_of, stores_at, writes_by};
 ghost use Rattle.media_store.specs.Stores.{journal_of, size_of};
-ghost use Rattle.media_store.specs.Within.{IsPlacedOn, LeavesObjects, TakesAt};
+ghost use Rattle.media_store.specs.Within.{IsPlacedOn, LeavesObjects, TakesAt, is_put_refusal};
 
 use crate::Store;
 use disk_trait::{Disk, Failed, Memory, Text, same_bytes};
@@ -61,6 +61,26 @@ impl Put {
             PutPlan::Refused(why) => Some(why),
             PutPlan::Kept(_) | PutPlan::Write(_, _) => None,
         }
+    }
+
+    /// What a put that has begun is answered once its bytes are all there, where they are the same as those that
+    /// are kept, if some are.
+    pub fn reply_if_same(&self) -> Reply
+        requires begun { IsBegun self.now }
+        ensures { result ≡ put_reply (record self.now { same = true }) self.now.plan }
+    {
+        match &self.plan {
+            PutPlan::Refused(why) => Reply::Refused(refusal_again(why)),
+            PutPlan::Kept(_) => Reply::Done,
+            PutPlan::Write(_, _) => Reply::Created,
+        }
+    }
+
+    /// Whether its end writes a change: the object had no bytes so far, and these are not refused.
+    pub fn writes(&self) -> bool
+        ensures { result ≡ writes_by self.now.plan }
+    {
+        matches!(&self.plan, PutPlan::Write(_, _))
     }
 }
 
@@ -332,6 +352,20 @@ fn buffer_for(alloc: Global, plan: &PutPlan) -> Result<Vec<u8>, Memory>
     match plan {
         PutPlan::Kept(_) => Ok(vec![in alloc; 0u8; PIECE]?),
         PutPlan::Refused(_) | PutPlan::Write(_, _) => Ok(Vec::new(alloc)),
+    }
+}
+
+/// The refusal of a put once more.
+fn refusal_again(why: &Refusal) -> Refusal
+    requires { IsTrue (is_put_refusal why.now) }
+    ensures { result ≡ why.now }
+{
+    match why {
+        Refusal::UnknownObject => Refusal::UnknownObject,
+        Refusal::OtherBytes => Refusal::OtherBytes,
+        Refusal::JournalFull => Refusal::JournalFull,
+        Refusal::MediaFull => Refusal::MediaFull,
+        _ => unreachable!(),
     }
 }
 

@@ -1,5 +1,6 @@
 //! The store and its looks.
 ghost use Rattle.std.specs.Prelude.{◌≡◌};
+ghost use Rattle.media_rows.specs.Good.{Good};
 ghost use Rattle.media_rows.specs.Objects.{object_of};
 ghost use Rattle.store_core.specs.Prepared.{counts_of};
 ghost use Rattle.store_states.specs.States.{media_start};
@@ -41,6 +42,13 @@ impl Store {
         ensures { result ≡ self.now.spent }
     {
         self.spent
+    }
+
+    /// A store's library is a good one, which is told to callers here. It does nothing.
+    pub fn keeps_good(&self)
+        ensures { Good self.now.kept.library }
+    {
+        self.library.keeps_good();
     }
 
     /// The store's id.

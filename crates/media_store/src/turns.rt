@@ -7,7 +7,7 @@ ghost use Rattle.disk_trait.specs.Calls.{DiskCalls};
 ghost use Rattle.store_plans.specs.Plans.{IsStepPlan};
 ghost use Rattle.store_states.specs.Kept.{AgreesWith};
 ghost use Rattle.media_store.specs.Changes.{CanCommit, IsNextIf, MakesIf, bytes_if, stores};
-ghost use Rattle.media_store.specs.Faults.{OnCalls, OnMemory, is_disk, not_disk};
+ghost use Rattle.media_store.specs.Faults.{OnCalls, OnDisk, OnMemory, is_disk, not_disk};
 ghost use Rattle.media_store.specs.Stores.{journal_of, size_of};
 ghost use Rattle.media_store.specs.Turns.{TurnIs, turn_change};
 
@@ -56,6 +56,10 @@ impl Store {
         ensures memory { OnMemory result ((self.new ≡ self.old) × (disk.new ≡ disk.old)
             × IsTrue (is_some (turn self.old.kept.library now))) }
 
+        // A call of the disk fails only within a change that is due and fits.
+        ensures failing { OnDisk result (IsTrue (is_some
+            (turn_change (journal_of self.old.kept) (turn self.old.kept.library now)))) }
+
         ensures spent { self.new.spent ≡ is_disk result }
         ensures handed { (D.device disk.old).tells ≡ true → OnOk result ((D.device disk.new).handed
             ≡ (D.device disk.old).handed + bytes_if (journal_of self.old.kept)
@@ -94,6 +98,9 @@ impl Store {
             (IsNextIf self.old.kept (turn_change (journal_of self.old.kept) due) self.new.kept) }
         ensures made { IfOk result (λ m. m ≡ made) }
         ensures memory { OnMemory result ⊥ }
+        ensures failing { (due : Option Change) → (change : Change)
+            → IsStepPlan (journal_of self.old.kept) due change planned
+            → IsTrue (is_some (turn_change (journal_of self.old.kept) due)) }
         ensures spent { self.new.spent ≡ is_disk result }
         ensures handed { (D.device disk.old).tells ≡ true → (due : Option Change) → (change : Change)
             → IsStepPlan (journal_of self.old.kept) due change planned → OnOk result
