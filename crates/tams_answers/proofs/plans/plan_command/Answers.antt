@@ -1,0 +1,8 @@
+use Rattle.tams_answers.proofs.Planning.{command_planned}
+use Rattle.tams_answers.proofs.plans.plan_command.Goals as goal
+
+pub returns : goal.returns
+returns c = λ head_only.
+    command_planned c.args.store.now.kept c.args.command.now c.args.now head_only c.in_ok-planned.planned
+    c.answers_have_texts.ensures.answers c.answers_have_texts.ensures.fitted c.keeps_good.ensures c.requires.moment c.requires.good c.requires.words
+    c.requires.sent c.in_ok-planned.ensures.planned c.in_ok-planned.ensures.ready

@@ -1,0 +1,4 @@
+pub mod Answers
+pub mod Media
+pub mod Wire
+pub mod Within

@@ -1,0 +1,83 @@
+//! Requests that came whole.
+ghost use Rattle.std.specs.Prelude.{◌≡◌, ◌≢◌, ℕ, List, IfOk, IfSome, IsFalse, IsTrue, Ok};
+ghost use Rattle.std.specs.Str.{is_utf8};
+ghost use Rattle.media_rows.specs.Moments.{is_moment};
+ghost use Rattle.store_states.specs.Kept.{kept_state};
+ghost use Rattle.media_store.specs.Changes.{CanCommit};
+ghost use Rattle.media_store.specs.Pieces.{IsExtent};
+ghost use Rattle.tams_http.specs.Asked.{ask_of};
+ghost use Rattle.tams_http.specs.declared.ask.Ask.TheVariants.{PutMedia};
+ghost use Rattle.tams_machine.specs.Requests.{TamsRequest};
+ghost use Rattle.tams_answers.specs.Answers.{Answers, IsSent};
+
+use crate::plans::{Made, is_head_only, plan_asked};
+use disk_trait::{Memory, Text};
+use http_wire::MethodKind;
+use media_rows::Extent;
+use media_store::Store;
+use std::alloc::Global;
+use store_plans::Planned;
+use tams_http::Routes;
+
+/// A request that came whole.
+#[derive(Drop)]
+pub struct Request<'a> {
+    pub method: MethodKind,
+    /// The target, as it was sent.
+    pub target: &'a [u8],
+    pub body: &'a [u8],
+    /// Whether the connection ends behind the answer.
+    pub ends: bool,
+}
+
+/// What is planned of an answer: what is written for it, the bytes of its response, and where those of an
+/// object lie that follow it.
+#[derive(Drop)]
+pub struct Answer {
+    pub planned: Planned,
+    pub response: Text,
+    pub media: Option<Extent>,
+}
+
+/// Plans the answer to a request at a moment, in seconds since 1970-01-01T00:00:00Z, over a store whose addresses
+/// begin with `base`. It takes all memory of the answer, and changes nothing. A PUT of an object's bytes goes by
+/// `plan_media`.
+pub fn plan_answer(
+    alloc: Global,
+    routes: &Routes,
+    base: &Text,
+    store: &Store,
+    request: &Request<'_>,
+    now: u64,
+) -> Result<Answer, Memory>
+    requires unspent { IsFalse store.now.spent }
+    requires routes { routes.now ≡ store.now.kept.library.id }
+    requires base { IsTrue (is_utf8 base.now) }
+    requires moment { IsTrue (is_moment now) }
+    requires no_put { (object : List ℕ) → ask_of routes.now request.now.method request.now.target.now
+        request.now.body.now ≢ Ok (PutMedia object) }
+    ensures answers { IfOk result (λ answer. (held : List (List ℕ)) (r : TamsRequest)
+        → IsSent (record {
+          method = request.now.method;
+          target = request.now.target.now;
+          body = request.now.body.now;
+          ends = request.now.ends;
+        }) r → Answers base.now (kept_state store.now.kept held) r now answer) }
+    ensures ready { IfOk result (λ answer. CanCommit store.now.kept answer.planned) }
+    ensures media { IfOk result (λ answer. IfSome answer.media (IsExtent store.now.kept.library)) }
+{
+    let Made { planned, media } = plan_asked(alloc, routes, store, request, now)?;
+    let response = routes.response_of(
+        alloc,
+        &planned.reply,
+        request.target,
+        base,
+        request.ends,
+        is_head_only(request.method),
+    )?;
+    Ok(Answer {
+        planned,
+        response,
+        media,
+    })
+}

@@ -1,0 +1,130 @@
+//! What is planned for what a request asks for, before its response.
+ghost use Rattle.std.specs.Prelude.{◌≡◌, ◌≢◌, ℕ, Bool, List, IfOk, IsFalse, IsTrue, Ok, Err, if◌then◌else◌, None};
+ghost use Rattle.json_replies.specs.Texts.{has_refusal_texts};
+ghost use Rattle.media_rows.specs.Moments.{is_moment};
+ghost use Rattle.reply_laws.specs.Asks.{IsGoodFor};
+ghost use Rattle.tams_http.specs.Asked.{ask_of};
+ghost use Rattle.tams_http.specs.Good.{is_command_good};
+ghost use Rattle.tams_http.specs.declared.ask.Ask.TheVariants.{GetMedia, PutMedia, Run};
+ghost use Rattle.tams_machine.specs.Laws.{is_sent};
+ghost use Rattle.tams_machine.specs.Requests.{is_head_only};
+ghost use Rattle.tams_answers.specs.Within.{PlansAsked, reply_at};
+
+use crate::answers::Request;
+use disk_trait::{Memory, Text};
+use http_wire::MethodKind;
+use media_rows::{Command, Extent, Refusal, Reply};
+use media_store::Store;
+use reply_laws::{
+    answers_have_texts, ask_refusals_have_texts, asks_are_good, media_answers_have_texts,
+};
+use std::alloc::Global;
+use store_plans::Planned;
+use tams_http::{Ask, AskFault, Routes};
+use tams_machine::requests_send_bytes;
+
+/// What is planned, and where the bytes of an object lie that follow the response.
+#[derive(Drop)]
+pub(crate) struct Made {
+    pub(crate) planned: Planned,
+    pub(crate) media: Option<Extent>,
+}
+
+/// Plans what a request asks for at a moment, or its refusal.
+pub(crate) fn plan_asked(
+    alloc: Global,
+    routes: &Routes,
+    store: &Store,
+    request: &Request<'_>,
+    now: u64,
+) -> Result<Made, Memory>
+    requires unspent { IsFalse store.now.spent }
+    requires moment { IsTrue (is_moment now) }
+    requires no_put { (object : List ℕ) → ask_of routes.now request.now.method request.now.target.now
+        request.now.body.now ≢ Ok (PutMedia object) }
+    ensures { IfOk result (λ made. PlansAsked store.now.kept now (is_head_only request.now.method)
+        (ask_of routes.now request.now.method request.now.target.now request.now.body.now)
+        made.planned made.media) }
+{
+    asks_are_good();
+    ask_refusals_have_texts();
+    requests_send_bytes();
+    match routes.command_of(alloc, request.method, request.target, request.body) {
+        Ok(Ask::Run(command)) => plan_command(alloc, store, &command, now),
+        Ok(Ask::GetMedia(object)) => plan_get(store, &object, is_head_only(request.method)),
+        // A PUT of an object's bytes is planned by `plan_media`.
+        Ok(Ask::PutMedia(_)) => unreachable!(),
+        Err(AskFault::Refused(why)) => plan_refusal(store, why),
+        Err(AskFault::Memory) => Err(Memory),
+    }
+}
+
+/// Plans a command, which brings no bytes of an object.
+fn plan_command(alloc: Global, store: &Store, command: &Command, now: u64) -> Result<Made, Memory>
+    requires unspent { IsFalse store.now.spent }
+    requires moment { IsTrue (is_moment now) }
+    requires good { IsGoodFor store.now.kept.library command.now }
+    requires words { IsTrue (is_command_good command.now) }
+    requires sent { IsTrue (is_sent (Run command.now)) }
+    ensures { IfOk result (λ made. (head_only : Bool)
+        → PlansAsked store.now.kept now head_only (Ok (Run command.now)) made.planned made.media) }
+{
+    answers_have_texts();
+    store.keeps_good();
+    let planned = store.plan(alloc, command, now)?;
+    Ok(Made {
+        planned,
+        media: None,
+    })
+}
+
+/// Plans what is shown of the bytes of an object: their length, where they are stored.
+fn plan_get(store: &Store, object: &Text, head_only: bool) -> Result<Made, Memory>
+    ensures { IfOk result (λ made. (moment : ℕ) → PlansAsked store.now.kept moment head_only
+        (Ok (GetMedia object.now)) made.planned made.media) }
+{
+    media_answers_have_texts();
+    let extent = store.extent_of(object);
+    let planned = store.keep(reply_at(extent))?;
+    Ok(Made {
+        planned,
+        media: unless(head_only, extent),
+    })
+}
+
+/// Plans a refusal.
+fn plan_refusal(store: &Store, why: Refusal) -> Result<Made, Memory>
+    requires texts { IsTrue (has_refusal_texts why) }
+    ensures { IfOk result (λ made. (moment : ℕ) → (head_only : Bool)
+        → PlansAsked store.now.kept moment head_only (Err why) made.planned made.media) }
+{
+    let planned = store.keep(Reply::Refused(why))?;
+    Ok(Made {
+        planned,
+        media: None,
+    })
+}
+
+/// The reply where bytes of an object lie at this extent, if they lie somewhere.
+fn reply_at(extent: Option<Extent>) -> Reply
+    ensures { result ≡ reply_at extent }
+{
+    match extent {
+        None => Reply::Refused(Refusal::UnknownObject),
+        Some(extent) => Reply::Media(extent.length),
+    }
+}
+
+/// The extent, unless the response stands alone.
+fn unless(head_only: bool, extent: Option<Extent>) -> Option<Extent>
+    ensures { result ≡ (if head_only then None else extent) }
+{
+    if head_only { None } else { extent }
+}
+
+/// Whether a response to this method stands without its body.
+pub(crate) fn is_head_only(method: MethodKind) -> bool
+    ensures { result ≡ is_head_only method }
+{
+    matches!(method, MethodKind::Head)
+}
