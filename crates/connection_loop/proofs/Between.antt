@@ -283,6 +283,7 @@ served_more machine setting_first setting setting_next first now last tells_firs
       reached = λ all b between.
           let so_far = h.reached (record { honest = all.honest; shows = all.shows; tells = all.tells; clock_tells = clock all.clock_tells }) b between in
           between_more (machine setting_first) b first now last more keeps_next so_far.sessions n_next ending counter
-          ((rw h.setting_is at leads) (tells_later first now tells_next h.calls.same all) b so_far.sessions so_far.between) on so_far.count so_far.counted h.calls.link_faults
+          ((rw h.setting_is at leads) (tells_later first now tells_next h.calls.same all) b so_far.sessions so_far.between) on so_far.count so_far.counted
+          h.calls.link_faults
           calls.link_faults;
     }

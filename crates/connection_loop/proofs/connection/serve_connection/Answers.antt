@@ -64,7 +64,8 @@ returns-in-Some-clause-served g c = λ all b finished s kept going.
 pub loop-preserved : goal.loop-preserved
 loop-preserved g c =
     let turn = c.in_default.ensures in
-    turned_more g.V.Service.machine (g.V.Service.setting c.args.service.now) (g.V.Service.setting c.loop.service) _ _ _ (g.X.Disk.device c.args.site.now) (g.X.Disk.device c.loop.site) (g.X.Disk.device c.take_turn.new.site)
+    turned_more g.V.Service.machine (g.V.Service.setting c.args.service.now) (g.V.Service.setting c.loop.service) _ _ _
+    (g.X.Disk.device c.args.site.now) (g.X.Disk.device c.loop.site) (g.X.Disk.device c.take_turn.new.site)
     _ _ _ _ _ _ _ _ _ _ _ _ _ _ _ _ _ _ _ _ _ _ _ c.loop.counter
     c.loop.invariant turn.calls turn.setting (turn.ready refl) turn.size turn.clock turn.moments (turn.few refl) (turn.counted refl) (turn.turns refl)
     (turn.most refl) turn.goes

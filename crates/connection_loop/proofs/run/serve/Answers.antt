@@ -9,7 +9,8 @@ returns-in-NoMore-clause-ended g c = λ all b between.
     let so_far =
     c.loop.invariant.reached (record { honest = all.honest; shows = all.shows; tells = all.tells; clock_tells = c.in-NoMore.ensures.clock all.clock_tells }) b
     between in
-    let leads = (rw c.loop.invariant.setting_is at c.in-NoMore.ensures.leads) (tells_later _ _ _ c.loop.invariant.calls.same all) b so_far.sessions so_far.between in
+    let leads =
+    (rw c.loop.invariant.setting_is at c.in-NoMore.ensures.leads) (tells_later _ _ _ c.loop.invariant.calls.same all) b so_far.sessions so_far.between in
     record {
       sessions = so_far.sessions;
       served = leads.0.served;
@@ -28,7 +29,8 @@ returns-in-Unlinked-clause-ended g c = λ all b between.
       tells = all.tells;
       clock_tells = c.in-Unlinked.ensures.clock all.clock_tells;
     }) b between in
-    let leads = (rw c.loop.invariant.setting_is at c.in-Unlinked.ensures.leads) (tells_later _ _ _ c.loop.invariant.calls.same all) b so_far.sessions so_far.between in
+    let leads =
+    (rw c.loop.invariant.setting_is at c.in-Unlinked.ensures.leads) (tells_later _ _ _ c.loop.invariant.calls.same all) b so_far.sessions so_far.between in
     record {
       sessions = so_far.sessions;
       served = leads.served;
@@ -42,15 +44,18 @@ returns-then-is_stopped-clause-ended g c = λ all b between.
     let so_far =
     c.loop.invariant.reached (record { honest = all.honest; shows = all.shows; tells = all.tells; clock_tells = c.in-Ended.ensures.clock all.clock_tells }) b
     between in
-    let leads = (rw c.loop.invariant.setting_is at c.in-Ended.ensures.leads) (tells_later _ _ _ c.loop.invariant.calls.same all) b so_far.sessions so_far.between in
-    ended_stopped (g.V.Service.machine (g.V.Service.setting c.args.service.now)) b (g.X.Disk.device c.args.site.now) (g.X.Disk.device c.loop.site) (g.X.Disk.device c.serve_next.new.site)
+    let leads =
+    (rw c.loop.invariant.setting_is at c.in-Ended.ensures.leads) (tells_later _ _ _ c.loop.invariant.calls.same all) b so_far.sessions so_far.between in
+    ended_stopped (g.V.Service.machine (g.V.Service.setting c.args.service.now)) b
+    (g.X.Disk.device c.args.site.now) (g.X.Disk.device c.loop.site) (g.X.Disk.device c.serve_next.new.site)
     _ _ so_far.sessions _ c.in-Ended.ending c.loop.counter c.args.connections leads (sym c.is_stopped.ensures ∙ c.if-is_stopped.true) so_far.count
     (omega (arith, c.loop-test.true)) so_far.counted c.loop.invariant.calls.link_faults c.in-Ended.ensures.calls.link_faults
 
 pub loop-preserved : goal.loop-preserved
 loop-preserved g c =
     let next = c.in-Ended.ensures in
-    served_more g.V.Service.machine (g.V.Service.setting c.args.service.now) (g.V.Service.setting c.loop.service) _ (g.X.Disk.device c.args.site.now) (g.X.Disk.device c.loop.site) (g.X.Disk.device c.serve_next.new.site)
+    served_more g.V.Service.machine (g.V.Service.setting c.args.service.now) (g.V.Service.setting c.loop.service) _
+    (g.X.Disk.device c.args.site.now) (g.X.Disk.device c.loop.site) (g.X.Disk.device c.serve_next.new.site)
     _ _ _ _ _ _ _ _ _ _ _ _ _ _ _ c.loop.counter c.in-Ended.ending
     c.loop.invariant next.calls (sym c.is_stopped.ensures ∙ c.if-is_stopped.false) next.size next.setting next.clock next.moments next.answers next.leads
 
