@@ -1,0 +1,5 @@
+mod Objects
+mod Following
+mod Chains
+mod Runs
+mod Posts

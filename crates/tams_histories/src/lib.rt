@@ -1,0 +1,6 @@
+//! Laws of the histories of the media store's machine: over whole runs, and of posts. Nothing here runs.
+#![tactic(auto)]
+
+mod laws;
+
+pub use crate::laws::{posts_succeed, runs_keep_bytes};

@@ -1,0 +1,201 @@
+-- A put whose bytes all came is ended, and answered: what that leads to.
+use Rattle.std.proofs.Common.{◌≡◌, ◌<◌, ◌++◌, ℕ, Bool, true, false, List, [], ◌∷◌, Option, None, Some, inl, if◌then◌else◌, refl, sym, ap, ◌∙◌, subst}
+use Rattle.disk_trait.specs.Calls.{SameDevice}
+use Rattle.disk_trait.specs.Device.{Device, IsDevice}
+use Rattle.media_rows.specs.declared.change.Change.{Change}
+use Rattle.media_rows.specs.declared.change.Change.TheVariants as changes
+use Rattle.media_rows.specs.declared.object.Extent.{Extent}
+use Rattle.media_store.specs.Changes.{IsNext, Makes, archive_next, kept_by, kept_with}
+use Rattle.media_store.specs.Puts.{EndsPut, PutSeen, StoresAs, kept_behind, put_reply}
+use Rattle.media_store.specs.Stores.{StoreSeen, size_of}
+use Rattle.media_store.proofs.Planning.{planned_next}
+use Rattle.store_plans.specs.declared.outcome.Planned.{Planned}
+use Rattle.store_plans.specs.declared.puts.PutPlan.{PutPlan}
+use Rattle.store_plans.specs.declared.puts.PutPlan.TheVariants.{Refused, Kept, Write}
+use Rattle.store_states.specs.Kept.{AgreesWith, StoreView}
+use Rattle.store_states.specs.States.{held_in, media_start}
+use Rattle.store_writes.specs.Writes.{Keeps}
+use Rattle.run_history.specs.Serving.{Counts}
+use Rattle.connection_loop.specs.declared.ending.Ending.{Ending}
+use Rattle.connection_loop.specs.declared.ending.Ending.TheVariants as endings
+use Rattle.tams_machine.specs.Answers.{state_after}
+use Rattle.tams_machine.specs.Requests.{TamsRequest}
+use Rattle.request_hearing.proofs.Asking.{asking_kept}
+use Rattle.tams_answers.specs.Answers.{media_bytes}
+use Rattle.tams_answers.specs.Media.{MediaAnswers, response_by}
+use Rattle.tams_answers.specs.declared.media.Responses.{Responses}
+use Rattle.tams_service.specs.Answering.{AsksAt, ChangedAt, EndsThere, FinishLeads, IsReply, IsRequest, LeadsTo, Place, PutLeads, StopLeads, TellsAllOf, written_by}
+use Rattle.tams_service.specs.declared.answering.Reply.{Reply}
+use Rattle.tams_service.specs.Keeping.{KeepsState}
+use Rattle.tams_service.specs.Serving.{needs_by, needs_in}
+use Rattle.tams_service.specs.Taking.{plan_of}
+use Rattle.tams_service.proofs.Giving.{changed_at, torn_at, unchanged_at}
+use Rattle.tams_service.proofs.Good.{good_now, is_good}
+use Rattle.tams_service.proofs.Keeping.{bytes_seen, keeps_so}
+use Rattle.tams_service.proofs.Moments.{over_keeps}
+use Rattle.tams_service.proofs.PutReplies.{IsFull, came_is, change, changes_so, full_put, kept_reply, no_put_reply, refused_reply, stores_as, takes, write_good, write_reply}
+use Rattle.tams_service.proofs.States.{keeps_next}
+
+-- There is no put.
+pub none_leads : (old new : Device) (n now : Counts) (store next : StoreSeen) (responses : Responses) (moment : ℕ) (ends : Bool) (result : Option Ending)
+    → FinishLeads old new store next n now (responses.reply ++ []) 0 moment ends result
+    → PutLeads old new store next n now None responses moment ends result
+none_leads old new n now store next responses moment ends result finishes p text rest r asks keeps request is few = by_begun is.begun is.answers is.plan
+  where
+    by_begun : (begun : Option PutSeen) → MediaAnswers p.base r moment store.kept begun responses
+        → plan_of None ≡ plan_of begun → LeadsTo p new next moment rest now result
+    by_begun None refused same =
+        finishes p text rest r [] (unchanged_at p old (text ++ rest) n asks) keeps request (no_put_reply p r moment store old keeps responses.reply refused)
+        refl few
+    by_begun (Some begun) answers same = let no : None ≡ Some begun.plan = same in absurd cc
+
+module _ (p : Place) (old mid : Device) (n : Counts) (text rest : List ℕ) (store : StoreSeen) (r : TamsRequest) (moment : ℕ) (put : PutSeen)
+    (responses : Responses) (sound : IsDevice old) (all : TellsAllOf old) (asks : AsksAt p old (text ++ rest) n) (keeps : KeepsState store old p.state)
+    (full : IsFull p r moment store.kept put responses old.seen) (link : mid.link ≡ old.link) where
+  has : held_in old.seen (media_start store.kept.journal.half) p.state.archive.library.objects ≡ p.state.archive.held
+  has = bytes_seen store old p.state sound all.honest all.shows all.tells keeps
+
+  good : is_good p.state
+  good = good_now asks.begun
+
+  -- calls that keep what is kept change nothing
+  unchanged_over : Keeps store.kept p.state.archive.held old mid → ChangedAt p mid (text ++ rest) n [] false
+  unchanged_over kept = unchanged_at p mid (text ++ rest) n (asking_kept asks (over_keeps p.base keeps.state kept) link)
+
+  -- the change that is made, with the bytes of the request
+  makes_so : (ok : Bool) (extent : Extent) (planned : Planned) (is : put.plan ≡ Write extent planned)
+      → ((c : Change) → StoresAs store.kept c put.plan → EndsPut ok put.plan c store.kept p.state.archive.held old mid)
+      → Makes ok (change p r moment store old keeps put responses full extent planned is) r.body store.kept (kept_by store.kept planned)
+      p.state.archive.held old mid
+  makes_so ok extent planned is makes =
+      let c = change p r moment store old keeps put responses full extent planned is in
+      subst (λ came. Makes ok c came store.kept (kept_by store.kept planned) p.state.archive.held old mid)
+      (came_is p r moment store old keeps put responses full extent planned is)
+      (subst (λ plan. EndsPut ok plan c store.kept p.state.archive.held old mid) is
+      (makes c (stores_as p r moment store old keeps put responses full extent planned is)))
+
+  -- ---- the disk failed
+
+  module _ (makes : (c : Change) → StoresAs store.kept c put.plan → EndsPut false put.plan c store.kept p.state.archive.held old mid) (new : Device)
+      (now : Counts) (last : StoreSeen) (ends : Bool) (request : IsRequest p text ends r) (count : ℕ) (stops : StopLeads mid new n now count)
+      (count_is : count ≡ written_by put.plan) where
+    stopped_quiet : Keeps store.kept p.state.archive.held old mid → count ≡ 0 → EndsThere p new last (moment ∷ []) now endings.Stopped
+    stopped_quiet kept none = stops p text rest r moment last [] (unchanged_over kept) (inl request.spells) request.interim (sym none)
+
+    stopped_by : (plan : PutPlan) → put.plan ≡ plan → EndsThere p new last (moment ∷ []) now endings.Stopped
+    stopped_by (Refused why) is =
+        let any = changes.DeleteStep moment in
+        stopped_quiet
+        (subst (λ plan. EndsPut false plan any store.kept p.state.archive.held old mid) is (makes any (subst (StoresAs store.kept any) (sym is) tt)))
+        (count_is ∙ ap written_by is)
+    stopped_by (Kept extent) is =
+        let any = changes.DeleteStep moment in
+        stopped_quiet
+        (subst (λ plan. EndsPut false plan any store.kept p.state.archive.held old mid) is (makes any (subst (StoresAs store.kept any) (sym is) tt)))
+        (count_is ∙ ap written_by is)
+    stopped_by (Write extent planned) is =
+        let c = change p r moment store old keeps put responses full extent planned is in
+        stops p text rest r moment last (state_after p.state c r.body ∷ [])
+        (torn_at p old mid n (text ++ rest) store c r.body (kept_by store.kept planned) asks keeps link
+        (write_good p r moment store old keeps put responses full extent planned is good) (makes_so false extent planned is makes))
+        (request.spells, refl, changes_so p r moment store old keeps put responses full extent planned is) request.interim
+        (sym (count_is ∙ ap written_by is))
+
+  -- ---- it was ended
+
+  module _ (makes : (c : Change) → StoresAs store.kept c put.plan → EndsPut true put.plan c store.kept p.state.archive.held old mid) (new : Device)
+      (now : Counts) (next last : StoreSeen) (kept_is : next.kept ≡ kept_behind store.kept put.plan) (unspent : next.spent ≡ false) (ends : Bool)
+      (request : IsRequest p text ends r) (count : ℕ) (count_is : count ≡ written_by put.plan) (few : p.taken < 1000000) (result : Option Ending)
+      (finishes : FinishLeads mid new next last n now (response_by responses (put_reply put put.plan) ++ []) count moment ends result) where
+    ended_quiet : Keeps store.kept p.state.archive.held old mid → next.kept ≡ store.kept
+        → IsReply p r moment (response_by responses (put_reply put put.plan) ++ []) [] → count ≡ 0
+        → LeadsTo p new last moment rest now result
+    ended_quiet kept same reply none =
+        finishes p text rest r [] (unchanged_over kept) (keeps_so store next old mid p.state keeps same unspent kept.agrees) request reply (sym none) few
+
+    ended_by : (plan : PutPlan) → put.plan ≡ plan → LeadsTo p new last moment rest now result
+    ended_by (Refused why) is =
+        let any = changes.DeleteStep moment in
+        ended_quiet
+        (subst (λ plan. EndsPut true plan any store.kept p.state.archive.held old mid) is (makes any (subst (StoresAs store.kept any) (sym is) tt)))
+        (kept_is ∙ ap (kept_behind store.kept) is) (refused_reply p r moment store old keeps put responses full why is) (count_is ∙ ap written_by is)
+    ended_by (Kept extent) is =
+        let any = changes.DeleteStep moment in
+        ended_quiet
+        (subst (λ plan. EndsPut true plan any store.kept p.state.archive.held old mid) is (makes any (subst (StoresAs store.kept any) (sym is) tt)))
+        (kept_is ∙ ap (kept_behind store.kept) is) (kept_reply p r moment store old keeps put responses full extent is has good)
+        (count_is ∙ ap written_by is)
+    ended_by (Write extent planned) is =
+        let c = change p r moment store old keeps put responses full extent planned is in
+        let made = makes_so true extent planned is makes in
+        let kept = kept_is ∙ ap (kept_behind store.kept) is in
+        finishes p text rest r (state_after p.state c r.body ∷ [])
+        (changed_at p old mid n (text ++ rest) store c r.body (kept_by store.kept planned) asks keeps link
+        (write_good p r moment store old keeps put responses full extent planned is good) made)
+        (keeps_next store next old mid p.state c r.body keeps unspent
+        (subst (IsNext store.kept c) (sym kept)
+        (planned_next store.kept c planned (takes p r moment store old keeps put responses full extent planned is).makes))
+        (subst (λ k. AgreesWith mid k (archive_next store.kept p.state.archive.held c r.body).held) (sym kept) (made.agrees refl)))
+        request (write_reply p r moment store old keeps put responses full extent planned is) (sym (count_is ∙ ap written_by is)) few
+
+-- ---- what the end of a put leads to
+
+module _ (old mid new : Device) (n now : Counts) (store last : StoreSeen) (put : PutSeen) (responses : Responses) (moment : ℕ) (ends ok : Bool)
+    (sound : IsDevice old) (all : TellsAllOf old) (link : mid.link ≡ old.link) (count : ℕ) (count_is : count ≡ written_by put.plan)
+    (makes : (held : List (List ℕ)) (c : Change) → AgreesWith old store.kept held → StoresAs store.kept c put.plan
+    → EndsPut ok put.plan c store.kept held old mid) where
+  -- The disk failed in it.
+  pub failed_leads : ok ≡ false → StopLeads mid new n now count
+      → PutLeads old new store last n now (Some put) responses moment ends (Some endings.Stopped)
+  failed_leads failed stops p text rest r asks keeps request is few =
+      let held = p.state.archive.held in
+      let full = full_put p r moment store.kept put responses old.seen is in
+      stopped_by p old mid n text rest store r moment put responses sound all asks keeps full link
+      (λ c stores. subst (λ b. EndsPut b put.plan c store.kept held old mid) failed (makes held c keeps.agrees stores)) new now last ends request count
+      stops count_is put.plan refl
+
+  -- It was ended, and the reply was said.
+  pub made_leads : ok ≡ true → (next : StoreSeen) → next.kept ≡ kept_behind store.kept put.plan → next.spent ≡ false → (result : Option Ending)
+      → FinishLeads mid new next last n now (response_by responses (put_reply put put.plan) ++ []) count moment ends result
+      → PutLeads old new store last n now (Some put) responses moment ends result
+  made_leads made next kept_is unspent result finishes p text rest r asks keeps request is few =
+      let held = p.state.archive.held in
+      let full = full_put p r moment store.kept put responses old.seen is in
+      ended_by p old mid n text rest store r moment put responses sound all asks keeps full link
+      (λ c stores. subst (λ b. EndsPut b put.plan c store.kept held old mid) made (makes held c keeps.agrees stores)) new now next last kept_is unspent
+      ends request count count_is few result finishes put.plan refl
+
+-- ---- by the calls
+
+-- what is told stays so
+pub tells_on : (old new : Device) → SameDevice old new → TellsAllOf old → TellsAllOf new
+tells_on old new same all = record { honest = same.honest ∙ all.honest; shows = same.shows ∙ all.shows; tells = same.tells ∙ all.tells }
+
+-- a reply with a response alone
+pub finishes_with : (old new : Device) (store next : StoreSeen) (n now : Counts) (moment : ℕ) (result : Option Ending) (reply : Reply) (response : List ℕ)
+    (area count : ℕ) (ends : Bool)
+    → FinishLeads old new store next n now (reply.response.now ++ media_bytes area reply.media old.seen) reply.changes moment reply.ends result
+    → reply.response.now ≡ response → (reply.media ≡ None) × (reply.changes ≡ count) × (reply.ends ≡ ends)
+    → FinishLeads old new store next n now (response ++ []) count moment ends result
+finishes_with old new store next n now moment result reply response area count ends leads same rest =
+    subst (λ e. FinishLeads old new store next n now (response ++ []) count moment e result) rest.2
+    (subst (λ k. FinishLeads old new store next n now (response ++ []) k moment reply.ends result) rest.1
+    (subst (λ m. FinishLeads old new store next n now (response ++ media_bytes area m old.seen) reply.changes moment reply.ends result) rest.0
+    (subst (λ b. FinishLeads old new store next n now (b ++ media_bytes area reply.media old.seen) reply.changes moment reply.ends result) same leads)))
+
+-- what a put leaves of the file
+size_behind : (kept : StoreView) (plan : PutPlan) → size_of (kept_behind kept plan) ≡ size_of kept
+size_behind kept (Refused why) = refl
+size_behind kept (Kept extent) = refl
+size_behind kept (Write extent planned) = by_frame planned.frame planned.rows
+  where
+    by_frame : (frame rows : Option (List ℕ)) → size_of (kept_with kept (record planned { rows = rows }) frame) ≡ size_of kept
+    by_frame None rows = refl
+    by_frame (Some payload) None = refl
+    by_frame (Some payload) (Some text) = refl
+
+-- a store needs as much behind it
+pub needs_behind : (store next : StoreSeen) (plan : PutPlan) → store.spent ≡ false → next.spent ≡ false → next.kept ≡ kept_behind store.kept plan
+    → needs_in next ≡ needs_in store
+needs_behind store next plan before behind kept =
+    ap (λ b. needs_by b (size_of next.kept)) behind ∙ ap size_of kept ∙ size_behind store.kept plan ∙ ap (λ b. needs_by b (size_of store.kept)) (sym before)

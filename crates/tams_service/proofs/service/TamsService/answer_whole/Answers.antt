@@ -1,0 +1,54 @@
+use Rattle.std.proofs.Common.{◌≡◌, ◌∙◌, [], refl, subst, sym}
+use Rattle.request_hearing.specs.Hearing.{IsGiven}
+use Rattle.tams_service.specs.Answering.{WholeLeads}
+use Rattle.tams_service.specs.Serving.{ServiceSeen}
+use Rattle.tams_service.proofs.Ids.{planned_id}
+use Rattle.tams_service.proofs.Wholes.{media_still, no_put, parts_are, whole_given, whole_starved}
+use Rattle.tams_service.proofs.service.TamsService.answer_whole.Goals as goal
+
+-- The request asks for no put of an object's bytes.
+pub plan_answer-requires-clause-no_put : goal.plan_answer-requires-clause-no_put
+plan_answer-requires-clause-no_put g c = λ object asks.
+    let (so_far, all, said, given) = c.requires.given in
+    let here = subst (λ (s : ServiceSeen). IsGiven so_far all said s.fed c.args.head) (sym c.self.view_is) given in
+    no_put here c.media_puts_agree.ensures.asks c.self.inside.routes object (rw (c.bytes.ensures, c.bytes-2.ensures) at asks)
+
+-- Where bytes of an object follow nothing is written.
+pub give_answer-requires-clause-media : goal.give_answer-requires-clause-media
+give_answer-requires-clause-media g c =
+    let (so_far, all, said, given) = c.requires.given in
+    let here = subst (λ (s : ServiceSeen). IsGiven so_far all said s.fed c.args.head) (sym c.self.view_is) given in
+    let planned = rw (c.bytes.ensures, c.bytes-2.ensures) at c.in-Ok.ensures.answers [] here.request in
+    media_still c.self.inside.store.kept (planned (parts_are here)) c.in-Ok.ensures.media
+
+pub give_answer-requires-clause-id : goal.give_answer-requires-clause-id
+give_answer-requires-clause-id g c =
+    let (so_far, all, said, given) = c.requires.given in
+    let here = subst (λ (s : ServiceSeen). IsGiven so_far all said s.fed c.args.head) (sym c.self.view_is) given in
+    let planned = rw (c.bytes.ensures, c.bytes-2.ensures) at c.in-Ok.ensures.answers [] here.request in
+    planned_id c.self.inside.store.kept _ c.in-Ok.answer.planned (planned (parts_are here)).planned.step
+
+-- There was no memory.
+pub returns-in-Err-clause-leads : goal.returns-in-Err-clause-leads
+returns-in-Err-clause-leads g c = λ tells clock.
+    let old = g.X.Disk.device c.args.site.now in
+    let new = g.X.Disk.device c.starve.new.site in
+    let begun = g.C.Clock.given c.args.clock.now in
+    let given = g.C.Clock.given c.now-now.new.self in
+    rw c.starve.ensures.starved
+    (whole_starved c.args.self.now c.args.self.now old new begun given c.args.tally.now c.starve.new.tally c.now-now.result (c.now-now.ensures.given clock)
+    refl c.args.head refl (c.starve.ensures.leads tells))
+
+-- The answer was planned.
+pub returns-in-Ok-clause-leads : goal.returns-in-Ok-clause-leads
+returns-in-Ok-clause-leads g c = λ tells clock.
+    let old = g.X.Disk.device c.args.site.now in
+    let new = g.X.Disk.device c.give_answer.new.site in
+    let begun = g.C.Clock.given c.args.clock.now in
+    let given = g.C.Clock.given c.now-now.new.self in
+    let seen : ServiceSeen = record { store = c.self.inside.store; fed = c.self.inside.hearing; base = c.self.inside.base } in
+    let next : ServiceSeen = record { store = c.give_answer.new.store; fed = c.self.inside.hearing; base = c.self.inside.base } in
+    subst (λ (s : ServiceSeen). WholeLeads s next c.args.head old new begun given c.args.tally.now c.give_answer.new.tally c.give_answer.result) c.self.view_is
+    (whole_given seen next old new begun given c.args.tally.now c.give_answer.new.tally c.now-now.result (c.now-now.ensures.given clock) refl
+    c.args.head c.in-Ok.answer c.give_answer.result
+    (λ held r is. (rw (c.bytes.ensures, c.bytes-2.ensures) at c.in-Ok.ensures.answers held r) is) (c.give_answer.ensures.leads tells))

@@ -1,0 +1,33 @@
+-- What it leaves of a site that an answer was said: the response, and behind it the bytes of an
+-- object, which are read in pieces between the sayings.
+use Rattle.std.specs.Prelude.{◌≡◌, Bool, true, false, ℕ, List}
+use Rattle.disk_trait.specs.Calls.{Elapses}
+use Rattle.disk_trait.specs.Device.{Device}
+use Rattle.site_edge.specs.Links.{Sends, Tells, after_say, change_last}
+use Rattle.tams_service.specs.declared.saying.Told.{Told}
+use Rattle.tams_service.specs.declared.saying.Told.TheVariants.{All, Unlinked, Failed}
+
+-- all was said
+abbrev pub is_whole : Told → Bool
+is_whole All = true
+is_whole Unlinked = false
+is_whole Failed = false
+
+-- no call of the link failed
+abbrev pub is_linked : Told → Bool
+is_linked All = true
+is_linked Unlinked = false
+is_linked Failed = true
+
+-- no call of the disk failed
+abbrev pub is_held : Told → Bool
+is_held All = true
+is_held Unlinked = true
+is_held Failed = false
+
+-- The last connection was told these bytes, or a part of them where `whole` is false. A saying on
+-- it failed where `linked` is false.
+pub record Says (whole linked : Bool) (bytes : List ℕ) (old new : Device) : Type 0 where
+  pub time : Elapses (Tells false bytes) (Tells whole bytes) old new
+  pub connections : old.tells ≡ true → (sent : List ℕ) × Sends whole bytes sent
+      × (new.link.connections ≡ change_last (after_say linked sent) old.link.connections)

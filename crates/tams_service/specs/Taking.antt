@@ -1,0 +1,156 @@
+-- What taking the body of a media PUT comes to: the bytes that were heard, the part of the body
+-- that was taken of them and of the unread ones, and what the put has of it.
+use Rattle.std.specs.Prelude.{◌≡◌, ◌≢◌, ◌<◌, ◌≤◌, ◌==◌, ◌&&◌, ℕ, Bool, true, false, not, List, [], ◌++◌, length, take, bytes_eq, Option, Some, None, option_map, IfSome}
+use Rattle.disk_trait.specs.Device.{Device}
+use Rattle.site_edge.specs.Links.{change_last}
+use Rattle.http_wire.specs.Feeds.{Fed, left_of, less_by}
+use Rattle.store_states.specs.Kept.{AgreesWith, StoreView}
+use Rattle.store_plans.specs.declared.puts.PutPlan.{PutPlan}
+use Rattle.store_plans.specs.declared.puts.PutPlan.TheVariants.{Kept, Refused, Write}
+use Rattle.media_store.specs.Puts.{GoesOn, IsPutOf, PutSeen, TakesPiece, bytes_in, may_be_same}
+use Rattle.request_hearing.specs.Hearing.{after_hearing}
+use Rattle.tams_service.specs.declared.body.Piece.{Piece}
+use Rattle.tams_service.specs.declared.body.Piece.TheVariants as pieces
+use Rattle.tams_service.specs.declared.body.Taken.{Taken}
+use Rattle.tams_service.specs.declared.body.Taken.TheVariants.{Ended, Failed, Unheard, Whole}
+
+-- ---- how a body was taken
+
+-- no hearing failed
+abbrev pub is_heard : Taken → Bool
+is_heard Whole = true
+is_heard Ended = true
+is_heard Unheard = false
+is_heard Failed = true
+
+-- no call of the disk failed
+abbrev pub is_stored : Taken → Bool
+is_stored Whole = true
+is_stored Ended = true
+is_stored Unheard = true
+is_stored Failed = false
+
+-- the end of the peer's bytes was heard
+abbrev pub has_end : Taken → Bool
+has_end Whole = false
+has_end Ended = true
+has_end Unheard = false
+has_end Failed = false
+
+-- ---- what was heard
+
+-- These bytes were heard, and a part of the body was taken of them and of the unread ones. The end
+-- of the peer's bytes was heard where `ended` is true, and a hearing failed where `failed` is.
+pub record TakesPart (part : List ℕ) (ended failed : Bool) (old new : Fed)
+    (before now : Device) : Type 0 where
+  pub bytes : List ℕ
+  pub text_is : old.unread ++ bytes ≡ part ++ new.unread
+  pub few : length part ≤ left_of old.stage
+  pub feed : new ≡ record old { unread = new.unread; stage = less_by (length part) old.stage }
+  pub connections : before.tells ≡ true → now.link.connections
+      ≡ change_last (after_hearing bytes [] ended failed) before.link.connections
+
+-- ---- what a put has
+
+-- a put of so many bytes has begun, and none was handed to it
+pub record IsPutBegun (kept : StoreView) (size : ℕ) (put : PutSeen) : Type 0 where
+  pub of_store : IsPutOf kept put
+  pub sized : put.size ≡ size
+  pub none : put.handed ≡ 0
+  pub same : put.same ≡ may_be_same size put.plan
+
+-- all of so many bytes were handed to a put
+pub record IsFilled (kept : StoreView) (size : ℕ) (put : PutSeen) : Type 0 where
+  pub of_store : IsPutOf kept put
+  pub sized : put.size ≡ size
+  pub filled : put.handed ≡ put.size
+
+-- what is planned, where there is a put
+abbrev pub plan_of : Option PutSeen → Option PutPlan
+plan_of put = option_map (λ p. p.plan) put
+
+-- What a put has of the first bytes of its object over a device that shows these: those that it
+-- writes stand at the object's place, and of those that it compares it has whether they are the
+-- same.
+abbrev pub HoldsPart : StoreView → PutSeen → PutPlan → List ℕ → List ℕ → Type 0
+HoldsPart kept put (Refused why) part seen = Unit {0}
+HoldsPart kept put (Kept extent) part seen = put.same
+    ≡ ((extent.length == put.size)
+    && bytes_eq (take (length part) (bytes_in kept extent seen)) part)
+HoldsPart kept put (Write extent planned) part seen =
+    take (length part) (bytes_in kept extent seen) ≡ part
+
+-- the same of a put, where there is one
+abbrev pub HoldsIf : StoreView → Option PutSeen → List ℕ → List ℕ → Type 0
+HoldsIf kept put part seen = IfSome put (λ p. HoldsPart kept p p.plan part seen)
+
+-- ---- a body
+
+-- how much of a body was taken, and what is unread then
+abbrev pub BodyIs : Taken → ℕ → List ℕ → List ℕ → Type 0
+BodyIs Whole size part unread = length part ≡ size
+BodyIs Ended size part unread = (length part < size) × (unread ≡ [])
+BodyIs Unheard size part unread = (length part < size) × (unread ≡ [])
+BodyIs Failed size part unread = part ≢ []
+
+-- What taking a body of so many bytes comes to. Where all of it was taken, the put has it.
+pub record TakesBody (kept : StoreView) (size : ℕ) (old new : Fed) (put : Option PutSeen)
+    (before now : Device) (result : Taken) : Type 0 where
+  pub part : List ℕ
+  pub takes : TakesPart part (has_end result) (not (is_heard result)) old new before now
+  pub comes : BodyIs result size part new.unread
+  pub holds : result ≡ Whole → before.honest ≡ true → before.shows ≡ true → before.tells ≡ true
+      → (held : List (List ℕ)) → AgreesWith before kept held → HoldsIf kept put part now.seen
+
+-- ---- a piece
+
+-- no hearing failed
+abbrev pub piece_heard : Piece → Bool
+piece_heard (pieces.Of count) = true
+piece_heard pieces.Ended = true
+piece_heard pieces.Unheard = false
+piece_heard pieces.Failed = true
+
+-- no call of the disk failed
+abbrev pub piece_stored : Piece → Bool
+piece_stored (pieces.Of count) = true
+piece_stored pieces.Ended = true
+piece_stored pieces.Unheard = true
+piece_stored pieces.Failed = false
+
+-- the end of the peer's bytes was heard
+abbrev pub piece_end : Piece → Bool
+piece_end (pieces.Of count) = false
+piece_end pieces.Ended = true
+piece_end pieces.Unheard = false
+piece_end pieces.Failed = false
+
+-- a put goes on behind a piece
+pub record PutGoesOn (kept : StoreView) (piece : List ℕ) (put : PutSeen) (next : Option PutSeen)
+    (before now : Device) : Type 0 where
+  pub later : PutSeen
+  pub is : next ≡ Some later
+  pub goes : GoesOn put later piece
+  pub of_store : IsPutOf kept later
+  pub takes : before.shows ≡ true → TakesPiece kept put.plan piece put later before now
+
+-- a piece was handed to a put, where there is one
+abbrev pub HandsOn : StoreView → List ℕ → Option PutSeen → Option PutSeen → Device → Device → Type 0
+HandsOn kept piece None next before now = next ≡ None
+HandsOn kept piece (Some put) next before now = PutGoesOn kept piece put next before now
+
+-- what came of taking a piece
+abbrev pub PieceIs : Piece → StoreView → List ℕ → List ℕ → Option PutSeen → Option PutSeen
+    → Device → Device → Type 0
+PieceIs (pieces.Of count) kept part unread put next before now =
+    (0 < count) × (length part ≡ count) × HandsOn kept part put next before now
+PieceIs pieces.Ended kept part unread put next before now = (part ≡ []) × (unread ≡ [])
+PieceIs pieces.Unheard kept part unread put next before now = (part ≡ []) × (unread ≡ [])
+PieceIs pieces.Failed kept part unread put next before now = part ≢ []
+
+-- What taking a piece comes to.
+pub record TakesNext (kept : StoreView) (old new : Fed) (put next : Option PutSeen)
+    (before now : Device) (result : Piece) : Type 0 where
+  pub part : List ℕ
+  pub takes : TakesPart part (piece_end result) (not (piece_heard result)) old new before now
+  pub comes : PieceIs result kept part new.unread put next before now

@@ -1,0 +1,149 @@
+//! Taking the body of a media PUT.
+ghost use Rattle.std.specs.Prelude.{◌≡◌, ◌≤◌, ◌<◌, ◌+◌, ℕ, List, Some, true, not, length, IfSome, IsFalse, OnOk, is_ok};
+ghost use Rattle.std.specs.Result.{is_err};
+ghost use Rattle.disk_trait.specs.Calls.{DiskCalls};
+ghost use Rattle.http_wire.specs.Feeds.{feed_room, left_of};
+ghost use Rattle.http_wire.specs.declared.stage.Stage.TheVariants as stages;
+ghost use Rattle.store_states.specs.Kept.{AgreesWith};
+ghost use Rattle.store_writes.specs.Writes.{Keeps};
+ghost use Rattle.media_store.specs.Puts.{IsPutOf};
+ghost use Rattle.media_store.specs.Stores.{size_of};
+ghost use Rattle.tams_service.specs.Sites.{SiteCounts};
+ghost use Rattle.tams_service.specs.Taking.{HandsOn, IsPutBegun, IsFilled, TakesBody, TakesNext, is_heard, is_stored, piece_heard, piece_stored, plan_of};
+ghost use Rattle.tams_service.specs.declared.body.Taken.TheVariants as taken;
+
+use disk_trait::Failed;
+use media_store::{Put, Store};
+use request_hearing::{Body, Hearing};
+use site_edge::Site;
+
+/// How the body of a media PUT was taken.
+#[derive(Clone, Copy, Debug, PartialEq, Eq)]
+pub(crate) enum Taken {
+    /// All of it.
+    Whole,
+    /// The peer's bytes ended within it.
+    Ended,
+    /// A hearing failed.
+    Unheard,
+    /// A call of the disk failed, and the store is spent.
+    Failed,
+}
+
+/// How a piece of the body was taken.
+#[derive(Clone, Copy, Debug, PartialEq, Eq)]
+enum Piece {
+    /// So many bytes of it.
+    Of(u64),
+    /// The peer's bytes ended.
+    Ended,
+    /// A hearing failed.
+    Unheard,
+    /// A call of the disk failed, and the store is spent.
+    Failed,
+}
+
+/// Hears the body of a media PUT of so many bytes, in pieces of at most 65,536 bytes, and hands each to the put;
+/// where there is none, the body is dropped. It takes no memory.
+pub(crate) fn take_body<X: Site>(
+    store: &mut Store,
+    hearing: &mut Hearing,
+    site: &mut X,
+    put: &mut Option<Put>,
+    size: u64,
+    room: &mut [u8],
+) -> Taken
+    requires unspent { IsFalse store.old.spent }
+    requires device { size_of store.old.kept ≤ (X.device site.old).size }
+    requires under_way { (X.device site.old).link.under_way ≡ true }
+    requires stage { hearing.old.stage ≡ stages.Media size }
+    requires last { length hearing.old.last < feed_room }
+    requires put { IfSome put.old (IsPutBegun store.old.kept size) }
+    requires room { length room.old ≡ 65536 }
+    ensures calls { SiteCounts (is_heard result) (is_stored result) (X.device site.old) (X.device site.new) }
+    ensures takes { TakesBody store.old.kept size hearing.old hearing.new put.new
+        (X.device site.old) (X.device site.new) result }
+    ensures filled { result ≡ taken.Whole → IfSome put.new (IsFilled store.old.kept size) }
+    ensures plan { result ≡ taken.Whole → plan_of put.new ≡ plan_of put.old }
+
+    // What is kept stays, also where a call fails, and at each moment a crash leaves its state.
+    ensures keeps { (held : List (List ℕ)) → AgreesWith (X.device site.old) store.old.kept held
+        → Keeps store.old.kept held (X.device site.old) (X.device site.new) }
+
+    ensures kept { store.new.kept ≡ store.old.kept }
+    ensures spent { store.new.spent ≡ not (is_stored result) }
+    ensures room { length room.new ≡ length room.old }
+{
+    let mut left = size;
+    'pieces: while 0 < left {
+        match take_piece(store, hearing, site, put, room) {
+            Piece::Of(count) => left -= count,
+            Piece::Ended => return Taken::Ended,
+            Piece::Unheard => return Taken::Unheard,
+            Piece::Failed => return Taken::Failed,
+        }
+    }
+    Taken::Whole
+}
+
+/// Hears a piece of the body into `room`, and hands it to the put, where there is one.
+fn take_piece<X: Site>(
+    store: &mut Store,
+    hearing: &mut Hearing,
+    site: &mut X,
+    put: &mut Option<Put>,
+    room: &mut [u8],
+) -> Piece
+    requires unspent { IsFalse store.old.spent }
+    requires device { size_of store.old.kept ≤ (X.device site.old).size }
+    requires under_way { (X.device site.old).link.under_way ≡ true }
+    requires left { 0 < left_of hearing.old.stage }
+    requires last { length hearing.old.last < feed_room }
+    requires of_store { IfSome put.old (IsPutOf store.old.kept) }
+    requires inside { IfSome put.old (λ p. p.handed + left_of hearing.old.stage ≤ p.size) }
+    requires room { length room.old ≡ 65536 }
+    ensures calls { SiteCounts (piece_heard result) (piece_stored result)
+        (X.device site.old) (X.device site.new) }
+    ensures takes { TakesNext store.old.kept hearing.old hearing.new put.old put.new
+        (X.device site.old) (X.device site.new) result }
+    ensures keeps { (held : List (List ℕ)) → AgreesWith (X.device site.old) store.old.kept held
+        → Keeps store.old.kept held (X.device site.old) (X.device site.new) }
+    ensures kept { store.new.kept ≡ store.old.kept }
+    ensures spent { store.new.spent ≡ not (piece_stored result) }
+    ensures room { length room.new ≡ length room.old }
+{
+    match hearing.take_body(site, room) {
+        Body::Piece(count) => match hand_on(store, site, put, &room[..count]) {
+            Ok(()) => Piece::Of(count as u64),
+            Err(Failed) => Piece::Failed,
+        },
+        Body::Ended => Piece::Ended,
+        Body::Unheard => Piece::Unheard,
+    }
+}
+
+/// Hands a piece to the put, where there is one.
+fn hand_on<X: Site>(
+    store: &mut Store,
+    site: &mut X,
+    put: &mut Option<Put>,
+    piece: &[u8],
+) -> Result<(), Failed>
+    requires unspent { IsFalse store.old.spent }
+    requires device { size_of store.old.kept ≤ (X.device site.old).size }
+    requires of_store { IfSome put.old (IsPutOf store.old.kept) }
+    requires inside { IfSome put.old (λ p. p.handed + length piece.now ≤ p.size) }
+    requires short { length piece.now ≤ 65536 }
+    ensures calls { DiskCalls (is_ok result) (X.device site.old) (X.device site.new) }
+    ensures hands { OnOk result (HandsOn store.old.kept piece.now put.old put.new
+        (X.device site.old) (X.device site.new)) }
+    ensures keeps { (held : List (List ℕ)) → AgreesWith (X.device site.old) store.old.kept held
+        → Keeps store.old.kept held (X.device site.old) (X.device site.new) }
+    ensures kept { store.new.kept ≡ store.old.kept }
+    ensures spent { store.new.spent ≡ is_err result }
+{
+    match put {
+        None => Ok(()),
+        Some(put) => store.put_piece(site, put, piece),
+    }
+}

@@ -1,0 +1,88 @@
+//! Answers that end a connection whatever was asked: where there was no memory, where the disk failed, and where
+//! the wire refuses what was heard.
+ghost use Rattle.std.specs.Prelude.{◌≡◌, ◌≤◌, ◌<◌, ◌^◌, ℕ, List, true, false, Some};
+ghost use Rattle.http_wire.specs.Steps.{wire_refusal};
+ghost use Rattle.http_wire.specs.declared.framing.WireFault.{WireFault};
+ghost use Rattle.media_rows.specs.declared.refusal.Refusal.{Refusal};
+ghost use Rattle.media_store.specs.Stores.{StoreSeen};
+ghost use Rattle.connection_loop.specs.Tallies.{counted};
+ghost use Rattle.connection_loop.specs.Turns.{SiteCalls};
+ghost use Rattle.connection_loop.specs.declared.ending.Ending.TheVariants.{Starved, Stopped};
+ghost use Rattle.tams_answers.specs.Wire.{AreResponses};
+ghost use Rattle.tams_service.specs.Answering.{RefuseLeads, Responds, StarveLeads, StopLeads, TellsAllOf};
+ghost use Rattle.tams_service.specs.Sites.{LinkCalls};
+
+use connection_loop::{Ending, Tally};
+use media_rows::Refusal;
+use site_edge::{LinkFailed, Site};
+use tams_answers::WireResponses;
+use tams_http::{server_error, unavailable};
+
+/// Says that there was no memory for a request.
+pub(crate) fn starve<X: Site>(site: &mut X, tally: &mut Tally) -> Ending
+    requires room { tally.old.answers < 2 ^ 60 }
+    requires under_way { (X.device site.old).link.under_way ≡ true }
+    ensures starved { result ≡ Starved }
+    ensures calls { LinkCalls (X.device site.old) (X.device site.new) }
+    ensures counted { tally.new ≡ counted 0 false tally.old }
+    ensures leads { TellsAllOf (X.device site.old) → StarveLeads (X.device site.old)
+        (X.device site.new) tally.old tally.new }
+{
+    tally.count(0, false);
+    let _ = site.say(server_error().as_bytes());
+    Ending::Starved
+}
+
+/// Says that the disk failed in a request, while the records of so many changes were being written.
+pub(crate) fn stop<X: Site>(site: &mut X, tally: &mut Tally, changes: u64) -> Ending
+    requires room { tally.old.answers < 2 ^ 60 }
+    requires few { changes ≤ 1 }
+    requires under_way { (X.device site.old).link.under_way ≡ true }
+    ensures stopped { result ≡ Stopped }
+    ensures calls { LinkCalls (X.device site.old) (X.device site.new) }
+    ensures counted { tally.new ≡ counted changes false tally.old }
+    ensures leads { TellsAllOf (X.device site.old) → StopLeads (X.device site.old)
+        (X.device site.new) tally.old tally.new changes }
+{
+    tally.count(changes, false);
+    let _ = site.say(unavailable().as_bytes());
+    Ending::Stopped
+}
+
+/// Says the response to what the wire refuses, which ends the connection.
+pub(crate) fn refuse_wire<X: Site>(
+    site: &mut X,
+    tally: &mut Tally,
+    responses: &WireResponses,
+    refusal: Refusal,
+) -> Ending
+    requires fault { (fault : WireFault) × (refusal ≡ wire_refusal fault) }
+    requires room { tally.old.answers < 2 ^ 60 }
+    requires under_way { (X.device site.old).link.under_way ≡ true }
+    ensures calls { SiteCalls (Some result) (X.device site.old) (X.device site.new) }
+    ensures counted { tally.new ≡ counted 0 false tally.old }
+    ensures leads { TellsAllOf (X.device site.old) → (base : List ℕ) (store : StoreSeen)
+        → AreResponses base responses.now
+        → RefuseLeads base (X.device site.old) (X.device site.new) store tally.old tally.new
+        refusal result }
+{
+    refuse(site, tally, responses.of(&refusal))
+}
+
+/// Says a response that ends the connection.
+fn refuse<X: Site>(site: &mut X, tally: &mut Tally, response: &[u8]) -> Ending
+    requires room { tally.old.answers < 2 ^ 60 }
+    requires under_way { (X.device site.old).link.under_way ≡ true }
+    ensures calls { SiteCalls (Some result) (X.device site.old) (X.device site.new) }
+    ensures counted { tally.new ≡ counted 0 false tally.old }
+    ensures leads { TellsAllOf (X.device site.old) → (base : List ℕ) (store : StoreSeen)
+        → (refusal : Refusal) → Responds base refusal response.now
+        → RefuseLeads base (X.device site.old) (X.device site.new) store tally.old tally.new
+        refusal result }
+{
+    tally.count(0, false);
+    match site.say(response) {
+        Ok(()) => Ending::Complete,
+        Err(LinkFailed) => Ending::Unlinked,
+    }
+}

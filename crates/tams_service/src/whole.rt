@@ -1,0 +1,139 @@
+//! Requests that came whole.
+ghost use Rattle.std.specs.Prelude.{◌≡◌, ◌≤◌, ◌<◌, ◌+◌, ◌^◌, ℕ, List, Bool, true, None, length, IfSome, IsFalse, IsSome, IsTrue};
+ghost use Rattle.media_rows.specs.Moments.{is_moment};
+ghost use Rattle.media_store.specs.Changes.{CanCommit};
+ghost use Rattle.media_store.specs.Pieces.{IsExtent};
+ghost use Rattle.media_store.specs.Stores.{size_of};
+ghost use Rattle.connection_loop.specs.Turns.{GivesMore, SiteCalls};
+ghost use Rattle.request_hearing.specs.Hearing.{IsGiven};
+ghost use Rattle.tams_service.specs.Answering.{GiveLeads, PlanKeepsId, TellsAllOf, WholeLeads, changes_in};
+ghost use Rattle.tams_service.specs.Serving.{KeepsId, needs_in};
+
+use crate::TamsService;
+use crate::answering::{Reply, finish};
+use crate::ending::{starve, stop};
+use connection_loop::{Ending, Tally};
+use http_wire::Head;
+use media_store::Store;
+use reply_laws::media_puts_agree;
+use site_edge::{Clock, Site};
+use std::alloc::Global;
+use store_plans::Planned;
+use tams_answers::{Answer, Request, media_follows, plan_answer};
+
+impl TamsService {
+    /// Answers a request that came whole.
+    pub(crate) fn answer_whole<X: Site, C: Clock>(
+        &mut self,
+        alloc: Global,
+        site: &mut X,
+        clock: &mut C,
+        tally: &mut Tally,
+        head: Head,
+    ) -> Option<Ending>
+        requires unspent { IsFalse self.old.store.spent }
+        requires given { (taken : ℕ) × (all : List ℕ) × (said : Bool)
+            × IsGiven taken all said self.old.fed head }
+        requires room { tally.old.answers < 2 ^ 60 }
+        requires device { needs_in self.old.store ≤ (X.device site.old).size }
+        requires under_way { (X.device site.old).link.under_way ≡ true }
+        ensures calls { SiteCalls result (X.device site.old) (X.device site.new) }
+        ensures needs { needs_in self.new.store ≤ needs_in self.old.store }
+        ensures clock { C.tells clock.new ≡ true → C.tells clock.old ≡ true }
+        ensures moments { C.tells clock.new ≡ true
+            → GivesMore (C.given clock.old) (C.given clock.new) }
+        ensures fed { self.new.fed ≡ self.old.fed }
+        ensures base { self.new.base ≡ self.old.base }
+        ensures counted { tally.new.answers ≡ tally.old.answers + 1 }
+        ensures ends { head.ends ≡ true → IsSome result }
+        ensures leads { TellsAllOf (X.device site.old) → C.tells clock.new ≡ true
+            → WholeLeads self.old self.new head (X.device site.old) (X.device site.new)
+            (C.given clock.old) (C.given clock.new) tally.old tally.new result }
+    {
+        media_puts_agree();
+        let now = clock.now();
+        let request = Request {
+            method: head.method,
+            target: self.hearing.bytes(head.target),
+            body: self.hearing.bytes(head.body),
+            ends: head.ends,
+        };
+        match plan_answer(alloc, &self.routes, &self.base, &self.store, &request, now) {
+            Err(_) => Some(starve(site, tally)),
+            Ok(answer) => {
+                let room = self.room.as_mut_slice();
+                give_answer(
+                    alloc,
+                    &mut self.store,
+                    site,
+                    tally,
+                    answer,
+                    now,
+                    head.ends,
+                    room,
+                )
+            }
+        }
+    }
+}
+
+/// Writes the change of an answer that was planned, and says the answer.
+fn give_answer<X: Site>(
+    alloc: Global,
+    store: &mut Store,
+    site: &mut X,
+    tally: &mut Tally,
+    answer: Answer,
+    now: u64,
+    ends: bool,
+    room: &mut [u8],
+) -> Option<Ending>
+    requires unspent { IsFalse store.old.spent }
+    requires device { size_of store.old.kept ≤ (X.device site.old).size }
+    requires under_way { (X.device site.old).link.under_way ≡ true }
+    requires ready { CanCommit store.old.kept answer.planned }
+    requires media { IfSome answer.media (λ extent. IsExtent store.old.kept.library extent
+        × (answer.planned.frame ≡ None)) }
+    requires id { PlanKeepsId store.old.kept answer.planned }
+    requires moment { IsTrue (is_moment now) }
+    requires counts { tally.old.answers < 2 ^ 60 }
+    requires room { length room.old ≡ 65536 }
+    ensures calls { SiteCalls result (X.device site.old) (X.device site.new) }
+    ensures counted { tally.new.answers ≡ tally.old.answers + 1 }
+    ensures ends { ends ≡ true → IsSome result }
+    ensures needs { needs_in store.new ≤ needs_in store.old }
+    ensures id { KeepsId store.old store.new }
+    ensures room { length room.new ≡ length room.old }
+    ensures leads { TellsAllOf (X.device site.old) → GiveLeads (X.device site.old)
+        (X.device site.new) store.old store.new tally.old tally.new answer now ends result }
+{
+    media_follows();
+    let Answer {
+        planned,
+        response,
+        media,
+    } = answer;
+    let changes = changes_of(&planned);
+    match store.commit(site, planned) {
+        Err(_) => Some(stop(site, tally, changes)),
+        Ok(_) => {
+            let reply = Reply {
+                response: response.bytes(),
+                media,
+                changes,
+                ends,
+            };
+            finish(alloc, store, site, tally, &reply, now, room)
+        }
+    }
+}
+
+/// How many changes a plan writes.
+fn changes_of(planned: &Planned) -> u64
+    ensures { result ≡ changes_in planned.now.frame }
+{
+    match &planned.frame {
+        Some(_) => 1,
+        None => 0,
+    }
+}
