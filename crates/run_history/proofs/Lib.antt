@@ -4,4 +4,3 @@ pub mod Invariant
 pub mod Growth
 pub mod Ends
 pub mod Going
-pub mod Answering
