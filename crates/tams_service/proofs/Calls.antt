@@ -1,13 +1,11 @@
 -- How the calls of a turn count, in a row.
-use Rattle.std.proofs.Common.{◌≡◌, ◌≤◌, Bool, true, false, ℕ, List, Option, Some, None, refl, sym, ap, ◌∙◌, subst, arith}
-use Rattle.disk_trait.specs.Calls.{DiskCalls, IsCounted, SameDevice}
+use Rattle.std.proofs.Common.{Bool, true, false, ℕ, List, Some, None, refl, sym, ap, ◌∙◌, subst, arith}
+use Rattle.disk_trait.specs.Calls.{DiskCalls, IsCounted}
 use Rattle.disk_trait.specs.Device.{Device, Link}
-use Rattle.disk_trait.proofs.Theorems.{counted_twice, same_device_twice}
-use Rattle.site_edge.specs.Links.{LinkCall, SamePeers}
-use Rattle.connection_loop.specs.declared.ending.Ending.{Ending}
+use Rattle.disk_trait.proofs.Theorems.{same_device_twice}
 use Rattle.connection_loop.specs.declared.ending.Ending.TheVariants.{Complete, Cut, Unlinked, Starved, Stopped}
 use Rattle.connection_loop.specs.Turns.{SiteCalls}
-use Rattle.connection_loop.proofs.Turning.{calls_more, counted_none}
+use Rattle.connection_loop.proofs.Turning.{counted_none}
 use Rattle.request_hearing.specs.Hearing.{HearsAndSays}
 use Rattle.tams_service.specs.Sites.{LinkCalls, SiteCounts}
 

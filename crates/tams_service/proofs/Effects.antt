@@ -1,11 +1,11 @@
 -- What the steps of requests come to by the machine of the media store.
-use Rattle.std.proofs.Common.{◌≡◌, ◌≢◌, ◌+◌, ℕ, Bool, true, false, List, [], ◌∷◌, ◌++◌, length, Option, Some, None, refl, sym, ap, ◌∙◌, subst, if◌then◌else◌, append-nil, arith}
+use Rattle.std.proofs.Common.{◌≡◌, ◌+◌, ℕ, Bool, true, false, List, [], ◌∷◌, ◌++◌, length, Option, Some, None, refl, sym, ap, ◌∙◌, subst, if◌then◌else◌, arith}
 use Rattle.std.specs.Prelude.{option_to_list, unwrap_or}
 use Rattle.http_wire.specs.Framing.{wants_interim}
 use Rattle.store_states.specs.States.{StoreState}
-use Rattle.run_history.specs.Machine.{Failure, BeforeAnswer, InAnswer, InTurn}
+use Rattle.run_history.specs.Machine.{BeforeAnswer, InAnswer, InTurn}
 use Rattle.run_history.specs.Machine as runs
-use Rattle.run_history.specs.Steps.{Answered, Ask, Effect, Made, Piece, Refused, Reply, Skipped, Stage, Starved, Step, Stopped, Turned, effect, interim_pieces, is_made, last_or, told_pieces, where_done}
+use Rattle.run_history.specs.Steps.{Answered, Ask, Effect, Piece, Reply, Stage, Starved, Stopped, Turned, effect, interim_pieces, is_made, last_or, told_pieces, where_done}
 use Rattle.tams_http.specs.Constants.{failure}
 use Rattle.tams_machine.specs.Answers.{answer_in, turn_in}
 use Rattle.tams_machine.specs.Machine.{tams_machine}

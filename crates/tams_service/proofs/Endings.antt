@@ -1,7 +1,7 @@
 -- Answers that end a connection whatever was asked.
-use Rattle.std.proofs.Common.{◌≡◌, ◌≢◌, ◌≤◌, ◌+◌, ℕ, Bool, true, false, List, [], ◌∷◌, ◌++◌, length, All, None, Some, inl, inr, if◌then◌else◌, refl, sym, ap, ◌∙◌, subst, append-nil, arith}
+use Rattle.std.proofs.Common.{◌≡◌, ◌≢◌, ◌≤◌, ◌+◌, ℕ, Bool, true, false, List, [], ◌∷◌, ◌++◌, length, All, None, Some, if◌then◌else◌, refl, sym, ap, ◌∙◌, subst, append-nil, arith}
 use Rattle.std.proofs.lemmas.Bool.{false≢true}
-use Rattle.std.proofs.lemmas.List.Elements.{All-cons, All-nil}
+use Rattle.std.proofs.lemmas.List.Elements.{All-nil}
 use Rattle.disk_trait.specs.Calls.{Elapses}
 use Rattle.disk_trait.specs.Device.{Device}
 use Rattle.site_edge.specs.Links.{Said, Tells}
@@ -11,14 +11,13 @@ use Rattle.media_rows.specs.declared.refusal.Refusal.{Refusal}
 use Rattle.media_store.specs.Stores.{StoreSeen}
 use Rattle.store_states.specs.States.{StoreState}
 use Rattle.run_history.specs.Machine.{BeforeAnswer}
-use Rattle.run_history.specs.Steps.{Ask, Effect, IsStep, Refused, Stage, Starved, Step, Stopped, effect, where_done}
+use Rattle.run_history.specs.Steps.{IsStep, Refused, Starved, Stopped, where_done}
 use Rattle.run_history.specs.Laws.{under_way}
 use Rattle.run_history.specs.Serving.{Counts}
 use Rattle.run_history.specs.Sessions.{Saying, Whole}
-use Rattle.connection_loop.specs.declared.ending.Ending.{Ending}
 use Rattle.connection_loop.specs.declared.ending.Ending.TheVariants as endings
 use Rattle.connection_loop.specs.Tallies.{counted}
-use Rattle.connection_loop.specs.Turns.{EndsAs, ending_of, held_with}
+use Rattle.connection_loop.specs.Turns.{ending_of, held_with}
 use Rattle.tams_http.specs.Constants.{failure}
 use Rattle.tams_machine.specs.Answers.{answer_in}
 use Rattle.tams_machine.specs.Machine.{tams_machine}
@@ -27,7 +26,7 @@ use Rattle.request_hearing.specs.Asking.{IsAnswered, asked_trace}
 use Rattle.request_hearing.specs.Hearing.{interim_where}
 use Rattle.request_hearing.proofs.AskingReached.{changed_none, replied}
 use Rattle.request_hearing.proofs.Theorems.{refused_step}
-use Rattle.tams_service.specs.Answering.{AsksAt, ChangedAt, EndsThere, FailedIn, IsBegun, Place, RefuseLeads, Responds, StarveLeads, StopLeads, is_writing}
+use Rattle.tams_service.specs.Answering.{AsksAt, ChangedAt, EndsThere, FailedIn, Place, RefuseLeads, Responds, StarveLeads, StopLeads, is_writing}
 use Rattle.tams_service.specs.Keeping.{KeepsState}
 use Rattle.tams_service.proofs.Effects.{ask_of, effect_by, starved_effect, stopped_effect}
 use Rattle.tams_service.proofs.Effects as effects

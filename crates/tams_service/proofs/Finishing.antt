@@ -1,10 +1,10 @@
 -- A reply that was said, or a part of it, behind the changes of its request, and the turn behind it: what they lead to.
-use Rattle.std.proofs.Common.{◌≡◌, ◌≢◌, ◌≤◌, ◌<◌, ◌+◌, ◌==◌, ◌||◌, ℕ, suc, Bool, true, false, List, [], ◌∷◌, ◌++◌, length, All, Option, None, Some, inl, inr, if◌then◌else◌, refl, sym, ap, ◌∙◌, subst, append-nil, length-append, arith}
+use Rattle.std.proofs.Common.{◌≡◌, ◌≢◌, ◌<◌, ◌+◌, ◌==◌, ◌||◌, ℕ, suc, Bool, true, false, List, [], ◌∷◌, ◌++◌, length, All, Option, None, Some, inl, inr, if◌then◌else◌, refl, sym, ap, ◌∙◌, subst, append-nil, length-append, arith}
 use Rattle.std.specs.Prelude.{is_some, option_map, option_to_list}
 use Rattle.std.proofs.lemmas.Bool.{cases_lt, eq-eqb, false≢true}
 use Rattle.std.proofs.lemmas.List.Elements.{All-append, All-cons, All-nil}
 use Rattle.disk_trait.specs.Calls.{Elapses}
-use Rattle.disk_trait.specs.Device.{Device, Link}
+use Rattle.disk_trait.specs.Device.{Device}
 use Rattle.httparse.specs.Grammar.{RequestHead}
 use Rattle.media_rows.specs.declared.change.Change.{Change}
 use Rattle.media_rows.specs.Apply.{turn}
@@ -20,8 +20,7 @@ use Rattle.run_history.specs.Runs.{Reached, stops_writing}
 use Rattle.run_history.specs.Traces.{Trace, state_now}
 use Rattle.run_history.specs.Serving.{Counts}
 use Rattle.run_history.specs.Sessions.{Saying, Whole, most_answers, stops_in_answer}
-use Rattle.run_history.specs.Steps.{Answered, Effect, IsStep, Made, Skipped, Stage, Step, Stopped, Turned, after_answer, effect, is_made, last_or, step_text, where_done}
-use Rattle.connection_loop.specs.declared.ending.Ending.{Ending}
+use Rattle.run_history.specs.Steps.{Answered, IsStep, Made, Skipped, Stage, Step, Stopped, Turned, after_answer, effect, is_made, last_or, step_text, where_done}
 use Rattle.connection_loop.specs.declared.ending.Ending.TheVariants as endings
 use Rattle.connection_loop.specs.Tallies.{counted}
 use Rattle.connection_loop.specs.Turns.{ending_of, held_with}

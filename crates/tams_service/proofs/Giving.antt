@@ -1,9 +1,8 @@
 -- An answer that was planned, and whose change was written, or may have been when the disk failed.
-use Rattle.std.proofs.Common.{◌≡◌, ◌≢◌, ◌<◌, ◌⊎◌, inl, inr, ◌++◌, ℕ, Bool, true, false, List, [], ◌∷◌, length, All, Option, None, Some, refl, sym, ap, ◌∙◌, subst, append-nil}
+use Rattle.std.proofs.Common.{◌≡◌, ◌≢◌, ◌<◌, ◌⊎◌, inl, inr, ◌++◌, ℕ, Bool, true, false, List, [], ◌∷◌, All, Option, None, Some, refl, sym, ap, ◌∙◌, subst}
 use Rattle.std.specs.Prelude.{IfSome, option_map, option_to_list}
 use Rattle.std.proofs.lemmas.List.Elements.{All-cons, All-nil}
-use Rattle.disk_trait.specs.Device.{Device, IsDevice, as_read}
-use Rattle.change_codec.specs.Fitting.{State}
+use Rattle.disk_trait.specs.Device.{Device}
 use Rattle.http_wire.specs.Framing.{method_kind}
 use Rattle.http_wire.specs.Response.{body_unless}
 use Rattle.media_rows.specs.declared.change.Change.{Change}
@@ -16,11 +15,10 @@ use Rattle.media_store.specs.Stores as media
 use Rattle.media_store.proofs.Commands.{none_came, none_stand}
 use Rattle.media_store.proofs.Planning.{planned_next}
 use Rattle.store_plans.specs.declared.outcome.Planned.{Planned}
-use Rattle.store_plans.specs.Plans.{IsPlanned, MakesChange, MakesStep}
-use Rattle.store_states.specs.Kept.{AgreesWith, StoreView, kept_state}
+use Rattle.store_plans.specs.Plans.{MakesChange, MakesStep}
+use Rattle.store_states.specs.Kept.{AgreesWith, StoreView}
 use Rattle.store_states.specs.States.{StoreState, held_in, media_start}
 use Rattle.run_history.specs.Serving.{Counts}
-use Rattle.run_history.specs.Steps.{last_or}
 use Rattle.connection_loop.specs.declared.ending.Ending.{Ending}
 use Rattle.connection_loop.specs.declared.ending.Ending.TheVariants as endings
 use Rattle.tams_answers.specs.Answers.{Answers, MediaFollows, media_bytes}
@@ -30,12 +28,12 @@ use Rattle.tams_machine.specs.Answers.{answer_in, asked_by, journal_of, object_b
 use Rattle.tams_machine.specs.Machine.{tams_machine}
 use Rattle.tams_machine.specs.Requests.{TamsRequest, context_of, is_head_only}
 use Rattle.request_hearing.specs.Asking.{asked_trace}
-use Rattle.request_hearing.proofs.Asking.{begun_at, kept_calls, state_now-open}
+use Rattle.request_hearing.proofs.Asking.{begun_at, state_now-open}
 use Rattle.request_hearing.proofs.AskingReached.{changed_none, changed_one, changed_torn}
-use Rattle.tams_service.specs.Answering.{AsksAt, ChangedAt, EndsThere, FinishLeads, IsReply, IsRequest, LeadsTo, Place, StopLeads, changes_in}
+use Rattle.tams_service.specs.Answering.{AsksAt, ChangedAt, EndsThere, FinishLeads, IsRequest, LeadsTo, Place, StopLeads, changes_in}
 use Rattle.tams_service.specs.Keeping.{KeepsState}
 use Rattle.tams_service.proofs.Good.{good_now, is_good, made_good}
-use Rattle.tams_service.proofs.Keeping.{bytes_seen, keeps_so}
+use Rattle.tams_service.proofs.Keeping.{keeps_so}
 use Rattle.tams_service.proofs.Moments.{over_change, over_torn}
 use Rattle.tams_service.proofs.States.{bare_archive, keeps_next}
 

@@ -1,7 +1,7 @@
 -- The states of a run are good.
-use Rattle.std.proofs.Common.{◌≡◌, ◌++◌, ℕ, Bool, true, false, List, ◌∷◌, [], length, All, Option, Some, None, refl, subst}
-use Rattle.std.specs.Prelude.{IfSome, IsTrue}
-use Rattle.std.proofs.lemmas.List.Elements.{All-cons, All-head, All-tail}
+use Rattle.std.proofs.Common.{◌≡◌, ℕ, Bool, true, false, List, ◌∷◌, [], All, Option, Some, subst}
+use Rattle.std.specs.Prelude.{IfSome}
+use Rattle.std.proofs.lemmas.List.Elements.{All-head, All-tail}
 use Rattle.disk_trait.specs.Device.{Device}
 use Rattle.library_laws.specs.MediaLaws.{IsGoodArchive}
 use Rattle.library_laws.proofs.ChangesKept.{changes_keep_good}

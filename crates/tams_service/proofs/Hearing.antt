@@ -1,19 +1,17 @@
 -- What a turn leads to by what was heard, where nothing is to be answered; and a request that has begun behind it.
-use Rattle.std.proofs.Common.{◌≡◌, ◌≢◌, ℕ, Bool, true, false, List, [], ◌∷◌, ◌++◌, Some, None, refl, sym, ap, ◌∙◌, subst, append-nil}
-use Rattle.std.proofs.lemmas.Bool.{false≢true}
+use Rattle.std.proofs.Common.{◌≡◌, ◌≢◌, ℕ, Bool, true, false, List, [], ◌∷◌, ◌++◌, Some, None, refl, sym, ◌∙◌, subst, append-nil}
 use Rattle.disk_trait.specs.Device.{Device}
 use Rattle.http_wire.specs.Feeds.{Fed}
 use Rattle.media_store.specs.Stores.{StoreSeen}
 use Rattle.store_states.specs.States.{StoreState}
 use Rattle.run_history.specs.Runs.{Beginning}
 use Rattle.run_history.specs.Serving.{Counts, Going}
-use Rattle.run_history.specs.Sessions.{Hearing, LinkEnd, Saying, Session, Whole}
+use Rattle.run_history.specs.Sessions.{Hearing, Saying, Session, Whole}
 use Rattle.run_history.specs.Steps.{Step}
-use Rattle.connection_loop.specs.declared.ending.Ending.{Ending}
 use Rattle.connection_loop.specs.declared.ending.Ending.TheVariants as endings
-use Rattle.connection_loop.specs.Turns.{EndsAs, SameImages, held_with}
+use Rattle.connection_loop.specs.Turns.{EndsAs, held_with}
 use Rattle.tams_machine.specs.Machine.{tams_machine}
-use Rattle.tams_machine.specs.Requests.{TamsRequest, interim_text}
+use Rattle.tams_machine.specs.Requests.{TamsRequest}
 use Rattle.request_hearing.specs.Hearing.{HearsAndSays, IsUnsaid, IsWaiting, interim_where}
 use Rattle.request_hearing.proofs.Asking.{asking_first}
 use Rattle.request_hearing.proofs.Theorems.{heard_images, media_unsaid_step, unfinished, unsaid_step, waiting_step}

@@ -1,15 +1,15 @@
 -- What a store keeps stays over calls that leave each image.
-use Rattle.std.proofs.Common.{◌≡◌, ◌<◌, ◌+◌, Bool, true, false, List, ℕ, refl, sym, ap, ◌∙◌, subst}
+use Rattle.std.proofs.Common.{◌≡◌, Bool, true, false, List, ℕ, sym, ap, ◌∙◌, subst}
 use Rattle.disk_trait.specs.Calls.{Elapses, Unchanged}
-use Rattle.disk_trait.specs.Device.{Device, IsDevice, Left, as_read, may_leave}
+use Rattle.disk_trait.specs.Device.{Device, IsDevice, Left}
 use Rattle.site_edge.specs.Links.{Tells}
-use Rattle.library_laws.specs.MediaLaws.{IsGoodArchive}
 use Rattle.media_store.specs.Stores.{StoreSeen}
 use Rattle.store_states.specs.Kept.{AgreesWith, StoreView, kept_state}
 use Rattle.store_states.specs.States.{StoreState, held_in, media_start}
 use Rattle.connection_loop.specs.Turns.{SameImages}
 use Rattle.tams_service.specs.Keeping.{KeepsState}
 use Rattle.tams_service.specs.KeepingLaws.{keeps_images}
+use Rattle.tams_service.proofs.Holding.{held_seen}
 
 pub same_told : (ok : Bool) (bytes : List ℕ) (old new : Device) → Elapses (Tells false bytes) (Tells ok bytes) old new → SameImages old new
 same_told ok bytes old new time = record { images = λ p could. let from = time.now p could in (from.0, from.1, from.2.image) }
@@ -34,7 +34,5 @@ keeps_so store next old new s keeps same unspent agrees = record {
 pub bytes_seen : (store : StoreSeen) (d : Device) (s : StoreState) → IsDevice d → d.honest ≡ true → d.shows ≡ true → d.tells ≡ true
     → KeepsState store d s → held_in d.seen (media_start store.kept.journal.half) s.archive.library.objects ≡ s.archive.held
 bytes_seen store d s device honest shows tells keeps =
-    let could = device.itself honest shows tells in
-    let gives = keeps.agrees.gives.gives (as_read d) could in
     ap (λ (t : StoreState). held_in d.seen (media_start store.kept.journal.half) t.archive.library.objects) keeps.state
-    ∙ ap (λ (half : ℕ). held_in d.seen (media_start half) store.kept.library.objects) gives.half.half_blocks ∙ keeps.agrees.bytes (as_read d) could
+    ∙ held_seen d store.kept s.archive.held device honest shows tells keeps.agrees

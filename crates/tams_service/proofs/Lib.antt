@@ -7,10 +7,10 @@ mod Holding
 mod Keeps
 mod Taken
 mod Calls
-mod Keeping
-mod States
+pub mod Keeping
+pub mod States
 mod Effects
-mod Good
+pub mod Good
 mod Endings
 mod Finishing
 mod Giving

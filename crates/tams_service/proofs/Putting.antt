@@ -1,5 +1,5 @@
 -- A put whose bytes all came is ended, and answered: what that leads to.
-use Rattle.std.proofs.Common.{◌≡◌, ◌<◌, ◌++◌, ℕ, Bool, true, false, List, [], ◌∷◌, Option, None, Some, inl, if◌then◌else◌, refl, sym, ap, ◌∙◌, subst}
+use Rattle.std.proofs.Common.{◌≡◌, ◌<◌, ◌++◌, ℕ, Bool, true, false, List, [], ◌∷◌, Option, None, Some, inl, refl, sym, ap, ◌∙◌, subst}
 use Rattle.disk_trait.specs.Calls.{SameDevice}
 use Rattle.disk_trait.specs.Device.{Device, IsDevice}
 use Rattle.media_rows.specs.declared.change.Change.{Change}

@@ -1,16 +1,14 @@
 -- The states of the machine by what a store keeps: after a change, and after a turn.
-use Rattle.std.proofs.Common.{◌≡◌, ◌*◌, ℕ, Bool, true, false, cond, List, [], ◌∷◌, Option, Some, None, refl, sym, ap, ◌∙◌, subst, if◌then◌else◌}
+use Rattle.std.proofs.Common.{◌≡◌, ℕ, Bool, true, false, cond, List, [], Option, Some, None, refl, sym, subst}
 use Rattle.std.specs.Prelude.{option_map, option_to_list, unwrap_or}
 use Rattle.media_rows.specs.declared.change.Change.{Change}
 use Rattle.media_rows.specs.declared.change.Change.TheVariants as changes
 use Rattle.media_rows.specs.Apply.{turn}
-use Rattle.media_rows.specs.Changes.{after}
-use Rattle.media_rows.specs.Library.{Library}
 use Rattle.media_rows.specs.Media.{Archive, archive_after}
-use Rattle.change_codec.specs.Fitting.{State, fits, with_record}
+use Rattle.change_codec.specs.Fitting.{fits}
 use Rattle.disk_trait.specs.Device.{Device}
 use Rattle.media_store.specs.Changes.{IsNext, archive_next, stores}
-use Rattle.media_store.specs.Stores.{StoreSeen, archive_of, journal_of}
+use Rattle.media_store.specs.Stores.{StoreSeen, journal_of}
 use Rattle.media_store.specs.Turns.{turn_change}
 use Rattle.store_states.specs.Kept.{AgreesWith, StoreView, kept_state}
 use Rattle.store_states.specs.States.{StoreState}

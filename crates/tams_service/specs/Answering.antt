@@ -15,7 +15,7 @@ use Rattle.media_store.specs.declared.turns.TurnMade.{TurnMade}
 use Rattle.media_store.specs.declared.turns.TurnMade.TheVariants.{Deleted, NoRoom, Nothing, Swept}
 use Rattle.store_states.specs.States.{StoreState}
 use Rattle.run_history.specs.Runs.{Beginning, Reached}
-use Rattle.run_history.specs.Serving.{Counts, Held}
+use Rattle.run_history.specs.Serving.{Counts}
 use Rattle.run_history.specs.Sessions.{Session}
 use Rattle.run_history.specs.Steps.{Step, last_or}
 use Rattle.connection_loop.specs.declared.ending.Ending.{Ending}

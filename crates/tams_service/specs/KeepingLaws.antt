@@ -1,5 +1,5 @@
 -- What a service keeps of its device hangs on the images alone.
-use Rattle.std.specs.Prelude.{◌≡◌, ℕ, List}
+use Rattle.std.specs.Prelude.{ℕ, List}
 use Rattle.disk_trait.specs.Device.{Device}
 use Rattle.store_states.specs.Kept.{AgreesWith, StoreView}
 use Rattle.store_states.specs.States.{StoreState}

@@ -1,10 +1,10 @@
 -- What a service holds, and what opening one answers.
-use Rattle.std.specs.Prelude.{◌≡◌, ℕ, Bool, true, false, List, IsTrue, Result, Ok, Err, if◌then◌else◌}
+use Rattle.std.specs.Prelude.{◌≡◌, ℕ, Bool, false, List, IsTrue, Result, Ok, Err, if◌then◌else◌}
 use Rattle.std.specs.Str.{is_utf8}
-use Rattle.http_wire.specs.Agreeing.{MayTurn}
 use Rattle.http_wire.specs.Feeds.{Fed}
 use Rattle.media_journal.specs.declared.fault.JournalFault.{JournalFault}
 use Rattle.media_store.specs.Stores.{OpensAs, StoreSeen, size_of}
+use Rattle.media_store.specs.declared.puts.TheConstants.{PIECE}
 use Rattle.tams_answers.specs.Wire.{AreResponses}
 use Rattle.tams_answers.specs.declared.wire.WireResponses.{WireResponses}
 
@@ -21,7 +21,7 @@ pub record IsService (store : StoreSeen) (routes : ℕ) (base : List ℕ) (refus
   pub routes_are : store.spent ≡ false → routes ≡ store.kept.library.id
   pub base_is : IsTrue (is_utf8 base)
   pub refusals_are : AreResponses base refusals
-  pub room_is : room ≡ 65536
+  pub room_is : room ≡ PIECE
 
 -- the least device that a store works on, in bytes; one that is spent asks for nothing
 abbrev pub needs_by : Bool → ℕ → ℕ

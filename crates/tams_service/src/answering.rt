@@ -3,6 +3,7 @@ ghost use Rattle.std.specs.Prelude.{◌≡◌, ◌≤◌, ◌<◌, ◌+◌, ◌+
 ghost use Rattle.media_rows.specs.Moments.{is_moment};
 ghost use Rattle.media_store.specs.Pieces.{IsExtent};
 ghost use Rattle.media_store.specs.Stores.{size_of};
+ghost use Rattle.media_store.specs.declared.puts.TheConstants.{PIECE};
 ghost use Rattle.store_states.specs.States.{media_start};
 ghost use Rattle.connection_loop.specs.Turns.{SiteCalls};
 ghost use Rattle.tams_answers.specs.Answers.{media_bytes};
@@ -44,7 +45,7 @@ pub(crate) fn finish<X: Site>(
     requires few { reply.now.changes ≤ 1 }
     requires moment { IsTrue (is_moment now) }
     requires counts { tally.old.answers < 2 ^ 60 }
-    requires room { length room.old ≡ 65536 }
+    requires room { length room.old ≡ PIECE }
     ensures calls { SiteCalls result (X.device site.old) (X.device site.new) }
     ensures counted { tally.new.answers ≡ tally.old.answers + 1 }
     ensures ends { reply.now.ends ≡ true → IsSome result }

@@ -8,6 +8,7 @@ ghost use Rattle.store_states.specs.Kept.{AgreesWith};
 ghost use Rattle.store_writes.specs.Writes.{Keeps};
 ghost use Rattle.media_store.specs.Puts.{IsPutOf};
 ghost use Rattle.media_store.specs.Stores.{size_of};
+ghost use Rattle.media_store.specs.declared.puts.TheConstants.{PIECE};
 ghost use Rattle.tams_service.specs.Sites.{SiteCounts};
 ghost use Rattle.tams_service.specs.Taking.{HandsOn, IsPutBegun, IsFilled, TakesBody, TakesNext, is_heard, is_stored, piece_heard, piece_stored, plan_of};
 ghost use Rattle.tams_service.specs.declared.body.Taken.TheVariants as taken;
@@ -59,7 +60,7 @@ pub(crate) fn take_body<X: Site>(
     requires stage { hearing.old.stage ≡ stages.Media size }
     requires last { length hearing.old.last < feed_room }
     requires put { IfSome put.old (IsPutBegun store.old.kept size) }
-    requires room { length room.old ≡ 65536 }
+    requires room { length room.old ≡ PIECE }
     ensures calls { SiteCounts (is_heard result) (is_stored result) (X.device site.old) (X.device site.new) }
     ensures takes { TakesBody store.old.kept size hearing.old hearing.new put.new
         (X.device site.old) (X.device site.new) result }
@@ -101,7 +102,7 @@ fn take_piece<X: Site>(
     requires last { length hearing.old.last < feed_room }
     requires of_store { IfSome put.old (IsPutOf store.old.kept) }
     requires inside { IfSome put.old (λ p. p.handed + left_of hearing.old.stage ≤ p.size) }
-    requires room { length room.old ≡ 65536 }
+    requires room { length room.old ≡ PIECE }
     ensures calls { SiteCounts (piece_heard result) (piece_stored result)
         (X.device site.old) (X.device site.new) }
     ensures takes { TakesNext store.old.kept hearing.old hearing.new put.old put.new
@@ -133,7 +134,7 @@ fn hand_on<X: Site>(
     requires device { size_of store.old.kept ≤ (X.device site.old).size }
     requires of_store { IfSome put.old (IsPutOf store.old.kept) }
     requires inside { IfSome put.old (λ p. p.handed + length piece.now ≤ p.size) }
-    requires short { length piece.now ≤ 65536 }
+    requires short { length piece.now ≤ PIECE }
     ensures calls { DiskCalls (is_ok result) (X.device site.old) (X.device site.new) }
     ensures hands { OnOk result (HandsOn store.old.kept piece.now put.old put.new
         (X.device site.old) (X.device site.new)) }

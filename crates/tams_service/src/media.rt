@@ -5,6 +5,7 @@ ghost use Rattle.http_wire.specs.Feeds.{feed_room};
 ghost use Rattle.http_wire.specs.declared.stage.Stage.TheVariants as stages;
 ghost use Rattle.media_rows.specs.Moments.{is_moment};
 ghost use Rattle.media_store.specs.Stores.{size_of};
+ghost use Rattle.media_store.specs.declared.puts.TheConstants.{PIECE};
 ghost use Rattle.connection_loop.specs.Turns.{GivesMore, SiteCalls};
 ghost use Rattle.request_hearing.specs.Hearing.{IsOpened};
 ghost use Rattle.tams_service.specs.Answering.{EndKeepsId, IsWhole, MediaLeads, PutLeads, TakeLeads, TellsAllOf, written_by};
@@ -103,7 +104,7 @@ fn take_put<X: Site>(
     requires id { IfSome plan.put (EndKeepsId store.old.kept) }
     requires moment { IsTrue (is_moment now) }
     requires counts { tally.old.answers < 2 ^ 60 }
-    requires room { length room.old ≡ 65536 }
+    requires room { length room.old ≡ PIECE }
     ensures calls { SiteCalls result (X.device site.old) (X.device site.new) }
     ensures needs { needs_in store.new ≤ needs_in store.old }
     ensures id { KeepsId store.old store.new }
@@ -159,7 +160,7 @@ fn give_put<X: Site>(
     requires id { IfSome put (EndKeepsId store.old.kept) }
     requires moment { IsTrue (is_moment now) }
     requires counts { tally.old.answers < 2 ^ 60 }
-    requires room { length room.old ≡ 65536 }
+    requires room { length room.old ≡ PIECE }
     ensures calls { SiteCalls result (X.device site.old) (X.device site.new) }
     ensures counted { tally.new.answers ≡ tally.old.answers + 1 }
     ensures ends { ends ≡ true → IsSome result }

@@ -12,11 +12,8 @@ ghost use Rattle.tams_service.specs.Sites.{SiteCounts};
 
 use disk_trait::Failed;
 use media_rows::Extent;
-use media_store::Store;
+use media_store::{PIECE, Store};
 use site_edge::{LinkFailed, Site};
-
-/// At most so many bytes of an object are said at once.
-const PIECE: u64 = 65_536;
 
 /// How an answer was said.
 #[derive(Clone, Copy, Debug, PartialEq, Eq)]
@@ -51,7 +48,7 @@ pub(crate) fn say_answer<X: Site>(
     requires device { size_of store.old.kept ≤ (X.device site.old).size }
     requires under_way { (X.device site.old).link.under_way ≡ true }
     requires media { IfSome media (IsExtent store.old.kept.library) }
-    requires room { length room.old ≡ 65536 }
+    requires room { length room.old ≡ PIECE }
     ensures calls { SiteCounts (is_linked result) (is_held result) (X.device site.old) (X.device site.new) }
     ensures says { (X.device site.old).shows ≡ true → Says (is_whole result) (is_linked result)
         (response.now ++ media_bytes (media_start store.old.kept.journal.half) media
@@ -77,7 +74,7 @@ fn say_object<X: Site>(store: &mut Store, site: &mut X, extent: Extent, room: &m
     requires device { size_of store.old.kept ≤ (X.device site.old).size }
     requires under_way { (X.device site.old).link.under_way ≡ true }
     requires stored { IsExtent store.old.kept.library extent }
-    requires room { length room.old ≡ 65536 }
+    requires room { length room.old ≡ PIECE }
     ensures calls { SiteCounts (is_linked result) (is_held result) (X.device site.old) (X.device site.new) }
     ensures says { (X.device site.old).shows ≡ true → Says (is_whole result) (is_linked result)
         (extent_bytes (media_start store.old.kept.journal.half) extent (X.device site.old).seen)
@@ -90,7 +87,7 @@ fn say_object<X: Site>(store: &mut Store, site: &mut X, extent: Extent, room: &m
 {
     let mut at = 0;
     'pieces: while at < extent.length {
-        let count = (extent.length - at).min(PIECE);
+        let count = (extent.length - at).min(PIECE as u64);
         match say_piece(store, site, extent, at, &mut room[..count as usize]) {
             Told::All => at += count,
             Told::Unlinked => return Told::Unlinked,

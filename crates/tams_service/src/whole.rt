@@ -4,6 +4,7 @@ ghost use Rattle.media_rows.specs.Moments.{is_moment};
 ghost use Rattle.media_store.specs.Changes.{CanCommit};
 ghost use Rattle.media_store.specs.Pieces.{IsExtent};
 ghost use Rattle.media_store.specs.Stores.{size_of};
+ghost use Rattle.media_store.specs.declared.puts.TheConstants.{PIECE};
 ghost use Rattle.connection_loop.specs.Turns.{GivesMore, SiteCalls};
 ghost use Rattle.request_hearing.specs.Hearing.{IsGiven};
 ghost use Rattle.tams_service.specs.Answering.{GiveLeads, PlanKeepsId, TellsAllOf, WholeLeads, changes_in};
@@ -97,7 +98,7 @@ fn give_answer<X: Site>(
     requires id { PlanKeepsId store.old.kept answer.planned }
     requires moment { IsTrue (is_moment now) }
     requires counts { tally.old.answers < 2 ^ 60 }
-    requires room { length room.old ≡ 65536 }
+    requires room { length room.old ≡ PIECE }
     ensures calls { SiteCalls result (X.device site.old) (X.device site.new) }
     ensures counted { tally.new.answers ≡ tally.old.answers + 1 }
     ensures ends { ends ≡ true → IsSome result }

@@ -1,5 +1,4 @@
-use Rattle.std.proofs.Common.{◌≡◌, Bool, true, false, not, sym, ap, refl, ◌∙◌}
-use Rattle.disk_trait.specs.Device.{Device}
+use Rattle.std.proofs.Common.{◌≡◌, true, false, not, sym, ap, ◌∙◌}
 use Rattle.media_rows.specs.Apply.{turn}
 use Rattle.media_store.specs.Stores.{journal_of}
 use Rattle.media_store.specs.Turns.{turn_change}

@@ -1,4 +1,4 @@
-use Rattle.std.proofs.Common.{◌≡◌, ◌∙◌, Bool, true, false, None, ap}
+use Rattle.std.proofs.Common.{◌≡◌, ◌∙◌, true, false, None, ap}
 use Rattle.std.proofs.lemmas.Bool.{false≢true}
 use Rattle.media_store.specs.Pieces.{IsExtent}
 use Rattle.store_states.specs.Kept.{StoreView}

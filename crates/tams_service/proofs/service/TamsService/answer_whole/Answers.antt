@@ -1,4 +1,4 @@
-use Rattle.std.proofs.Common.{◌≡◌, ◌∙◌, [], refl, subst, sym}
+use Rattle.std.proofs.Common.{[], refl, subst, sym}
 use Rattle.request_hearing.specs.Hearing.{IsGiven}
 use Rattle.tams_service.specs.Answering.{WholeLeads}
 use Rattle.tams_service.specs.Serving.{ServiceSeen}
