@@ -16,17 +16,17 @@ use Rattle.connection_loop.specs.declared.run.RunEnd.{RunEnd}
 use Rattle.connection_loop.specs.declared.run.RunEnd.TheVariants as run_ends
 use Rattle.connection_loop.specs.Loops.{AreCounted}
 use Rattle.connection_loop.specs.Loops as loops
-use Rattle.put_service.specs.Machine.{PutRequest, put_machine}
-use Rattle.put_service.specs.Serving.{beginning}
-use Rattle.put_service.specs.Store.{State}
+use Rattle.store_states.specs.States.{StoreState}
+use Rattle.tams_machine.specs.Machine.{tams_machine}
+use Rattle.tams_machine.specs.Requests.{TamsRequest}
 use Rattle.tams_top.specs.declared.outcome.Outcome.{Outcome}
-use Rattle.tams_top.specs.declared.outcome.Outcome.TheVariants.{Formatted, Served, BadWords, NotStore, AlreadyStore, TooSmall, Damaged, DiskFault, NoMemory, LinkFault}
+use Rattle.tams_top.specs.declared.outcome.Outcome.TheVariants.{Formatted, Checked, Worked, Served, BadWords, NotStore, AlreadyStore, TooSmall, Damaged, DiskFault, NoMemory, LinkFault}
 use Rattle.tams_top.specs.declared.outcome.Outcome.TheVariants as outcomes
-use Rattle.tams_top.specs.declared.words.Command.TheVariants.{Format}
+use Rattle.tams_top.specs.declared.words.Command.TheVariants.{Format, Check, Work}
 use Rattle.tams_top.specs.Words.{IsCommand}
 use Rattle.tams_top.specs.Completeness.{AreServedWhole, IsAnswered, IsServedWhole, NoneRose, OneAnswered}
-use Rattle.tams_top.specs.Histories.{EndsWithoutPeer, OnePeer, Replayed, ServedAll, replay_outcome, serve_outcome}
-use Rattle.tams_top.specs.Running.{CommandEnds, FormatRunEnds, RunEnds, no_disk_fault, status_of}
+use Rattle.tams_top.specs.Histories.{EndsWithoutPeer, OnePeer, Replayed, ServedAll, beginning, replay_outcome, serve_outcome}
+use Rattle.tams_top.specs.Running.{CheckEnds, CommandEnds, FormatRunEnds, RunEnds, WorkCause, no_disk_fault, status_of}
 use Rattle.tams_top.proofs.WordTheorems.{one_command}
 
 no_disk : (old new : Device) (o : Outcome) → IsCounted (no_disk_fault o) old.faults new.faults → NoneRose old new → o ≢ DiskFault
@@ -80,7 +80,7 @@ linked-whole Hearing e = absurd (false≢true (sym e))
 linked-whole Saying e = absurd (false≢true (sym e))
 
 -- where the disk didn't fail it didn't within an answer
-unstopped-answer : (steps : List (Step PutRequest)) → stops steps ≡ false → stops_in_answer steps ≡ false
+unstopped-answer : (steps : List (Step TamsRequest)) → stops steps ≡ false → stops_in_answer steps ≡ false
 unstopped-answer [] e = refl
 unstopped-answer (Answered a t ∷ steps) e = unstopped-answer steps e
 unstopped-answer (Refused a t ∷ steps) e = unstopped-answer steps e
@@ -89,21 +89,23 @@ unstopped-answer (Stopped a t ∷ steps) e = absurd (false≢true (sym e))
 unstopped-answer (Cut a i t ∷ steps) e = unstopped-answer steps e
 
 -- the one connection of a run
-one_served : (from : State) (cs : List Connection) (session : Session PutRequest) → AreServed put_machine (start_of from) cs (session ∷ [])
-    → (c : Connection) × (cs ≡ c ∷ []) × IsServed put_machine (start_of from) c session
-one_served from [] session served = absurd served
-one_served from (c ∷ []) session served = (c, refl, served.0)
-one_served from (c ∷ d ∷ cs) session served = absurd (served.2)
+one_served : (base : List ℕ) (from : StoreState) (cs : List Connection) (session : Session TamsRequest)
+    → AreServed (tams_machine base) (start_of from) cs (session ∷ [])
+    → (c : Connection) × (cs ≡ c ∷ []) × IsServed (tams_machine base) (start_of from) c session
+one_served base from [] session served = absurd served
+one_served base from (c ∷ []) session served = (c, refl, served.0)
+one_served base from (c ∷ d ∷ cs) session served = absurd (served.2)
 
-none_served : (from : State) (cs : List Connection) → AreServed put_machine (start_of from) cs [] → cs ≡ []
-none_served from [] served = refl
-none_served from (c ∷ cs) served = absurd served
+none_served : (base : List ℕ) (from : StoreState) (cs : List Connection) → AreServed (tams_machine base) (start_of from) cs [] → cs ≡ []
+none_served base from [] served = refl
+none_served base from (c ∷ cs) served = absurd served
 
-answered : (from : State) (c : Connection) (session : Session PutRequest) (status : ℕ) → IsServed put_machine (start_of from) c session
+answered : (base : List ℕ) (from : StoreState) (c : Connection) (session : Session TamsRequest) (status : ℕ)
+    → IsServed (tams_machine base) (start_of from) c session
     → EndedWell (stops session.steps) (starves session.steps) (has_failed session.link) (is_cut session.steps) (skips_in session.steps) status
-    → IsAnswered from c session status
-answered from c session status served well =
-    let pieces = pieces_of put_machine (start_of from) session.steps in
+    → IsAnswered base from c session status
+answered base from c session status served well =
+    let pieces = pieces_of (tams_machine base) (start_of from) session.steps in
     let whole = linked-whole session.link well.linked in
     record {
       served = served;
@@ -116,7 +118,7 @@ answered from c session status served well =
       status_is = well.by_input;
     }
 
-module _ (from : State) (old new : Device) (begun given : List ℕ) (o : Outcome)
+module _ (base : List ℕ) (from : StoreState) (old new : Device) (begun given : List ℕ) (o : Outcome)
     (disk : IsCounted (no_disk_fault o) old.faults new.faults)
     (none : NoneRose old new)
     (unlinked : o ≡ LinkFault → Rose old.link.faults new.link.faults)
@@ -135,18 +137,20 @@ module _ (from : State) (old new : Device) (begun given : List ℕ) (o : Outcome
   no_peer_came NoMemory is ends = absurd (never (inr (inr (ap status_of is))))
   no_peer_came outcomes.Cut is ends = absurd ends
   no_peer_came (Formatted blocks half media) is ends = absurd ends
+  no_peer_came (Checked counts) is ends = absurd ends
+  no_peer_came (Worked turns) is ends = absurd ends
   no_peer_came BadWords is ends = absurd ends
   no_peer_came NotStore is ends = absurd ends
   no_peer_came AlreadyStore is ends = absurd ends
   no_peer_came TooSmall is ends = absurd ends
   no_peer_came (Damaged at) is ends = absurd ends
 
-  one_answered : OnePeer (beginning from old begun) new given o → OneAnswered from old new begun given (status_of o)
+  one_answered : OnePeer base (beginning from old begun) new given o → OneAnswered base from old new begun given (status_of o)
   one_answered p =
       let ran = p.runs.ran in
       let session = p.session in
-      let one = one_served from ran.connections session ran.served in
-      let n = counts_of put_machine from (session ∷ []) in
+      let one = one_served base from ran.connections session ran.served in
+      let n = counts_of (tams_machine base) from (session ∷ []) in
       let well = well_by (stops session.steps) (starves session.steps) (has_failed session.link) (is_cut session.steps) n.answers n.changes n.skipped
       (nat_lt 0 n.skipped) refl in
       elim well [
@@ -157,20 +161,20 @@ module _ (from : State) (old new : Device) (begun given : List ℕ) (o : Outcome
               connection = one.0;
               connections = ran.connections_are ∙ ap (λ (cs : List Connection). old.link.connections ++ cs) one.1;
               given_is = ran.given_is;
-              answered = answered from one.0 session (status_of o) one.2
+              answered = answered base from one.0 session (status_of o) one.2
                   (record { on = good.on; fed = good.fed; linked = good.linked; made = skips; by_input = ap status_of p.outcome_is ∙ good.by_input });
             }
         | inr failed ↦ absurd (never (subst FailsBy (sym p.outcome_is) failed))
       ]
 
   -- `replay` by its history
-  pub served_whole : Replayed (beginning from old begun) new given o → IsServedWhole from old new begun given (status_of o)
+  pub served_whole : Replayed base (beginning from old begun) new given o → IsServedWhole base from old new begun given (status_of o)
   served_whole (inl p) = inl (one_answered p)
   served_whole (inr p) =
       let ran = p.runs.ran in
       let came = no_peer_came o refl p.ends in
       inr record {
-        connections = ran.connections_are ∙ ap (λ (cs : List Connection). old.link.connections ++ cs) (none_served from ran.connections ran.served)
+        connections = ran.connections_are ∙ ap (λ (cs : List Connection). old.link.connections ++ cs) (none_served base from ran.connections ran.served)
             ∙ append-nil old.link.connections;
         given_is = ran.given_is ∙ append-nil begun;
         closed = came.0;
@@ -191,8 +195,8 @@ module _ (from : State) (old new : Device) (begun given : List ℕ) (o : Outcome
   no_stops false true e = absurd (false≢true (sym e))
   no_stops true b e = absurd (false≢true (sym e))
 
-  all-whole : (sessions : List (Session PutRequest)) → run_stops sessions ≡ false → AreCounted old.link.faults new.link.faults sessions
-      → AllByRecursion (λ (session : Session PutRequest). starves session.steps ≡ false → session.link ≡ Whole) sessions
+  all-whole : (sessions : List (Session TamsRequest)) → run_stops sessions ≡ false → AreCounted old.link.faults new.link.faults sessions
+      → AllByRecursion (λ (session : Session TamsRequest). starves session.steps ≡ false → session.link ≡ Whole) sessions
   all-whole [] e counted = tt
   all-whole (session ∷ sessions) e counted =
       let on = no_stops (stops session.steps) (run_stops sessions) e in (
@@ -204,7 +208,7 @@ module _ (from : State) (old new : Device) (begun given : List ℕ) (o : Outcome
         all-whole sessions on.1 counted.1,
       )
 
-  by_end : (end : RunEnd) (n : Counts) (sessions : List (Session PutRequest)) (connections : ℕ) → o ≡ serve_outcome end n
+  by_end : (end : RunEnd) (n : Counts) (sessions : List (Session TamsRequest)) (connections : ℕ) → o ≡ serve_outcome end n
       → loops.RunEnds new sessions connections end
       → (run_stops sessions ≡ false) × (((length sessions ≡ connections) ⊎ (new.link.closed ≡ true)) × (status_of o ≡ 0))
   by_end run_ends.Complete n sessions connections is ends = (ends.1, (inl ends.0, ap status_of is))
@@ -213,8 +217,8 @@ module _ (from : State) (old new : Device) (begun given : List ℕ) (o : Outcome
   by_end run_ends.Stopped n sessions connections is ends = absurd (never (inl is))
 
   -- `serve` by its history
-  pub all_served_whole : (connections : ℕ) → ServedAll (beginning from old begun) old new given connections o
-      → AreServedWhole from old new begun given connections (status_of o)
+  pub all_served_whole : (connections : ℕ) → ServedAll base (beginning from old begun) old new given connections o
+      → AreServedWhole base from old new begun given connections (status_of o)
   all_served_whole connections (inl p) =
       let ended = by_end p.end _ p.sessions connections p.outcome_is p.ends in
       record {
@@ -237,6 +241,8 @@ formatted old new h AlreadyStore ends held = inr (inl refl)
 formatted old new h TooSmall ends held = inr (inl refl)
 formatted old new h NoMemory ends held = inr (inr refl)
 formatted old new h DiskFault ends held = absurd (held refl)
+formatted old new h (Checked counts) ends held = absurd ends
+formatted old new h (Worked turns) ends held = absurd ends
 formatted old new h (Served requests changes skipped) ends held = absurd ends
 formatted old new h outcomes.Cut ends held = absurd ends
 formatted old new h BadWords ends held = absurd ends
@@ -254,5 +260,61 @@ formatted_whole words old new clock begun given o run path blocks half id is non
     | inr did ↦
         let ends = subst (CommandEnds old new clock begun given o) (one_command words did.0 (Format path blocks half id) did.1 is) did.2 in
         formatted old new _ o ends.0 (no_disk old new o run.disk none)
+  ]
+]
+
+-- `check` where no call of the disk failed
+checked : (old new : Device) (o : Outcome) → CheckEnds old new o → (o ≡ DiskFault → ⊥) → (status_of o ≡ 0) ⊎ ((status_of o ≡ 2) ⊎ (status_of o ≡ 4))
+checked old new (Checked counts) ends held = inl refl
+checked old new NotStore ends held = inr (inl refl)
+checked old new (Damaged at) ends held = inr (inl refl)
+checked old new NoMemory ends held = inr (inr refl)
+checked old new DiskFault ends held = absurd (held refl)
+checked old new (Formatted blocks half media) ends held = absurd ends
+checked old new (Worked turns) ends held = absurd ends
+checked old new (Served requests changes skipped) ends held = absurd ends
+checked old new outcomes.Cut ends held = absurd ends
+checked old new BadWords ends held = absurd ends
+checked old new AlreadyStore ends held = absurd ends
+checked old new TooSmall ends held = absurd ends
+checked old new LinkFault ends held = absurd ends
+
+pub checked_whole : (words : List (List ℕ)) (old new : Device) (clock : Bool) (begun given : List ℕ) (o : Outcome) → RunEnds words old new clock begun given o
+    → (path : List ℕ) → IsCommand words (Check path) → NoneRose old new → (status_of o ≡ 0) ⊎ ((status_of o ≡ 2) ⊎ (status_of o ≡ 4))
+checked_whole words old new clock begun given o run path is none = elim run.cause [
+  | inl starved ↦ inr (inr (ap status_of starved.0))
+  | inr other ↦ elim other [
+    | inl bad ↦ absurd (bad.1 (Check path) is)
+    | inr did ↦
+        let ends = subst (CommandEnds old new clock begun given o) (one_command words did.0 (Check path) did.1 is) did.2 in
+        checked old new o ends.0 (no_disk old new o run.disk none)
+  ]
+]
+
+-- `work` where no call of the disk failed
+worked : (old new : Device) (o : Outcome) → WorkCause old new o → (o ≡ DiskFault → ⊥) → (status_of o ≡ 0) ⊎ ((status_of o ≡ 2) ⊎ (status_of o ≡ 4))
+worked old new (Worked turns) cause held = inl refl
+worked old new NotStore cause held = inr (inl refl)
+worked old new (Damaged at) cause held = inr (inl refl)
+worked old new NoMemory cause held = inr (inr refl)
+worked old new DiskFault cause held = absurd (held refl)
+worked old new (Formatted blocks half media) cause held = absurd cause
+worked old new (Checked counts) cause held = absurd cause
+worked old new (Served requests changes skipped) cause held = absurd cause
+worked old new outcomes.Cut cause held = absurd cause
+worked old new BadWords cause held = absurd cause
+worked old new AlreadyStore cause held = absurd cause
+worked old new TooSmall cause held = absurd cause
+worked old new LinkFault cause held = absurd cause
+
+pub worked_whole : (words : List (List ℕ)) (old new : Device) (clock : Bool) (begun given : List ℕ) (o : Outcome) → RunEnds words old new clock begun given o
+    → (path : List ℕ) → IsCommand words (Work path) → NoneRose old new → (status_of o ≡ 0) ⊎ ((status_of o ≡ 2) ⊎ (status_of o ≡ 4))
+worked_whole words old new clock begun given o run path is none = elim run.cause [
+  | inl starved ↦ inr (inr (ap status_of starved.0))
+  | inr other ↦ elim other [
+    | inl bad ↦ absurd (bad.1 (Work path) is)
+    | inr did ↦
+        let ends = subst (CommandEnds old new clock begun given o) (one_command words did.0 (Work path) did.1 is) did.2 in
+        worked old new o ends.cause (no_disk old new o run.disk none)
   ]
 ]

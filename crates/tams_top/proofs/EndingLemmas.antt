@@ -1,106 +1,45 @@
--- What the status of a run says of its end. A status of another end is another number.
-use Rattle.std.proofs.Common.{◌≡◌, ◌≢◌, ◌<◌, ◌⊎◌, ℕ, Bool, true, false, IsTrue, List, length, refl, ap, subst, inl, inr, arith}
+-- What the status of a run says of its end, by that of its command.
+use Rattle.std.proofs.Common.{◌≡◌, ◌≢◌, ◌<◌, ◌⊎◌, ℕ, Bool, true, false, IsTrue, List, Err, refl, sym, ap, subst, inl, inr, arith}
 use Rattle.disk_trait.specs.Device.{Device, IsDevice, Left, Link}
 use Rattle.disk_trait.specs.Calls.{Rose}
 use Rattle.media_journal.specs.declared.header.Header.{Header}
 use Rattle.media_journal.specs.File.{HasOpenHeader}
-use Rattle.media_journal.specs.Formatting.{FitsStore}
 use Rattle.tams_top.specs.declared.outcome.Outcome.{Outcome}
-use Rattle.tams_top.specs.declared.outcome.Outcome.TheVariants.{Formatted, Served, Cut, BadWords, NotStore, AlreadyStore, TooSmall, Damaged, DiskFault, NoMemory, LinkFault}
+use Rattle.tams_top.specs.declared.outcome.Outcome.TheVariants.{Formatted, Checked, Worked, Served, Cut, BadWords, NotStore, AlreadyStore, TooSmall, Damaged, DiskFault, NoMemory, LinkFault}
 use Rattle.tams_top.specs.declared.words.Command.{Command}
-use Rattle.tams_top.specs.declared.words.Command.TheVariants.{Format, Replay, Serve}
+use Rattle.tams_top.specs.declared.words.Command.TheVariants.{Format, Check, Work, Replay, Serve}
 use Rattle.tams_top.specs.Words.{IsCommand}
-use Rattle.put_service.specs.Opening.{StandsForNone}
-use Rattle.put_service.specs.Serving.{IsSettled, beginning}
-use Rattle.put_service.specs.Store.{State, StandsFor, empty_rows}
-use Rattle.tams_top.specs.Histories.{BeginsFrom, NoPeer, OnePeer, Replayed, ServedAll}
-use Rattle.tams_top.specs.Running.{CommandEnds, FormatRunEnds, IsNoCommand, IsReplayFrom, IsServeFrom, LinkFaults, OpenedCause, RefusedFor, ReplayEnds, RunEnds, ServeEnds, ServesNobody, Untouched, formatted_state, no_peer_fault, status_of}
+use Rattle.media_store.specs.declared.fault.StoreFault.TheVariants as faults
+use Rattle.store_opening.specs.Laws.{DamagedStandsForNone}
+use Rattle.store_core.specs.Prepared.{counts_of}
+use Rattle.store_states.specs.States.{StandsFor, StoreState}
+use Rattle.tams_top.specs.Formatting.{formatted_state}
+use Rattle.tams_top.specs.Histories.{BeginsFrom, IsSettled, NoPeer, OnePeer, Replayed, ServedAll, beginning}
+use Rattle.tams_top.specs.Running.{CheckEnds, CommandEnds, FormatRunEnds, IsNoCommand, IsReplayFrom, IsServeFrom, IsWorkFrom, LinkFaults, OpenedCause, RefusedFor, ReplayEnds, RunEnds, ServeEnds, ServesNobody, Untouched, WorkCause, WorkEnds, no_peer_fault, status_of}
 use Rattle.tams_top.proofs.FormattingLemmas.{untouched_bare}
-use Rattle.tams_top.proofs.RunningLemmas.{no_peer, no_store}
+use Rattle.tams_top.proofs.RunningLemmas.{no_peer}
+use Rattle.tams_top.proofs.StatusLemmas.{check_done, check_only, check_refused, check_untouched, cut_by, format_done, format_only, format_refused, format_starved, link_fault_by, no_memory_by, opened_only, opened_refused, work_only, work_refused}
+use Rattle.tams_top.specs.Working.{WorkedOff}
 use Rattle.tams_top.proofs.WordTheorems.{one_command}
-
-module _ (old new : Device) (h : Header) where
-  format_refused : (o : Outcome) → FormatRunEnds old new h o → status_of o ≡ 2
-      → Untouched old new × (old.shows ≡ true → HasOpenHeader old.seen ⊎ ¬ (FitsStore h (length old.seen) empty_rows))
-  format_refused AlreadyStore ends s = (ends.1, λ shows. inl (ends.0 shows))
-  format_refused TooSmall ends s = (ends.1, λ shows. inr ((ends.0 shows).1))
-  format_refused NotStore ends s = absurd ends
-  format_refused (Damaged at) ends s = absurd ends
-  format_refused _ ends s = absurd (omega (arith, s))
-
-  format_done : (o : Outcome) → FormatRunEnds old new h o → status_of o ≡ 0 → old.shows ≡ true → StandsFor new.seen (formatted_state h)
-  format_done (Formatted blocks half media) ends s = ends.stands
-  format_done (Served requests changes skipped) ends s = absurd ends
-  format_done _ ends s = absurd (omega (arith, s))
-
-  format_starved : (o : Outcome) → FormatRunEnds old new h o → status_of o ≡ 4 → Untouched old new
-  format_starved NoMemory ends s = ends
-  format_starved LinkFault ends s = absurd ends
-  format_starved _ ends s = absurd (omega (arith, s))
-
-  format_only : (o : Outcome) → FormatRunEnds old new h o → old.shows ≡ true → HasOpenHeader old.seen ⊎ ¬ (FitsStore h (length old.seen) empty_rows)
-      → (status_of o ≡ 2) ⊎ ((status_of o ≡ 3) ⊎ (status_of o ≡ 4))
-  format_only (Formatted blocks half media) ends shows cause =
-      absurd (elim cause [ inl header ↦ ends.none shows header | inr misfit ↦ misfit (ends.fits shows) ])
-  format_only AlreadyStore ends shows cause = inl refl
-  format_only TooSmall ends shows cause = inl refl
-  format_only DiskFault ends shows cause = inr (inl refl)
-  format_only NoMemory ends shows cause = inr (inr refl)
-  format_only (Served requests changes skipped) ends shows cause = absurd ends
-  format_only Cut ends shows cause = absurd ends
-  format_only BadWords ends shows cause = absurd ends
-  format_only NotStore ends shows cause = absurd ends
-  format_only (Damaged at) ends shows cause = absurd ends
-  format_only LinkFault ends shows cause = absurd ends
-
-module _ (old new : Device) where
-  opened_refused : (o : Outcome) → OpenedCause old new o → status_of o ≡ 2 → Untouched old new × (old.shows ≡ true → StandsForNone old.seen)
-  opened_refused NotStore cause s = (cause.1, λ shows. no_store old.seen (cause.0 shows))
-  opened_refused (Damaged at) cause s = (cause.1, λ shows. (cause.0 shows).1)
-  opened_refused AlreadyStore cause s = absurd cause
-  opened_refused TooSmall cause s = absurd cause
-  opened_refused _ cause s = absurd (omega (arith, s))
-
-  opened_only : (o : Outcome) → OpenedCause old new o → old.shows ≡ true → StandsForNone old.seen → (status_of o ≡ 2) ⊎ ((status_of o ≡ 3) ⊎ (status_of o ≡ 4))
-  opened_only (Served requests changes skipped) cause shows none = let stood = cause shows in absurd (none stood.0 stood.1)
-  opened_only Cut cause shows none = let stood = cause shows in absurd (none stood.0 stood.1)
-  opened_only LinkFault cause shows none = let stood = cause shows in absurd (none stood.0 stood.1)
-  opened_only NotStore cause shows none = inl refl
-  opened_only (Damaged at) cause shows none = inl refl
-  opened_only DiskFault cause shows none = inr (inl refl)
-  opened_only NoMemory cause shows none = inr (inr refl)
-  opened_only (Formatted blocks half media) cause shows none = absurd cause
-  opened_only BadWords cause shows none = absurd cause
-  opened_only AlreadyStore cause shows none = absurd cause
-  opened_only TooSmall cause shows none = absurd cause
-
--- statuses of one outcome alone
-no_memory_by : (p : Outcome) → status_of p ≡ 4 → p ≡ NoMemory
-no_memory_by NoMemory e = refl
-no_memory_by _ e = absurd (omega (arith, e))
-
-link_fault_by : (p : Outcome) → status_of p ≡ 5 → p ≡ LinkFault
-link_fault_by LinkFault e = refl
-link_fault_by _ e = absurd (omega (arith, e))
-
-cut_by : (p : Outcome) → status_of p ≡ 6 → p ≡ Cut
-cut_by Cut e = refl
-cut_by _ e = absurd (omega (arith, e))
+use Rattle.tams_top.proofs.WorkingLemmas.{no_turns}
 
 module _ (words : List (List ℕ)) (old new : Device) (clock : Bool) (begun given : List ℕ) (o : Outcome) (run : RunEnds words old new clock begun given o) where
   -- a command that was refused
-  command_refused : (command : Command) → CommandEnds old new clock begun given o command → status_of o ≡ 2
+  command_refused : DamagedStandsForNone → (command : Command) → CommandEnds old new clock begun given o command → status_of o ≡ 2
       → Untouched old new × (old.shows ≡ true → RefusedFor old.seen command)
-  command_refused (Format path blocks half id) ends s = format_refused old new _ o ends.0 s
-  command_refused (Replay path base) ends s = opened_refused old new o ends.cause s
-  command_refused (Serve path port base connections) ends s = opened_refused old new o ends.cause s
+  command_refused damaged (Format path blocks half id) ends s = format_refused old new _ o ends.0 s
+  command_refused damaged (Check path) ends s = check_refused old new damaged o ends.0 s
+  command_refused damaged (Work path) ends s = work_refused old new damaged o ends.cause s
+  command_refused damaged (Replay path base) ends s = opened_refused old new damaged o ends.cause s
+  command_refused damaged (Serve path port base connections) ends s = opened_refused old new damaged o ends.cause s
 
-  pub run_refused : status_of o ≡ 2 → Untouched old new × ((command : Command) × IsCommand words command × (old.shows ≡ true → RefusedFor old.seen command))
-  run_refused s = elim run.cause [
+  pub run_refused : DamagedStandsForNone → status_of o ≡ 2
+      → Untouched old new × ((command : Command) × IsCommand words command × (old.shows ≡ true → RefusedFor old.seen command))
+  run_refused damaged s = elim run.cause [
     | inl starved ↦ absurd (omega (arith, s, ap status_of starved.0))
     | inr other ↦ elim other [
       | inl bad ↦ absurd (omega (arith, s, ap status_of bad.0))
-      | inr did ↦ let refused = command_refused did.0 did.2 s in (refused.0, (did.0, did.1, refused.1))
+      | inr did ↦ let refused = command_refused damaged did.0 did.2 s in (refused.0, (did.0, did.1, refused.1))
     ]
   ]
 
@@ -108,6 +47,8 @@ module _ (words : List (List ℕ)) (old new : Device) (clock : Bool) (begun give
   command_only : (command : Command) → CommandEnds old new clock begun given o command → old.shows ≡ true → RefusedFor old.seen command
       → (status_of o ≡ 2) ⊎ ((status_of o ≡ 3) ⊎ (status_of o ≡ 4))
   command_only (Format path blocks half id) ends shows cause = format_only old new _ o ends.0 shows cause
+  command_only (Check path) ends shows cause = check_only old new o ends.0 shows cause
+  command_only (Work path) ends shows cause = work_only old new o ends.cause shows cause
   command_only (Replay path base) ends shows cause = opened_only old new o ends.cause shows cause
   command_only (Serve path port base connections) ends shows cause = opened_only old new o ends.cause shows cause
 
@@ -149,36 +90,36 @@ module _ (words : List (List ℕ)) (old new : Device) (clock : Bool) (begun give
   ]
 
   -- there was no memory to read the words
-  no_words : o ≡ NoMemory → given ≡ begun → Untouched old new → IsDevice old → (from : State) → BeginsFrom from old clock
-      → NoPeer (beginning from old begun) new given o
-  no_words is none untouched sound from start =
-      let peer = no_peer old new clock begun NoMemory sound untouched tt from start in rw (is, none) peer
+  no_words : (base : List ℕ) → o ≡ NoMemory → given ≡ begun → Untouched old new → IsDevice old → (from : StoreState) → BeginsFrom from old clock
+      → NoPeer base (beginning from old begun) new given o
+  no_words base is none untouched sound from start =
+      let peer = no_peer base old new clock begun NoMemory sound untouched tt from start in rw (is, none) peer
 
   -- the history of a run of `replay`
-  pub run_replayed : IsDevice old → (from : State) → IsReplayFrom from words old clock
-      → Replayed (beginning from old begun) new given o
-  run_replayed sound from replay = elim run.cause [
-    | inl starved ↦ inr (no_words starved.0 starved.1 starved.2 sound from replay.begins)
+  pub run_replayed : IsDevice old → (base : List ℕ) (from : StoreState) → IsReplayFrom base from words old clock
+      → Replayed base (beginning from old begun) new given o
+  run_replayed sound base from replay = elim run.cause [
+    | inl starved ↦ inr (no_words base starved.0 starved.1 starved.2 sound from replay.begins)
     | inr other ↦ elim other [
-      | inl bad ↦ absurd (bad.1 (Replay replay.command.0 replay.command.1) replay.command.2)
+      | inl bad ↦ absurd (bad.1 (Replay replay.command.0 base) replay.command.1)
       | inr did ↦
-          let ends : ReplayEnds old new clock begun given o =
-          subst (CommandEnds old new clock begun given o) (one_command words did.0 (Replay replay.command.0 replay.command.1) did.1 replay.command.2) did.2 in
+          let ends : ReplayEnds base old new clock begun given o =
+          subst (CommandEnds old new clock begun given o) (one_command words did.0 (Replay replay.command.0 base) did.1 replay.command.1) did.2 in
           ends.history from replay.begins
     ]
   ]
 
   -- and that of one of `serve`
-  pub run_served : IsDevice old → (from : State) (connections : ℕ) → IsServeFrom from connections words old clock
-      → ServedAll (beginning from old begun) old new given connections o
-  run_served sound from connections serve = elim run.cause [
-    | inl starved ↦ inr (no_words starved.0 starved.1 starved.2 sound from serve.begins)
+  pub run_served : IsDevice old → (base : List ℕ) (from : StoreState) (connections : ℕ) → IsServeFrom base from connections words old clock
+      → ServedAll base (beginning from old begun) old new given connections o
+  run_served sound base from connections serve = elim run.cause [
+    | inl starved ↦ inr (no_words base starved.0 starved.1 starved.2 sound from serve.begins)
     | inr other ↦ elim other [
-      | inl bad ↦ absurd (bad.1 (Serve serve.command.0 serve.command.1 serve.command.2 connections) serve.command.3)
+      | inl bad ↦ absurd (bad.1 (Serve serve.command.0 serve.command.1 base connections) serve.command.2)
       | inr did ↦
-          let ends : ServeEnds old new clock begun given connections o =
+          let ends : ServeEnds base old new clock begun given connections o =
           subst (CommandEnds old new clock begun given o)
-          (one_command words did.0 (Serve serve.command.0 serve.command.1 serve.command.2 connections) did.1 serve.command.3) did.2 in
+          (one_command words did.0 (Serve serve.command.0 serve.command.1 base connections) did.1 serve.command.2) did.2 in
           ends.history from serve.begins
     ]
   ]
@@ -191,8 +132,16 @@ module _ (words : List (List ℕ)) (old new : Device) (clock : Bool) (begun give
   format_unlinked : (h : Header) → FormatRunEnds old new h o → o ≢ LinkFault
   format_unlinked h ends is = subst (FormatRunEnds old new h) is ends
 
+  check_unlinked : CheckEnds old new o → o ≢ LinkFault
+  check_unlinked ends is = subst (CheckEnds old new) is ends
+
+  work_unlinked : WorkCause old new o → o ≢ LinkFault
+  work_unlinked cause is = subst (WorkCause old new) is cause
+
   command_linked : (command : Command) → CommandEnds old new clock begun given o command → o ≡ LinkFault → Rose old.link.faults new.link.faults
   command_linked (Format path blocks half id) ends is = absurd (format_unlinked _ ends.0 is)
+  command_linked (Check path) ends is = absurd (check_unlinked ends.0 is)
+  command_linked (Work path) ends is = absurd (work_unlinked ends.cause is)
   command_linked (Replay path base) ends is = (subst (λ (p : Outcome). LinkFaults p old.link.faults new.link.faults) is ends.link).1
   command_linked (Serve path port base connections) ends is = ends.link is
 
@@ -214,6 +163,8 @@ module _ (words : List (List ℕ)) (old new : Device) (clock : Bool) (begun give
   replay_linked DiskFault faults rose = inl refl
   replay_linked NoMemory faults rose = inr (inl refl)
   replay_linked (Formatted blocks half media) faults rose = absurd (omega (arith, faults, rose))
+  replay_linked (Checked counts) faults rose = absurd (omega (arith, faults, rose))
+  replay_linked (Worked turns) faults rose = absurd (omega (arith, faults, rose))
   replay_linked (Served requests changes skipped) faults rose = absurd (omega (arith, faults, rose))
   replay_linked Cut faults rose = absurd (omega (arith, faults, rose))
   replay_linked BadWords faults rose = absurd (omega (arith, faults, rose))
@@ -229,7 +180,7 @@ module _ (words : List (List ℕ)) (old new : Device) (clock : Bool) (begun give
     | inr other ↦ elim other [
       | inl bad ↦ absurd (bad.1 (Replay path base) is)
       | inr did ↦
-          let ends : ReplayEnds old new clock begun given o =
+          let ends : ReplayEnds base old new clock begun given o =
           subst (CommandEnds old new clock begun given o) (one_command words did.0 (Replay path base) did.1 is) did.2 in
           replay_linked o ends.link rose
     ]
@@ -238,7 +189,7 @@ module _ (words : List (List ℕ)) (old new : Device) (clock : Bool) (begun give
   -- ---- what is said of `serve` alone
 
   module _ (path base : List ℕ) (port connections : ℕ) (is : IsCommand words (Serve path port base connections)) where
-    serve_ends : (did : Command) → IsCommand words did → CommandEnds old new clock begun given o did → ServeEnds old new clock begun given connections o
+    serve_ends : (did : Command) → IsCommand words did → CommandEnds old new clock begun given o did → ServeEnds base old new clock begun given connections o
     serve_ends did it ends =
         subst (CommandEnds old new clock begun given o) (one_command words did (Serve path port base connections) it is) ends
 
@@ -257,6 +208,8 @@ module _ (words : List (List ℕ)) (old new : Device) (clock : Bool) (begun give
     peers_failed LinkFault e = refl
     peers_failed DiskFault e = absurd cc
     peers_failed (Formatted blocks half media) e = absurd cc
+    peers_failed (Checked counts) e = absurd cc
+    peers_failed (Worked turns) e = absurd cc
     peers_failed (Served requests changes skipped) e = absurd cc
     peers_failed Cut e = absurd cc
     peers_failed BadWords e = absurd cc
@@ -305,12 +258,22 @@ module _ (words : List (List ℕ)) (old new : Device) (clock : Bool) (begun give
   format_words h BadWords ends s = ends
   format_words h _ ends s = omega (arith, s)
 
+  check_words : (p : Outcome) → CheckEnds old new p → status_of p ≢ 1
+  check_words BadWords ends s = ends
+  check_words _ ends s = omega (arith, s)
+
+  work_words : (p : Outcome) → WorkCause old new p → status_of p ≢ 1
+  work_words BadWords cause s = cause
+  work_words _ cause s = omega (arith, s)
+
   opened_words : (p : Outcome) → OpenedCause old new p → status_of p ≢ 1
   opened_words BadWords cause s = cause
   opened_words _ cause s = omega (arith, s)
 
   command_words : (command : Command) → CommandEnds old new clock begun given o command → status_of o ≢ 1
   command_words (Format path blocks half id) ends s = format_words _ o ends.0 s
+  command_words (Check path) ends s = check_words o ends.0 s
+  command_words (Work path) ends s = work_words o ends.cause s
   command_words (Replay path base) ends s = opened_words o ends.cause s
   command_words (Serve path port base connections) ends s = opened_words o ends.cause s
 
@@ -354,26 +317,87 @@ module _ (words : List (List ℕ)) (old new : Device) (clock : Bool) (begun give
     ]
   ]
 
+  -- `work` waits for nobody
+  module _ (path : List ℕ) (is : IsCommand words (Work path)) where
+    work_ends : (did : Command) → IsCommand words did → CommandEnds old new clock begun given o did → WorkEnds old new clock begun given o
+    work_ends did it ends = subst (CommandEnds old new clock begun given o) (one_command words did (Work path) it is) ends
+
+    pub run_alone : new.link ≡ old.link
+    run_alone = elim run.cause [
+      | inl starved ↦ starved.2.link
+      | inr other ↦ elim other [ inl bad ↦ absurd (bad.1 (Work path) is) | inr did ↦ (work_ends did.0 did.1 did.2).link ]
+    ]
+
+  -- and its turns have a history
+  pub run_worked : IsDevice old → (from : StoreState) → IsWorkFrom from words old clock → WorkedOff (beginning from old begun) new given o
+  run_worked sound from work = elim run.cause [
+    | inl starved ↦
+        rw (starved.0, starved.1)
+        (record { end = Err faults.Memory; worked = no_turns old new clock begun (Err faults.Memory) sound starved.2 from work.begins refl; outcome_is = refl })
+    | inr other ↦ elim other [
+      | inl bad ↦ absurd (bad.1 (Work work.command.0) work.command.1)
+      | inr did ↦ (work_ends work.command.0 work.command.1 did.0 did.1 did.2).history from work.begins
+    ]
+  ]
+
+  -- `check` writes nothing and waits for nobody
+  module _ (path : List ℕ) (is : IsCommand words (Check path)) where
+    check_ends : (did : Command) → IsCommand words did → CommandEnds old new clock begun given o did → CheckEnds old new o × (given ≡ begun)
+    check_ends did it ends = subst (CommandEnds old new clock begun given o) (one_command words did (Check path) it is) ends
+
+    pub run_unwritten : Untouched old new × (given ≡ begun)
+    run_unwritten = elim run.cause [
+      | inl starved ↦ (starved.2, starved.1)
+      | inr other ↦ elim other [
+        | inl bad ↦ absurd (bad.1 (Check path) is)
+        | inr did ↦ let ends = check_ends did.0 did.1 did.2 in (check_untouched old new o ends.0, ends.1)
+      ]
+    ]
+
+    -- and finds what the file has
+    pub run_checked : status_of o ≡ 0 → old.shows ≡ true → (from : StoreState) → StandsFor old.seen from → o ≡ Checked (counts_of from.archive.library)
+    run_checked s shows from stands = elim run.cause [
+      | inl starved ↦ absurd (omega (arith, s, ap status_of starved.0))
+      | inr other ↦ elim other [
+        | inl bad ↦ absurd (bad.1 (Check path) is)
+        | inr did ↦ check_done old new o (check_ends did.0 did.1 did.2).0 s shows from stands
+      ]
+    ]
+
   -- a run that ended for want of memory
   pub run_starved : status_of o ≡ 4 → ServesNobody old new begun given
-      ⊎ ((from : State) → IsReplayFrom from words old clock → OnePeer (beginning from old begun) new given NoMemory)
+      ⊎ (((path : List ℕ) × IsCommand words (Work path))
+      ⊎ ((base : List ℕ) (from : StoreState) → IsReplayFrom base from words old clock → OnePeer base (beginning from old begun) new given NoMemory))
   run_starved s = elim run.cause [
     | inl starved ↦ inl (record { link = starved.2.link; given_is = starved.1 })
     | inr other ↦ elim other [
       | inl bad ↦ inl (record { link = bad.2.link; given_is = bad.3 })
-      | inr did ↦ command_starved did.0 did.2 s
+      | inr did ↦ command_starved did.0 did.1 did.2 s
     ]
   ]
     where
-      command_starved : (command : Command) → CommandEnds old new clock begun given o command → status_of o ≡ 4 → ServesNobody old new begun given
-          ⊎ ((from : State) → IsReplayFrom from words old clock → OnePeer (beginning from old begun) new given NoMemory)
-      command_starved (Format path blocks half id) ends s = inl ends.2
-      command_starved (Replay path base) ends s =
+      -- a base is that of the words
+      same_base : (path base : List ℕ) (from : StoreState) → IsCommand words (Replay path base) → (other : List ℕ)
+          → IsReplayFrom other from words old clock → other ≡ base
+      same_base path base from is other replay =
+          let same : Replay replay.command.0 other ≡ Replay path base =
+          one_command words (Replay replay.command.0 other) (Replay path base) replay.command.1 is in
+          cc
+
+      command_starved : (command : Command) → IsCommand words command → CommandEnds old new clock begun given o command → status_of o ≡ 4
+          → ServesNobody old new begun given
+          ⊎ (((path : List ℕ) × IsCommand words (Work path))
+          ⊎ ((base : List ℕ) (from : StoreState) → IsReplayFrom base from words old clock → OnePeer base (beginning from old begun) new given NoMemory))
+      command_starved (Format path blocks half id) it ends s = inl ends.2
+      command_starved (Check path) it ends s = inl (record { link = (check_untouched old new o ends.0).link; given_is = ends.1 })
+      command_starved (Work path) it ends s = inr (inl (path, it))
+      command_starved (Replay path base) it ends s =
           let is = no_memory_by o s in
           elim (ends.starved is) [
             | inl nobody ↦ inl nobody
             | inr served ↦
-                inr (λ from replay.
-                subst (OnePeer (beginning from old begun) new given) is (served from replay.begins))
+                inr (inr (λ other from replay.
+                subst (λ (word : List ℕ). OnePeer word (beginning from old begun) new given NoMemory) (sym (same_base path base from it other replay))
+                (subst (OnePeer base (beginning from old begun) new given) is (served from replay.begins))))
           ]
-      command_starved (Serve path port base connections) ends s = inl (ends.starved (no_memory_by o s))
+      command_starved (Serve path port base connections) it ends s = inl (ends.starved (no_memory_by o s))

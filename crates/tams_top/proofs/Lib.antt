@@ -1,8 +1,12 @@
+mod BeginningLemmas
+mod CheckLemmas
 mod CompletenessLemmas
 mod EndingLemmas
 mod FormattingLemmas
 mod NoteLemmas
 mod RunningLemmas
 mod ServedLemmas
+mod StatusLemmas
 mod WordLemmas
 pub mod WordTheorems
+mod WorkingLemmas

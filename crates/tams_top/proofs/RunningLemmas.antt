@@ -6,7 +6,6 @@ use Rattle.disk_trait.specs.Calls.{DiskReads, Rose}
 use Rattle.site_edge.specs.Clocks.{IsMoment}
 use Rattle.media_journal.specs.declared.fault.JournalFault.{JournalFault}
 use Rattle.media_journal.specs.declared.fault.JournalFault.TheVariants as opening
-use Rattle.media_journal.specs.Answers.{not_disk}
 use Rattle.media_journal.specs.Opening.{IsStore}
 use Rattle.media_journal.proofs.OpeningLemmas.{is_store}
 use Rattle.run_history.specs.Serving.{Counts}
@@ -14,15 +13,14 @@ use Rattle.connection_loop.specs.declared.run.RunEnd.{RunEnd}
 use Rattle.connection_loop.specs.declared.run.RunEnd.TheVariants.{Complete, NoMore, Unlinked, Stopped}
 use Rattle.connection_loop.specs.Loops.{RunCalls, run_disk_held, run_peers_held}
 use Rattle.connection_loop.proofs.Turning.{counted_none}
-use Rattle.put_service.specs.declared.service.PutService.{PutService}
-use Rattle.put_service.specs.Opening.{ServiceAnswer, StandsForNone}
-use Rattle.put_service.specs.Serving.{beginning}
-use Rattle.put_service.specs.Store.{State}
-use Rattle.put_service.proofs.BeginningLemmas.{begun_served}
+use Rattle.store_opening.specs.Laws.{DamagedStandsForNone}
+use Rattle.store_opening.specs.Opening.{StoreAnswer}
+use Rattle.store_states.specs.States.{StoreState}
 use Rattle.tams_top.specs.declared.outcome.Outcome.{Outcome}
 use Rattle.tams_top.specs.declared.outcome.Outcome.TheVariants.{Cut, DiskFault, LinkFault, NoMemory}
-use Rattle.tams_top.specs.Histories.{BeginsFrom, EndsWithoutPeer, NoPeer, serve_outcome}
-use Rattle.tams_top.specs.Running.{LinkFaults, OpenedCause, ReplayEnds, ServeEnds, StandsForOne, Untouched, no_disk_fault, no_peer_fault, opening_outcome}
+use Rattle.tams_top.specs.Histories.{BeginsFrom, EndsWithoutPeer, NoPeer, beginning, serve_outcome}
+use Rattle.tams_top.specs.Running.{LinkFaults, OpenedCause, ReplayEnds, ServeEnds, StandsForNone, StandsForOne, Untouched, no_disk_fault, no_peer_fault, opening_outcome}
+use Rattle.tams_top.proofs.BeginningLemmas.{begun_served}
 
 -- an image that is no store stands for no state
 pub no_store : (image : List ℕ) → ¬ (IsStore image) → StandsForNone image
@@ -31,11 +29,11 @@ no_store image none s stands =
     none (is_store image stands.header stands.reads.header (omega (arith, sizes.some_half, sizes.fits, sizes.within)))
 
 -- nothing was served, and nothing changed
-pub no_peer : (old new : Device) (clock : Bool) (begun : List ℕ) (o : Outcome) → IsDevice old → Untouched old new → EndsWithoutPeer new o → (from : State)
-    → BeginsFrom from old clock → NoPeer (beginning from old begun) new begun o
-no_peer old new clock begun o sound untouched ends from start =
+pub no_peer : (base : List ℕ) (old new : Device) (clock : Bool) (begun : List ℕ) (o : Outcome) → IsDevice old → Untouched old new
+    → EndsWithoutPeer new o → (from : StoreState) → BeginsFrom from old clock → NoPeer base (beginning from old begun) new begun o
+no_peer base old new clock begun o sound untouched ends from start =
     let begins =
-    begun_served old new from begun sound start.tells.honest start.tells.tells start.settled start.stands untouched.time untouched.link in
+    begun_served base old new from begun sound start.tells.honest start.tells.tells start.settled start.stands untouched.time untouched.link in
     record {
       runs = record {
         ran = record {
@@ -44,10 +42,11 @@ no_peer old new clock begun o sound untouched ends from start =
           given_is = begins.given_is;
           served = begins.served;
           right = begins.reached.right;
-          stands = rw untouched.seen start.stands;
+          stands = rw untouched.seen (record { room = from.room; stands = start.stands });
           good = begins.good;
         };
         moments = All-nil IsMoment;
+        bytes = (tt, tt);
       };
       ends = ends;
     }
@@ -55,7 +54,7 @@ no_peer old new clock begun o sound untouched ends from start =
 -- ---- opening failed
 
 abbrev pub Answers : Device → JournalFault → Type 0
-Answers old fault = old.shows ≡ true → ServiceAnswer old.seen (Err fault)
+Answers old fault = old.shows ≡ true → StoreAnswer old.seen (Err fault)
 
 refused_cause : (old new : Device) (fault : JournalFault) → Untouched old new → Answers old fault → OpenedCause old new (opening_outcome fault)
 refused_cause old new opening.NotStore untouched answer = (answer, untouched)
@@ -63,17 +62,17 @@ refused_cause old new (opening.Damaged at) untouched answer = (answer, untouched
 refused_cause old new opening.Disk untouched answer = tt
 refused_cause old new opening.Memory untouched answer = tt
 
-refused_history : (old new : Device) (clock : Bool) (begun : List ℕ) (fault : JournalFault) → IsDevice old → Untouched old new
-    → Answers old fault → (from : State) → BeginsFrom from old clock
-    → NoPeer (beginning from old begun) new begun (opening_outcome fault)
-refused_history old new clock begun opening.NotStore sound untouched answer from start =
+refused_history : (base : List ℕ) (old new : Device) (clock : Bool) (begun : List ℕ) (fault : JournalFault) → DamagedStandsForNone → IsDevice old
+    → Untouched old new → Answers old fault → (from : StoreState) → BeginsFrom from old clock
+    → NoPeer base (beginning from old begun) new begun (opening_outcome fault)
+refused_history base old new clock begun opening.NotStore damaged sound untouched answer from start =
     absurd (no_store old.seen (answer start.tells.shows) from start.stands)
-refused_history old new clock begun (opening.Damaged at) sound untouched answer from start =
-    absurd ((answer start.tells.shows).1 from start.stands)
-refused_history old new clock begun opening.Disk sound untouched answer from start =
-    no_peer old new clock begun DiskFault sound untouched tt from start
-refused_history old new clock begun opening.Memory sound untouched answer from start =
-    no_peer old new clock begun NoMemory sound untouched tt from start
+refused_history base old new clock begun (opening.Damaged at) damaged sound untouched answer from start =
+    absurd (damaged old.seen at from (answer start.tells.shows).1 start.stands)
+refused_history base old new clock begun opening.Disk damaged sound untouched answer from start =
+    no_peer base old new clock begun DiskFault sound untouched tt from start
+refused_history base old new clock begun opening.Memory damaged sound untouched answer from start =
+    no_peer base old new clock begun NoMemory sound untouched tt from start
 
 refused_link : (fault : JournalFault) (before now : ℕ) → now ≡ before → LinkFaults (opening_outcome fault) before now
 refused_link opening.NotStore before now same = same
@@ -99,33 +98,28 @@ refused_uncut (opening.Damaged at) e = absurd cc
 refused_uncut opening.Disk e = absurd cc
 refused_uncut opening.Memory e = absurd cc
 
-pub refused_disk : (fault : JournalFault) → no_disk_fault (opening_outcome fault) ≡ not_disk {T = PutService} (Err fault)
-refused_disk opening.NotStore = refl
-refused_disk (opening.Damaged at) = refl
-refused_disk opening.Disk = refl
-refused_disk opening.Memory = refl
-
-module _ (old new : Device) (clock : Bool) (begun : List ℕ) (fault : JournalFault)
+module _ (base : List ℕ) (old new : Device) (clock : Bool) (begun : List ℕ) (fault : JournalFault) (ok : Bool)
+    (damaged : DamagedStandsForNone)
     (sound : IsDevice old)
-    (reads : DiskReads (not_disk {T = PutService} (Err fault)) old new)
+    (reads : DiskReads ok old new)
     (answer : Answers old fault) where
   untouched : Untouched old new
   untouched = record { seen = reads.seen; handed = reads.handed; link = reads.calls.link; time = reads.time }
 
-  pub replay_refused : ReplayEnds old new clock begun begun (opening_outcome fault)
+  pub replay_refused : ReplayEnds base old new clock begun begun (opening_outcome fault)
   replay_refused = record {
     cause = refused_cause old new fault untouched answer;
     link = refused_link fault old.link.faults new.link.faults (ap (λ (l : Link). l.faults) reads.calls.link);
-    history = λ from start. inr (refused_history old new clock begun fault sound untouched answer from start);
+    history = λ from start. inr (refused_history base old new clock begun fault damaged sound untouched answer from start);
     starved = λ e. inl (record { link = reads.calls.link; given_is = refl });
   }
 
-  pub serve_refused : (connections : ℕ) → ServeEnds old new clock begun begun connections (opening_outcome fault)
+  pub serve_refused : (connections : ℕ) → ServeEnds base old new clock begun begun connections (opening_outcome fault)
   serve_refused connections = record {
     cause = refused_cause old new fault untouched answer;
     peers = rw (refused_peers fault) (counted_none old.link.peer_faults new.link.peer_faults (ap (λ (l : Link). l.peer_faults) reads.calls.link));
     link = λ e. absurd (refused_unlinked fault e);
-    history = λ from start. inr (refused_history old new clock begun fault sound untouched answer from start);
+    history = λ from start. inr (refused_history base old new clock begun fault damaged sound untouched answer from start);
     starved = λ e. record { link = reads.calls.link; given_is = refl };
     uncut = refused_uncut fault;
   }

@@ -1,9 +1,12 @@
 -- What was served is a run by one history.
 use Rattle.std.proofs.Common.{◌≡◌, ◌≤◌, ℕ, Bool, true, false, List, [], ◌∷◌, ◌++◌, All, if◌then◌else◌, nat_lt, refl, sym, ap, ap₂, ◌∙◌, subst, inl, inr, arith}
 use Rattle.std.proofs.lemmas.List.{append_cancel_left}
+use Rattle.std.specs.Prelude.{IsTrue}
+use Rattle.std.proofs.lemmas.Bool.Decides.{nat_tests}
 use Rattle.disk_trait.specs.Device.{Device, IsDevice, Link}
 use Rattle.disk_trait.specs.Calls.{DiskReads, SameDevice}
 use Rattle.site_edge.specs.Clocks.{IsMoment}
+use Rattle.media_rows.specs.Moments.{is_moment}
 use Rattle.run_history.specs.Runs.{Beginning}
 use Rattle.run_history.specs.Sessions.{Session, all_moments}
 use Rattle.run_history.specs.Serving.{Counts, HasServed}
@@ -18,30 +21,34 @@ use Rattle.connection_loop.specs.Loops.{AreCounted, HasEnded, NextCalls, NextLea
 use Rattle.connection_loop.specs.Tallies.{nothing_counted}
 use Rattle.connection_loop.proofs.Turning.{tells_later}
 use Rattle.connection_loop.specs.Turns.{GivesMore, IsBetween, TellsAll}
-use Rattle.put_service.specs.declared.service.PutService.{PutService}
-use Rattle.put_service.specs.Keeping.{KeepsState}
-use Rattle.put_service.specs.Machine.{PutRequest, put_machine}
-use Rattle.put_service.specs.Opening.{Keeps, state_of}
-use Rattle.put_service.specs.Serving.{Begins, beginning}
-use Rattle.put_service.specs.Store.{State}
-use Rattle.put_service.proofs.BeginningLemmas.{stands_of}
+use Rattle.store_opening.specs.Opening.{IsKept, kept_bytes}
+use Rattle.store_opening.proofs.Kept.{kept_stands}
+use Rattle.store_states.specs.Kept.{StoreView, kept_state}
+use Rattle.store_states.specs.States.{StoreState}
+use Rattle.tams_histories.specs.Along.{RunsKeepBytes}
+use Rattle.tams_machine.specs.Machine.{tams_machine}
+use Rattle.tams_machine.specs.Requests.{TamsRequest}
 use Rattle.tams_top.specs.declared.outcome.Outcome.{Outcome}
 use Rattle.tams_top.specs.declared.outcome.Outcome.TheVariants.{LinkFault, NoMemory}
-use Rattle.tams_top.specs.Histories.{BeginsFrom, OnePeer, Replayed, RunsAs, ServedAll, replay_outcome, serve_outcome, served_with}
+use Rattle.tams_top.specs.Histories.{BeginsFrom, OnePeer, Replayed, RunsAs, ServedAll, beginning, replay_outcome, serve_outcome, served_with}
 use Rattle.tams_top.specs.Running.{LinkFaults, OpenedCause, ReplayEnds, ServeEnds, StandsForOne, no_disk_fault}
+use Rattle.tams_top.proofs.BeginningLemmas.{begun_served}
 use Rattle.tams_top.proofs.RunningLemmas.{serve_cause, serve_fed, serve_link, serve_peers, serve_uncut}
 
+times : (moments : List ℕ) → All IsMoment moments → All (λ (moment : ℕ). IsTrue (is_moment moment)) moments
+times moments all k d few = let time = all k d few in grind (arith, nat_tests, time)
+
 -- the moments of a history are those that the clock gave
-pub runs_as : (b : Beginning State) (d : Device) (begun given : List ℕ) (sessions : List (Session PutRequest)) (n : Counts)
-    → HasServed put_machine b d given sessions n → IsDevice d → d.honest ≡ true → d.shows ≡ true → d.tells ≡ true → b.given ≡ begun
-    → GivesMore begun given → RunsAs b sessions d given
-runs_as b d begun given sessions n h sound honest shows tells first more =
-    let moments = all_moments put_machine (start_of b.state) sessions in
+pub runs_as : RunsKeepBytes → (base : List ℕ) (b : Beginning StoreState) (d : Device) (begun given : List ℕ) (sessions : List (Session TamsRequest))
+    (n : Counts)
+    → HasServed (tams_machine base) b d given sessions n → IsDevice d → d.honest ≡ true → d.shows ≡ true → d.tells ≡ true → b.given ≡ begun
+    → GivesMore begun given → RunsAs base b sessions d given
+runs_as law base b d begun given sessions n h sound honest shows tells first more =
+    let moments = all_moments (tams_machine base) (start_of b.state) sessions in
     let same : b.given ++ more.more ≡ b.given ++ moments = ap (λ l. l ++ more.more) first ∙ sym more.given_is ∙ h.given_is in
-    record {
-      ran = has_run put_machine b d given sessions n h sound honest shows tells;
-      moments = subst (All IsMoment) (append_cancel_left b.given more.more moments same) more.moments;
-    }
+    let ran = has_run (tams_machine base) b d given sessions n h sound honest shows tells in
+    let given_are : All IsMoment moments = subst (All IsMoment) (append_cancel_left b.given more.more moments same) more.moments in
+    record { ran = ran; moments = given_are; bytes = law base b.state sessions ran.good (times moments given_are) }
 
 -- ---- one connection
 
@@ -94,135 +101,118 @@ next_cause old new (Ended endings.Unlinked) n stood = unless_cause old new (nat_
 next_cause old new (Ended endings.Starved) n stood = tt
 next_cause old new (Ended endings.Stopped) n stood = tt
 
--- what a service that was opened leads to
-abbrev pub Leads : Device → Device → Bool → List ℕ → List ℕ → PutService → (State → Type 0) → Counts → Next → Type 0
-Leads opened new clock begun given s keeps n next =
-    TellsAll opened clock → (b : Beginning State) → (sessions : List (Session PutRequest))
-    → IsBetween put_machine b opened begun (KeepsState s.store opened) sessions nothing_counted
-    → NextLeads put_machine b new given keeps sessions n next
+-- The file stood for what is kept.
+pub stood_for : (old : Device) (kept : StoreView) → (old.shows ≡ true → IsKept old.seen kept) → old.shows ≡ true → StandsForOne old.seen
+stood_for old kept answer shows = (kept_state kept (kept_bytes old.seen kept), kept_stands old.seen kept (answer shows))
 
-module _ (old opened new : Device) (clock : Bool) (begun given : List ℕ) (s : PutService) (keeps : State → Type 0) (n : Counts)
-    (sound : IsDevice new)
-    (same_opened : SameDevice old opened)
-    (same : SameDevice opened new)
-    (begins : Begins old opened s)
-    (more : clock ≡ true → GivesMore begun given) where
-  -- a run begins with what was opened
-  between : (from : State) → BeginsFrom from old clock
-      → IsBetween put_machine (beginning from old begun) opened begun (KeepsState s.store opened) [] nothing_counted
-  between from start =
-      begins from begun (record { honest = start.tells.honest; shows = start.tells.shows; tells = start.tells.tells; clock_tells = refl }) start.settled
-      start.stands
-
-  tells_new : (from : State) → BeginsFrom from old clock → TellsAll new clock
-  tells_new from start = tells_later opened new clock same (tells_later old opened clock same_opened start.tells)
-
-  -- the history of connections that were served
-  as_run : (from : State) → BeginsFrom from old clock → (sessions : List (Session PutRequest)) (m : Counts)
-      → HasServed put_machine (beginning from old begun) new given sessions m → RunsAs (beginning from old begun) sessions new given
-  as_run from start sessions m served =
-      let all = tells_new from start in
-      runs_as (beginning from old begun) new begun given sessions m served sound all.honest all.shows all.tells refl (more all.clock_tells)
-
-  -- one that came
-  pub one_peer : (ending : Ending) → Leads opened new clock begun given s keeps n (Ended ending) → (from : State) → BeginsFrom from old clock
-      → OnePeer (beginning from old begun) new given (replay_outcome ending n)
-  one_peer ending leads from start =
-      let ended = leads (tells_later old opened clock same_opened start.tells) (beginning from old begun) [] (between from start) in
-      record {
-        session = ended.session;
-        runs = as_run from start (ended.session ∷ []) n ended.served;
-        outcome_is = ap₂ replay_outcome ended.ending_is ended.served.counts;
-      }
-
-  -- a run of `replay`
-  pub replayed : (next : Next) → Leads opened new clock begun given s keeps n next → (from : State) → BeginsFrom from old clock
-      → Replayed (beginning from old begun) new given (next_outcome next n)
-  replayed (Ended ending) leads from start = inl (one_peer ending leads from start)
-  replayed NoMore leads from start =
-      let none = leads (tells_later old opened clock same_opened start.tells) (beginning from old begun) [] (between from start) in
-      let counts = none.0.served.counts in
-      inr record {
-        runs = as_run from start [] n none.0.served;
-        ends = (ap (λ (k : Counts). k.answers) counts, ap (λ (k : Counts). k.changes) counts, ap (λ (k : Counts). k.skipped) counts, none.1);
-      }
-  replayed Unlinked leads from start =
-      let none = leads (tells_later old opened clock same_opened start.tells) (beginning from old begun) [] (between from start) in
-      inr record { runs = as_run from start [] n none.served; ends = tt }
-
-  -- which ends for want of memory only with a request of its connection, or the turn behind it
-  pub starved_peer : (next : Next) → Leads opened new clock begun given s keeps n next → next_outcome next n ≡ NoMemory → (from : State)
-      → BeginsFrom from old clock → OnePeer (beginning from old begun) new given (next_outcome next n)
-  starved_peer (Ended ending) leads is from start = one_peer ending leads from start
-  starved_peer NoMore leads is from start = absurd cc
-  starved_peer Unlinked leads is from start = absurd cc
-
--- a run of `serve`
-pub served_all : (old opened new : Device) (clock : Bool) (begun given : List ℕ) (s : PutService) (n : Counts) → IsDevice new → SameDevice old opened
-    → SameDevice opened new → Begins old opened s → (clock ≡ true → GivesMore begun given) → (end : RunEnd) (connections : ℕ)
-    → old.link.faults ≡ opened.link.faults
-    → (TellsAll opened clock → (b : Beginning State)
-    → IsBetween put_machine b opened begun (KeepsState s.store opened) [] nothing_counted
-    → HasEnded put_machine b opened new given n connections end)
-    → (from : State) → BeginsFrom from old clock → ServedAll (beginning from old begun) old new given connections (serve_outcome end n)
-served_all old opened new clock begun given s n sound same_opened same begins more end connections faults leads from start =
-    let between =
-    begins from begun (record { honest = start.tells.honest; shows = start.tells.shows; tells = start.tells.tells; clock_tells = refl }) start.settled
-    start.stands in
-    let all_opened = tells_later old opened clock same_opened start.tells in
-    let all = tells_later opened new clock same all_opened in
-    let ended = leads all_opened (beginning from old begun) between in
-    inl record {
-      sessions = ended.sessions;
-      end = end;
-      runs = runs_as (beginning from old begun) new begun given ended.sessions n ended.served sound all.honest all.shows all.tells refl (more all.clock_tells);
-      ends = ended.ends;
-      outcome_is = ap (serve_outcome end) ended.served.counts;
-      counted = subst (λ (x : ℕ). AreCounted x new.link.faults ended.sessions) (sym faults) ended.counted;
-    }
-
--- ---- the ends of both commands
-
-module _ (old opened new : Device) (clock : Bool) (begun given : List ℕ) (s : PutService) (keeps : State → Type 0) (n : Counts)
+module _ (base : List ℕ) (old opened new : Device) (clock : Bool) (begun given : List ℕ) (kept : StoreView) (keeps_first : StoreState → Type 0) (n : Counts)
+    (law : RunsKeepBytes)
+    (sound_old : IsDevice old)
     (sound : IsDevice new)
     (reads : DiskReads true old opened)
-    (answer : old.shows ≡ true → Keeps old.seen s.store)
-    (begins : Begins old opened s)
+    (same : SameDevice opened new)
+    (answer : old.shows ≡ true → IsKept old.seen kept)
+    (keeps : (from : StoreState) → BeginsFrom from old clock → keeps_first from)
     (more : clock ≡ true → GivesMore begun given) where
-  stood : old.shows ≡ true → StandsForOne old.seen
-  stood shows = (state_of s.store, stands_of old.seen s.store (answer shows))
+  -- a run begins with what was opened
+  between : (from : StoreState) → BeginsFrom from old clock
+      → IsBetween (tams_machine base) (beginning from old begun) opened begun keeps_first [] nothing_counted
+  between from start = record {
+    served = begun_served base old opened from begun sound_old start.tells.honest start.tells.tells start.settled start.stands reads.time reads.calls.link;
+    unstopped = refl;
+    kept = keeps from start;
+  }
+
+  tells_opened : (from : StoreState) → BeginsFrom from old clock → TellsAll opened clock
+  tells_opened from start = tells_later old opened clock reads.calls.same start.tells
+
+  -- the history of connections that were served
+  as_run : (from : StoreState) → BeginsFrom from old clock → (sessions : List (Session TamsRequest)) (m : Counts)
+      → HasServed (tams_machine base) (beginning from old begun) new given sessions m → RunsAs base (beginning from old begun) sessions new given
+  as_run from start sessions m served =
+      let all = tells_later opened new clock same (tells_opened from start) in
+      runs_as law base (beginning from old begun) new begun given sessions m served sound all.honest all.shows all.tells refl (more all.clock_tells)
 
   faults-opened : old.link.faults ≡ opened.link.faults
   faults-opened = ap (λ (l : Link). l.faults) (sym reads.calls.link)
 
-  pub replay_ends : (next : Next) → NextCalls next opened new → Leads opened new clock begun given s keeps n next
-      → ReplayEnds old new clock begun given (next_outcome next n)
-  replay_ends next calls leads = record {
-    cause = next_cause old new next n stood;
-    link = rw faults-opened (next_link next n opened.link.faults new.link.faults calls.link_faults);
-    history = replayed old opened new clock begun given s keeps n sound reads.calls.same calls.same begins more next leads;
-    starved = λ e. inr (starved_peer old opened new clock begun given s keeps n sound reads.calls.same calls.same begins more next leads e);
-  }
+  -- ---- `replay`
 
-module _ (old opened new : Device) (clock : Bool) (begun given : List ℕ) (s : PutService) (n : Counts)
-    (sound : IsDevice new)
-    (reads : DiskReads true old opened)
-    (answer : old.shows ≡ true → Keeps old.seen s.store)
-    (begins : Begins old opened s)
-    (more : clock ≡ true → GivesMore begun given) where
-  pub serve_ends : (end : RunEnd) (connections : ℕ) → RunCalls end opened new
-      → (TellsAll opened clock → (b : Beginning State)
-      → IsBetween put_machine b opened begun (KeepsState s.store opened) [] nothing_counted
-      → HasEnded put_machine b opened new given n connections end)
-      → ServeEnds old new clock begun given connections (serve_outcome end n)
-  serve_ends end connections calls leads =
-      let peers : old.link.peer_faults ≡ opened.link.peer_faults = ap (λ (l : Link). l.peer_faults) (sym reads.calls.link) in
-      let faults : old.link.faults ≡ opened.link.faults = ap (λ (l : Link). l.faults) (sym reads.calls.link) in
-      record {
-        cause = serve_cause old new end n (λ shows. (state_of s.store, stands_of old.seen s.store (answer shows)));
-        peers = rw (serve_peers end n, peers) calls.peer_faults;
-        link = serve_link end n old opened new faults calls;
-        history = served_all old opened new clock begun given s n sound reads.calls.same calls.same begins more end connections faults leads;
-        starved = λ e. absurd (serve_fed end n e);
-        uncut = serve_uncut end n;
-      }
+  module _ (keeps_last : StoreState → Type 0) where
+    -- what the service leads to
+    abbrev pub Leads : Next → Type 0
+    Leads next = TellsAll opened clock → (b : Beginning StoreState) → (sessions : List (Session TamsRequest))
+        → IsBetween (tams_machine base) b opened begun keeps_first sessions nothing_counted
+        → NextLeads (tams_machine base) b new given keeps_last sessions n next
+
+    -- one that came
+    one_peer : (ending : Ending) → Leads (Ended ending) → (from : StoreState) → BeginsFrom from old clock
+        → OnePeer base (beginning from old begun) new given (replay_outcome ending n)
+    one_peer ending leads from start =
+        let ended = leads (tells_opened from start) (beginning from old begun) [] (between from start) in
+        record {
+          session = ended.session;
+          runs = as_run from start (ended.session ∷ []) n ended.served;
+          outcome_is = ap₂ replay_outcome ended.ending_is ended.served.counts;
+        }
+
+    -- its history
+    replayed : (next : Next) → Leads next → (from : StoreState) → BeginsFrom from old clock
+        → Replayed base (beginning from old begun) new given (next_outcome next n)
+    replayed (Ended ending) leads from start = inl (one_peer ending leads from start)
+    replayed NoMore leads from start =
+        let none = leads (tells_opened from start) (beginning from old begun) [] (between from start) in
+        let counts = none.0.served.counts in
+        inr record {
+          runs = as_run from start [] n none.0.served;
+          ends = (ap (λ (k : Counts). k.answers) counts, ap (λ (k : Counts). k.changes) counts, ap (λ (k : Counts). k.skipped) counts, none.1);
+        }
+    replayed Unlinked leads from start =
+        let none = leads (tells_opened from start) (beginning from old begun) [] (between from start) in
+        inr record { runs = as_run from start [] n none.served; ends = tt }
+
+    -- which ends for want of memory only with a request of its connection, or the turn behind it
+    starved_peer : (next : Next) → Leads next → next_outcome next n ≡ NoMemory → (from : StoreState) → BeginsFrom from old clock
+        → OnePeer base (beginning from old begun) new given (next_outcome next n)
+    starved_peer (Ended ending) leads is from start = one_peer ending leads from start
+    starved_peer NoMore leads is from start = absurd cc
+    starved_peer Unlinked leads is from start = absurd cc
+
+    pub replay_ends : (next : Next) → NextCalls next opened new → Leads next → ReplayEnds base old new clock begun given (next_outcome next n)
+    replay_ends next calls leads = record {
+      cause = next_cause old new next n (stood_for old kept answer);
+      link = rw faults-opened (next_link next n opened.link.faults new.link.faults calls.link_faults);
+      history = replayed next leads;
+      starved = λ e. inr (starved_peer next leads e);
+    }
+
+  -- ---- `serve`
+
+  module _ (end : RunEnd) (connections : ℕ)
+      (calls : RunCalls end opened new)
+      (leads : TellsAll opened clock → (b : Beginning StoreState) → IsBetween (tams_machine base) b opened begun keeps_first [] nothing_counted
+      → HasEnded (tams_machine base) b opened new given n connections end) where
+    served_all : (from : StoreState) → BeginsFrom from old clock
+        → ServedAll base (beginning from old begun) old new given connections (serve_outcome end n)
+    served_all from start =
+        let ended = leads (tells_opened from start) (beginning from old begun) (between from start) in
+        inl record {
+          sessions = ended.sessions;
+          end = end;
+          runs = as_run from start ended.sessions n ended.served;
+          ends = ended.ends;
+          outcome_is = ap (serve_outcome end) ended.served.counts;
+          counted = subst (λ (x : ℕ). AreCounted x new.link.faults ended.sessions) (sym faults-opened) ended.counted;
+        }
+
+    pub serve_ends : ServeEnds base old new clock begun given connections (serve_outcome end n)
+    serve_ends =
+        let peers : old.link.peer_faults ≡ opened.link.peer_faults = ap (λ (l : Link). l.peer_faults) (sym reads.calls.link) in
+        record {
+          cause = serve_cause old new end n (stood_for old kept answer);
+          peers = rw (serve_peers end n, peers) calls.peer_faults;
+          link = serve_link end n old opened new faults-opened calls;
+          history = served_all;
+          starved = λ e. absurd (serve_fed end n e);
+          uncut = serve_uncut end n;
+        }

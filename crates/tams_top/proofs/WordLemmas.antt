@@ -1,12 +1,13 @@
 -- Words that are numbers: what they begin with, and what `parse` reads from them.
-use Rattle.std.proofs.Common.{◌≡◌, ◌≢◌, ◌<◌, ◌≤◌, ◌^◌, ◌∙◌, ◌∷◌, ℕ, zero, suc, List, [], length, get_or, Ok, Err, ap, sym, arith}
+use Rattle.std.proofs.Common.{◌≡◌, ◌≢◌, ◌<◌, ◌≤◌, ◌^◌, ◌∙◌, ◌∷◌, ℕ, zero, suc, true, List, [], length, get_or, Ok, Err, ap, sym, arith}
 use Rattle.std.specs.Fmt.{decimal}
-use Rattle.std.specs.Str.{IsUtf8}
+use Rattle.std.specs.Str.{IsUtf8, is_utf8}
 use Rattle.std.specs.Str.Parse.{AllDigits, ParsesUnsigned, digits_value}
 use Rattle.std.proofs.lemmas.Fmt.{decimal_nonempty, decimal_digit, first_decimal, IsAscii-decimal, parse-decimal, decimal-digits_value}
-use Rattle.std.proofs.lemmas.Str.{IsUtf8-from_ascii}
+use Rattle.std.proofs.lemmas.Str.{IsUtf8-from_ascii, is_utf8-from_IsUtf8}
+use Rattle.std.proofs.lemmas.Str.Ascii.{IsAscii-from_all}
 use Rattle.std.proofs.lemmas.Str.Parse.{IsNumeralModel, numerals_by_value, parse_plain, tells_digits}
-use Rattle.tams_top.specs.Words.{IsNumber}
+use Rattle.tams_top.specs.Words.{IsBase, IsNumber}
 
 -- a number's word is not empty, and begins with a digit but `0`
 pub record BeginsAsNumber (word : List ℕ) : Type 0 where
@@ -53,3 +54,9 @@ number_from_parse most word n first parses fits =
     decimal-digits_value own word read.0.0 read.0.1 (λ e. absurd (omega arith)) read.0.2 in
     let text : word ≡ decimal n = sym written ∙ ap decimal (sym read.1) in
     record { text = text; least = least_from_first word n text first; fits = fits }
+
+-- an address is text
+pub base_is_utf8 : (base : List ℕ) → IsBase base → is_utf8 base ≡ true
+base_is_utf8 base is =
+    let ascii = IsAscii-from_all base (λ k d few. let byte = (is.bytes k d few).most in omega (arith, byte)) in
+    is_utf8-from_IsUtf8 base (IsUtf8-from_ascii base ascii)

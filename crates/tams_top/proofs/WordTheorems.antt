@@ -1,10 +1,10 @@
 -- Words spell at most one command.
-use Rattle.std.proofs.Common.{◌≡◌, ◌≤◌, ◌<◌, ◌^◌, ◌∙◌, ◌∷◌, [], ℕ, List, length, get_or, All, Option, Some, None, Result, Ok, Err, IfOk, IfSome, sym, arith}
+use Rattle.std.proofs.Common.{◌≡◌, ◌≤◌, ◌<◌, ◌^◌, ◌∙◌, ◌∷◌, [], ℕ, List, length, get_or, All, Option, Some, None, Result, Ok, Err, IfOk, IfSome, codes, sym, ap, arith}
 use Rattle.std.proofs.lemmas.Fmt.{decimal_injective}
-use Rattle.tams_top.specs.Words.{FormIs, IsNumber, IsPlain, IsFormat, IsReplay, IsServe, IsCommand}
+use Rattle.tams_top.specs.Words.{FormIs, IsNumber, IsPlain, IsFormat, IsCheck, IsWork, IsReplay, IsServe, IsCommand}
 use Rattle.media_rows.specs.Ids.{id_of}
 use Rattle.tams_top.specs.declared.words.Command.{Command}
-use Rattle.tams_top.specs.declared.words.Command.TheVariants.{Format, Replay, Serve}
+use Rattle.tams_top.specs.declared.words.Command.TheVariants.{Format, Check, Work, Replay, Serve}
 
 -- a word is one number at most
 one_number : (most : ℕ) (v w : List ℕ) (m n : ℕ) → most < 2 ^ 64 → v ≡ w → IsNumber most v m → IsNumber most w n → m ≡ n
@@ -17,6 +17,22 @@ one_number most v w m n small e a b =
 one_id : (v w : List ℕ) (a b : ℕ) → v ≡ w → id_of v ≡ Some a → id_of w ≡ Some b → a ≡ b
 one_id v w a b e p q = cc
 
+-- the name of a command
+abbrev name_of : Command → List ℕ
+name_of (Format path blocks half id) = codes "format"
+name_of (Check path) = codes "check"
+name_of (Work path) = codes "work"
+name_of (Replay path base) = codes "replay"
+name_of (Serve path port base connections) = codes "serve"
+
+-- its first word is its name
+first_word : (words : List (List ℕ)) (a : Command) → IsCommand words a → get_or words 0 [] ≡ name_of a
+first_word words (Format p m h i) x = let f : IsFormat words p m h i = x.form in ap (λ (ws : List (List ℕ)). get_or ws 0 []) f.words_are
+first_word words (Check p) x = let f : IsCheck words p = x.form in ap (λ (ws : List (List ℕ)). get_or ws 0 []) f.words_are
+first_word words (Work p) x = let f : IsWork words p = x.form in ap (λ (ws : List (List ℕ)). get_or ws 0 []) f.words_are
+first_word words (Replay p b) x = let f : IsReplay words p b = x.form in ap (λ (ws : List (List ℕ)). get_or ws 0 []) f.words_are
+first_word words (Serve p m b k) x = let f : IsServe words p m b k = x.form in ap (λ (ws : List (List ℕ)). get_or ws 0 []) f.words_are
+
 pub one_command : (words : List (List ℕ)) (a b : Command) → IsCommand words a → IsCommand words b → a ≡ b
 one_command words (Format p m h i) (Format q n k j) x y =
     let f : IsFormat words p m h i = x.form in
@@ -27,34 +43,14 @@ one_command words (Format p m h i) (Format q n k j) x y =
     let halves : h ≡ k = one_number 65536 _ _ h k (omega arith) (cc) f.half_is g.half_is in
     let ids : i ≡ j = one_id f.id_word g.id_word i j (cc) f.id_is g.id_is in
     cc
-one_command words (Format p m h i) (Replay q b) x y =
-    let f : IsFormat words p m h i = x.form in
-    let g : IsReplay words q b = y.form in
+one_command words (Check p) (Check q) x y =
+    let f : IsCheck words p = x.form in
+    let g : IsCheck words q = y.form in
     let same = sym f.words_are ∙ g.words_are in
     cc
-one_command words (Replay p b) (Format q n k j) x y =
-    let f : IsReplay words p b = x.form in
-    let g : IsFormat words q n k j = y.form in
-    let same = sym f.words_are ∙ g.words_are in
-    cc
-one_command words (Format p m h i) (Serve q k b n) x y =
-    let f : IsFormat words p m h i = x.form in
-    let g : IsServe words q k b n = y.form in
-    let same = sym f.words_are ∙ g.words_are in
-    cc
-one_command words (Serve p m b k) (Format q n h i) x y =
-    let f : IsServe words p m b k = x.form in
-    let g : IsFormat words q n h i = y.form in
-    let same = sym f.words_are ∙ g.words_are in
-    cc
-one_command words (Replay p b) (Serve q k d n) x y =
-    let f : IsReplay words p b = x.form in
-    let g : IsServe words q k d n = y.form in
-    let same = sym f.words_are ∙ g.words_are in
-    cc
-one_command words (Serve p m b k) (Replay q d) x y =
-    let f : IsServe words p m b k = x.form in
-    let g : IsReplay words q d = y.form in
+one_command words (Work p) (Work q) x y =
+    let f : IsWork words p = x.form in
+    let g : IsWork words q = y.form in
     let same = sym f.words_are ∙ g.words_are in
     cc
 one_command words (Serve p m b h) (Serve q n d k) x y =
@@ -70,6 +66,9 @@ one_command words (Replay p b) (Replay q d) x y =
     let f : IsReplay words p b = x.form in
     let g : IsReplay words q d = y.form in
     let same = sym f.words_are ∙ g.words_are in
+    cc
+one_command words _ _ x y =
+    let same = sym (first_word words _ x) ∙ first_word words _ y in
     cc
 
 -- what was read by its form is a command

@@ -1,12 +1,13 @@
 -- What a run over a file that stands for a state heard, told and left, by one history of its
--- connections over the machine of puts.
+-- connections over the machine of the media store, with the base of its words.
 use Rattle.std.specs.Prelude.{◌≡◌, ◌⊎◌, ℕ, Bool, true, List, [], ◌∷◌, All, nat_lt, if◌then◌else◌}
+use Rattle.disk_trait.specs.Calls.{LeavesOnly}
 use Rattle.disk_trait.specs.Device.{Device}
 use Rattle.site_edge.specs.Clocks.{IsMoment}
 use Rattle.run_history.specs.Runs.{Beginning, Ran}
 use Rattle.run_history.specs.Serving.{Counts, counts_of}
 use Rattle.run_history.specs.Sessions.{Session, all_moments}
-use Rattle.run_history.specs.Traces.{start_of}
+use Rattle.run_history.specs.Traces.{start_of, states_of, trace_of}
 use Rattle.connection_loop.specs.declared.ending.Ending.{Ending}
 use Rattle.connection_loop.specs.declared.ending.Ending.TheVariants as endings
 use Rattle.connection_loop.specs.declared.run.RunEnd.{RunEnd}
@@ -14,26 +15,40 @@ use Rattle.connection_loop.specs.declared.run.RunEnd.TheVariants as run_ends
 use Rattle.connection_loop.specs.Loops.{AreCounted}
 use Rattle.connection_loop.specs.Loops as loops
 use Rattle.connection_loop.specs.Turns.{TellsAll, ending_of}
-use Rattle.put_service.specs.Machine.{PutRequest, put_machine}
-use Rattle.put_service.specs.Serving.{IsSettled}
-use Rattle.put_service.specs.Store.{StandsFor, State}
+use Rattle.store_states.specs.States.{StandsFor, StoreState}
+use Rattle.tams_histories.specs.Along.{KeepBytes}
+use Rattle.tams_machine.specs.Machine.{tams_machine}
+use Rattle.tams_machine.specs.Requests.{TamsRequest}
 use Rattle.tams_top.specs.declared.outcome.Outcome.{Outcome}
-use Rattle.tams_top.specs.declared.outcome.Outcome.TheVariants.{Formatted, Served, Cut, BadWords, NotStore, AlreadyStore, TooSmall, Damaged, DiskFault, NoMemory, LinkFault}
+use Rattle.tams_top.specs.declared.outcome.Outcome.TheVariants.{Formatted, Checked, Worked, Served, Cut, BadWords, NotStore, AlreadyStore, TooSmall, Damaged, DiskFault, NoMemory, LinkFault}
+
+-- nothing is pending: a crash now leaves just what a read gives
+abbrev pub IsSettled : Device → Type 0
+IsSettled d = LeavesOnly d.seen d
+
+-- the beginning of a run over a file that stands for a state, behind the moments that were given
+abbrev pub beginning : StoreState → Device → List ℕ → Beginning StoreState
+beginning from old given = record {
+  state = from;
+  before = old.link.connections;
+  given = given;
+  moment = old.moment;
+}
 
 -- The premises of the headline: the outside is as the model says, nothing is pending, and the file
 -- stands for a state.
-pub record BeginsFrom (from : State) (old : Device) (clock : Bool) : Type 0 where
+pub record BeginsFrom (from : StoreState) (old : Device) (clock : Bool) : Type 0 where
   pub tells : TellsAll old clock
   pub settled : IsSettled old
   pub stands : StandsFor old.seen from
 
--- A run is one history of these connections, and each moment that it took is one. By the machine
--- the disk failed in it only while the record of a change was being written, before its answer
--- began.
-pub record RunsAs (b : Beginning State) (sessions : List (Session PutRequest)) (new : Device)
-    (given : List ℕ) : Type 0 where
-  pub ran : Ran put_machine b sessions new given
-  pub moments : All IsMoment (all_moments put_machine (start_of b.state) sessions)
+-- A run is one history of these connections. Each moment that it took is one, and what is stored in
+-- one of its states keeps its bytes in each later one.
+pub record RunsAs (base : List ℕ) (b : Beginning StoreState) (sessions : List (Session TamsRequest))
+    (new : Device) (given : List ℕ) : Type 0 where
+  pub ran : Ran (tams_machine base) b sessions new given
+  pub moments : All IsMoment (all_moments (tams_machine base) (start_of b.state) sessions)
+  pub bytes : KeepBytes (states_of (trace_of (tams_machine base) b.state sessions))
 
 -- ---- outcomes by numbers
 
@@ -63,22 +78,22 @@ serve_outcome run_ends.Stopped n = DiskFault
 -- ---- connections
 
 -- One connection was served to its end, by one history.
-pub record OnePeer (b : Beginning State) (new : Device) (given : List ℕ)
+pub record OnePeer (base : List ℕ) (b : Beginning StoreState) (new : Device) (given : List ℕ)
     (outcome : Outcome) : Type 0 where
-  pub session : Session PutRequest
-  pub runs : RunsAs b (session ∷ []) new given
+  pub session : Session TamsRequest
+  pub runs : RunsAs base b (session ∷ []) new given
   pub outcome_is : outcome
-      ≡ replay_outcome (ending_of session) (counts_of put_machine b.state (session ∷ []))
+      ≡ replay_outcome (ending_of session) (counts_of (tams_machine base) b.state (session ∷ []))
 
 -- Connections were served one after another, at most so many, by one history. Each that ended with
 -- a call of its link that failed raised the count.
-pub record SomePeers (b : Beginning State) (old new : Device) (given : List ℕ) (connections : ℕ)
-    (outcome : Outcome) : Type 0 where
-  pub sessions : List (Session PutRequest)
+pub record SomePeers (base : List ℕ) (b : Beginning StoreState) (old new : Device)
+    (given : List ℕ) (connections : ℕ) (outcome : Outcome) : Type 0 where
+  pub sessions : List (Session TamsRequest)
   pub end : RunEnd
-  pub runs : RunsAs b sessions new given
+  pub runs : RunsAs base b sessions new given
   pub ends : loops.RunEnds new sessions connections end
-  pub outcome_is : outcome ≡ serve_outcome end (counts_of put_machine b.state sessions)
+  pub outcome_is : outcome ≡ serve_outcome end (counts_of (tams_machine base) b.state sessions)
   pub counted : AreCounted old.link.faults new.link.faults sessions
 
 -- the ends of a run in which no connection began: no peer will come, waiting for one failed, or
@@ -91,6 +106,8 @@ EndsWithoutPeer new DiskFault = Unit {0}
 EndsWithoutPeer new NoMemory = Unit {0}
 EndsWithoutPeer new Cut = ⊥
 EndsWithoutPeer new (Formatted blocks half media) = ⊥
+EndsWithoutPeer new (Checked counts) = ⊥
+EndsWithoutPeer new (Worked turns) = ⊥
 EndsWithoutPeer new BadWords = ⊥
 EndsWithoutPeer new NotStore = ⊥
 EndsWithoutPeer new AlreadyStore = ⊥
@@ -98,16 +115,18 @@ EndsWithoutPeer new TooSmall = ⊥
 EndsWithoutPeer new (Damaged at) = ⊥
 
 -- No connection began, and the state stays.
-pub record NoPeer (b : Beginning State) (new : Device) (given : List ℕ)
+pub record NoPeer (base : List ℕ) (b : Beginning StoreState) (new : Device) (given : List ℕ)
     (outcome : Outcome) : Type 0 where
-  pub runs : RunsAs b [] new given
+  pub runs : RunsAs base b [] new given
   pub ends : EndsWithoutPeer new outcome
 
 -- a run of `replay` from its beginning
-abbrev pub Replayed : Beginning State → Device → List ℕ → Outcome → Type 0
-Replayed b new given outcome = OnePeer b new given outcome ⊎ NoPeer b new given outcome
+abbrev pub Replayed : List ℕ → Beginning StoreState → Device → List ℕ → Outcome → Type 0
+Replayed base b new given outcome =
+    OnePeer base b new given outcome ⊎ NoPeer base b new given outcome
 
 -- a run of `serve` from its beginning
-abbrev pub ServedAll : Beginning State → Device → Device → List ℕ → ℕ → Outcome → Type 0
-ServedAll b old new given connections outcome =
-    SomePeers b old new given connections outcome ⊎ NoPeer b new given outcome
+abbrev pub ServedAll : List ℕ → Beginning StoreState → Device → Device → List ℕ → ℕ → Outcome
+    → Type 0
+ServedAll base b old new given connections outcome =
+    SomePeers base b old new given connections outcome ⊎ NoPeer base b new given outcome

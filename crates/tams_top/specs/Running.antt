@@ -10,20 +10,24 @@ use Rattle.media_journal.specs.declared.header.Header.{Header}
 use Rattle.media_journal.specs.File.{HasOpenHeader}
 use Rattle.media_journal.specs.Formatting.{FitsStore}
 use Rattle.media_journal.specs.Opening.{IsStore}
-use Rattle.put_service.specs.Library.{formatted_library}
-use Rattle.put_service.specs.Opening.{StandsForNone}
-use Rattle.put_service.specs.Serving.{IsSettled, beginning}
-use Rattle.put_service.specs.Store.{StandsFor, State, empty_rows}
+use Rattle.store_core.specs.declared.library.Counts.{Counts}
+use Rattle.store_core.specs.Prepared.{counts_of}
+use Rattle.store_opening.specs.Opening.{StoreDamagedAt}
+use Rattle.store_states.specs.States.{StandsFor, StoreState}
 use Rattle.tams_top.specs.declared.outcome.Outcome.{Outcome}
-use Rattle.tams_top.specs.declared.outcome.Outcome.TheVariants.{Formatted, Served, Cut, BadWords, NotStore, AlreadyStore, TooSmall, Damaged, DiskFault, NoMemory, LinkFault}
+use Rattle.tams_top.specs.declared.outcome.Outcome.TheVariants.{Formatted, Checked, Worked, Served, Cut, BadWords, NotStore, AlreadyStore, TooSmall, Damaged, DiskFault, NoMemory, LinkFault}
 use Rattle.tams_top.specs.declared.words.Command.{Command}
-use Rattle.tams_top.specs.declared.words.Command.TheVariants.{Format, Replay, Serve}
+use Rattle.tams_top.specs.declared.words.Command.TheVariants.{Format, Check, Work, Replay, Serve}
 use Rattle.tams_top.specs.Words.{IsCommand}
-use Rattle.tams_top.specs.Histories.{BeginsFrom, OnePeer, Replayed, ServedAll}
+use Rattle.tams_top.specs.Formatting.{empty_rows, formatted_state}
+use Rattle.tams_top.specs.Working.{WorkedOff}
+use Rattle.tams_top.specs.Histories.{BeginsFrom, IsSettled, OnePeer, Replayed, ServedAll, beginning}
 
 -- the status of each end
 abbrev pub status_of : Outcome → ℕ
 status_of (Formatted blocks half media) = 0
+status_of (Checked counts) = 0
+status_of (Worked turns) = 0
 status_of (Served requests changes skipped) = 0
 status_of BadWords = 1
 status_of NotStore = 2
@@ -50,11 +54,25 @@ abbrev pub served_line : ℕ → ℕ → ℕ → List ℕ
 served_line requests changes skipped =
     numbered (codes "ok: ") requests (numbered (codes " requests, ") changes (changes_end skipped))
 
+-- the end of the line of a store that was checked
+abbrev pub waiting_end : Counts → List ℕ
+waiting_end n =
+    numbered (codes " objects, ") n.requests (numbered (codes " requests, ") n.hooks
+    (numbered (codes " hooks, ") n.events (codes " events\n")))
+
+-- the line of a store that was checked: how much it keeps
+abbrev pub checked_line : Counts → List ℕ
+checked_line n =
+    numbered (codes "ok: ") n.flows (numbered (codes " flows, ") n.segments
+    (numbered (codes " segments, ") n.objects (waiting_end n)))
+
 -- the line of each end in the notes
 abbrev pub line_of : Outcome → List ℕ
 line_of (Formatted blocks half media) =
     numbered (codes "formatted ") blocks (numbered (codes " blocks, ") half
     (numbered (codes " per half, ") media (codes " for media\n")))
+line_of (Checked counts) = checked_line counts
+line_of (Worked turns) = numbered (codes "worked: ") turns (codes " turns\n")
 line_of (Served requests changes skipped) = served_line requests changes skipped
 line_of BadWords = codes "bad words\n"
 line_of NotStore = codes "not a store\n"
@@ -84,22 +102,31 @@ pub record ServesNobody (old new : Device) (begun given : List ℕ) : Type 0 whe
   pub link : new.link ≡ old.link
   pub given_is : given ≡ begun
 
--- The words are a `replay` over a file from which a run may begin.
-pub record IsReplayFrom (from : State) (words : List (List ℕ)) (old : Device)
+-- The words are a `replay` with this base, over a file from which a run may begin.
+pub record IsReplayFrom (base : List ℕ) (from : StoreState) (words : List (List ℕ)) (old : Device)
     (clock : Bool) : Type 0 where
-  pub command : (path : List ℕ) × (base : List ℕ) × IsCommand words (Replay path base)
+  pub command : (path : List ℕ) × IsCommand words (Replay path base)
+  pub begins : BeginsFrom from old clock
+
+-- They are a `work` over one.
+pub record IsWorkFrom (from : StoreState) (words : List (List ℕ)) (old : Device)
+    (clock : Bool) : Type 0 where
+  pub command : (path : List ℕ) × IsCommand words (Work path)
   pub begins : BeginsFrom from old clock
 
 -- They are a `serve` of so many connections over one.
-pub record IsServeFrom (from : State) (connections : ℕ) (words : List (List ℕ)) (old : Device)
-    (clock : Bool) : Type 0 where
-  pub command : (path : List ℕ) × (port : ℕ) × (base : List ℕ)
-      × IsCommand words (Serve path port base connections)
+pub record IsServeFrom (base : List ℕ) (from : StoreState) (connections : ℕ)
+    (words : List (List ℕ)) (old : Device) (clock : Bool) : Type 0 where
+  pub command : (path : List ℕ) × (port : ℕ) × IsCommand words (Serve path port base connections)
   pub begins : BeginsFrom from old clock
 
 -- the image stands for some state
 abbrev pub StandsForOne : List ℕ → Type 0
-StandsForOne image = (s : State) × StandsFor image s
+StandsForOne image = (s : StoreState) × StandsFor image s
+
+-- the image stands for no state
+abbrev pub StandsForNone : List ℕ → Type 0
+StandsForNone image = (s : StoreState) → StandsFor image s → ⊥
 
 -- the cause of each end of `replay` and `serve` in the file
 abbrev pub OpenedCause : Device → Device → Outcome → Type 0
@@ -108,10 +135,12 @@ OpenedCause old new Cut = old.shows ≡ true → StandsForOne old.seen
 OpenedCause old new LinkFault = old.shows ≡ true → StandsForOne old.seen
 OpenedCause old new NotStore = (old.shows ≡ true → ¬ (IsStore old.seen)) × Untouched old new
 OpenedCause old new (Damaged at) =
-    (old.shows ≡ true → IsStore old.seen × StandsForNone old.seen) × Untouched old new
+    (old.shows ≡ true → IsStore old.seen × StoreDamagedAt old.seen at) × Untouched old new
 OpenedCause old new DiskFault = Unit {0}
 OpenedCause old new NoMemory = Unit {0}
 OpenedCause old new (Formatted blocks half media) = ⊥
+OpenedCause old new (Checked counts) = ⊥
+OpenedCause old new (Worked turns) = ⊥
 OpenedCause old new BadWords = ⊥
 OpenedCause old new AlreadyStore = ⊥
 OpenedCause old new TooSmall = ⊥
@@ -130,6 +159,8 @@ LinkFaults LinkFault before now = (before ≤ now) × Rose before now
 LinkFaults DiskFault before now = before ≤ now
 LinkFaults NoMemory before now = before ≤ now
 LinkFaults (Formatted blocks half media) before now = now ≡ before
+LinkFaults (Checked counts) before now = now ≡ before
+LinkFaults (Worked turns) before now = now ≡ before
 LinkFaults (Served requests changes skipped) before now = now ≡ before
 LinkFaults Cut before now = now ≡ before
 LinkFaults BadWords before now = now ≡ before
@@ -140,25 +171,28 @@ LinkFaults (Damaged at) before now = now ≡ before
 
 -- Where a run of `replay` ended for want of memory nobody was served, or a request of the one
 -- connection wanted it, or its turn.
-abbrev pub StarvedAs : Device → Device → Bool → List ℕ → List ℕ → Outcome → Type 0
-StarvedAs old new clock begun given o = ServesNobody old new begun given
-    ⊎ ((from : State) → BeginsFrom from old clock → OnePeer (beginning from old begun) new given o)
+abbrev pub StarvedAs : List ℕ → Device → Device → Bool → List ℕ → List ℕ → Outcome → Type 0
+StarvedAs base old new clock begun given o = ServesNobody old new begun given
+    ⊎ ((from : StoreState) → BeginsFrom from old clock
+    → OnePeer base (beginning from old begun) new given o)
 
 -- The ends of `replay`, each with its cause, and the one history of all that was heard, told and
 -- left.
-pub record ReplayEnds (old new : Device) (clock : Bool) (begun given : List ℕ)
+pub record ReplayEnds (base : List ℕ) (old new : Device) (clock : Bool) (begun given : List ℕ)
     (o : Outcome) : Type 0 where
   pub cause : OpenedCause old new o
   pub link : LinkFaults o old.link.faults new.link.faults
-  pub history : (from : State) → BeginsFrom from old clock
-      → Replayed (beginning from old begun) new given o
-  pub starved : o ≡ NoMemory → StarvedAs old new clock begun given o
+  pub history : (from : StoreState) → BeginsFrom from old clock
+      → Replayed base (beginning from old begun) new given o
+  pub starved : o ≡ NoMemory → StarvedAs base old new clock begun given o
 
 -- waiting for each peer succeeded
 abbrev pub no_peer_fault : Outcome → Bool
 no_peer_fault LinkFault = false
 no_peer_fault DiskFault = true
 no_peer_fault (Formatted blocks half media) = true
+no_peer_fault (Checked counts) = true
+no_peer_fault (Worked turns) = true
 no_peer_fault (Served requests changes skipped) = true
 no_peer_fault Cut = true
 no_peer_fault BadWords = true
@@ -171,19 +205,15 @@ no_peer_fault NoMemory = true
 -- The same of `serve`. It ends with a link fault where waiting for a peer failed; the link of each
 -- connection may fail too, which ends that connection alone. Want of memory ends it before the
 -- first peer.
-pub record ServeEnds (old new : Device) (clock : Bool) (begun given : List ℕ) (connections : ℕ)
-    (o : Outcome) : Type 0 where
+pub record ServeEnds (base : List ℕ) (old new : Device) (clock : Bool) (begun given : List ℕ)
+    (connections : ℕ) (o : Outcome) : Type 0 where
   pub cause : OpenedCause old new o
   pub peers : IsCounted (no_peer_fault o) old.link.peer_faults new.link.peer_faults
   pub link : o ≡ LinkFault → Rose old.link.faults new.link.faults
-  pub history : (from : State) → BeginsFrom from old clock
-      → ServedAll (beginning from old begun) old new given connections o
+  pub history : (from : StoreState) → BeginsFrom from old clock
+      → ServedAll base (beginning from old begun) old new given connections o
   pub starved : o ≡ NoMemory → ServesNobody old new begun given
   pub uncut : o ≢ Cut
-
--- the state of a store that was formatted with these numbers
-abbrev pub formatted_state : Header → State
-formatted_state h = record { library = formatted_library h; room = 4096 * h.half - 21 }
 
 -- A store was made of a device that had none, and the outcome has its numbers.
 pub record IsMade (old new : Device) (h : Header) (blocks half media : ℕ) : Type 0 where
@@ -204,6 +234,8 @@ FormatRunEnds old new h TooSmall =
     × (¬ (FitsStore h (length old.seen) empty_rows))) × Untouched old new
 FormatRunEnds old new h DiskFault = Unit {0}
 FormatRunEnds old new h NoMemory = Untouched old new
+FormatRunEnds old new h (Checked counts) = ⊥
+FormatRunEnds old new h (Worked turns) = ⊥
 FormatRunEnds old new h (Served requests changes skipped) = ⊥
 FormatRunEnds old new h Cut = ⊥
 FormatRunEnds old new h BadWords = ⊥
@@ -219,20 +251,72 @@ pub record FormatMoments (old new : Device) (h : Header) (o : Outcome) : Type 0 
       ⊎ StandsFor p.image (formatted_state h)
   pub settled : old.honest ≡ true → status_of o ≡ 0 → IsSettled new
 
+-- The image stands for a state, and the counts are those of each state for which it does.
+pub record IsChecked (image : List ℕ) (counts : Counts) : Type 0 where
+  pub stands : StandsForOne image
+  pub counts_are :
+      (from : StoreState) → StandsFor image from → counts ≡ counts_of from.archive.library
+
+-- the ends of `check`, each with its cause
+abbrev pub CheckEnds : Device → Device → Outcome → Type 0
+CheckEnds old new (Checked counts) =
+    (old.shows ≡ true → IsChecked old.seen counts) × Untouched old new
+CheckEnds old new NotStore = OpenedCause old new NotStore
+CheckEnds old new (Damaged at) = OpenedCause old new (Damaged at)
+CheckEnds old new DiskFault = Untouched old new
+CheckEnds old new NoMemory = Untouched old new
+CheckEnds old new (Formatted blocks half media) = ⊥
+CheckEnds old new (Worked turns) = ⊥
+CheckEnds old new (Served requests changes skipped) = ⊥
+CheckEnds old new Cut = ⊥
+CheckEnds old new BadWords = ⊥
+CheckEnds old new AlreadyStore = ⊥
+CheckEnds old new TooSmall = ⊥
+CheckEnds old new LinkFault = ⊥
+
+-- the cause of each end of `work` in the file
+abbrev pub WorkCause : Device → Device → Outcome → Type 0
+WorkCause old new (Worked turns) = old.shows ≡ true → StandsForOne old.seen
+WorkCause old new NotStore = OpenedCause old new NotStore
+WorkCause old new (Damaged at) = OpenedCause old new (Damaged at)
+WorkCause old new DiskFault = Unit {0}
+WorkCause old new NoMemory = Unit {0}
+WorkCause old new (Formatted blocks half media) = ⊥
+WorkCause old new (Checked counts) = ⊥
+WorkCause old new (Served requests changes skipped) = ⊥
+WorkCause old new Cut = ⊥
+WorkCause old new BadWords = ⊥
+WorkCause old new AlreadyStore = ⊥
+WorkCause old new TooSmall = ⊥
+WorkCause old new LinkFault = ⊥
+
+-- The ends of `work`, each with its cause, and the one history of its turns. It waits for nobody.
+pub record WorkEnds (old new : Device) (clock : Bool) (begun given : List ℕ)
+    (o : Outcome) : Type 0 where
+  pub cause : WorkCause old new o
+  pub link : new.link ≡ old.link
+  pub history : (from : StoreState) → BeginsFrom from old clock
+      → WorkedOff (beginning from old begun) new given o
+
 -- the ends of a command
 abbrev pub CommandEnds : Device → Device → Bool → List ℕ → List ℕ → Outcome → Command → Type 0
 CommandEnds old new clock begun given o (Format path blocks half id) =
     FormatRunEnds old new record { blocks = blocks; half = half; id = id } o
     × FormatMoments old new record { blocks = blocks; half = half; id = id } o
     × ServesNobody old new begun given
-CommandEnds old new clock begun given o (Replay path base) = ReplayEnds old new clock begun given o
+CommandEnds old new clock begun given o (Check path) = CheckEnds old new o × (given ≡ begun)
+CommandEnds old new clock begun given o (Work path) = WorkEnds old new clock begun given o
+CommandEnds old new clock begun given o (Replay path base) =
+    ReplayEnds base old new clock begun given o
 CommandEnds old new clock begun given o (Serve path port base connections) =
-    ServeEnds old new clock begun given connections o
+    ServeEnds base old new clock begun given connections o
 
 -- no call of the disk failed
 abbrev pub no_disk_fault : Outcome → Bool
 no_disk_fault DiskFault = false
 no_disk_fault (Formatted blocks half media) = true
+no_disk_fault (Checked counts) = true
+no_disk_fault (Worked turns) = true
 no_disk_fault (Served requests changes skipped) = true
 no_disk_fault Cut = true
 no_disk_fault BadWords = true
@@ -267,5 +351,7 @@ pub record RunEnds (words : List (List ℕ)) (old new : Device) (clock : Bool) (
 abbrev pub RefusedFor : List ℕ → Command → Type 0
 RefusedFor image (Format path blocks half id) = HasOpenHeader image
     ⊎ ¬ (FitsStore record { blocks = blocks; half = half; id = id } (length image) empty_rows)
+RefusedFor image (Check path) = StandsForNone image
+RefusedFor image (Work path) = StandsForNone image
 RefusedFor image (Replay path base) = StandsForNone image
 RefusedFor image (Serve path port base connections) = StandsForNone image

@@ -4,7 +4,7 @@ use Rattle.std.specs.List.{starts_with}
 use Rattle.std.specs.Fmt.{decimal}
 use Rattle.media_rows.specs.Ids.{id_of}
 use Rattle.tams_top.specs.declared.words.Command.{Command}
-use Rattle.tams_top.specs.declared.words.Command.TheVariants.{Format, Replay, Serve}
+use Rattle.tams_top.specs.declared.words.Command.TheVariants.{Format, Check, Work, Replay, Serve}
 use Rattle.tams_top.specs.declared.words.Wanted.{Wanted}
 use Rattle.tams_top.specs.declared.words.Wanted.TheVariants.{Nothing, Plain, Fresh, Listen}
 
@@ -51,6 +51,14 @@ pub record IsFormat (words : List (List ℕ)) (path : List ℕ) (blocks half id 
   pub half_is : IsNumber 65536 half_word half
   pub id_is : id_of id_word ≡ Some id
 
+-- check PATH
+pub record IsCheck (words : List (List ℕ)) (path : List ℕ) : Type 0 where
+  pub words_are : words ≡ codes "check" ∷ path ∷ []
+
+-- work PATH
+pub record IsWork (words : List (List ℕ)) (path : List ℕ) : Type 0 where
+  pub words_are : words ≡ codes "work" ∷ path ∷ []
+
 -- replay PATH BASE
 pub record IsReplay (words : List (List ℕ)) (path base : List ℕ) : Type 0 where
   pub words_are : words ≡ codes "replay" ∷ path ∷ base ∷ []
@@ -69,6 +77,8 @@ pub record IsServe (words : List (List ℕ)) (path : List ℕ) (port : ℕ) (bas
 -- the words are the command's name and its own words, each of its form
 abbrev pub HasForm : List (List ℕ) → Command → Type 0
 HasForm words (Format path blocks half id) = IsFormat words path blocks half id
+HasForm words (Check path) = IsCheck words path
+HasForm words (Work path) = IsWork words path
 HasForm words (Replay path base) = IsReplay words path base
 HasForm words (Serve path port base connections) = IsServe words path port base connections
 
@@ -83,10 +93,13 @@ FormIs words (Some command) = HasForm words command
 FormIs words None = (command : Command) → HasForm words command → ⊥
 
 -- What the program opens for these words: a file of a length in bytes for `format`, a file that is
--- there for `replay`, that and a port for `serve`, and nothing for words that are no command.
+-- there for `check`, `work` and `replay`, that and a port for `serve`, and nothing for words that
+-- are no command.
 abbrev pub WantedFor : List (List ℕ) → Wanted → Type 0
 WantedFor words Nothing = (command : Command) → IsCommand words command → ⊥
-WantedFor words (Plain path) = (base : List ℕ) × IsCommand words (Replay path base)
+WantedFor words (Plain path) =
+    IsCommand words (Check path) ⊎ (IsCommand words (Work path)
+    ⊎ ((base : List ℕ) × IsCommand words (Replay path base)))
 WantedFor words (Fresh path bytes) =
     (blocks half id : ℕ) × (bytes ≡ 4096 * blocks) × IsCommand words (Format path blocks half id)
 WantedFor words (Listen path port) =

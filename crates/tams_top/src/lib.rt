@@ -1,12 +1,15 @@
 //! The top call: it reads the words of a command line, opens the store on the site that it is handed, and
-//! serves one connection, or connections one after another.
+//! counts what it keeps, makes turns, or serves one connection, or connections one after another.
 #![tactic(auto)]
 
+mod checking;
+mod formatting;
 mod outcome;
 mod premises;
 mod serving;
 mod top;
 mod words;
+mod working;
 
 pub use crate::premises::site_over;
 pub use crate::top::run;

@@ -1,10 +1,12 @@
 //! What a run ends with: its status, and its line in the notes.
 ghost use Rattle.std.specs.Prelude.{◌≡◌, ◌++◌, is_ok};
 ghost use Rattle.std.specs.Fmt.{decimal};
-ghost use Rattle.tams_top.specs.Running.{TakesPart, changes_end, line_of, served_line};
+ghost use Rattle.tams_top.specs.Running.{TakesPart, changes_end, checked_line, line_of, opening_outcome, served_line, waiting_end};
 
 use itoa::Buffer;
+use media_journal::JournalFault;
 use site_edge::{Sink, SinkFailed};
+use store_core::Counts;
 
 /// How a run ended.
 #[derive(Clone, Copy, Debug, PartialEq, Eq)]
@@ -15,6 +17,10 @@ pub(crate) enum Outcome {
         half: u64,
         media: u64,
     },
+    /// The file has a store that keeps so much.
+    Checked(Counts),
+    /// So many turns changed something, before one that changed nothing.
+    Worked(u64),
     /// All was heard and answered, with so many answers and changes, and so many turns skipped.
     Served {
         requests: u64,
@@ -41,7 +47,10 @@ impl Outcome {
         ensures { result ≡ status_of self }
     {
         match self {
-            Outcome::Formatted { .. } | Outcome::Served { .. } => 0,
+            Outcome::Formatted { .. }
+            | Outcome::Checked(_)
+            | Outcome::Worked(_)
+            | Outcome::Served { .. } => 0,
             Outcome::BadWords => 1,
             Outcome::NotStore | Outcome::AlreadyStore | Outcome::TooSmall | Outcome::Damaged(_) =>
                 2,
@@ -68,6 +77,11 @@ impl Outcome {
                 put_number(notes, b" per half, ", media)?;
                 notes.put(b" for media\n")
             }
+            Outcome::Checked(counts) => put_checked(notes, counts),
+            Outcome::Worked(turns) => {
+                put_number(notes, b"worked: ", turns)?;
+                notes.put(b" turns\n")
+            }
             Outcome::Served {
                 requests,
                 changes,
@@ -87,6 +101,40 @@ impl Outcome {
             Outcome::Cut => notes.put(b"input ended within a request\n"),
         }
     }
+}
+
+/// The outcome where the store couldn't be opened.
+pub(crate) fn opening_outcome(fault: JournalFault) -> Outcome
+    ensures { result ≡ opening_outcome fault }
+{
+    match fault {
+        JournalFault::NotStore => Outcome::NotStore,
+        JournalFault::Damaged(at) => Outcome::Damaged(at),
+        JournalFault::Disk => Outcome::DiskFault,
+        JournalFault::Memory => Outcome::NoMemory,
+    }
+}
+
+/// Puts the line of a store that was checked.
+fn put_checked<N: Sink>(notes: &mut N, counts: Counts) -> Result<(), SinkFailed>
+    ensures { TakesPart (is_ok result) (N.tells notes.old) (checked_line counts)
+        (N.faults notes.old) (N.faults notes.new) (N.taken notes.old) (N.taken notes.new) }
+{
+    put_number(notes, b"ok: ", counts.flows)?;
+    put_number(notes, b" flows, ", counts.segments)?;
+    put_number(notes, b" segments, ", counts.objects)?;
+    put_waiting_end(notes, counts)
+}
+
+/// Puts the end of that line.
+fn put_waiting_end<N: Sink>(notes: &mut N, counts: Counts) -> Result<(), SinkFailed>
+    ensures { TakesPart (is_ok result) (N.tells notes.old) (waiting_end counts)
+        (N.faults notes.old) (N.faults notes.new) (N.taken notes.old) (N.taken notes.new) }
+{
+    put_number(notes, b" objects, ", counts.requests)?;
+    put_number(notes, b" requests, ", counts.hooks)?;
+    put_number(notes, b" hooks, ", counts.events)?;
+    notes.put(b" events\n")
 }
 
 /// Puts the line of a run that served.

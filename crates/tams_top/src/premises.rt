@@ -2,7 +2,7 @@
 ghost use Rattle.std.specs.Prelude.{◌≡◌, ◌<◌, [], true};
 ghost use Rattle.disk_trait.specs.MemoryDisk.{fresh_disk};
 ghost use Rattle.site_edge.specs.MemorySite.{fresh_site, site_device};
-ghost use Rattle.put_service.specs.Store.{StandsFor, State};
+ghost use Rattle.store_states.specs.States.{StandsFor, StoreState};
 ghost use Rattle.tams_top.specs.Histories.{BeginsFrom};
 
 use disk_trait::{MemoryDisk, NumberList, Text};
@@ -15,7 +15,7 @@ use std::alloc::Global;
 pub fn site_over(alloc: Global, bytes: Text, peers: PeerList, piece: usize) -> MemorySite
     requires { 0 < piece }
     ensures site { result ≡ fresh_site (fresh_disk bytes []) peers piece [] }
-    ensures premises { (from : State) → StandsFor bytes from
+    ensures premises { (from : StoreState) → StandsFor bytes from
         → BeginsFrom from (site_device result) true }
 {
     let disk = MemoryDisk::from_bytes(alloc, bytes, NumberList::new(alloc));

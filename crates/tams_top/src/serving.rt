@@ -1,68 +1,78 @@
 //! The commands that serve: `replay` has one connection, and `serve` has connections one after another.
-ghost use Rattle.std.specs.Prelude.{◌≡◌, ◌≤◌, ℕ, true};
+ghost use Rattle.std.specs.Prelude.{◌≡◌, ◌≤◌, ℕ, IsTrue, true};
+ghost use Rattle.std.specs.Str.{is_utf8};
 ghost use Rattle.disk_trait.specs.Calls.{IsCounted};
 ghost use Rattle.tams_top.specs.Histories.{replay_outcome, serve_outcome, served_with};
-ghost use Rattle.tams_top.specs.Running.{ReplayEnds, ServeEnds, no_disk_fault, opening_outcome};
+ghost use Rattle.tams_top.specs.Running.{ReplayEnds, ServeEnds, no_disk_fault};
 
-use crate::outcome::Outcome;
+use crate::outcome::{Outcome, opening_outcome};
 use connection_loop::{Ending, MOST_CONNECTIONS, Next, RunEnd, Tally, serve_next};
-use media_journal::JournalFault;
-use put_service::PutService;
+use disk_trait::Text;
 use site_edge::{Clock, Site};
 use std::alloc::Global;
+use store_opening::damaged_images_stand_for_none;
+use tams_histories::runs_keep_bytes;
+use tams_service::TamsService;
 
-/// Opens the store of the site's device, and serves one connection, if a peer comes.
-pub(crate) fn replay<X: Site, C: Clock>(alloc: Global, site: &mut X, clock: &mut C) -> Outcome
+/// Opens the store of the site's device, with this base of its addresses, and serves one connection, if a peer
+/// comes.
+pub(crate) fn replay<X: Site, C: Clock>(
+    alloc: Global,
+    site: &mut X,
+    clock: &mut C,
+    base: Text,
+) -> Outcome
+    requires base { IsTrue (is_utf8 base) }
     ensures disk { IsCounted (no_disk_fault result) (X.device site.old).faults
         (X.device site.new).faults }
-    ensures ends { ReplayEnds (X.device site.old) (X.device site.new) (C.tells clock.new)
+    ensures ends { ReplayEnds base (X.device site.old) (X.device site.new) (C.tells clock.new)
         (C.given clock.old) (C.given clock.new) result }
 {
-    let mut service = match PutService::open(alloc, site) {
+    damaged_images_stand_for_none();
+    runs_keep_bytes();
+    let mut service = match TamsService::open(alloc, site, base) {
         Ok(service) => service,
         Err(fault) => return opening_outcome(fault),
     };
     let mut tally = Tally::new();
-    match serve_next(alloc, &mut service, site, clock, &mut tally) {
+    let next = serve_next(alloc, &mut service, site, clock, &mut tally);
+    let_go(service);
+    match next {
         Next::Ended(ending) => replay_outcome(ending, &tally),
         Next::NoMore => served_with(&tally),
         Next::Unlinked => Outcome::LinkFault,
     }
 }
 
-/// Opens the store of the site's device, and serves so many connections.
+/// Opens the store of the site's device, with this base, and serves so many connections.
 pub(crate) fn serve<X: Site, C: Clock>(
     alloc: Global,
     site: &mut X,
     clock: &mut C,
+    base: Text,
     connections: u64,
 ) -> Outcome
+    requires base { IsTrue (is_utf8 base) }
     requires few { connections ≤ MOST_CONNECTIONS }
     ensures disk { IsCounted (no_disk_fault result) (X.device site.old).faults
         (X.device site.new).faults }
-    ensures ends { ServeEnds (X.device site.old) (X.device site.new) (C.tells clock.new)
+    ensures ends { ServeEnds base (X.device site.old) (X.device site.new) (C.tells clock.new)
         (C.given clock.old) (C.given clock.new) connections result }
 {
-    let mut service = match PutService::open(alloc, site) {
+    damaged_images_stand_for_none();
+    runs_keep_bytes();
+    let mut service = match TamsService::open(alloc, site, base) {
         Ok(service) => service,
         Err(fault) => return opening_outcome(fault),
     };
     let mut tally = Tally::new();
     let end = connection_loop::serve(alloc, &mut service, site, clock, &mut tally, connections);
+    let_go(service);
     serve_outcome(end, &tally)
 }
 
-/// The outcome where the store couldn't be opened.
-fn opening_outcome(fault: JournalFault) -> Outcome
-    ensures { result ≡ opening_outcome fault }
-{
-    match fault {
-        JournalFault::NotStore => Outcome::NotStore,
-        JournalFault::Damaged(at) => Outcome::Damaged(at),
-        JournalFault::Disk => Outcome::DiskFault,
-        JournalFault::Memory => Outcome::NoMemory,
-    }
-}
+/// Lets a service go whose connections were served.
+fn let_go(service: TamsService) {}
 
 /// The outcome of one connection by how it ended. A turn that was skipped for want of memory stands before
 /// what its link or its input gives.

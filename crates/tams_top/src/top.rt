@@ -3,24 +3,29 @@ ghost use Rattle.std.specs.Prelude.{◌≡◌, ◌≢◌, ◌≤◌, ◌<◌, �
 ghost use Rattle.disk_trait.specs.Calls.{IsCounted, Rose};
 ghost use Rattle.disk_trait.specs.Device.{Left};
 ghost use Rattle.media_journal.specs.File.{HasOpenHeader};
-ghost use Rattle.put_service.specs.Serving.{IsSettled, beginning};
-ghost use Rattle.put_service.specs.Store.{StandsFor, State};
+ghost use Rattle.store_core.specs.Prepared.{counts_of};
+ghost use Rattle.store_states.specs.States.{StandsFor, StoreState};
 ghost use Rattle.tams_top.specs.Completeness.{AreServedWhole, IsServedWhole, NoneRose};
-ghost use Rattle.tams_top.specs.Histories.{OnePeer, Replayed, ServedAll};
-ghost use Rattle.tams_top.specs.Running.{FormatMoments, FormatRunEnds, IsNoCommand, IsReplayFrom, IsServeFrom, RefusedFor, RunEnds, ServesNobody, TakesPart, Untouched, formatted_state, line_of, no_disk_fault, status_of};
+ghost use Rattle.tams_top.specs.Formatting.{formatted_state};
+ghost use Rattle.tams_top.specs.Histories.{IsSettled, OnePeer, Replayed, ServedAll, beginning};
+ghost use Rattle.tams_top.specs.Running.{FormatMoments, FormatRunEnds, IsNoCommand, IsReplayFrom, IsServeFrom, IsWorkFrom, RefusedFor, RunEnds, ServesNobody, TakesPart, Untouched, checked_line, line_of, no_disk_fault, status_of};
 ghost use Rattle.tams_top.specs.Words.{IsCommand};
+ghost use Rattle.tams_top.specs.Working.{WorkedOff};
 ghost use Rattle.tams_top.specs.declared.outcome.Outcome.{Outcome};
 ghost use Rattle.tams_top.specs.declared.words.Command.{Command};
-ghost use Rattle.tams_top.specs.declared.words.Command.TheVariants.{Format, Replay, Serve};
+ghost use Rattle.tams_top.specs.declared.words.Command.TheVariants.{Format, Check, Work, Replay, Serve};
 
+use crate::checking::check;
+use crate::formatting::empty_rows;
 use crate::outcome::Outcome;
 use crate::serving::{replay, serve};
 use crate::words::{Command, read_words};
+use crate::working::work;
 use disk_trait::{Memory, TextList};
 use media_journal::{FormatFault, MOST_BLOCKS, MOST_HALF, format_device};
-use put_service::empty_rows;
 use site_edge::{Clock, Sink, Site};
 use std::alloc::Global;
+use store_opening::damaged_images_stand_for_none;
 
 /// Does what the words ask for on this site, puts a line about it into the notes, and answers the status.
 pub fn run<X: Site, C: Clock, N: Sink>(
@@ -69,9 +74,9 @@ pub fn run<X: Site, C: Clock, N: Sink>(
     ensures cut { (path base : List ℕ) (port connections : ℕ)
         → IsCommand words.now (Serve path port base connections) → result ≢ 6 }
 
-    // Words that are no command and `format` wait for no peer and read no clock; where there is no memory
-    // `format` writes nothing. `serve` ends for want of memory only before it waits for a peer, and `replay`
-    // there, or with a request of its one connection.
+    // Words that are no command, `format` and `check` wait for no peer and read no clock, and `work` waits for
+    // no peer; where there is no memory `format` writes nothing, and `check` never does. `serve` ends for want
+    // of memory only before it waits for a peer, and `replay` there, or with a request of its one connection.
     ensures nobody { IsNoCommand words.now
         → ServesNobody (X.device site.old) (X.device site.new) (C.given clock.old)
         (C.given clock.new) }
@@ -79,6 +84,10 @@ pub fn run<X: Site, C: Clock, N: Sink>(
         → IsCommand words.now (Format path blocks half id)
         → ServesNobody (X.device site.old) (X.device site.new) (C.given clock.old)
         (C.given clock.new) }
+    ensures untouched_check { (path : List ℕ) → IsCommand words.now (Check path)
+        → Untouched (X.device site.old) (X.device site.new) × (C.given clock.new ≡ C.given clock.old) }
+    ensures nobody_works { (path : List ℕ) → IsCommand words.now (Work path)
+        → (X.device site.new).link ≡ (X.device site.old).link }
     ensures starved_format { (path : List ℕ) (blocks half id : ℕ)
         → IsCommand words.now (Format path blocks half id) → result ≡ 4
         → Untouched (X.device site.old) (X.device site.new) }
@@ -88,14 +97,23 @@ pub fn run<X: Site, C: Clock, N: Sink>(
         (C.given clock.new) }
     ensures starved { result ≡ 4 → ServesNobody (X.device site.old) (X.device site.new)
         (C.given clock.old) (C.given clock.new)
-        ⊎ ((from : State) → IsReplayFrom from words.now (X.device site.old) (C.tells clock.new)
-        → OnePeer (beginning from (X.device site.old) (C.given clock.old)) (X.device site.new)
-        (C.given clock.new) Outcome.NoMemory) }
+        ⊎ (((path : List ℕ) × IsCommand words.now (Work path))
+        ⊎ ((base : List ℕ) (from : StoreState)
+        → IsReplayFrom base from words.now (X.device site.old) (C.tells clock.new)
+        → OnePeer base (beginning from (X.device site.old) (C.given clock.old)) (X.device site.new)
+        (C.given clock.new) Outcome.NoMemory)) }
 
     ensures formatted { result ≡ 0 → (X.device site.old).shows ≡ true
         → (path : List ℕ) (blocks half id : ℕ) → IsCommand words.now (Format path blocks half id)
         → StandsFor (X.device site.new).seen
         (formatted_state record { blocks = blocks; half = half; id = id }) }
+
+    // `check` of a file that stands for a state puts the line with the counts of its library.
+    ensures checked { result ≡ 0 → (X.device site.old).shows ≡ true → (path : List ℕ)
+        → IsCommand words.now (Check path) → (from : StoreState)
+        → StandsFor (X.device site.old).seen from → (line_put : Bool)
+        × TakesPart line_put (N.tells notes.old) (checked_line (counts_of from.archive.library))
+        (N.faults notes.old) (N.faults notes.new) (N.taken notes.old) (N.taken notes.new) }
 
     // At each moment of `format` over a device without a store a crash leaves none, or the new one.
     ensures formatting { (path : List ℕ) (blocks half id : ℕ)
@@ -108,32 +126,45 @@ pub fn run<X: Site, C: Clock, N: Sink>(
 
     // Over a file that stands for a state, one history from it gives all that a run of `replay` or `serve`
     // heard, told and left, whatever failed; the outcome by it has the status, and its line is put.
-    ensures replayed { (from : State)
-        → IsReplayFrom from words.now (X.device site.old) (C.tells clock.new)
+    ensures replayed { (base : List ℕ) (from : StoreState)
+        → IsReplayFrom base from words.now (X.device site.old) (C.tells clock.new)
         → (outcome : Outcome) × (result ≡ status_of outcome)
-        × Replayed (beginning from (X.device site.old) (C.given clock.old)) (X.device site.new)
+        × Replayed base (beginning from (X.device site.old) (C.given clock.old))
+        (X.device site.new) (C.given clock.new) outcome }
+    ensures served { (base : List ℕ) (from : StoreState) (connections : ℕ)
+        → IsServeFrom base from connections words.now (X.device site.old) (C.tells clock.new)
+        → (outcome : Outcome) × (result ≡ status_of outcome)
+        × ServedAll base (beginning from (X.device site.old) (C.given clock.old))
+        (X.device site.old) (X.device site.new) (C.given clock.new) connections outcome }
+
+    // And so does one history of its turns all that a run of `work` left.
+    ensures worked { (from : StoreState)
+        → IsWorkFrom from words.now (X.device site.old) (C.tells clock.new)
+        → (outcome : Outcome) × (result ≡ status_of outcome)
+        × WorkedOff (beginning from (X.device site.old) (C.given clock.old)) (X.device site.new)
         (C.given clock.new) outcome }
-    ensures served { (from : State) (connections : ℕ)
-        → IsServeFrom from connections words.now (X.device site.old) (C.tells clock.new)
-        → (outcome : Outcome) × (result ≡ status_of outcome)
-        × ServedAll (beginning from (X.device site.old) (C.given clock.old)) (X.device site.old)
-        (X.device site.new) (C.given clock.new) connections outcome }
 
     // Where nothing failed over such a file, each request that was heard whole was answered by the
     // machine, each answer was said whole, and the status is 0, or in `replay` 6 by the input alone.
-    // `format` ends with 0 then, or as it was refused.
-    ensures complete { (from : State)
-        → IsReplayFrom from words.now (X.device site.old) (C.tells clock.new)
+    // `format`, `check` and `work` end with 0 then, or as the file refuses them.
+    ensures complete { (base : List ℕ) (from : StoreState)
+        → IsReplayFrom base from words.now (X.device site.old) (C.tells clock.new)
         → NoneRose (X.device site.old) (X.device site.new) → result ≢ 4
-        → IsServedWhole from (X.device site.old) (X.device site.new) (C.given clock.old)
+        → IsServedWhole base from (X.device site.old) (X.device site.new) (C.given clock.old)
         (C.given clock.new) result }
-    ensures complete_serve { (from : State) (connections : ℕ)
-        → IsServeFrom from connections words.now (X.device site.old) (C.tells clock.new)
+    ensures complete_serve { (base : List ℕ) (from : StoreState) (connections : ℕ)
+        → IsServeFrom base from connections words.now (X.device site.old) (C.tells clock.new)
         → NoneRose (X.device site.old) (X.device site.new) → result ≢ 4
-        → AreServedWhole from (X.device site.old) (X.device site.new) (C.given clock.old)
+        → AreServedWhole base from (X.device site.old) (X.device site.new) (C.given clock.old)
         (C.given clock.new) connections result }
     ensures complete_format { (path : List ℕ) (blocks half id : ℕ)
         → IsCommand words.now (Format path blocks half id)
+        → NoneRose (X.device site.old) (X.device site.new)
+        → (result ≡ 0) ⊎ ((result ≡ 2) ⊎ (result ≡ 4)) }
+    ensures complete_work { (path : List ℕ) → IsCommand words.now (Work path)
+        → NoneRose (X.device site.old) (X.device site.new)
+        → (result ≡ 0) ⊎ ((result ≡ 2) ⊎ (result ≡ 4)) }
+    ensures complete_check { (path : List ℕ) → IsCommand words.now (Check path)
         → NoneRose (X.device site.old) (X.device site.new)
         → (result ≡ 0) ⊎ ((result ≡ 2) ⊎ (result ≡ 4)) }
 
@@ -146,6 +177,7 @@ pub fn run<X: Site, C: Clock, N: Sink>(
         × TakesPart line_put (N.tells notes.old) (line_of outcome) (N.faults notes.old)
         (N.faults notes.new) (N.taken notes.old) (N.taken notes.new) }
 {
+    damaged_images_stand_for_none();
     let outcome = outcome_of(alloc, words, site, clock);
     let _ = outcome.put_line(notes);
     outcome.status()
@@ -174,17 +206,19 @@ fn outcome_of<X: Site, C: Clock>(
                 },
             ),
         ) => format(alloc, site, blocks, half, id),
-        Ok(Some(Command::Replay { path: _, base: _ })) => replay(alloc, site, clock),
+        Ok(Some(Command::Check { path: _ })) => check(alloc, site),
+        Ok(Some(Command::Work { path: _ })) => work(alloc, site, clock),
+        Ok(Some(Command::Replay { path: _, base })) => replay(alloc, site, clock, base),
         Ok(
             Some(
                 Command::Serve {
                     path: _,
                     port: _,
-                    base: _,
+                    base,
                     connections,
                 },
             ),
-        ) => serve(alloc, site, clock, connections),
+        ) => serve(alloc, site, clock, base, connections),
     }
 }
 

@@ -28,6 +28,14 @@ pub enum Command {
         half: u64,
         id: u128,
     },
+    /// Opens a store and counts what it keeps.
+    Check {
+        path: Text,
+    },
+    /// Makes turns until one changes nothing.
+    Work {
+        path: Text,
+    },
     /// Serves one connection, on standard input and output.
     Replay {
         path: Text,
@@ -61,6 +69,8 @@ pub fn devices(alloc: Global, words: &TextList) -> Result<Wanted, Memory>
 {
     match read_words(alloc, words)? {
         Some(Command::Format { path, blocks, .. }) => Ok(Wanted::Fresh(path, BLOCK * blocks)),
+        Some(Command::Check { path }) => Ok(Wanted::Plain(path)),
+        Some(Command::Work { path }) => Ok(Wanted::Plain(path)),
         Some(Command::Replay { path, .. }) => Ok(Wanted::Plain(path)),
         Some(Command::Serve { path, port, .. }) => Ok(Wanted::Listen(path, port)),
         None => Ok(Wanted::Nothing),
@@ -80,6 +90,7 @@ pub(crate) fn read_words(alloc: Global, words: &TextList) -> Result<Option<Comma
     match items {
         [name, path, third, fourth, fifth] => { read_five(alloc, name, path, third, fourth, fifth) }
         [name, path, base] => read_replay(alloc, name, path, base),
+        [name, path] => read_two(alloc, name, path),
         _ => Ok(None),
     }
 }
@@ -177,6 +188,21 @@ fn read_replay(
         path: path.copy(alloc)?,
         base: base.copy(alloc)?,
     }))
+}
+
+/// The command that two words spell by their forms.
+fn read_two(alloc: Global, name: &Text, path: &Text) -> Result<Option<Command>, Memory>
+    ensures { IfOk result (FormIs (name.now ∷ path.now ∷ [])) }
+{
+    if same_bytes(name.bytes(), b"check") {
+        let path = path.copy(alloc)?;
+        Ok(Some(Command::Check { path }))
+    } else if same_bytes(name.bytes(), b"work") {
+        let path = path.copy(alloc)?;
+        Ok(Some(Command::Work { path }))
+    } else {
+        Ok(None)
+    }
 }
 
 /// Whether no word is empty or begins with `-`.

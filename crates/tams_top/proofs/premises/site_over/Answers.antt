@@ -3,7 +3,7 @@ use Rattle.disk_trait.specs.Calls.{LeavesOnly}
 use Rattle.disk_trait.specs.History.{seen_of}
 use Rattle.disk_trait.specs.MemoryDisk.{memory_device}
 use Rattle.site_edge.specs.MemorySite.{site_device}
-use Rattle.put_service.specs.Store.{StandsFor}
+use Rattle.store_states.specs.States.{StandsFor}
 use Rattle.tams_top.proofs.premises.site_over.Goals as goal
 
 -- what was made of the bytes reads as they, and leaves them alone

@@ -6,15 +6,17 @@ use Rattle.tams_top.proofs.serving.serve.Goals as goal
 pub returns-in-Err-clause-ends : goal.returns-in-Err-clause-ends
 returns-in-Err-clause-ends g c =
     rw c.opening_outcome.ensures
-    (serve_refused (g.X.Disk.device c.args.site.now) (g.X.Disk.device c.open.new.disk) _ _ c.in-Err.fault (g.met.X.Disk.sound c.args.site.now)
-    c.in-Err.ensures.reads c.in-Err.ensures.answer c.args.connections)
+    (serve_refused c.args.base (g.X.Disk.device c.args.site.now) (g.X.Disk.device c.open.new.disk) _ _ c.in-Err.fault _
+    c.damaged_images_stand_for_none.ensures.none (g.met.X.Disk.sound c.args.site.now) c.in-Err.ensures.reads c.in-Err.ensures.answer c.args.connections)
 
 -- Connections were served.
 pub returns-clause-ends : goal.returns-clause-ends
 returns-clause-ends g c =
     rw c.serve_outcome.ensures
-    (serve_ends (g.X.Disk.device c.args.site.now) (g.X.Disk.device c.open.new.disk) (g.X.Disk.device c.serve-end.new.site)
-    (g.C.Clock.tells c.serve-end.new.clock) (g.C.Clock.given c.args.clock.now) (g.C.Clock.given c.serve-end.new.clock) c.in-Ok.service
-    c.serve-end.new.tally (g.met.X.Disk.sound c.serve-end.new.site) c.in-Ok.ensures.reads c.in-Ok.ensures.answer c.in-Ok.ensures.begins
-    c.serve-end.ensures.moments c.serve-end.result c.args.connections c.serve-end.ensures.calls
-    (λ all b between. c.serve-end.ensures.ended all b (rw c.new-tally.ensures between)))
+    (serve_ends c.args.base (g.X.Disk.device c.args.site.now) (g.X.Disk.device c.open.new.disk) (g.X.Disk.device c.serve-end.new.site)
+    (g.C.Clock.tells c.serve-end.new.clock) (g.C.Clock.given c.args.clock.now) (g.C.Clock.given c.serve-end.new.clock) c.in-Ok.service.store.kept _
+    c.serve-end.new.tally c.runs_keep_bytes.ensures (g.met.X.Disk.sound c.args.site.now) (g.met.X.Disk.sound c.serve-end.new.site) c.in-Ok.ensures.reads
+    c.serve-end.ensures.calls.same c.in-Ok.ensures.answer
+    (λ from start. c.in-Ok.ensures.keeps start.tells.shows start.settled from start.stands) c.serve-end.ensures.moments c.serve-end.result
+    c.args.connections c.serve-end.ensures.calls
+    (λ all b between. (rw c.in-Ok.ensures.afresh.1 at c.serve-end.ensures.ended) all b (rw c.new-tally.ensures between)))

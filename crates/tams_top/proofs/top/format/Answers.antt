@@ -1,8 +1,19 @@
-use Rattle.std.proofs.Common.{arith}
-use Rattle.tams_top.proofs.FormattingLemmas.{formatting_each}
+use Rattle.std.proofs.Common.{refl, arith}
+use Rattle.tams_top.proofs.FormattingLemmas.{formatting_each, new_stands}
 use Rattle.tams_top.proofs.top.format.Goals as goal
 
--- The store was made.
+-- The store was made, and stands for the empty library.
+pub returns-in-Ok-clause-ends : goal.returns-in-Ok-clause-ends
+returns-in-Ok-clause-ends g c =
+    let answer = rw c.empty_rows.ensures at c.in-Ok.ensures.answer in record {
+      blocks_is = refl;
+      half_is = refl;
+      media_is = c.saturating_sub.ensures;
+      none = λ shows. (answer shows).0;
+      fits = λ shows. (answer shows).1;
+      stands = λ shows. new_stands _ _ (answer shows).2;
+    }
+
 pub returns-in-Ok-clause-moments : goal.returns-in-Ok-clause-moments
 returns-in-Ok-clause-moments g c = record {
   each = λ honest shows settled bare p left.

@@ -1,13 +1,15 @@
 use Rattle.std.proofs.Common.{sym, ◌∙◌}
-use Rattle.tams_top.proofs.CompletenessLemmas.{all_served_whole, formatted_whole, served_whole}
-use Rattle.tams_top.proofs.EndingLemmas.{run_bad, run_formats, run_formatted, run_formatting, run_linked, run_linked_only, run_only, run_peers, run_peers_only, run_refused, run_replayed, run_served, run_starved, run_starved_format, run_starved_serve, run_uncut, run_unlinked, run_words}
+use Rattle.std.specs.Prelude.{is_ok}
+use Rattle.tams_top.proofs.CompletenessLemmas.{all_served_whole, checked_whole, formatted_whole, served_whole, worked_whole}
+use Rattle.tams_top.proofs.EndingLemmas.{run_alone, run_bad, run_checked, run_formats, run_formatted, run_formatting, run_linked, run_linked_only, run_only, run_peers, run_peers_only, run_refused, run_replayed, run_served, run_starved, run_starved_format, run_starved_serve, run_uncut, run_unlinked, run_unwritten, run_words, run_worked}
 use Rattle.tams_top.proofs.top.run.Goals as goal
 
 pub returns-clause-words : goal.returns-clause-words
 returns-clause-words g c = λ s. run_words _ _ _ _ _ _ _ c.outcome_of-outcome.ensures (sym c.status.ensures ∙ s)
 
 pub returns-clause-refused : goal.returns-clause-refused
-returns-clause-refused g c = λ s. run_refused _ _ _ _ _ _ _ c.outcome_of-outcome.ensures (sym c.status.ensures ∙ s)
+returns-clause-refused g c = λ s.
+    run_refused _ _ _ _ _ _ _ c.outcome_of-outcome.ensures c.damaged_images_stand_for_none.ensures.none (sym c.status.ensures ∙ s)
 
 pub returns-clause-refused_only : goal.returns-clause-refused_only
 returns-clause-refused_only g c = λ command is shows cause.
@@ -40,32 +42,32 @@ returns-clause-formatting g c = λ path blocks half id is honest shows settled b
     run_formatting _ _ _ _ _ _ _ c.outcome_of-outcome.ensures path blocks half id is honest shows settled bare p left
 
 pub returns-clause-replayed : goal.returns-clause-replayed
-returns-clause-replayed g c = λ from replay. (
+returns-clause-replayed g c = λ base from replay. (
   c.outcome_of-outcome.result,
   c.status.ensures,
-  run_replayed _ _ _ _ _ _ _ c.outcome_of-outcome.ensures (g.met.X.Disk.sound c.args.site.now) from replay,
+  run_replayed _ _ _ _ _ _ _ c.outcome_of-outcome.ensures (g.met.X.Disk.sound c.args.site.now) base from replay,
 )
 
 pub returns-clause-served : goal.returns-clause-served
-returns-clause-served g c = λ from connections serve. (
+returns-clause-served g c = λ base from connections serve. (
   c.outcome_of-outcome.result,
   c.status.ensures,
-  run_served _ _ _ _ _ _ _ c.outcome_of-outcome.ensures (g.met.X.Disk.sound c.args.site.now) from connections serve,
+  run_served _ _ _ _ _ _ _ c.outcome_of-outcome.ensures (g.met.X.Disk.sound c.args.site.now) base from connections serve,
 )
 
 pub returns-clause-complete : goal.returns-clause-complete
-returns-clause-complete g c = λ from replay none fed.
+returns-clause-complete g c = λ base from replay none fed.
     rw c.status.ensures
-    (served_whole from _ _ _ _ c.outcome_of-outcome.result c.outcome_of-outcome.ensures.disk none
+    (served_whole base from _ _ _ _ c.outcome_of-outcome.result c.outcome_of-outcome.ensures.disk none
     (run_unlinked _ _ _ _ _ _ _ c.outcome_of-outcome.ensures) (λ four. fed (c.status.ensures ∙ four))
-    (run_replayed _ _ _ _ _ _ _ c.outcome_of-outcome.ensures (g.met.X.Disk.sound c.args.site.now) from replay))
+    (run_replayed _ _ _ _ _ _ _ c.outcome_of-outcome.ensures (g.met.X.Disk.sound c.args.site.now) base from replay))
 
 pub returns-clause-complete_serve : goal.returns-clause-complete_serve
-returns-clause-complete_serve g c = λ from connections serve none fed.
+returns-clause-complete_serve g c = λ base from connections serve none fed.
     rw c.status.ensures
-    (all_served_whole from _ _ _ _ c.outcome_of-outcome.result c.outcome_of-outcome.ensures.disk none
+    (all_served_whole base from _ _ _ _ c.outcome_of-outcome.result c.outcome_of-outcome.ensures.disk none
     (run_unlinked _ _ _ _ _ _ _ c.outcome_of-outcome.ensures) (λ four. fed (c.status.ensures ∙ four)) connections
-    (run_served _ _ _ _ _ _ _ c.outcome_of-outcome.ensures (g.met.X.Disk.sound c.args.site.now) from connections serve))
+    (run_served _ _ _ _ _ _ _ c.outcome_of-outcome.ensures (g.met.X.Disk.sound c.args.site.now) base from connections serve))
 
 pub returns-clause-complete_format : goal.returns-clause-complete_format
 returns-clause-complete_format g c = λ path blocks half id is none.
@@ -87,3 +89,30 @@ returns-clause-starved_serve g c = λ path base port connections is s.
 
 pub returns-clause-starved : goal.returns-clause-starved
 returns-clause-starved g c = λ s. run_starved _ _ _ _ _ _ _ c.outcome_of-outcome.ensures (sym c.status.ensures ∙ s)
+
+pub returns-clause-untouched_check : goal.returns-clause-untouched_check
+returns-clause-untouched_check g c = λ path is. run_unwritten _ _ _ _ _ _ _ c.outcome_of-outcome.ensures path is
+
+pub returns-clause-checked : goal.returns-clause-checked
+returns-clause-checked g c = λ s shows path is from stands. (
+  is_ok c.put_line.result,
+  rw (run_checked _ _ _ _ _ _ _ c.outcome_of-outcome.ensures path is (sym c.status.ensures ∙ s) shows from stands) at c.put_line.ensures,
+)
+
+pub returns-clause-complete_check : goal.returns-clause-complete_check
+returns-clause-complete_check g c = λ path is none.
+    rw c.status.ensures (checked_whole _ _ _ _ _ _ _ c.outcome_of-outcome.ensures path is none)
+
+pub returns-clause-nobody_works : goal.returns-clause-nobody_works
+returns-clause-nobody_works g c = λ path is. run_alone _ _ _ _ _ _ _ c.outcome_of-outcome.ensures path is
+
+pub returns-clause-worked : goal.returns-clause-worked
+returns-clause-worked g c = λ from work. (
+  c.outcome_of-outcome.result,
+  c.status.ensures,
+  run_worked _ _ _ _ _ _ _ c.outcome_of-outcome.ensures (g.met.X.Disk.sound c.args.site.now) from work,
+)
+
+pub returns-clause-complete_work : goal.returns-clause-complete_work
+returns-clause-complete_work g c = λ path is none.
+    rw c.status.ensures (worked_whole _ _ _ _ _ _ _ c.outcome_of-outcome.ensures path is none)

@@ -28,6 +28,11 @@ returns-in_err-put_number-in-Damaged g c =
     let p = err_from_is_err_and c.from_residual-in_err-put_number-in-Damaged.result c.from_residual-in_err-put_number-in-Damaged.ensures.1 in
     rw (p.1, c.in-Damaged.is) (takes_front _ _ _ _ _ _ _ c.in_err-put_number-in-Damaged.ensures.takes)
 
+pub returns-in_err-put_number-in-Worked : goal.returns-in_err-put_number-in-Worked
+returns-in_err-put_number-in-Worked g c =
+    let p = err_from_is_err_and c.from_residual-in_err-put_number-in-Worked.result c.from_residual-in_err-put_number-in-Worked.ensures.1 in
+    rw (p.1, c.in-Worked.is) (takes_front _ _ _ _ _ _ _ c.in_err-put_number-in-Worked.ensures.takes)
+
 -- The parts before the last were put whole.
 pub returns-in_ok-put_number-in-Formatted-3 : goal.returns-in_ok-put_number-in-Formatted-3
 returns-in_ok-put_number-in-Formatted-3 g c =
@@ -43,4 +48,11 @@ returns-in_ok-put_number-in-Damaged g c =
     let last = c.put-in-Damaged.ensures in
     rw c.in-Damaged.is
     (takes_twice _ _ _ _ _ _ _ _ _ _ _ c.put_number-in-Damaged.ensures.tells c.in_ok-put_number-in-Damaged.ensures.takes
+    (record { counted = last.counted; puts = last.puts }))
+
+pub returns-in_ok-put_number-in-Worked : goal.returns-in_ok-put_number-in-Worked
+returns-in_ok-put_number-in-Worked g c =
+    let last = c.put-in-Worked.ensures in
+    rw c.in-Worked.is
+    (takes_twice _ _ _ _ _ _ _ _ _ _ _ c.put_number-in-Worked.ensures.tells c.in_ok-put_number-in-Worked.ensures.takes
     (record { counted = last.counted; puts = last.puts }))

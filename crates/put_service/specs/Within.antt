@@ -1,3 +1,0 @@
--- Definitions that only the proofs of this crate need.
-pub mod Folding
-pub mod Unread

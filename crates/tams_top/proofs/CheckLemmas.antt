@@ -1,0 +1,40 @@
+-- The ends of `check`.
+use Rattle.std.proofs.Common.{◌≡◌, Bool, true, ap}
+use Rattle.disk_trait.specs.Device.{Device}
+use Rattle.disk_trait.specs.Calls.{DiskReads}
+use Rattle.media_journal.specs.declared.fault.JournalFault.{JournalFault}
+use Rattle.media_journal.specs.declared.fault.JournalFault.TheVariants as opening
+use Rattle.store_core.specs.Prepared.{counts_of}
+use Rattle.store_opening.specs.Laws.{KeptStands}
+use Rattle.store_opening.specs.Opening.{IsKept, kept_bytes}
+use Rattle.store_states.specs.Kept.{StoreView, kept_state}
+use Rattle.store_states.specs.Laws.{IsOneState}
+use Rattle.store_states.specs.States.{StoreState}
+use Rattle.tams_top.specs.declared.outcome.Outcome.TheVariants.{Checked}
+use Rattle.tams_top.specs.Running.{CheckEnds, Untouched, opening_outcome}
+use Rattle.tams_top.proofs.RunningLemmas.{Answers}
+
+module _ (old new : Device) (ok : Bool) (reads : DiskReads ok old new) where
+  untouched : Untouched old new
+  untouched = record { seen = reads.seen; handed = reads.handed; link = reads.calls.link; time = reads.time }
+
+  -- the store couldn't be opened
+  pub check_failed : (fault : JournalFault) → Answers old fault → CheckEnds old new (opening_outcome fault)
+  check_failed opening.NotStore answer = (answer, untouched)
+  check_failed (opening.Damaged at) answer = (answer, untouched)
+  check_failed opening.Disk answer = untouched
+  check_failed opening.Memory answer = untouched
+
+  -- it was
+  pub check_counted : KeptStands → IsOneState → (kept : StoreView) → (old.shows ≡ true → IsKept old.seen kept)
+      → CheckEnds old new (Checked (counts_of kept.library))
+  check_counted kept_stands one kept answer = (
+    λ shows.
+        let stands = kept_stands old.seen kept (answer shows) in
+        record {
+          stands = (kept_state kept (kept_bytes old.seen kept), stands);
+          counts_are = λ from other.
+              ap (λ (s : StoreState). counts_of s.archive.library) (one old.seen from (kept_state kept (kept_bytes old.seen kept)) other stands);
+        },
+    untouched,
+  )

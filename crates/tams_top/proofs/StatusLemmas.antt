@@ -1,0 +1,163 @@
+-- What the status of a command says of its end. A status of another end is another number.
+use Rattle.std.proofs.Common.{◌≡◌, ◌⊎◌, true, length, refl, ap, inl, inr, arith}
+use Rattle.disk_trait.specs.Device.{Device}
+use Rattle.media_journal.specs.declared.header.Header.{Header}
+use Rattle.media_journal.specs.File.{HasOpenHeader}
+use Rattle.media_journal.specs.Formatting.{FitsStore}
+use Rattle.store_opening.specs.Laws.{DamagedStandsForNone}
+use Rattle.store_core.specs.Prepared.{counts_of}
+use Rattle.store_states.specs.States.{StandsFor, StoreState}
+use Rattle.tams_top.specs.declared.outcome.Outcome.{Outcome}
+use Rattle.tams_top.specs.declared.outcome.Outcome.TheVariants.{Formatted, Checked, Worked, Served, Cut, BadWords, NotStore, AlreadyStore, TooSmall, Damaged, DiskFault, NoMemory, LinkFault}
+use Rattle.tams_top.specs.Formatting.{empty_rows, formatted_state}
+use Rattle.tams_top.specs.Running.{CheckEnds, FormatRunEnds, OpenedCause, StandsForNone, Untouched, WorkCause, status_of}
+use Rattle.tams_top.proofs.RunningLemmas.{no_store}
+
+module _ (old new : Device) (h : Header) where
+  pub format_refused : (o : Outcome) → FormatRunEnds old new h o → status_of o ≡ 2
+      → Untouched old new × (old.shows ≡ true → HasOpenHeader old.seen ⊎ ¬ (FitsStore h (length old.seen) empty_rows))
+  format_refused AlreadyStore ends s = (ends.1, λ shows. inl (ends.0 shows))
+  format_refused TooSmall ends s = (ends.1, λ shows. inr ((ends.0 shows).1))
+  format_refused NotStore ends s = absurd ends
+  format_refused (Damaged at) ends s = absurd ends
+  format_refused _ ends s = absurd (omega (arith, s))
+
+  pub format_done : (o : Outcome) → FormatRunEnds old new h o → status_of o ≡ 0 → old.shows ≡ true → StandsFor new.seen (formatted_state h)
+  format_done (Formatted blocks half media) ends s = ends.stands
+  format_done (Checked counts) ends s = absurd ends
+  format_done (Worked turns) ends s = absurd ends
+  format_done (Served requests changes skipped) ends s = absurd ends
+  format_done _ ends s = absurd (omega (arith, s))
+
+  pub format_starved : (o : Outcome) → FormatRunEnds old new h o → status_of o ≡ 4 → Untouched old new
+  format_starved NoMemory ends s = ends
+  format_starved LinkFault ends s = absurd ends
+  format_starved _ ends s = absurd (omega (arith, s))
+
+  pub format_only : (o : Outcome) → FormatRunEnds old new h o → old.shows ≡ true → HasOpenHeader old.seen ⊎ ¬ (FitsStore h (length old.seen) empty_rows)
+      → (status_of o ≡ 2) ⊎ ((status_of o ≡ 3) ⊎ (status_of o ≡ 4))
+  format_only (Formatted blocks half media) ends shows cause =
+      absurd (elim cause [ inl header ↦ ends.none shows header | inr misfit ↦ misfit (ends.fits shows) ])
+  format_only AlreadyStore ends shows cause = inl refl
+  format_only TooSmall ends shows cause = inl refl
+  format_only DiskFault ends shows cause = inr (inl refl)
+  format_only NoMemory ends shows cause = inr (inr refl)
+  format_only (Checked counts) ends shows cause = absurd ends
+  format_only (Worked turns) ends shows cause = absurd ends
+  format_only (Served requests changes skipped) ends shows cause = absurd ends
+  format_only Cut ends shows cause = absurd ends
+  format_only BadWords ends shows cause = absurd ends
+  format_only NotStore ends shows cause = absurd ends
+  format_only (Damaged at) ends shows cause = absurd ends
+  format_only LinkFault ends shows cause = absurd ends
+
+module _ (old new : Device) where
+  pub opened_refused : DamagedStandsForNone → (o : Outcome) → OpenedCause old new o → status_of o ≡ 2
+      → Untouched old new × (old.shows ≡ true → StandsForNone old.seen)
+  opened_refused damaged NotStore cause s = (cause.1, λ shows. no_store old.seen (cause.0 shows))
+  opened_refused damaged (Damaged at) cause s = (cause.1, λ shows state. damaged old.seen at state (cause.0 shows).1)
+  opened_refused damaged AlreadyStore cause s = absurd cause
+  opened_refused damaged TooSmall cause s = absurd cause
+  opened_refused damaged _ cause s = absurd (omega (arith, s))
+
+  pub opened_only : (o : Outcome) → OpenedCause old new o → old.shows ≡ true → StandsForNone old.seen
+      → (status_of o ≡ 2) ⊎ ((status_of o ≡ 3) ⊎ (status_of o ≡ 4))
+  opened_only (Served requests changes skipped) cause shows none = let stood = cause shows in absurd (none stood.0 stood.1)
+  opened_only Cut cause shows none = let stood = cause shows in absurd (none stood.0 stood.1)
+  opened_only LinkFault cause shows none = let stood = cause shows in absurd (none stood.0 stood.1)
+  opened_only NotStore cause shows none = inl refl
+  opened_only (Damaged at) cause shows none = inl refl
+  opened_only DiskFault cause shows none = inr (inl refl)
+  opened_only NoMemory cause shows none = inr (inr refl)
+  opened_only (Formatted blocks half media) cause shows none = absurd cause
+  opened_only (Checked counts) cause shows none = absurd cause
+  opened_only (Worked turns) cause shows none = absurd cause
+  opened_only BadWords cause shows none = absurd cause
+  opened_only AlreadyStore cause shows none = absurd cause
+  opened_only TooSmall cause shows none = absurd cause
+
+  -- `check` writes nothing
+  pub check_untouched : (o : Outcome) → CheckEnds old new o → Untouched old new
+  check_untouched (Checked counts) ends = ends.1
+  check_untouched NotStore ends = ends.1
+  check_untouched (Damaged at) ends = ends.1
+  check_untouched DiskFault ends = ends
+  check_untouched NoMemory ends = ends
+  check_untouched (Formatted blocks half media) ends = absurd ends
+  check_untouched (Worked turns) ends = absurd ends
+  check_untouched (Served requests changes skipped) ends = absurd ends
+  check_untouched Cut ends = absurd ends
+  check_untouched BadWords ends = absurd ends
+  check_untouched AlreadyStore ends = absurd ends
+  check_untouched TooSmall ends = absurd ends
+  check_untouched LinkFault ends = absurd ends
+
+  pub check_refused : DamagedStandsForNone → (o : Outcome) → CheckEnds old new o → status_of o ≡ 2
+      → Untouched old new × (old.shows ≡ true → StandsForNone old.seen)
+  check_refused damaged NotStore ends s = opened_refused damaged NotStore ends s
+  check_refused damaged (Damaged at) ends s = opened_refused damaged (Damaged at) ends s
+  check_refused damaged AlreadyStore ends s = absurd ends
+  check_refused damaged TooSmall ends s = absurd ends
+  check_refused damaged _ ends s = absurd (omega (arith, s))
+
+  pub check_only : (o : Outcome) → CheckEnds old new o → old.shows ≡ true → StandsForNone old.seen
+      → (status_of o ≡ 2) ⊎ ((status_of o ≡ 3) ⊎ (status_of o ≡ 4))
+  check_only (Checked counts) ends shows none = let stood = (ends.0 shows).stands in absurd (none stood.0 stood.1)
+  check_only NotStore ends shows none = inl refl
+  check_only (Damaged at) ends shows none = inl refl
+  check_only DiskFault ends shows none = inr (inl refl)
+  check_only NoMemory ends shows none = inr (inr refl)
+  check_only (Formatted blocks half media) ends shows none = absurd ends
+  check_only (Worked turns) ends shows none = absurd ends
+  check_only (Served requests changes skipped) ends shows none = absurd ends
+  check_only Cut ends shows none = absurd ends
+  check_only BadWords ends shows none = absurd ends
+  check_only AlreadyStore ends shows none = absurd ends
+  check_only TooSmall ends shows none = absurd ends
+  check_only LinkFault ends shows none = absurd ends
+
+  -- a store that was checked has the counts of the state for which the file stands
+  pub check_done : (o : Outcome) → CheckEnds old new o → status_of o ≡ 0 → old.shows ≡ true → (from : StoreState) → StandsFor old.seen from
+      → o ≡ Checked (counts_of from.archive.library)
+  check_done (Checked counts) ends s shows from stands = ap Checked ((ends.0 shows).counts_are from stands)
+  check_done (Formatted blocks half media) ends s shows from stands = absurd ends
+  check_done (Worked turns) ends s shows from stands = absurd ends
+  check_done (Served requests changes skipped) ends s shows from stands = absurd ends
+  check_done _ ends s shows from stands = absurd (omega (arith, s))
+
+  pub work_refused : DamagedStandsForNone → (o : Outcome) → WorkCause old new o → status_of o ≡ 2
+      → Untouched old new × (old.shows ≡ true → StandsForNone old.seen)
+  work_refused damaged NotStore cause s = opened_refused damaged NotStore cause s
+  work_refused damaged (Damaged at) cause s = opened_refused damaged (Damaged at) cause s
+  work_refused damaged AlreadyStore cause s = absurd cause
+  work_refused damaged TooSmall cause s = absurd cause
+  work_refused damaged _ cause s = absurd (omega (arith, s))
+
+  pub work_only : (o : Outcome) → WorkCause old new o → old.shows ≡ true → StandsForNone old.seen
+      → (status_of o ≡ 2) ⊎ ((status_of o ≡ 3) ⊎ (status_of o ≡ 4))
+  work_only (Worked turns) cause shows none = let stood = cause shows in absurd (none stood.0 stood.1)
+  work_only NotStore cause shows none = inl refl
+  work_only (Damaged at) cause shows none = inl refl
+  work_only DiskFault cause shows none = inr (inl refl)
+  work_only NoMemory cause shows none = inr (inr refl)
+  work_only (Formatted blocks half media) cause shows none = absurd cause
+  work_only (Checked counts) cause shows none = absurd cause
+  work_only (Served requests changes skipped) cause shows none = absurd cause
+  work_only Cut cause shows none = absurd cause
+  work_only BadWords cause shows none = absurd cause
+  work_only AlreadyStore cause shows none = absurd cause
+  work_only TooSmall cause shows none = absurd cause
+  work_only LinkFault cause shows none = absurd cause
+
+-- statuses of one outcome alone
+pub no_memory_by : (p : Outcome) → status_of p ≡ 4 → p ≡ NoMemory
+no_memory_by NoMemory e = refl
+no_memory_by _ e = absurd (omega (arith, e))
+
+pub link_fault_by : (p : Outcome) → status_of p ≡ 5 → p ≡ LinkFault
+link_fault_by LinkFault e = refl
+link_fault_by _ e = absurd (omega (arith, e))
+
+pub cut_by : (p : Outcome) → status_of p ≡ 6 → p ≡ Cut
+cut_by Cut e = refl
+cut_by _ e = absurd (omega (arith, e))

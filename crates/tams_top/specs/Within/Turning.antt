@@ -1,0 +1,49 @@
+-- Turns under way, which proofs alone need.
+use Rattle.std.specs.Prelude.{◌≡◌, ◌≤◌, ℕ, Bool, true, false, List, [], ◌∷◌, ◌++◌, length, All}
+use Rattle.disk_trait.specs.Calls.{DiskCalls}
+use Rattle.disk_trait.specs.Device.{Device}
+use Rattle.site_edge.specs.Clocks.{IsMoment}
+use Rattle.library_laws.specs.MediaLaws.{IsGoodArchive}
+use Rattle.media_store.specs.Stores.{StoreSeen, size_of}
+use Rattle.run_history.specs.Runs.{Beginning, Reached}
+use Rattle.run_history.specs.Steps.{last_or}
+use Rattle.store_states.specs.States.{StoreState}
+use Rattle.tams_machine.specs.Machine.{tams_machine}
+use Rattle.tams_service.specs.Keeping.{KeepsState}
+use Rattle.tams_top.specs.Working.{HaveTurned, turns_trace}
+
+-- the outside is as the model says
+pub record TellsTurns (d : Device) (clock : Bool) : Type 0 where
+  pub honest : d.honest ≡ true
+  pub shows : d.shows ≡ true
+  pub tells : d.tells ≡ true
+  pub clock_tells : clock ≡ true
+
+-- Turns at these moments changed something, left these states, and may go on.
+pub record IsWorking (b : Beginning StoreState) (moments : List ℕ) (states : List StoreState)
+    (d : Device) (given : List ℕ) (store : StoreSeen) : Type 0 where
+  pub turned : HaveTurned b.state moments states
+  pub given_is : given ≡ b.given ++ moments
+  pub are_moments : All IsMoment moments
+  pub reached : Reached (tams_machine []) b (turns_trace b.state states) false false d
+  pub good : All (λ s. IsGoodArchive s.archive) (b.state ∷ states)
+  pub keeps : KeepsState store d (last_or b.state states)
+
+-- the same of so many turns
+pub record SoMany (b : Beginning StoreState) (d : Device) (given : List ℕ) (store : StoreSeen)
+    (turns : ℕ) : Type 0 where
+  pub moments : List ℕ
+  pub states : List StoreState
+  pub number : length moments ≡ turns
+  pub working : IsWorking b moments states d given store
+
+-- Turns were made since a device and a clock, each of which changed something.
+pub record WorksOn (old now : Device) (told tells : Bool) (begun given : List ℕ)
+    (first store : StoreSeen) (turns counter : ℕ) : Type 0 where
+  pub unspent : store.spent ≡ false
+  pub size_is : size_of store.kept ≤ now.size
+  pub counted : turns ≡ counter
+  pub calls : DiskCalls true old now
+  pub clock : tells ≡ true → told ≡ true
+  pub working : TellsTurns old tells → (b : Beginning StoreState)
+      → IsWorking b [] [] old begun first → SoMany b now given store turns

@@ -1,0 +1,68 @@
+-- What a run of `work` makes of a file that stands for a state: turns, each at a moment of its own,
+-- until one changes nothing.
+use Rattle.std.specs.Prelude.{◌≡◌, ◌-◌, ◌^◌, ◌⊎◌, ℕ, Bool, false, List, [], ◌∷◌, ◌++◌, length, All, Some, None, Result, Ok, Err}
+use Rattle.disk_trait.specs.Device.{Device}
+use Rattle.site_edge.specs.Clocks.{IsMoment}
+use Rattle.library_laws.specs.MediaLaws.{IsGoodArchive}
+use Rattle.run_history.specs.Runs.{AllRight, Beginning, StandsNow}
+use Rattle.run_history.specs.Steps.{last_or}
+use Rattle.run_history.specs.Traces.{Trace}
+use Rattle.media_store.specs.declared.fault.StoreFault.{StoreFault}
+use Rattle.media_store.specs.declared.fault.StoreFault.TheVariants as faults
+use Rattle.store_states.specs.States.{StoreState}
+use Rattle.tams_machine.specs.Answers.{turn_in}
+use Rattle.tams_machine.specs.Machine.{tams_machine}
+use Rattle.tams_top.specs.declared.outcome.Outcome.{Outcome}
+use Rattle.tams_top.specs.declared.outcome.Outcome.TheVariants.{Worked, DiskFault, NoMemory}
+
+-- At these moments, one after another, a turn changed something, and left these states.
+abbrev pub HaveTurned : StoreState → List ℕ → List StoreState → Type 0
+HaveTurned s [] states = states ≡ []
+HaveTurned s (moment ∷ moments) [] = ⊥
+HaveTurned s (moment ∷ moments) (next ∷ states) =
+    (turn_in moment s ≡ Some next) × HaveTurned next moments states
+
+-- What turns come to that left these states. They tell nobody anything.
+abbrev pub turns_trace : StoreState → List StoreState → Trace StoreState
+turns_trace from states = record { scripts = []; first = from; changes = states }
+
+-- How turns end, so many of which changed something: with one that changes nothing (or once they
+-- can't be counted any more), with a fault of the disk, or for want of memory. Where the disk
+-- failed, the change that was being made may stand or not.
+abbrev pub TurnsEnd : StoreState → ℕ → List ℕ → Bool → Result ℕ StoreFault → Type 0
+TurnsEnd last number idle torn (Ok turns) = (turns ≡ number) × (torn ≡ false)
+    × (((moment : ℕ) × (idle ≡ moment ∷ []) × (turn_in moment last ≡ None))
+    ⊎ (number ≡ 2 ^ 64 - 1))
+TurnsEnd last number idle torn (Err faults.Disk) = Unit {0}
+TurnsEnd last number idle torn (Err faults.Memory) = torn ≡ false
+
+-- A run has ended that made turns: the moments of those that changed something and the states
+-- behind them, and then the moment of one that changed nothing, where there was one. Each crash
+-- since the beginning left the first state or one of these. The machine's turns are the same over
+-- any base.
+pub record HasWorked (b : Beginning StoreState) (new : Device) (given : List ℕ)
+    (end : Result ℕ StoreFault) : Type 0 where
+  pub moments : List ℕ
+  pub states : List StoreState
+  pub turned : HaveTurned b.state moments states
+  pub idle : List ℕ
+  pub given_is : given ≡ b.given ++ (moments ++ idle)
+  pub are_moments : All IsMoment (moments ++ idle)
+  pub torn : Bool
+  pub right : AllRight (tams_machine []) b (turns_trace b.state states) new
+  pub stands : StandsNow (tams_machine []) new.seen (turns_trace b.state states) torn
+  pub good : All (λ s. IsGoodArchive s.archive) (b.state ∷ states)
+  pub ends : TurnsEnd (last_or b.state states) (length moments) idle torn end
+
+-- the outcome of turns by how they ended
+abbrev pub work_outcome : Result ℕ StoreFault → Outcome
+work_outcome (Ok turns) = Worked turns
+work_outcome (Err faults.Disk) = DiskFault
+work_outcome (Err faults.Memory) = NoMemory
+
+-- a run of `work` from its beginning
+pub record WorkedOff (b : Beginning StoreState) (new : Device) (given : List ℕ)
+    (outcome : Outcome) : Type 0 where
+  pub end : Result ℕ StoreFault
+  pub worked : HasWorked b new given end
+  pub outcome_is : outcome ≡ work_outcome end

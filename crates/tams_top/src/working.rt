@@ -1,0 +1,80 @@
+//! The command that works: it makes turns, each at a moment of its own, until one changes nothing.
+ghost use Rattle.std.specs.Prelude.{◌≡◌, ◌≤◌, [], true, IsFalse};
+ghost use Rattle.disk_trait.specs.Calls.{DiskCalls, IsCounted};
+ghost use Rattle.media_store.specs.Faults.{not_disk};
+ghost use Rattle.media_store.specs.Stores.{size_of};
+ghost use Rattle.run_history.specs.Runs.{Beginning};
+ghost use Rattle.store_states.specs.States.{StoreState};
+ghost use Rattle.tams_top.specs.Running.{WorkEnds, no_disk_fault};
+ghost use Rattle.tams_top.specs.Working.{HasWorked, work_outcome};
+ghost use Rattle.tams_top.specs.Within.Turning.{IsWorking, TellsTurns};
+
+use crate::outcome::{Outcome, opening_outcome};
+use disk_trait::Disk;
+use media_store::{Store, StoreFault, TurnMade};
+use site_edge::Clock;
+use std::alloc::Global;
+use store_opening::{damaged_images_stand_for_none, kept_images_stand};
+use store_states::an_image_stands_for_one_state;
+use tams_machine::turns_keep;
+
+/// Opens the store of a device, and makes turns until one changes nothing.
+pub(crate) fn work<D: Disk, C: Clock>(alloc: Global, disk: &mut D, clock: &mut C) -> Outcome
+    ensures disk { IsCounted (no_disk_fault result) (D.device disk.old).faults
+        (D.device disk.new).faults }
+    ensures ends { WorkEnds (D.device disk.old) (D.device disk.new) (C.tells clock.new)
+        (C.given clock.old) (C.given clock.new) result }
+{
+    damaged_images_stand_for_none();
+    kept_images_stand();
+    an_image_stands_for_one_state();
+    match Store::open(alloc, disk) {
+        Ok(mut store) => {
+            let end = make_turns(alloc, &mut store, disk, clock);
+            let_go(store);
+            work_outcome(end)
+        }
+        Err(fault) => opening_outcome(fault),
+    }
+}
+
+/// Makes turns until one changes nothing, and answers how many did.
+fn make_turns<D: Disk, C: Clock>(
+    alloc: Global,
+    store: &mut Store,
+    disk: &mut D,
+    clock: &mut C,
+) -> Result<u64, StoreFault>
+    requires unspent { IsFalse store.old.spent }
+    requires device { size_of store.old.kept ≤ (D.device disk.old).size }
+    ensures calls { DiskCalls (not_disk result) (D.device disk.old) (D.device disk.new) }
+    ensures clock { C.tells clock.new ≡ true → C.tells clock.old ≡ true }
+    ensures worked { TellsTurns (D.device disk.old) (C.tells clock.new)
+        → (b : Beginning StoreState)
+        → IsWorking b [] [] (D.device disk.old) (C.given clock.old) store.old
+        → HasWorked b (D.device disk.new) (C.given clock.new) result }
+{
+    turns_keep();
+    let mut turns = 0;
+    for _ in 0..u64::MAX {
+        match store.turn(alloc, disk, clock.now())? {
+            TurnMade::Deleted | TurnMade::Swept => turns += 1,
+            TurnMade::Nothing | TurnMade::NoRoom => return Ok(turns),
+        }
+    }
+    Ok(turns)
+}
+
+/// Lets a store go.
+fn let_go(store: Store) {}
+
+/// The outcome of turns by how they ended.
+fn work_outcome(end: Result<u64, StoreFault>) -> Outcome
+    ensures { result ≡ work_outcome end }
+{
+    match end {
+        Ok(turns) => Outcome::Worked(turns),
+        Err(StoreFault::Disk) => Outcome::DiskFault,
+        Err(StoreFault::Memory) => Outcome::NoMemory,
+    }
+}
