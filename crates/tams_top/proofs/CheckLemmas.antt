@@ -12,11 +12,11 @@ use Rattle.store_states.specs.Laws.{IsOneState}
 use Rattle.store_states.specs.States.{StoreState}
 use Rattle.tams_top.specs.declared.outcome.Outcome.TheVariants.{Checked}
 use Rattle.tams_top.specs.Running.{CheckEnds, Untouched, opening_outcome}
-use Rattle.tams_top.proofs.RunningLemmas.{Answers}
+use Rattle.tams_top.proofs.RunningLemmas.{Answers, untouched_by}
 
 module _ (old new : Device) (ok : Bool) (reads : DiskReads ok old new) where
   untouched : Untouched old new
-  untouched = record { seen = reads.seen; handed = reads.handed; link = reads.calls.link; time = reads.time }
+  untouched = untouched_by ok old new reads
 
   -- the store couldn't be opened
   pub check_failed : (fault : JournalFault) → Answers old fault → CheckEnds old new (opening_outcome fault)

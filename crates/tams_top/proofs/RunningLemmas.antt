@@ -28,6 +28,10 @@ no_store image none s stands =
     let sizes = stands.reads.sizes in
     none (is_store image stands.header stands.reads.header (omega (arith, sizes.some_half, sizes.fits, sizes.within)))
 
+-- reads leave all as it was
+pub untouched_by : (ok : Bool) (old new : Device) → DiskReads ok old new → Untouched old new
+untouched_by ok old new reads = record { seen = reads.seen; handed = reads.handed; link = reads.calls.link; time = reads.time }
+
 -- nothing was served, and nothing changed
 pub no_peer : (base : List ℕ) (old new : Device) (clock : Bool) (begun : List ℕ) (o : Outcome) → IsDevice old → Untouched old new
     → EndsWithoutPeer new o → (from : StoreState) → BeginsFrom from old clock → NoPeer base (beginning from old begun) new begun o
@@ -104,7 +108,7 @@ module _ (base : List ℕ) (old new : Device) (clock : Bool) (begun : List ℕ) 
     (reads : DiskReads ok old new)
     (answer : Answers old fault) where
   untouched : Untouched old new
-  untouched = record { seen = reads.seen; handed = reads.handed; link = reads.calls.link; time = reads.time }
+  untouched = untouched_by ok old new reads
 
   pub replay_refused : ReplayEnds base old new clock begun begun (opening_outcome fault)
   replay_refused = record {

@@ -5,6 +5,8 @@ use Rattle.std.proofs.lemmas.Bool.{false≢true}
 use Rattle.std.proofs.lemmas.Bool.Decides.{nat_tests}
 use Rattle.std.proofs.lemmas.List.Elements.{All-append, All-cons, All-head, All-nil, All-tail}
 use Rattle.change_codec.specs.Fitting.{State}
+use Rattle.connection_loop.specs.Turns.{TellsAll}
+use Rattle.connection_loop.proofs.Turning.{tells_later}
 use Rattle.disk_trait.proofs.Theorems.{calls_twice, no_calls}
 use Rattle.disk_trait.specs.Calls.{DiskCalls, DiskReads, LeavesOnly}
 use Rattle.disk_trait.specs.Device.{Device, IsDevice, as_read}
@@ -43,9 +45,9 @@ use Rattle.tams_service.proofs.States.{keeps_next, turn_of}
 use Rattle.tams_top.specs.Histories.{BeginsFrom, beginning}
 use Rattle.tams_top.specs.Running.{StandsForOne, Untouched, WorkCause, WorkEnds, no_disk_fault, opening_outcome}
 use Rattle.tams_top.specs.Working.{HasWorked, HaveTurned, TurnsEnd, WorkedOff, turns_trace, work_outcome}
-use Rattle.tams_top.specs.Within.Turning.{IsWorking, SoMany, TellsTurns, WorksOn}
+use Rattle.tams_top.specs.Within.Turning.{IsWorking, SoMany, WorksOn}
 use Rattle.tams_top.proofs.BeginningLemmas.{begun_served}
-use Rattle.tams_top.proofs.RunningLemmas.{Answers, no_store}
+use Rattle.tams_top.proofs.RunningLemmas.{Answers, no_store, untouched_by}
 
 -- ---- the beginning
 
@@ -260,16 +262,11 @@ module _ (old now new : Device) (told tells later : Bool) (begun given given_now
   change_due = turn_change (journal_of store.kept) (turn store.kept.library t)
 
   -- what is told of a device stays told
-  earlier : TellsTurns old later → TellsTurns old tells
+  earlier : TellsAll old later → TellsAll old tells
   earlier all = record { honest = all.honest; shows = all.shows; tells = all.tells; clock_tells = clock all.clock_tells }
 
-  pub told_now : TellsTurns old later → TellsTurns now later
-  told_now all = record {
-    honest = so_far.calls.same.honest ∙ all.honest;
-    shows = so_far.calls.same.shows ∙ all.shows;
-    tells = so_far.calls.same.tells ∙ all.tells;
-    clock_tells = all.clock_tells;
-  }
+  pub told_now : TellsAll old later → TellsAll now later
+  told_now all = tells_later old now later so_far.calls.same all
 
   -- The turn changed something.
   pub works_more : (change : Change) → change_due ≡ Some change → next.spent ≡ false
@@ -301,7 +298,7 @@ module _ (old now new : Device) (told tells later : Bool) (begun given given_now
             };
       }
 
-  module _ (b : Beginning StoreState) (w : IsWorking b [] [] old begun first) (all : TellsTurns old later) (sound : IsDevice new) where
+  module _ (b : Beginning StoreState) (w : IsWorking b [] [] old begun first) (all : TellsAll old later) (sound : IsDevice new) where
     many : SoMany b now given store turns
     many = so_far.working (earlier all) b w
 
@@ -359,7 +356,7 @@ work_cause old new (Err Memory) stood = tt
 
 module _ (old opened : Device) (clock : Bool) (begun : List ℕ) (sound : IsDevice old) (ok : Bool) (reads : DiskReads ok old opened) where
   untouched : Untouched old opened
-  untouched = record { seen = reads.seen; handed = reads.handed; link = reads.calls.link; time = reads.time }
+  untouched = untouched_by ok old opened reads
 
   -- The store couldn't be opened.
   failed_cause : (fault : JournalFault) → Answers old fault → WorkCause old opened (opening_outcome fault)
@@ -385,27 +382,20 @@ module _ (old opened : Device) (clock : Bool) (begun : List ℕ) (sound : IsDevi
   pub work_done : KeptStands → IsOneState → (store : StoreSeen) → (old.shows ≡ true → IsKept old.seen store.kept) → store.spent ≡ false
       → (old.shows ≡ true → LeavesOnly old.seen old → AgreesWith opened store.kept (kept_bytes old.seen store.kept)) → (new : Device) (given : List ℕ)
       (end : Result ℕ StoreFault) → DiskCalls (not_disk end) opened new
-      → (TellsTurns opened clock → (b : Beginning StoreState) → IsWorking b [] [] opened begun store → HasWorked b new given end)
+      → (TellsAll opened clock → (b : Beginning StoreState) → IsWorking b [] [] opened begun store → HasWorked b new given end)
       → WorkEnds old new clock begun given (work_outcome end)
   work_done kept_stands one store answer unspent agrees new given end calls worked = record {
     cause = work_cause old new end (λ shows. (kept_state store.kept (kept_bytes old.seen store.kept), kept_stands old.seen store.kept (answer shows)));
     link = calls.link ∙ reads.calls.link;
     history = λ from start.
-        let same = reads.calls.same in
         let shows = start.tells.shows in
         let is =
         one old.seen (kept_state store.kept (kept_bytes old.seen store.kept)) from (kept_stands old.seen store.kept (answer shows)) start.stands in
         let keeps = keeps_opened store opened from (kept_bytes old.seen store.kept) unspent (agrees shows start.settled) is in
         record {
           end = end;
-          worked = worked
-              (record {
-                honest = same.honest ∙ start.tells.honest;
-                shows = same.shows ∙ shows;
-                tells = same.tells ∙ start.tells.tells;
-                clock_tells = start.tells.clock_tells;
-              })
-              (beginning from old begun) (working_begins old opened clock begun store sound untouched from start keeps);
+          worked = worked (tells_later old opened clock reads.calls.same start.tells) (beginning from old begun)
+              (working_begins old opened clock begun store sound untouched from start keeps);
           outcome_is = refl;
         };
   }

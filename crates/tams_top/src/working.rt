@@ -1,5 +1,6 @@
 //! The command that works: it makes turns, each at a moment of its own, until one changes nothing.
 ghost use Rattle.std.specs.Prelude.{◌≡◌, ◌≤◌, [], true, IsFalse};
+ghost use Rattle.connection_loop.specs.Turns.{TellsAll};
 ghost use Rattle.disk_trait.specs.Calls.{DiskCalls, IsCounted};
 ghost use Rattle.media_store.specs.Faults.{not_disk};
 ghost use Rattle.media_store.specs.Stores.{size_of};
@@ -7,7 +8,7 @@ ghost use Rattle.run_history.specs.Runs.{Beginning};
 ghost use Rattle.store_states.specs.States.{StoreState};
 ghost use Rattle.tams_top.specs.Running.{WorkEnds, no_disk_fault};
 ghost use Rattle.tams_top.specs.Working.{HasWorked, work_outcome};
-ghost use Rattle.tams_top.specs.Within.Turning.{IsWorking, TellsTurns};
+ghost use Rattle.tams_top.specs.Within.Turning.{IsWorking};
 
 use crate::outcome::{Outcome, opening_outcome};
 use disk_trait::Disk;
@@ -49,7 +50,7 @@ fn make_turns<D: Disk, C: Clock>(
     requires device { size_of store.old.kept ≤ (D.device disk.old).size }
     ensures calls { DiskCalls (not_disk result) (D.device disk.old) (D.device disk.new) }
     ensures clock { C.tells clock.new ≡ true → C.tells clock.old ≡ true }
-    ensures worked { TellsTurns (D.device disk.old) (C.tells clock.new)
+    ensures worked { TellsAll (D.device disk.old) (C.tells clock.new)
         → (b : Beginning StoreState)
         → IsWorking b [] [] (D.device disk.old) (C.given clock.old) store.old
         → HasWorked b (D.device disk.new) (C.given clock.new) result }

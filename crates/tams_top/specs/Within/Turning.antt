@@ -3,6 +3,7 @@ use Rattle.std.specs.Prelude.{◌≡◌, ◌≤◌, ℕ, Bool, true, false, List
 use Rattle.disk_trait.specs.Calls.{DiskCalls}
 use Rattle.disk_trait.specs.Device.{Device}
 use Rattle.site_edge.specs.Clocks.{IsMoment}
+use Rattle.connection_loop.specs.Turns.{TellsAll}
 use Rattle.library_laws.specs.MediaLaws.{IsGoodArchive}
 use Rattle.media_store.specs.Stores.{StoreSeen, size_of}
 use Rattle.run_history.specs.Runs.{Beginning, Reached}
@@ -11,13 +12,6 @@ use Rattle.store_states.specs.States.{StoreState}
 use Rattle.tams_machine.specs.Machine.{tams_machine}
 use Rattle.tams_service.specs.Keeping.{KeepsState}
 use Rattle.tams_top.specs.Working.{HaveTurned, turns_trace}
-
--- the outside is as the model says
-pub record TellsTurns (d : Device) (clock : Bool) : Type 0 where
-  pub honest : d.honest ≡ true
-  pub shows : d.shows ≡ true
-  pub tells : d.tells ≡ true
-  pub clock_tells : clock ≡ true
 
 -- Turns at these moments changed something, left these states, and may go on.
 pub record IsWorking (b : Beginning StoreState) (moments : List ℕ) (states : List StoreState)
@@ -45,5 +39,5 @@ pub record WorksOn (old now : Device) (told tells : Bool) (begun given : List �
   pub counted : turns ≡ counter
   pub calls : DiskCalls true old now
   pub clock : tells ≡ true → told ≡ true
-  pub working : TellsTurns old tells → (b : Beginning StoreState)
+  pub working : TellsAll old tells → (b : Beginning StoreState)
       → IsWorking b [] [] old begun first → SoMany b now given store turns
