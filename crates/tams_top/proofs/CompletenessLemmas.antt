@@ -20,8 +20,7 @@ use Rattle.store_states.specs.States.{StoreState}
 use Rattle.tams_machine.specs.Machine.{tams_machine}
 use Rattle.tams_machine.specs.Requests.{TamsRequest}
 use Rattle.tams_top.specs.declared.outcome.Outcome.{Outcome}
-use Rattle.tams_top.specs.declared.outcome.Outcome.TheVariants.{Formatted, Checked, Worked, Served, BadWords, NotStore, AlreadyStore, TooSmall, Damaged, DiskFault, NoMemory, LinkFault}
-use Rattle.tams_top.specs.declared.outcome.Outcome.TheVariants as outcomes
+use Rattle.tams_top.specs.declared.outcome.Outcome.TheVariants.{Formatted, Checked, Worked, Served, NotStore, AlreadyStore, TooSmall, Damaged, DiskFault, NoMemory, LinkFault}
 use Rattle.tams_top.specs.declared.words.Command.TheVariants.{Format, Check, Work}
 use Rattle.tams_top.specs.Words.{IsCommand}
 use Rattle.tams_top.specs.Completeness.{AreServedWhole, IsAnswered, IsServedWhole, NoneRose, OneAnswered}
@@ -135,15 +134,7 @@ module _ (base : List ℕ) (from : StoreState) (old new : Device) (begun given :
   no_peer_came LinkFault is ends = absurd (never (inr (inl is)))
   no_peer_came DiskFault is ends = absurd (never (inl is))
   no_peer_came NoMemory is ends = absurd (never (inr (inr (ap status_of is))))
-  no_peer_came outcomes.Cut is ends = absurd ends
-  no_peer_came (Formatted blocks half media) is ends = absurd ends
-  no_peer_came (Checked counts) is ends = absurd ends
-  no_peer_came (Worked turns) is ends = absurd ends
-  no_peer_came BadWords is ends = absurd ends
-  no_peer_came NotStore is ends = absurd ends
-  no_peer_came AlreadyStore is ends = absurd ends
-  no_peer_came TooSmall is ends = absurd ends
-  no_peer_came (Damaged at) is ends = absurd ends
+  no_peer_came _ is ends = absurd ends
 
   one_answered : OnePeer base (beginning from old begun) new given o → OneAnswered base from old new begun given (status_of o)
   one_answered p =
@@ -241,14 +232,7 @@ formatted old new h AlreadyStore ends held = inr (inl refl)
 formatted old new h TooSmall ends held = inr (inl refl)
 formatted old new h NoMemory ends held = inr (inr refl)
 formatted old new h DiskFault ends held = absurd (held refl)
-formatted old new h (Checked counts) ends held = absurd ends
-formatted old new h (Worked turns) ends held = absurd ends
-formatted old new h (Served requests changes skipped) ends held = absurd ends
-formatted old new h outcomes.Cut ends held = absurd ends
-formatted old new h BadWords ends held = absurd ends
-formatted old new h NotStore ends held = absurd ends
-formatted old new h (Damaged at) ends held = absurd ends
-formatted old new h LinkFault ends held = absurd ends
+formatted old new h _ ends held = absurd ends
 
 pub formatted_whole : (words : List (List ℕ)) (old new : Device) (clock : Bool) (begun given : List ℕ) (o : Outcome) → RunEnds words old new clock begun given o
     → (path : List ℕ) (blocks half id : ℕ) → IsCommand words (Format path blocks half id) → NoneRose old new
@@ -270,14 +254,7 @@ checked old new NotStore ends held = inr (inl refl)
 checked old new (Damaged at) ends held = inr (inl refl)
 checked old new NoMemory ends held = inr (inr refl)
 checked old new DiskFault ends held = absurd (held refl)
-checked old new (Formatted blocks half media) ends held = absurd ends
-checked old new (Worked turns) ends held = absurd ends
-checked old new (Served requests changes skipped) ends held = absurd ends
-checked old new outcomes.Cut ends held = absurd ends
-checked old new BadWords ends held = absurd ends
-checked old new AlreadyStore ends held = absurd ends
-checked old new TooSmall ends held = absurd ends
-checked old new LinkFault ends held = absurd ends
+checked old new _ ends held = absurd ends
 
 pub checked_whole : (words : List (List ℕ)) (old new : Device) (clock : Bool) (begun given : List ℕ) (o : Outcome) → RunEnds words old new clock begun given o
     → (path : List ℕ) → IsCommand words (Check path) → NoneRose old new → (status_of o ≡ 0) ⊎ ((status_of o ≡ 2) ⊎ (status_of o ≡ 4))
@@ -298,14 +275,7 @@ worked old new NotStore cause held = inr (inl refl)
 worked old new (Damaged at) cause held = inr (inl refl)
 worked old new NoMemory cause held = inr (inr refl)
 worked old new DiskFault cause held = absurd (held refl)
-worked old new (Formatted blocks half media) cause held = absurd cause
-worked old new (Checked counts) cause held = absurd cause
-worked old new (Served requests changes skipped) cause held = absurd cause
-worked old new outcomes.Cut cause held = absurd cause
-worked old new BadWords cause held = absurd cause
-worked old new AlreadyStore cause held = absurd cause
-worked old new TooSmall cause held = absurd cause
-worked old new LinkFault cause held = absurd cause
+worked old new _ cause held = absurd cause
 
 pub worked_whole : (words : List (List ℕ)) (old new : Device) (clock : Bool) (begun given : List ℕ) (o : Outcome) → RunEnds words old new clock begun given o
     → (path : List ℕ) → IsCommand words (Work path) → NoneRose old new → (status_of o ≡ 0) ⊎ ((status_of o ≡ 2) ⊎ (status_of o ≡ 4))

@@ -5,7 +5,7 @@ use Rattle.disk_trait.specs.Calls.{Rose}
 use Rattle.media_journal.specs.declared.header.Header.{Header}
 use Rattle.media_journal.specs.File.{HasOpenHeader}
 use Rattle.tams_top.specs.declared.outcome.Outcome.{Outcome}
-use Rattle.tams_top.specs.declared.outcome.Outcome.TheVariants.{Formatted, Checked, Worked, Served, Cut, BadWords, NotStore, AlreadyStore, TooSmall, Damaged, DiskFault, NoMemory, LinkFault}
+use Rattle.tams_top.specs.declared.outcome.Outcome.TheVariants.{Checked, BadWords, DiskFault, NoMemory, LinkFault}
 use Rattle.tams_top.specs.declared.words.Command.{Command}
 use Rattle.tams_top.specs.declared.words.Command.TheVariants.{Format, Check, Work, Replay, Serve}
 use Rattle.tams_top.specs.Words.{IsCommand}
@@ -162,16 +162,7 @@ module _ (words : List (List ℕ)) (old new : Device) (clock : Bool) (begun give
   replay_linked LinkFault faults rose = inr (inr refl)
   replay_linked DiskFault faults rose = inl refl
   replay_linked NoMemory faults rose = inr (inl refl)
-  replay_linked (Formatted blocks half media) faults rose = absurd (omega (arith, faults, rose))
-  replay_linked (Checked counts) faults rose = absurd (omega (arith, faults, rose))
-  replay_linked (Worked turns) faults rose = absurd (omega (arith, faults, rose))
-  replay_linked (Served requests changes skipped) faults rose = absurd (omega (arith, faults, rose))
-  replay_linked Cut faults rose = absurd (omega (arith, faults, rose))
-  replay_linked BadWords faults rose = absurd (omega (arith, faults, rose))
-  replay_linked NotStore faults rose = absurd (omega (arith, faults, rose))
-  replay_linked AlreadyStore faults rose = absurd (omega (arith, faults, rose))
-  replay_linked TooSmall faults rose = absurd (omega (arith, faults, rose))
-  replay_linked (Damaged at) faults rose = absurd (omega (arith, faults, rose))
+  replay_linked _ faults rose = absurd (omega (arith, faults, rose))
 
   pub run_linked_only : (path base : List ℕ) → IsCommand words (Replay path base) → old.link.faults < new.link.faults
       → (status_of o ≡ 3) ⊎ ((status_of o ≡ 4) ⊎ (status_of o ≡ 5))
@@ -206,18 +197,7 @@ module _ (words : List (List ℕ)) (old new : Device) (clock : Bool) (begun give
 
     peers_failed : (p : Outcome) → no_peer_fault p ≡ false → status_of p ≡ 5
     peers_failed LinkFault e = refl
-    peers_failed DiskFault e = absurd cc
-    peers_failed (Formatted blocks half media) e = absurd cc
-    peers_failed (Checked counts) e = absurd cc
-    peers_failed (Worked turns) e = absurd cc
-    peers_failed (Served requests changes skipped) e = absurd cc
-    peers_failed Cut e = absurd cc
-    peers_failed BadWords e = absurd cc
-    peers_failed NotStore e = absurd cc
-    peers_failed AlreadyStore e = absurd cc
-    peers_failed TooSmall e = absurd cc
-    peers_failed (Damaged at) e = absurd cc
-    peers_failed NoMemory e = absurd cc
+    peers_failed _ e = absurd cc
 
     peers_rose : (held : Bool) → no_peer_fault o ≡ held → (IsTrue held → new.link.peer_faults ≡ old.link.peer_faults)
         → old.link.peer_faults < new.link.peer_faults → status_of o ≡ 5

@@ -8,7 +8,7 @@ use Rattle.store_opening.specs.Laws.{DamagedStandsForNone}
 use Rattle.store_core.specs.Prepared.{counts_of}
 use Rattle.store_states.specs.States.{StandsFor, StoreState}
 use Rattle.tams_top.specs.declared.outcome.Outcome.{Outcome}
-use Rattle.tams_top.specs.declared.outcome.Outcome.TheVariants.{Formatted, Checked, Worked, Served, Cut, BadWords, NotStore, AlreadyStore, TooSmall, Damaged, DiskFault, NoMemory, LinkFault}
+use Rattle.tams_top.specs.declared.outcome.Outcome.TheVariants.{Formatted, Checked, Worked, Served, Cut, NotStore, AlreadyStore, TooSmall, Damaged, DiskFault, NoMemory, LinkFault}
 use Rattle.tams_top.specs.Formatting.{empty_rows, formatted_state}
 use Rattle.tams_top.specs.Running.{CheckEnds, FormatRunEnds, OpenedCause, StandsForNone, Untouched, WorkCause, status_of}
 use Rattle.tams_top.proofs.RunningLemmas.{no_store}
@@ -42,14 +42,7 @@ module _ (old new : Device) (h : Header) where
   format_only TooSmall ends shows cause = inl refl
   format_only DiskFault ends shows cause = inr (inl refl)
   format_only NoMemory ends shows cause = inr (inr refl)
-  format_only (Checked counts) ends shows cause = absurd ends
-  format_only (Worked turns) ends shows cause = absurd ends
-  format_only (Served requests changes skipped) ends shows cause = absurd ends
-  format_only Cut ends shows cause = absurd ends
-  format_only BadWords ends shows cause = absurd ends
-  format_only NotStore ends shows cause = absurd ends
-  format_only (Damaged at) ends shows cause = absurd ends
-  format_only LinkFault ends shows cause = absurd ends
+  format_only _ ends shows cause = absurd ends
 
 module _ (old new : Device) where
   pub opened_refused : DamagedStandsForNone → (o : Outcome) → OpenedCause old new o → status_of o ≡ 2
@@ -69,12 +62,7 @@ module _ (old new : Device) where
   opened_only (Damaged at) cause shows none = inl refl
   opened_only DiskFault cause shows none = inr (inl refl)
   opened_only NoMemory cause shows none = inr (inr refl)
-  opened_only (Formatted blocks half media) cause shows none = absurd cause
-  opened_only (Checked counts) cause shows none = absurd cause
-  opened_only (Worked turns) cause shows none = absurd cause
-  opened_only BadWords cause shows none = absurd cause
-  opened_only AlreadyStore cause shows none = absurd cause
-  opened_only TooSmall cause shows none = absurd cause
+  opened_only _ cause shows none = absurd cause
 
   -- `check` writes nothing
   pub check_untouched : (o : Outcome) → CheckEnds old new o → Untouched old new
@@ -83,14 +71,7 @@ module _ (old new : Device) where
   check_untouched (Damaged at) ends = ends.1
   check_untouched DiskFault ends = ends
   check_untouched NoMemory ends = ends
-  check_untouched (Formatted blocks half media) ends = absurd ends
-  check_untouched (Worked turns) ends = absurd ends
-  check_untouched (Served requests changes skipped) ends = absurd ends
-  check_untouched Cut ends = absurd ends
-  check_untouched BadWords ends = absurd ends
-  check_untouched AlreadyStore ends = absurd ends
-  check_untouched TooSmall ends = absurd ends
-  check_untouched LinkFault ends = absurd ends
+  check_untouched _ ends = absurd ends
 
   pub check_refused : DamagedStandsForNone → (o : Outcome) → CheckEnds old new o → status_of o ≡ 2
       → Untouched old new × (old.shows ≡ true → StandsForNone old.seen)
@@ -107,14 +88,7 @@ module _ (old new : Device) where
   check_only (Damaged at) ends shows none = inl refl
   check_only DiskFault ends shows none = inr (inl refl)
   check_only NoMemory ends shows none = inr (inr refl)
-  check_only (Formatted blocks half media) ends shows none = absurd ends
-  check_only (Worked turns) ends shows none = absurd ends
-  check_only (Served requests changes skipped) ends shows none = absurd ends
-  check_only Cut ends shows none = absurd ends
-  check_only BadWords ends shows none = absurd ends
-  check_only AlreadyStore ends shows none = absurd ends
-  check_only TooSmall ends shows none = absurd ends
-  check_only LinkFault ends shows none = absurd ends
+  check_only _ ends shows none = absurd ends
 
   -- a store that was checked has the counts of the state for which the file stands
   pub check_done : (o : Outcome) → CheckEnds old new o → status_of o ≡ 0 → old.shows ≡ true → (from : StoreState) → StandsFor old.seen from
@@ -140,14 +114,7 @@ module _ (old new : Device) where
   work_only (Damaged at) cause shows none = inl refl
   work_only DiskFault cause shows none = inr (inl refl)
   work_only NoMemory cause shows none = inr (inr refl)
-  work_only (Formatted blocks half media) cause shows none = absurd cause
-  work_only (Checked counts) cause shows none = absurd cause
-  work_only (Served requests changes skipped) cause shows none = absurd cause
-  work_only Cut cause shows none = absurd cause
-  work_only BadWords cause shows none = absurd cause
-  work_only AlreadyStore cause shows none = absurd cause
-  work_only TooSmall cause shows none = absurd cause
-  work_only LinkFault cause shows none = absurd cause
+  work_only _ cause shows none = absurd cause
 
 -- statuses of one outcome alone
 pub no_memory_by : (p : Outcome) → status_of p ≡ 4 → p ≡ NoMemory

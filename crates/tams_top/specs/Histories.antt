@@ -20,7 +20,7 @@ use Rattle.tams_histories.specs.Along.{KeepBytes}
 use Rattle.tams_machine.specs.Machine.{tams_machine}
 use Rattle.tams_machine.specs.Requests.{TamsRequest}
 use Rattle.tams_top.specs.declared.outcome.Outcome.{Outcome}
-use Rattle.tams_top.specs.declared.outcome.Outcome.TheVariants.{Formatted, Checked, Worked, Served, Cut, BadWords, NotStore, AlreadyStore, TooSmall, Damaged, DiskFault, NoMemory, LinkFault}
+use Rattle.tams_top.specs.declared.outcome.Outcome.TheVariants.{Served, Cut, DiskFault, NoMemory, LinkFault}
 
 -- nothing is pending: a crash now leaves just what a read gives
 abbrev pub IsSettled : Device → Type 0
@@ -104,15 +104,7 @@ EndsWithoutPeer new (Served requests changes skipped) =
 EndsWithoutPeer new LinkFault = Unit {0}
 EndsWithoutPeer new DiskFault = Unit {0}
 EndsWithoutPeer new NoMemory = Unit {0}
-EndsWithoutPeer new Cut = ⊥
-EndsWithoutPeer new (Formatted blocks half media) = ⊥
-EndsWithoutPeer new (Checked counts) = ⊥
-EndsWithoutPeer new (Worked turns) = ⊥
-EndsWithoutPeer new BadWords = ⊥
-EndsWithoutPeer new NotStore = ⊥
-EndsWithoutPeer new AlreadyStore = ⊥
-EndsWithoutPeer new TooSmall = ⊥
-EndsWithoutPeer new (Damaged at) = ⊥
+EndsWithoutPeer new _ = ⊥
 
 -- No connection began, and the state stays.
 pub record NoPeer (base : List ℕ) (b : Beginning StoreState) (new : Device) (given : List ℕ)

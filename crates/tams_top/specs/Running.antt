@@ -138,12 +138,7 @@ OpenedCause old new (Damaged at) =
     (old.shows ≡ true → IsStore old.seen × StoreDamagedAt old.seen at) × Untouched old new
 OpenedCause old new DiskFault = Unit {0}
 OpenedCause old new NoMemory = Unit {0}
-OpenedCause old new (Formatted blocks half media) = ⊥
-OpenedCause old new (Checked counts) = ⊥
-OpenedCause old new (Worked turns) = ⊥
-OpenedCause old new BadWords = ⊥
-OpenedCause old new AlreadyStore = ⊥
-OpenedCause old new TooSmall = ⊥
+OpenedCause old new _ = ⊥
 
 -- how opening a store fails
 abbrev pub opening_outcome : JournalFault → Outcome
@@ -158,16 +153,7 @@ abbrev pub LinkFaults : Outcome → ℕ → ℕ → Type 0
 LinkFaults LinkFault before now = (before ≤ now) × Rose before now
 LinkFaults DiskFault before now = before ≤ now
 LinkFaults NoMemory before now = before ≤ now
-LinkFaults (Formatted blocks half media) before now = now ≡ before
-LinkFaults (Checked counts) before now = now ≡ before
-LinkFaults (Worked turns) before now = now ≡ before
-LinkFaults (Served requests changes skipped) before now = now ≡ before
-LinkFaults Cut before now = now ≡ before
-LinkFaults BadWords before now = now ≡ before
-LinkFaults NotStore before now = now ≡ before
-LinkFaults AlreadyStore before now = now ≡ before
-LinkFaults TooSmall before now = now ≡ before
-LinkFaults (Damaged at) before now = now ≡ before
+LinkFaults _ before now = now ≡ before
 
 -- Where a run of `replay` ended for want of memory nobody was served, or a request of the one
 -- connection wanted it, or its turn.
@@ -189,18 +175,7 @@ pub record ReplayEnds (base : List ℕ) (old new : Device) (clock : Bool) (begun
 -- waiting for each peer succeeded
 abbrev pub no_peer_fault : Outcome → Bool
 no_peer_fault LinkFault = false
-no_peer_fault DiskFault = true
-no_peer_fault (Formatted blocks half media) = true
-no_peer_fault (Checked counts) = true
-no_peer_fault (Worked turns) = true
-no_peer_fault (Served requests changes skipped) = true
-no_peer_fault Cut = true
-no_peer_fault BadWords = true
-no_peer_fault NotStore = true
-no_peer_fault AlreadyStore = true
-no_peer_fault TooSmall = true
-no_peer_fault (Damaged at) = true
-no_peer_fault NoMemory = true
+no_peer_fault _ = true
 
 -- The same of `serve`. It ends with a link fault where waiting for a peer failed; the link of each
 -- connection may fail too, which ends that connection alone. Want of memory ends it before the
@@ -234,14 +209,7 @@ FormatRunEnds old new h TooSmall =
     × (¬ (FitsStore h (length old.seen) empty_rows))) × Untouched old new
 FormatRunEnds old new h DiskFault = Unit {0}
 FormatRunEnds old new h NoMemory = Untouched old new
-FormatRunEnds old new h (Checked counts) = ⊥
-FormatRunEnds old new h (Worked turns) = ⊥
-FormatRunEnds old new h (Served requests changes skipped) = ⊥
-FormatRunEnds old new h Cut = ⊥
-FormatRunEnds old new h BadWords = ⊥
-FormatRunEnds old new h NotStore = ⊥
-FormatRunEnds old new h (Damaged at) = ⊥
-FormatRunEnds old new h LinkFault = ⊥
+FormatRunEnds old new h _ = ⊥
 
 -- What a crash at each moment of a run of `format` leaves of an honest device that had no store,
 -- with nothing pending: no store, or the new one. Once it was made nothing is pending.
@@ -265,14 +233,7 @@ CheckEnds old new NotStore = OpenedCause old new NotStore
 CheckEnds old new (Damaged at) = OpenedCause old new (Damaged at)
 CheckEnds old new DiskFault = Untouched old new
 CheckEnds old new NoMemory = Untouched old new
-CheckEnds old new (Formatted blocks half media) = ⊥
-CheckEnds old new (Worked turns) = ⊥
-CheckEnds old new (Served requests changes skipped) = ⊥
-CheckEnds old new Cut = ⊥
-CheckEnds old new BadWords = ⊥
-CheckEnds old new AlreadyStore = ⊥
-CheckEnds old new TooSmall = ⊥
-CheckEnds old new LinkFault = ⊥
+CheckEnds old new _ = ⊥
 
 -- the cause of each end of `work` in the file
 abbrev pub WorkCause : Device → Device → Outcome → Type 0
@@ -281,14 +242,7 @@ WorkCause old new NotStore = OpenedCause old new NotStore
 WorkCause old new (Damaged at) = OpenedCause old new (Damaged at)
 WorkCause old new DiskFault = Unit {0}
 WorkCause old new NoMemory = Unit {0}
-WorkCause old new (Formatted blocks half media) = ⊥
-WorkCause old new (Checked counts) = ⊥
-WorkCause old new (Served requests changes skipped) = ⊥
-WorkCause old new Cut = ⊥
-WorkCause old new BadWords = ⊥
-WorkCause old new AlreadyStore = ⊥
-WorkCause old new TooSmall = ⊥
-WorkCause old new LinkFault = ⊥
+WorkCause old new _ = ⊥
 
 -- The ends of `work`, each with its cause, and the one history of its turns. It waits for nobody.
 pub record WorkEnds (old new : Device) (clock : Bool) (begun given : List ℕ)
@@ -314,18 +268,7 @@ CommandEnds old new clock begun given o (Serve path port base connections) =
 -- no call of the disk failed
 abbrev pub no_disk_fault : Outcome → Bool
 no_disk_fault DiskFault = false
-no_disk_fault (Formatted blocks half media) = true
-no_disk_fault (Checked counts) = true
-no_disk_fault (Worked turns) = true
-no_disk_fault (Served requests changes skipped) = true
-no_disk_fault Cut = true
-no_disk_fault BadWords = true
-no_disk_fault NotStore = true
-no_disk_fault AlreadyStore = true
-no_disk_fault TooSmall = true
-no_disk_fault (Damaged at) = true
-no_disk_fault NoMemory = true
-no_disk_fault LinkFault = true
+no_disk_fault _ = true
 
 -- words that are no command
 abbrev pub IsNoCommand : List (List ℕ) → Type 0
