@@ -43,6 +43,20 @@ module _ (words : List (List ℕ)) (old new : Device) (clock : Bool) (begun give
     ]
   ]
 
+  -- for which the clock wasn't read
+  command_unread : (command : Command) → CommandEnds old new clock begun given o command → status_of o ≡ 2 → given ≡ begun
+  command_unread (Format path blocks half id) ends s = ends.2.given_is
+  command_unread (Check path) ends s = ends.1
+  command_unread (Work path) ends s = ends.unread s
+  command_unread (Replay path base) ends s = ends.unread s
+  command_unread (Serve path port base connections) ends s = ends.unread s
+
+  pub run_unread : status_of o ≡ 2 → given ≡ begun
+  run_unread s = elim run.cause [
+    | inl starved ↦ starved.1
+    | inr other ↦ elim other [ inl bad ↦ bad.3 | inr did ↦ command_unread did.0 did.2 s ]
+  ]
+
   -- a command that the file refuses
   command_only : (command : Command) → CommandEnds old new clock begun given o command → old.shows ≡ true → RefusedFor old.seen command
       → (status_of o ≡ 2) ⊎ ((status_of o ≡ 3) ⊎ (status_of o ≡ 4))
@@ -313,7 +327,7 @@ module _ (words : List (List ℕ)) (old new : Device) (clock : Bool) (begun give
   run_worked sound from work = elim run.cause [
     | inl starved ↦
         rw (starved.0, starved.1)
-        (record { end = Err faults.Memory; worked = no_turns old new clock begun (Err faults.Memory) sound starved.2 from work.begins refl; outcome_is = refl })
+        (record { end = Err faults.Memory; worked = no_turns old new clock begun (Err faults.Memory) sound starved.2 from work.begins (refl, inl (refl, refl)); outcome_is = refl })
     | inr other ↦ elim other [
       | inl bad ↦ absurd (bad.1 (Work work.command.0) work.command.1)
       | inr did ↦ (work_ends work.command.0 work.command.1 did.0 did.1 did.2).history from work.begins

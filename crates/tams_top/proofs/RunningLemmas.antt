@@ -19,7 +19,7 @@ use Rattle.store_states.specs.States.{StoreState}
 use Rattle.tams_top.specs.declared.outcome.Outcome.{Outcome}
 use Rattle.tams_top.specs.declared.outcome.Outcome.TheVariants.{Cut, DiskFault, LinkFault, NoMemory}
 use Rattle.tams_top.specs.Histories.{BeginsFrom, EndsWithoutPeer, NoPeer, beginning, serve_outcome}
-use Rattle.tams_top.specs.Running.{LinkFaults, OpenedCause, ReplayEnds, ServeEnds, StandsForNone, StandsForOne, Untouched, no_disk_fault, no_peer_fault, opening_outcome}
+use Rattle.tams_top.specs.Running.{LinkFaults, OpenedCause, ReplayEnds, ServeEnds, StandsForNone, StandsForOne, Untouched, no_disk_fault, no_peer_fault, opening_outcome, status_of}
 use Rattle.tams_top.proofs.BeginningLemmas.{begun_served}
 
 -- an image that is no store stands for no state
@@ -116,6 +116,7 @@ module _ (base : List ℕ) (old new : Device) (clock : Bool) (begun : List ℕ) 
     link = refused_link fault old.link.faults new.link.faults (ap (λ (l : Link). l.faults) reads.calls.link);
     history = λ from start. inr (refused_history base old new clock begun fault damaged sound untouched answer from start);
     starved = λ e. inl (record { link = reads.calls.link; given_is = refl });
+    unread = λ _. refl;
   }
 
   pub serve_refused : (connections : ℕ) → ServeEnds base old new clock begun begun connections (opening_outcome fault)
@@ -126,6 +127,7 @@ module _ (base : List ℕ) (old new : Device) (clock : Bool) (begun : List ℕ) 
     history = λ from start. inr (refused_history base old new clock begun fault damaged sound untouched answer from start);
     starved = λ e. record { link = reads.calls.link; given_is = refl };
     uncut = refused_uncut fault;
+    unread = λ _. refl;
   }
 
 -- ---- connections were served
@@ -160,6 +162,13 @@ serve_fed Complete n e = absurd cc
 serve_fed NoMore n e = absurd cc
 serve_fed Unlinked n e = absurd cc
 serve_fed Stopped n e = absurd cc
+
+-- a run that served wasn't refused
+pub serve_unrefused : (end : RunEnd) (n : Counts) → status_of (serve_outcome end n) ≢ 2
+serve_unrefused Complete n s = omega (arith, s)
+serve_unrefused NoMore n s = omega (arith, s)
+serve_unrefused Unlinked n s = omega (arith, s)
+serve_unrefused Stopped n s = omega (arith, s)
 
 pub serve_uncut : (end : RunEnd) (n : Counts) → serve_outcome end n ≢ Cut
 serve_uncut Complete n e = absurd cc

@@ -1,5 +1,5 @@
 -- What was served is a run by one history.
-use Rattle.std.proofs.Common.{◌≡◌, ◌≤◌, ℕ, Bool, true, false, List, [], ◌∷◌, ◌++◌, All, if◌then◌else◌, nat_lt, refl, sym, ap, ap₂, ◌∙◌, subst, inl, inr, arith}
+use Rattle.std.proofs.Common.{◌≡◌, ◌≢◌, ◌≤◌, ℕ, Bool, true, false, List, [], ◌∷◌, ◌++◌, All, if◌then◌else◌, nat_lt, refl, sym, ap, ap₂, ◌∙◌, subst, inl, inr, arith}
 use Rattle.std.proofs.lemmas.List.{append_cancel_left}
 use Rattle.std.specs.Prelude.{IsTrue}
 use Rattle.std.proofs.lemmas.Bool.Decides.{nat_tests}
@@ -29,11 +29,11 @@ use Rattle.tams_histories.specs.Along.{RunsKeepBytes}
 use Rattle.tams_machine.specs.Machine.{tams_machine}
 use Rattle.tams_machine.specs.Requests.{TamsRequest}
 use Rattle.tams_top.specs.declared.outcome.Outcome.{Outcome}
-use Rattle.tams_top.specs.declared.outcome.Outcome.TheVariants.{LinkFault, NoMemory}
+use Rattle.tams_top.specs.declared.outcome.Outcome.TheVariants.{Cut, LinkFault, NoMemory}
 use Rattle.tams_top.specs.Histories.{BeginsFrom, OnePeer, Replayed, RunsAs, ServedAll, beginning, replay_outcome, serve_outcome, served_with}
-use Rattle.tams_top.specs.Running.{LinkFaults, OpenedCause, ReplayEnds, ServeEnds, StandsForOne, no_disk_fault}
+use Rattle.tams_top.specs.Running.{LinkFaults, OpenedCause, ReplayEnds, ServeEnds, StandsForOne, no_disk_fault, status_of}
 use Rattle.tams_top.proofs.BeginningLemmas.{begun_served}
-use Rattle.tams_top.proofs.RunningLemmas.{serve_cause, serve_fed, serve_link, serve_peers, serve_uncut}
+use Rattle.tams_top.proofs.RunningLemmas.{serve_cause, serve_fed, serve_link, serve_peers, serve_uncut, serve_unrefused}
 
 times : (moments : List ℕ) → All IsMoment moments → All (λ (moment : ℕ). IsTrue (is_moment moment)) moments
 times moments all k d few = let time = all k d few in grind (arith, nat_tests, time)
@@ -100,6 +100,20 @@ next_cause old new (Ended endings.Cut) n stood = unless_cause old new (nat_lt 0 
 next_cause old new (Ended endings.Unlinked) n stood = unless_cause old new (nat_lt 0 n.skipped) _ stood
 next_cause old new (Ended endings.Starved) n stood = tt
 next_cause old new (Ended endings.Stopped) n stood = tt
+
+unless_unrefused : (skipped : Bool) (o : Outcome) → status_of o ≢ 2 → status_of (if skipped then NoMemory else o) ≢ 2
+unless_unrefused true o other s = omega (arith, s)
+unless_unrefused false o other s = other s
+
+-- it wasn't refused
+next_unrefused : (next : Next) (n : Counts) → status_of (next_outcome next n) ≢ 2
+next_unrefused NoMore n s = omega (arith, s)
+next_unrefused Unlinked n s = omega (arith, s)
+next_unrefused (Ended endings.Complete) n s = unless_unrefused (nat_lt 0 n.skipped) (served_with n) (λ e. omega (arith, e)) s
+next_unrefused (Ended endings.Cut) n s = unless_unrefused (nat_lt 0 n.skipped) Cut (λ e. omega (arith, e)) s
+next_unrefused (Ended endings.Unlinked) n s = unless_unrefused (nat_lt 0 n.skipped) LinkFault (λ e. omega (arith, e)) s
+next_unrefused (Ended endings.Starved) n s = omega (arith, s)
+next_unrefused (Ended endings.Stopped) n s = omega (arith, s)
 
 -- The file stood for what is kept.
 pub stood_for : (old : Device) (kept : StoreView) → (old.shows ≡ true → IsKept old.seen kept) → old.shows ≡ true → StandsForOne old.seen
@@ -184,6 +198,7 @@ module _ (base : List ℕ) (old opened new : Device) (clock : Bool) (begun given
       link = rw faults-opened (next_link next n opened.link.faults new.link.faults calls.link_faults);
       history = replayed next leads;
       starved = λ e. inr (starved_peer next leads e);
+      unread = λ s. absurd (next_unrefused next n s);
     }
 
   -- ---- `serve`
@@ -215,4 +230,5 @@ module _ (base : List ℕ) (old opened new : Device) (clock : Bool) (begun given
           history = served_all;
           starved = λ e. absurd (serve_fed end n e);
           uncut = serve_uncut end n;
+          unread = λ s. absurd (serve_unrefused end n s);
         }

@@ -1,5 +1,5 @@
 -- Turns of a run that works: how they begin, go on and end.
-use Rattle.std.proofs.Common.{◌≡◌, ◌≤◌, ◌+◌, ◌-◌, ◌*◌, ◌^◌, ℕ, Bool, true, false, cond, List, [], ◌∷◌, ◌++◌, length, All, Option, None, Some, Result, Ok, Err, refl, sym, ap, ◌∙◌, subst, inl, inr, append-nil, append_assoc, length-append, arith}
+use Rattle.std.proofs.Common.{◌≡◌, ◌≢◌, ◌≤◌, ◌+◌, ◌-◌, ◌*◌, ◌^◌, ℕ, Bool, true, false, cond, List, [], ◌∷◌, ◌++◌, length, All, Option, None, Some, Result, Ok, Err, refl, sym, ap, ◌∙◌, subst, inl, inr, append-nil, append_assoc, length-append, arith}
 use Rattle.std.specs.Prelude.{is_some, option_map}
 use Rattle.std.proofs.lemmas.Bool.{false≢true}
 use Rattle.std.proofs.lemmas.Bool.Decides.{nat_tests}
@@ -43,7 +43,7 @@ use Rattle.tams_service.proofs.Good.{is_good, last_good, turn_good}
 use Rattle.tams_service.proofs.Moments.{over_change, over_keeps, over_torn}
 use Rattle.tams_service.proofs.States.{keeps_next, turn_of}
 use Rattle.tams_top.specs.Histories.{BeginsFrom, beginning}
-use Rattle.tams_top.specs.Running.{StandsForOne, Untouched, WorkCause, WorkEnds, no_disk_fault, opening_outcome}
+use Rattle.tams_top.specs.Running.{StandsForOne, Untouched, WorkCause, WorkEnds, no_disk_fault, opening_outcome, status_of}
 use Rattle.tams_top.specs.Working.{HasWorked, HaveTurned, TurnsEnd, WorkedOff, turns_trace, work_outcome}
 use Rattle.tams_top.specs.Within.Turning.{IsWorking, SoMany, WorksOn}
 use Rattle.tams_top.proofs.BeginningLemmas.{begun_served}
@@ -217,11 +217,12 @@ module _ (b : Beginning StoreState) (moments : List ℕ) (states : List StoreSta
       (sym number, refl, inl (t, refl, turn_is None is))
 
   -- There was no memory for it.
-  pub works_starved : new ≡ mid → IsDevice new → new.honest ≡ true → new.shows ≡ true → new.tells ≡ true → (later : List ℕ) → later ≡ given ++ t ∷ []
+  pub works_starved : new ≡ mid → is_some (turn store.kept.library t) ≡ true → IsDevice new → new.honest ≡ true → new.shows ≡ true → new.tells ≡ true → (later : List ℕ) → later ≡ given ++ t ∷ []
       → HasWorked b new later (Err Memory)
-  works_starved stays sound honest shows tells later later_is =
+  works_starved stays some sound honest shows tells later later_is =
       ended (Err Memory) (t ∷ []) new later later_is moments_are
-      (subst (Reached (tams_machine []) b (turns_trace b.state states) false false) (sym stays) w.reached) sound honest shows tells refl
+      (subst (Reached (tams_machine []) b (turns_trace b.state states) false false) (sym stays) w.reached) sound honest shows tells
+      (refl, inr (t, refl, ap (λ (s : StoreState). is_some (turn s.archive.library t)) w.keeps.state ∙ some))
 
 -- Turns can't be counted any more.
 pub works_to_last : (b : Beginning StoreState) (d : Device) (given : List ℕ) (store : StoreSeen) (turns : ℕ) → turns ≡ 2 ^ 64 - 1 → SoMany b d given store turns
@@ -239,7 +240,7 @@ works_to_last b d given store turns most many sound honest shows tells =
       right = w.reached.right;
       stands = (w.reached.now (as_read d) (sound.itself honest shows tells)).stands;
       good = w.good;
-      ends = (sym many.number, refl, inr (many.number ∙ most));
+      ends = (sym many.number, refl, inr (refl, many.number ∙ most));
     }
 
 -- ---- turns one after another
@@ -312,10 +313,10 @@ module _ (old now new : Device) (told tells later : Bool) (begun given given_now
         works_no_more b many.moments many.states now new given store next t many.working at keep is keeps sound
         (calls.same.honest ∙ here.honest) (calls.same.shows ∙ here.shows) (calls.same.tells ∙ here.tells) given_now (gives all.clock_tells) turns many.number
 
-    pub works_without : new ≡ now → HasWorked b new given_now (Err Memory)
-    works_without stays =
+    pub works_without : new ≡ now → is_some (turn store.kept.library t) ≡ true → HasWorked b new given_now (Err Memory)
+    works_without stays some =
         let here = told_now all in
-        works_starved b many.moments many.states now new given store next t many.working at keep stays sound
+        works_starved b many.moments many.states now new given store next t many.working at keep stays some sound
         (rw stays here.honest) (rw stays here.shows) (rw stays here.tells) given_now (gives all.clock_tells)
 
     -- The disk failed in it.
@@ -332,14 +333,15 @@ module _ (old now new : Device) (told tells later : Bool) (begun given given_now
         by_change (Some change) is there made =
             let here = told_now all in
             works_torn b many.moments many.states now new given store next t many.working at keep change is made sound
-            (calls.same.honest ∙ here.honest) (calls.same.shows ∙ here.shows) (calls.same.tells ∙ here.tells) given_now (gives all.clock_tells) (Err Disk) tt
+            (calls.same.honest ∙ here.honest) (calls.same.shows ∙ here.shows) (calls.same.tells ∙ here.tells) given_now (gives all.clock_tells) (Err Disk) refl
 
-    pub works_fails : (fault : StoreFault) (Starves : Type 0) → OnMemory {X = TurnMade} (Err fault) Starves → (Starves → new ≡ now)
+    pub works_fails : (fault : StoreFault) (Starves : Type 0) → OnMemory {X = TurnMade} (Err fault) Starves
+        → (Starves → (new ≡ now) × (is_some (turn store.kept.library t) ≡ true))
         → OnDisk {X = TurnMade} (Err fault) (is_some change_due ≡ true)
         → (now.honest ≡ true → now.shows ≡ true → (held : List (List ℕ)) → AgreesWith now store.kept held
         → OnCalls {X = TurnMade} (Err fault) (λ ok. MakesIf ok change_due store.kept next.kept held now new))
         → DiskCalls (not_disk {X = TurnMade} (Err fault)) now new → HasWorked b new given_now (Err fault)
-    works_fails Memory Starves starved stays failing makes calls = works_without (stays starved)
+    works_fails Memory Starves starved stays failing makes calls = let at_rest = stays starved in works_without at_rest.0 at_rest.1
     works_fails Disk Starves starved stays failing makes calls = works_failed failing makes calls
 
 -- ---- a run of `work`
@@ -348,6 +350,11 @@ pub work_disk : (end : Result ℕ StoreFault) → no_disk_fault (work_outcome en
 work_disk (Ok turns) = refl
 work_disk (Err Disk) = refl
 work_disk (Err Memory) = refl
+
+work_unrefused : (end : Result ℕ StoreFault) → status_of (work_outcome end) ≢ 2
+work_unrefused (Ok turns) s = omega (arith, s)
+work_unrefused (Err Disk) s = omega (arith, s)
+work_unrefused (Err Memory) s = omega (arith, s)
 
 work_cause : (old new : Device) (end : Result ℕ StoreFault) → (old.shows ≡ true → StandsForOne old.seen) → WorkCause old new (work_outcome end)
 work_cause old new (Ok turns) stood = stood
@@ -370,13 +377,13 @@ module _ (old opened : Device) (clock : Bool) (begun : List ℕ) (sound : IsDevi
   failed_history damaged opening.NotStore answer from start = absurd (no_store old.seen (answer start.tells.shows) from start.stands)
   failed_history damaged (opening.Damaged at) answer from start = absurd (damaged old.seen at from (answer start.tells.shows).1 start.stands)
   failed_history damaged opening.Disk answer from start =
-      record { end = Err Disk; worked = no_turns old opened clock begun (Err Disk) sound untouched from start tt; outcome_is = refl }
+      record { end = Err Disk; worked = no_turns old opened clock begun (Err Disk) sound untouched from start refl; outcome_is = refl }
   failed_history damaged opening.Memory answer from start =
-      record { end = Err Memory; worked = no_turns old opened clock begun (Err Memory) sound untouched from start refl; outcome_is = refl }
+      record { end = Err Memory; worked = no_turns old opened clock begun (Err Memory) sound untouched from start (refl, inl (refl, refl)); outcome_is = refl }
 
   pub work_refused_by : DamagedStandsForNone → (fault : JournalFault) → Answers old fault → WorkEnds old opened clock begun begun (opening_outcome fault)
   work_refused_by damaged fault answer =
-      record { cause = failed_cause fault answer; link = reads.calls.link; history = failed_history damaged fault answer }
+      record { cause = failed_cause fault answer; link = reads.calls.link; history = failed_history damaged fault answer; unread = λ _. refl }
 
   -- It was, and turns were made.
   pub work_done : KeptStands → IsOneState → (store : StoreSeen) → (old.shows ≡ true → IsKept old.seen store.kept) → store.spent ≡ false
@@ -387,6 +394,7 @@ module _ (old opened : Device) (clock : Bool) (begun : List ℕ) (sound : IsDevi
   work_done kept_stands one store answer unspent agrees new given end calls worked = record {
     cause = work_cause old new end (λ shows. (kept_state store.kept (kept_bytes old.seen store.kept), kept_stands old.seen store.kept (answer shows)));
     link = calls.link ∙ reads.calls.link;
+    unread = λ s. absurd (work_unrefused end s);
     history = λ from start.
         let shows = start.tells.shows in
         let is =

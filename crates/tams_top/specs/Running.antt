@@ -171,6 +171,7 @@ pub record ReplayEnds (base : List ℕ) (old new : Device) (clock : Bool) (begun
   pub history : (from : StoreState) → BeginsFrom from old clock
       → Replayed base (beginning from old begun) new given o
   pub starved : o ≡ NoMemory → StarvedAs base old new clock begun given o
+  pub unread : status_of o ≡ 2 → given ≡ begun
 
 -- waiting for each peer succeeded
 abbrev pub no_peer_fault : Outcome → Bool
@@ -189,6 +190,7 @@ pub record ServeEnds (base : List ℕ) (old new : Device) (clock : Bool) (begun 
       → ServedAll base (beginning from old begun) old new given connections o
   pub starved : o ≡ NoMemory → ServesNobody old new begun given
   pub uncut : o ≢ Cut
+  pub unread : status_of o ≡ 2 → given ≡ begun
 
 -- A store was made of a device that had none, and the outcome has its numbers.
 pub record IsMade (old new : Device) (h : Header) (blocks half media : ℕ) : Type 0 where
@@ -251,6 +253,7 @@ pub record WorkEnds (old new : Device) (clock : Bool) (begun given : List ℕ)
   pub link : new.link ≡ old.link
   pub history : (from : StoreState) → BeginsFrom from old clock
       → WorkedOff (beginning from old begun) new given o
+  pub unread : status_of o ≡ 2 → given ≡ begun
 
 -- the ends of a command
 abbrev pub CommandEnds : Device → Device → Bool → List ℕ → List ℕ → Outcome → Command → Type 0

@@ -45,7 +45,7 @@ pub fn run<X: Site, C: Clock, N: Sink>(
     // The status of a command that the file refuses, both ways. A disk fault or want of memory may come
     // before it.
     ensures refused { result ≡ 2 → Untouched (X.device site.old) (X.device site.new)
-        × ((command : Command) × IsCommand words.now command
+        × (C.given clock.new ≡ C.given clock.old) × ((command : Command) × IsCommand words.now command
         × ((X.device site.old).shows ≡ true → RefusedFor (X.device site.old).seen command)) }
     ensures refused_only { (command : Command) → IsCommand words.now command
         → (X.device site.old).shows ≡ true → RefusedFor (X.device site.old).seen command

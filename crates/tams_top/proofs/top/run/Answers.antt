@@ -1,7 +1,7 @@
 use Rattle.std.proofs.Common.{sym, ◌∙◌}
 use Rattle.std.specs.Prelude.{is_ok}
 use Rattle.tams_top.proofs.CompletenessLemmas.{all_served_whole, checked_whole, formatted_whole, served_whole, worked_whole}
-use Rattle.tams_top.proofs.EndingLemmas.{run_alone, run_bad, run_checked, run_formats, run_formatted, run_formatting, run_linked, run_linked_only, run_only, run_peers, run_peers_only, run_refused, run_replayed, run_served, run_starved, run_starved_format, run_starved_serve, run_uncut, run_unlinked, run_unwritten, run_words, run_worked}
+use Rattle.tams_top.proofs.EndingLemmas.{run_alone, run_bad, run_checked, run_formats, run_formatted, run_formatting, run_linked, run_linked_only, run_only, run_peers, run_peers_only, run_refused, run_replayed, run_served, run_starved, run_starved_format, run_starved_serve, run_uncut, run_unlinked, run_unread, run_unwritten, run_words, run_worked}
 use Rattle.tams_top.proofs.top.run.Goals as goal
 
 pub returns-clause-words : goal.returns-clause-words
@@ -9,7 +9,9 @@ returns-clause-words g c = λ s. run_words _ _ _ _ _ _ _ c.outcome_of-outcome.en
 
 pub returns-clause-refused : goal.returns-clause-refused
 returns-clause-refused g c = λ s.
-    run_refused _ _ _ _ _ _ _ c.outcome_of-outcome.ensures c.damaged_images_stand_for_none.ensures.none (sym c.status.ensures ∙ s)
+    let two = sym c.status.ensures ∙ s in
+    let refused = run_refused _ _ _ _ _ _ _ c.outcome_of-outcome.ensures c.damaged_images_stand_for_none.ensures.none two in
+    (refused.0, run_unread _ _ _ _ _ _ _ c.outcome_of-outcome.ensures two, refused.1)
 
 pub returns-clause-refused_only : goal.returns-clause-refused_only
 returns-clause-refused_only g c = λ command is shows cause.

@@ -53,7 +53,7 @@ returns-in_err-turn-clause-worked g c = λ all b w.
     (works_fails (g.D.Disk.device c.args.disk.now) (g.D.Disk.device c.loop.disk) (g.D.Disk.device c.turn.new.disk) _ _ _ _ _ _
     c.args.store.now c.loop.store c.turn.new.self c.loop.turns c.loop.counter c.now.result c.loop.invariant c.now.ensures.moment
     c.now.ensures.told_before c.now.ensures.given c.turns_keep.ensures.good b w all (g.met.D.Disk.sound c.turn.new.disk) c.in_err-turn.field-0.0 _
-    failed.memory (λ stays. ap (λ d. g.D.Disk.device d) stays.1) failed.failing failed.makes failed.calls)
+    failed.memory (λ starved. (ap (λ d. g.D.Disk.device d) starved.1, starved.2)) failed.failing failed.makes failed.calls)
 
 -- There were as many as can be counted.
 pub returns-clause-worked : goal.returns-clause-worked
