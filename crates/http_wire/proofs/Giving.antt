@@ -3,7 +3,7 @@ use Rattle.std.proofs.Common.{◌≡◌, ℕ, ◌+◌, ◌<◌, ◌≤◌, Bool,
 use Rattle.std.proofs.lemmas.Bool.Decides.{nat_tests}
 use Rattle.std.proofs.lemmas.List.{drop-take, length-take-le, take-take, take_all}
 use Rattle.std.proofs.Common.{length-drop}
-use Rattle.http_wire.specs.Feeds.{StepsTo, AnswersBy, Fed, Leaves, TellsHead, TellsBody, Turns, feed_room, is_last_request}
+use Rattle.http_wire.specs.Feeds.{StepsTo, AnswersBy, Fed, Leaves, TellsHead, TellsBody, Turns, feed_room, is_last_request, no_place}
 use Rattle.http_wire.specs.Heads.{refused, span_text}
 use Rattle.http_wire.specs.Parts.{Parts, held}
 use Rattle.http_wire.specs.Requests.{IsNext}
@@ -123,9 +123,9 @@ module _ (kept parts : Parts) (bytes content body : List ℕ) (was : Stage) (req
   )
 
   pub turn_opened : (found : FoundHead) (size : ℕ) (place : Span) (shown : Head) → parts ≡ held found.length kept → IsMediaOpened bytes found size
-      → IsShown found place size (requests + 1) shown
+      → place ≡ no_place → IsShown found place size (requests + 1) shown
       → Turns (fed_of kept content was requests had) (steps.Head shown) (fed_of parts body (Media size) (requests + 1) shown.ends)
-  turn_opened found size place shown is found_it told = record {
+  turn_opened found size place shown is found_it at told = record {
     head = found_it.known.head;
     n = found.length;
     next = rw (← there, told.size_is) found_it.next;
@@ -136,6 +136,7 @@ module _ (kept parts : Parts) (bytes content body : List ℕ) (was : Stage) (req
       is,
       there,
     ) refl) told;
+    apart = told.body_is ∙ at;
   }
 
   pub turn_plain : (found : FoundHead) (size : ℕ) (place : Span) (shown : Head) → parts ≡ held (found.length + size) kept

@@ -125,7 +125,11 @@ pub record TellsBody (fed : Fed) (body : List ℕ) (shown : Head) : Type 0 where
   pub place : IsPlace fed shown.body
   pub content : span_bytes fed shown.body ≡ body
 
--- a media PUT is given at its head
+-- the place of no bytes
+abbrev pub no_place : Span
+no_place = record { start = 0; length = 0 }
+
+-- a media PUT is given at its head, and its body is handed on apart
 pub record GivesHead (old new : Fed) (shown : Head) : Type 0 where
   pub head : RequestHead
   pub n : ℕ
@@ -133,6 +137,7 @@ pub record GivesHead (old new : Fed) (shown : Head) : Type 0 where
   pub inside : n ≤ length old.unread
   pub leaves : Leaves old new n (Media shown.length) (old.requests + 1) shown.ends
   pub tells : TellsHead new head (old.requests + 1) shown
+  pub apart : shown.body ≡ no_place
 
 -- another request is given whole
 pub record GivesWhole (old new : Fed) (shown : Head) : Type 0 where

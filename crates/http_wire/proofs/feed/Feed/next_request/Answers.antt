@@ -16,7 +16,7 @@ returns-in-Opened c =
     rw (← c.self.view_is) (answers_turn _ _ _ c.in_default.not-Failed
     (turn_opened f.kept c.hold-in-Opened.new.self c.unread.result.now f.body.items c.find_next-next.new.body.items f.stage f.requests f.ended
     c.unread.ensures.value
-    c.in-Opened.found c.in-Opened.size _ c.show-head.result c.hold-in-Opened.ensures c.in-Opened.ensures.found c.show-head.ensures))
+    c.in-Opened.found c.in-Opened.size _ c.show-head.result c.hold-in-Opened.ensures c.in-Opened.ensures.found refl c.show-head.ensures))
 
 pub returns-in-Plain : goal.returns-in-Plain
 returns-in-Plain c =
