@@ -61,12 +61,12 @@ pub told-heard_more : (count : ℕ) (out : List ℕ) (c : Connection) → (heard
 told-heard_more zero out c = refl
 told-heard_more (suc n) out c = refl
 
--- what the peer of a number was told
-pub told_at : (talks : List Talk) (n : ℕ) (talk : Talk) → n < length talks → talk ≡ get_or talks n talk
-    → slice_get (map (λ c. c.told) (map (λ t. t.connection) talks)) n ≡ Some talk.connection.told
-told_at [] n talk within at = absurd (omega (arith, within))
-told_at (t ∷ talks) zero talk within at = ap (λ x. Some x.connection.told) (sym at)
-told_at (t ∷ talks) (suc n) talk within at = told_at talks n talk (omega (arith, within)) at
+-- what stands of the connection of a number
+pub connection_at : {A : Type 0} (f : Connection → A) (talks : List Talk) (n : ℕ) (talk : Talk) → n < length talks → talk ≡ get_or talks n talk
+    → slice_get (map f (map (λ t. t.connection) talks)) n ≡ Some (f talk.connection)
+connection_at f [] n talk within at = absurd (omega (arith, within))
+connection_at f (t ∷ talks) zero talk within at = ap (λ (x : Talk). Some (f x.connection)) (sym at)
+connection_at f (t ∷ talks) (suc n) talk within at = connection_at f talks n talk (omega (arith, within)) at
 
 -- the peers send what they sent before, whatever became of the last connection
 pub peers_kept : (f : Connection → Connection) (talks : List Talk)

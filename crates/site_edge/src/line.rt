@@ -50,6 +50,18 @@ impl Line {
         }
     }
 
+    pub(crate) fn heard(&self) -> &[u8]
+        ensures { result.now ≡ self.now.connection.heard }
+    {
+        self.sends.bytes().split_at(self.heard).0
+    }
+
+    pub(crate) fn has_ended(&self) -> bool
+        ensures { result ≡ self.now.connection.ended }
+    {
+        self.ended
+    }
+
     pub(crate) fn told(&self) -> &[u8]
         ensures { result.now ≡ self.now.connection.told }
     {

@@ -1,5 +1,5 @@
 //! A site in memory: a disk in memory, and peers whose bytes are given beforehand.
-ghost use Rattle.std.specs.Prelude.{false, true, is_ok, take, [], ◌++◌, ◌↔◌, ◌≡◌, ◌<◌, ◌≤◌, ◌+◌, ◌^◌, ◌&&◌, length, if◌then◌else◌, IfOk, IfSome, IsSome, IsTrue, MatchOption, OnErr, OnOk, Some, slice_get};
+ghost use Rattle.std.specs.Prelude.{false, true, is_ok, take, [], ◌++◌, ◌↔◌, ◌≡◌, ◌<◌, ◌≤◌, ◌+◌, ◌^◌, ◌&&◌, length, map, if◌then◌else◌, IfOk, IfSome, IsSome, IsTrue, MatchOption, OnErr, OnOk, Some, slice_get};
 ghost use Rattle.disk_trait.specs.Device.{told_by};
 ghost use Rattle.disk_trait.specs.Calls.{IsCounted, LeavesOnly, Unchanged};
 ghost use Rattle.disk_trait.specs.History.{kept_bytes, seen_of};
@@ -111,6 +111,22 @@ impl MemorySite {
         ensures { result ≡ length (connections_of self.now) }
     {
         self.lines.len()
+    }
+
+    /// What was heard of the peer of this number. The peers count from 0.
+    pub fn heard(&self, peer: usize) -> &[u8]
+        requires { peer < length (connections_of self.now) }
+        ensures { slice_get (map (λ c. c.heard) (connections_of self.now)) peer ≡ Some result.now }
+    {
+        self.lines[peer].heard()
+    }
+
+    /// Whether the end of this peer's bytes was heard.
+    pub fn has_ended(&self, peer: usize) -> bool
+        requires { peer < length (connections_of self.now) }
+        ensures { slice_get (map (λ c. c.ended) (connections_of self.now)) peer ≡ Some result }
+    {
+        self.lines[peer].has_ended()
     }
 
     /// What the peer of this number was told. The peers count from 0.

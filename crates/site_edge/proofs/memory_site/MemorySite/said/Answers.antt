@@ -1,9 +1,11 @@
 use Rattle.std.proofs.Common.{◌<◌, length}
 use Rattle.std.proofs.lemmas.List.{length-map}
-use Rattle.site_edge.proofs.ConnectionLemmas.{told_at}
+use Rattle.disk_trait.specs.Device.{Connection}
+use Rattle.site_edge.proofs.ConnectionLemmas.{connection_at}
 use Rattle.site_edge.proofs.memory_site.MemorySite.said.Goals as goal
 
 pub returns : goal.returns
 returns c =
     let within : c.args.peer < length c.self.inside.lines.items = rw (← c.self.view_is, length-map) at c.requires in
-    rw (c.told.ensures, ← c.self.view_is) (told_at c.self.inside.lines.items c.args.peer c.index.result.now within c.index.ensures)
+    rw (c.told.ensures, ← c.self.view_is)
+    (connection_at (λ (x : Connection). x.told) c.self.inside.lines.items c.args.peer c.index.result.now within c.index.ensures)
