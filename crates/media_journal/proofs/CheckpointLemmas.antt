@@ -1,6 +1,7 @@
 -- What the writes of a checkpoint leave in an image.
-use Rattle.std.proofs.Common.{◌≡◌, ◌<◌, ◌≤◌, ◌+◌, ◌*◌, ◌%◌, ◌==◌, ◌^◌, ◌⊎◌, ℕ, Bool, true, false, List, [], ◌∷◌, ◌++◌, length, get_or, slice_index, inl, inr, refl, subst, sym, ap, ◌∙◌, arith}
+use Rattle.std.proofs.Common.{◌≡◌, ◌<◌, ◌≤◌, ◌+◌, ◌-◌, ◌*◌, ◌/◌, ◌%◌, ◌==◌, ◌^◌, ◌⊎◌, ℕ, Bool, true, false, List, [], ◌∷◌, ◌++◌, length, get_or, slice_index, inl, inr, refl, subst, sym, ap, ◌∙◌, arith}
 use Rattle.std.proofs.Common.{length-append, rules}
+use Rattle.std.proofs.Math.Nat.{add-div_right}
 use Rattle.std.proofs.Common.{ne_eqb}
 use Rattle.std.proofs.lemmas.List.{places, same_lists}
 use Rattle.std.specs.Prelude.{if◌then◌else◌}
@@ -11,11 +12,12 @@ use Rattle.disk_trait.specs.Calls.{Elapses, Follows, Torn, bytes_at, overwritten
 use Rattle.disk_trait.proofs.Theorems.{elapses_weaker}
 use Rattle.disk_trait.proofs.TornLemmas.{bytes_before, bytes_behind, torn-overwritten, torn_itself}
 use Rattle.disk_trait.proofs.OverwriteLemmas.{bytes_at-written, get_or-bytes_at, get_or-written, length-overwritten}
+use Rattle.media_journal.specs.declared.checkpoint.TheConstants.{ROW_PIECE}
 use Rattle.media_journal.specs.File.{HasHalf, active_start, rows_text}
 use Rattle.media_journal.specs.Formatting.{half_text}
 use Rattle.media_journal.specs.Journal.{Contents, Gives, HasInHalf, Position}
 use Rattle.media_journal.specs.JournalMoments.{EachGives}
-use Rattle.media_journal.specs.Checkpoint.{CheckpointEnds, GivesEither, HoldsBoth, KeepsOrSwitches, Switches, WritesOther, after_checkpoint, other_start, selector_for, with_rows}
+use Rattle.media_journal.specs.Checkpoint.{CheckpointEnds, GivesEither, HoldsBoth, KeepsOrSwitches, Switches, WritesOther, after_checkpoint, other_start, row_writes, selector_for, with_rows}
 use Rattle.media_journal.specs.Within.Steps.{WithinWrites, WritesEnd}
 use Rattle.media_journal.proofs.ChainLemmas.{chain_bounds, chain_kept_within}
 use Rattle.media_journal.proofs.FormattingLemmas.{front-half_text, gate-half_text, length-half_text}
@@ -135,6 +137,21 @@ names_other image p some (InB here there) is =
 overwritten-join : (at : ℕ) (front rear image : List ℕ) → at + (length front + length rear) ≤ length image
     → overwritten (at + length front) rear (overwritten at front image) ≡ overwritten at (front ++ rear) image
 overwritten-join at front rear image fits = same_lists _ _ (search (rules, places)) (λ k d h. grind (arith, places))
+
+-- rows behind their first piece
+pub pieces_written : (image rows piece later : List ℕ) (at n : ℕ) → length piece ≡ n → rows ≡ piece ++ later → at + length rows ≤ length image
+    → overwritten (at + n) later (overwritten at piece image) ≡ overwritten at rows image
+pieces_written image rows piece later at n front whole fits =
+    let long = ap length whole ∙ length-append piece later in
+    subst (λ (k : ℕ). overwritten (at + k) later (overwritten at piece image) ≡ overwritten at rows image) front
+    (overwritten-join at piece later image (omega (arith, fits, long)) ∙ ap (λ (xs : List ℕ). overwritten at xs image) (sym whole))
+
+-- and the writes of it and of the rest
+pub row_writes-more : (n : ℕ) → ROW_PIECE < n → 1 + row_writes (n - ROW_PIECE) ≡ row_writes n
+row_writes-more n more =
+    let whole : n - ROW_PIECE + ROW_PIECE ≡ n = omega arith in
+    let one = add-div_right (n - ROW_PIECE) {k = ROW_PIECE} (omega arith) in
+    omega (arith, one, ap (λ (k : ℕ). k / ROW_PIECE) whole)
 
 -- the length, the rows and the closed gate make a half
 pub half_written : (image rows : List ℕ) (start : ℕ) → start + (9 + length rows) ≤ length image

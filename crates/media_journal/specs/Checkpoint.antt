@@ -1,10 +1,20 @@
 -- What a checkpoint writes and leaves: the other half with its rows, and the selector that names
 -- it.
-use Rattle.std.specs.Prelude.{◌≡◌, ◌+◌, ◌-◌, ◌*◌, ◌⊎◌, ◌==◌, ℕ, Bool, true, false, List, [], length, if◌then◌else◌}
+use Rattle.std.specs.Prelude.{◌≡◌, ◌+◌, ◌-◌, ◌*◌, ◌/◌, ◌⊎◌, ◌==◌, ℕ, Bool, true, false, List, [], length, if◌then◌else◌}
 use Rattle.disk_trait.specs.Device.{Left}
 use Rattle.disk_trait.specs.Calls.{Torn}
+use Rattle.media_journal.specs.declared.checkpoint.TheConstants.{ROW_PIECE}
 use Rattle.media_journal.specs.declared.header.TheConstants.{BLOCK, HALVES, SELECTOR}
 use Rattle.media_journal.specs.Journal.{Contents, Gives, HasInHalf, Position}
+
+-- at most so many writes put n bytes of rows into a half, in pieces
+abbrev pub row_writes : ℕ → ℕ
+row_writes n = 1 + n / ROW_PIECE
+
+-- at most so many calls make a checkpoint with n bytes of rows: the writes of their length, of the
+-- rows, and of the closed gate, and a sync; and a write and a sync of the selector
+abbrev pub checkpoint_calls : ℕ → ℕ
+checkpoint_calls n = 5 + row_writes n
 
 -- where the other half begins, where one of so many blocks begins here
 abbrev pub other_of : ℕ → ℕ → ℕ

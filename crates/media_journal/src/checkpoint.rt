@@ -5,7 +5,7 @@ ghost use Rattle.disk_trait.specs.Calls.{DiskCalls, Elapses, Follows, LeavesOnly
 ghost use Rattle.media_journal.specs.Formatting.{half_text};
 ghost use Rattle.media_journal.specs.Journal.{Contents, Gives, IsPosition, IsWhole};
 ghost use Rattle.media_journal.specs.JournalMoments.{EachGives};
-ghost use Rattle.media_journal.specs.Checkpoint.{CheckpointEnds, KeepsOrSwitches, WritesOther, after_checkpoint, other_of, selector_for, with_rows};
+ghost use Rattle.media_journal.specs.Checkpoint.{CheckpointEnds, KeepsOrSwitches, WritesOther, after_checkpoint, checkpoint_calls, other_of, row_writes, selector_for, with_rows};
 ghost use Rattle.media_journal.specs.Within.Steps.{SyncedWriteEnds, WithinWrites, WritesEnd};
 
 use crate::header::{BLOCK, HALVES, MOST_HALF, SELECTOR};
@@ -13,6 +13,9 @@ use crate::write::write_synced;
 use crate::{AppendFault, Journal};
 use disk_trait::numbers::u64_bytes;
 use disk_trait::{Disk, Failed};
+
+/// Rows are written in pieces of so many bytes at most.
+const ROW_PIECE: usize = 1_048_576;
 
 impl Journal {
     /// Writes these rows into the half that isn't the journal's, and makes it the journal's: the rows stand
@@ -66,8 +69,10 @@ impl Journal {
 
         ensures calls { OnOk result (DiskCalls true (D.device disk.old) (D.device disk.new)) }
 
-        // Three writes and a sync of the half, a write and a sync of the selector, and no further call.
-        ensures six_calls { (D.device disk.new).moment ≤ (D.device disk.old).moment + 6 }
+        // A write of the rows' length, those of the rows, a write and a sync behind them, a write and a sync
+        // of the selector, and no further call.
+        ensures few_calls { (D.device disk.new).moment
+            ≤ (D.device disk.old).moment + checkpoint_calls (length rows.now) }
 
         // It doesn't give up by itself: the count of faults rose.
         ensures failed { IsErrOf result AppendFault.Disk
@@ -107,7 +112,8 @@ fn switch_half<D: Disk>(disk: &mut D, start: u64, rows: &[u8]) -> Result<(), Fai
     requires place { HALVES ≤ start }
     requires small { start < 2 ^ 62 }
     ensures calls { DiskCalls (is_ok result) (D.device disk.old) (D.device disk.new) }
-    ensures six_calls { (D.device disk.new).moment ≤ (D.device disk.old).moment + 6 }
+    ensures few_calls { (D.device disk.new).moment
+        ≤ (D.device disk.old).moment + checkpoint_calls (length rows.now) }
     ensures written { (D.device disk.old).shows ≡ true → OnOk result
         ((D.device disk.new).seen ≡ overwritten SELECTOR (selector_for start ∷ [])
         (overwritten start (half_text rows.now) (D.device disk.old).seen)) }
@@ -134,7 +140,8 @@ fn write_half<D: Disk>(disk: &mut D, start: u64, rows: &[u8]) -> Result<(), Fail
     requires device { start + (9 + length rows.now) ≤ (D.device disk.old).size }
     requires small { start < 2 ^ 62 }
     ensures calls { DiskCalls (is_ok result) (D.device disk.old) (D.device disk.new) }
-    ensures four_calls { (D.device disk.new).moment ≤ (D.device disk.old).moment + 4 }
+    ensures few_calls { (D.device disk.new).moment
+        ≤ (D.device disk.old).moment + (3 + row_writes (length rows.now)) }
     ensures written { (D.device disk.old).shows ≡ true → OnOk result
         ((D.device disk.new).seen ≡ overwritten start (half_text rows.now) (D.device disk.old).seen) }
     ensures handed { (D.device disk.old).tells ≡ true → OnOk result
@@ -152,12 +159,13 @@ fn write_half<D: Disk>(disk: &mut D, start: u64, rows: &[u8]) -> Result<(), Fail
     disk.sync()
 }
 
-/// Writes the parts of a half in a row: the length of the rows, the rows as they are, and a closed gate.
+/// Writes the parts of a half in a row: the length of the rows, the rows, and a closed gate.
 fn write_parts<D: Disk>(disk: &mut D, start: u64, rows: &[u8]) -> Result<(), Failed>
     requires device { start + (9 + length rows.now) ≤ (D.device disk.old).size }
     requires small { start < 2 ^ 62 }
     ensures calls { DiskCalls (is_ok result) (D.device disk.old) (D.device disk.new) }
-    ensures three_calls { (D.device disk.new).moment ≤ (D.device disk.old).moment + 3 }
+    ensures few_calls { (D.device disk.new).moment
+        ≤ (D.device disk.old).moment + (2 + row_writes (length rows.now)) }
     ensures written { (D.device disk.old).shows ≡ true → OnOk result
         ((D.device disk.new).seen ≡ overwritten start (half_text rows.now) (D.device disk.old).seen) }
     ensures handed { (D.device disk.old).tells ≡ true → OnOk result
@@ -169,8 +177,32 @@ fn write_parts<D: Disk>(disk: &mut D, start: u64, rows: &[u8]) -> Result<(), Fai
 {
     let size = rows.len() as u64;
     disk.write_at(start, &u64_bytes(size))?;
-    disk.write_at(start + 8, rows)?;
+    write_rows(disk, start + 8, rows)?;
     disk.write_at(start + 8 + size, &[0])
+}
+
+/// Writes rows from a place on, as they are, in pieces.
+fn write_rows<D: Disk>(disk: &mut D, at: u64, rows: &[u8]) -> Result<(), Failed>
+    requires device { at + length rows.now ≤ (D.device disk.old).size }
+    requires small { at + length rows.now < 2 ^ 64 }
+    ensures calls { DiskCalls (is_ok result) (D.device disk.old) (D.device disk.new) }
+    ensures few_calls { (D.device disk.new).moment
+        ≤ (D.device disk.old).moment + row_writes (length rows.now) }
+    ensures written { (D.device disk.old).shows ≡ true → OnOk result
+        ((D.device disk.new).seen ≡ overwritten at rows.now (D.device disk.old).seen) }
+    ensures handed { (D.device disk.old).tells ≡ true → OnOk result
+        ((D.device disk.new).handed ≡ (D.device disk.old).handed + length rows.now) }
+    ensures handed_at_most { (D.device disk.old).tells ≡ true
+        → (D.device disk.new).handed ≤ (D.device disk.old).handed + length rows.now }
+    ensures time { Elapses (TornWrite at (length rows.now)) (TornWrite at (length rows.now))
+        (D.device disk.old) (D.device disk.new) }
+{
+    if rows.len() <= ROW_PIECE {
+        return disk.write_at(at, rows);
+    }
+    let (piece, later) = rows.split_at(ROW_PIECE);
+    disk.write_at(at, piece)?;
+    write_rows(disk, at + ROW_PIECE as u64, later)
 }
 
 /// Makes the selector name the half that begins here, and syncs it.

@@ -7,7 +7,7 @@ use Rattle.media_rows.specs.Library.{Library}
 use Rattle.media_rows.specs.Media.{Archive}
 use Rattle.disk_trait.specs.Calls.{Elapses}
 use Rattle.disk_trait.specs.Device.{Device, Left}
-use Rattle.media_journal.specs.Checkpoint.{after_checkpoint}
+use Rattle.media_journal.specs.Checkpoint.{after_checkpoint, checkpoint_calls}
 use Rattle.media_journal.specs.Journal.{Position, after_append}
 use Rattle.store_states.specs.Kept.{AgreesWith, StoreView, kept_state}
 use Rattle.store_states.specs.States.{IsTextOf, StandsFor}
@@ -66,6 +66,11 @@ kept_written kept rows next frame =
 abbrev pub rows_bytes : Option (List ℕ) → ℕ
 rows_bytes None = 0
 rows_bytes (Some rows) = length rows + 10
+
+-- at most so many calls make it
+abbrev pub rows_calls : Option (List ℕ) → ℕ
+rows_calls None = 0
+rows_calls (Some rows) = checkpoint_calls (length rows)
 
 -- the bytes that a whole change hands to the disk
 abbrev pub written_bytes : Option (List ℕ) → List ℕ → ℕ

@@ -8,7 +8,7 @@ ghost use Rattle.media_journal.specs.Journal.{IsWhole, after_append};
 ghost use Rattle.store_states.specs.Fitting.{FitsJournal};
 ghost use Rattle.store_states.specs.Kept.{AgreesWith, HoldsEach, StoreView, kept_state};
 ghost use Rattle.store_states.specs.States.{StepOf, held_in, media_start};
-ghost use Rattle.store_commits.specs.Carrying.{AreRowsOf, Carries, journal_for, kept_written, rows_bytes, written_bytes};
+ghost use Rattle.store_commits.specs.Carrying.{AreRowsOf, Carries, journal_for, kept_written, rows_bytes, rows_calls, written_bytes};
 ghost use Rattle.store_commits.specs.Within.{kept_before};
 
 use disk_trait::{Disk, Failed, Text};
@@ -49,7 +49,8 @@ pub fn write_change<D: Disk>(
     ensures handed_at_most { (D.device disk.old).tells ≡ true → (D.device disk.new).handed
         ≤ (D.device disk.old).handed + written_bytes (option_copied rows.entry) frame.now }
     ensures calls { DiskCalls (is_ok result) (D.device disk.old) (D.device disk.new) }
-    ensures ten_calls { (D.device disk.new).moment ≤ (D.device disk.old).moment + 10 }
+    ensures few_calls { (D.device disk.new).moment
+        ≤ (D.device disk.old).moment + (4 + rows_calls (option_copied rows.entry)) }
 {
     write_rows(disk, journal, rows)?;
     append_change(disk, journal, frame)
@@ -87,7 +88,8 @@ pub fn store_change<D: Disk>(
     ensures handed_at_most { (D.device disk.old).tells ≡ true → (D.device disk.new).handed
         ≤ (D.device disk.old).handed + written_bytes (option_copied rows.entry) frame.now }
     ensures calls { DiskCalls (is_ok result) (D.device disk.old) (D.device disk.new) }
-    ensures eleven_calls { (D.device disk.new).moment ≤ (D.device disk.old).moment + 11 }
+    ensures few_calls { (D.device disk.new).moment
+        ≤ (D.device disk.old).moment + (5 + rows_calls (option_copied rows.entry)) }
 {
     // A record that names bytes must not be on the disk before they are.
     disk.sync()?;
@@ -125,7 +127,8 @@ fn write_rows<D: Disk>(
     ensures handed_at_most { (D.device disk.old).tells ≡ true → (D.device disk.new).handed
         ≤ (D.device disk.old).handed + rows_bytes (option_copied rows.entry) }
     ensures calls { DiskCalls (is_ok result) (D.device disk.old) (D.device disk.new) }
-    ensures six_calls { (D.device disk.new).moment ≤ (D.device disk.old).moment + 6 }
+    ensures few_calls { (D.device disk.new).moment
+        ≤ (D.device disk.old).moment + rows_calls (option_copied rows.entry) }
 {
     match rows {
         None => Ok(()),

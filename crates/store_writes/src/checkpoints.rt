@@ -1,7 +1,7 @@
 //! A checkpoint of the library that is kept.
 ghost use Rattle.std.specs.Prelude.{◌≡◌, ◌≤◌, ◌+◌, ◌*◌, ℕ, true, List, length, is_ok, OnOk, OnErr};
 ghost use Rattle.disk_trait.specs.Calls.{DiskCalls, LeavesOnly};
-ghost use Rattle.media_journal.specs.Checkpoint.{after_checkpoint};
+ghost use Rattle.media_journal.specs.Checkpoint.{after_checkpoint, checkpoint_calls};
 ghost use Rattle.media_journal.specs.Journal.{IsWhole};
 ghost use Rattle.media_rows.specs.declared.object.ObjectRow.{ObjectRow};
 ghost use Rattle.store_states.specs.Kept.{AgreesWith, HoldsEach, StoreView, kept_checked, kept_state};
@@ -46,7 +46,8 @@ pub fn checkpoint<D: Disk>(disk: &mut D, journal: &mut Journal, rows: &[u8]) -> 
     ensures handed_at_most { (D.device disk.old).tells ≡ true
         → (D.device disk.new).handed ≤ (D.device disk.old).handed + (length rows.now + 10) }
     ensures calls { DiskCalls (is_ok result) (D.device disk.old) (D.device disk.new) }
-    ensures six_calls { (D.device disk.new).moment ≤ (D.device disk.old).moment + 6 }
+    ensures few_calls { (D.device disk.new).moment
+        ≤ (D.device disk.old).moment + checkpoint_calls (length rows.now) }
 {
     match journal.checkpoint(disk, rows) {
         Ok(()) => Ok(()),
