@@ -22,7 +22,7 @@ returns-clause-time g t c =
     (torn_within _ _ _ _ _ _ (omega arith) (omega arith) c.write_rows.ensures.time)
 
 pub returns-clause-calls : goal.returns-clause-calls
-returns-clause-calls g t c = 
+returns-clause-calls g t c =
     let first = c.in_ok-write_at.ensures.call in
     calls_twice _ _ _ _ (record { same = first.same; link = first.link; counted = first.counted }) c.write_rows.ensures.calls
 
