@@ -35,10 +35,10 @@ FORMATS = {'video': 'urn:x-nmos:format:video', 'audio': 'urn:x-nmos:format:audio
 # codecs that are copied, with the names under which a flow has them
 CODECS = {'h264': 'video/h264', 'hevc': 'video/h265', 'mpeg2video': 'video/mpeg', 'aac': 'audio/aac',
           'mp2': 'audio/mpeg', 'mp3': 'audio/mpeg', 'ac3': 'audio/ac3', 'eac3': 'audio/eac3'}
-# how others are encoded; the bytes depend on the number of threads, so it is fixed
+# how others are encoded. With more than one thread the bytes are not the same each time
 ENCODED = {'video': ['libx264', '-preset', 'veryfast', '-crf', '18', '-pix_fmt', 'yuv420p'],
            'audio': ['aac', '-b:a', '192k']}
-THREADS = '4'
+THREADS = '1'
 # so many cut files are looked at while others are cut
 PROBES = 4
 # the encoder takes even sizes alone
