@@ -95,7 +95,7 @@ one_served base from [] session served = absurd served
 one_served base from (c ∷ []) session served = (c, refl, served.0)
 one_served base from (c ∷ d ∷ cs) session served = absurd (served.2)
 
-none_served : (base : List ℕ) (from : StoreState) (cs : List Connection) → AreServed (tams_machine base) (start_of from) cs [] → cs ≡ []
+pub none_served : (base : List ℕ) (from : StoreState) (cs : List Connection) → AreServed (tams_machine base) (start_of from) cs [] → cs ≡ []
 none_served base from [] served = refl
 none_served base from (c ∷ cs) served = absurd served
 
@@ -136,8 +136,10 @@ module _ (base : List ℕ) (from : StoreState) (old new : Device) (begun given :
   no_peer_came NoMemory is ends = absurd (never (inr (inr (ap status_of is))))
   no_peer_came _ is ends = absurd ends
 
-  one_answered : OnePeer base (beginning from old begun) new given o → OneAnswered base from old new begun given (status_of o)
-  one_answered p =
+  -- the one connection was answered whole
+  pub peer_answered : (p : OnePeer base (beginning from old begun) new given o)
+      → (c : Connection) × (p.runs.ran.connections ≡ c ∷ []) × IsAnswered base from c p.session (status_of o)
+  peer_answered p =
       let ran = p.runs.ran in
       let session = p.session in
       let one = one_served base from ran.connections session ran.served in
@@ -146,17 +148,26 @@ module _ (base : List ℕ) (from : StoreState) (old new : Device) (begun given :
       (nat_lt 0 n.skipped) refl in
       elim well [
         | inl good ↦
-            let skips : skips_in session.steps ≡ 0 = let made = good.made in omega (arith, made) in
-            record {
-              session = session;
-              connection = one.0;
-              connections = ran.connections_are ∙ ap (λ (cs : List Connection). old.link.connections ++ cs) one.1;
-              given_is = ran.given_is;
-              answered = answered base from one.0 session (status_of o) one.2
-                  (record { on = good.on; fed = good.fed; linked = good.linked; made = skips; by_input = ap status_of p.outcome_is ∙ good.by_input });
-            }
+            let skips : skips_in session.steps ≡ 0 = let made = good.made in omega (arith, made) in (
+              one.0,
+              one.1,
+              answered base from one.0 session (status_of o) one.2
+                  (record { on = good.on; fed = good.fed; linked = good.linked; made = skips; by_input = ap status_of p.outcome_is ∙ good.by_input }),
+            )
         | inr failed ↦ absurd (never (subst FailsBy (sym p.outcome_is) failed))
       ]
+
+  one_answered : OnePeer base (beginning from old begun) new given o → OneAnswered base from old new begun given (status_of o)
+  one_answered p =
+      let ran = p.runs.ran in
+      let one = peer_answered p in
+      record {
+        session = p.session;
+        connection = one.0;
+        connections = ran.connections_are ∙ ap (λ (cs : List Connection). old.link.connections ++ cs) one.1;
+        given_is = ran.given_is;
+        answered = one.2;
+      }
 
   -- `replay` by its history
   pub served_whole : Replayed base (beginning from old begun) new given o → IsServedWhole base from old new begun given (status_of o)

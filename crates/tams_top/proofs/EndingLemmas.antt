@@ -7,18 +7,19 @@ use Rattle.media_journal.specs.File.{HasOpenHeader}
 use Rattle.tams_top.specs.declared.outcome.Outcome.{Outcome}
 use Rattle.tams_top.specs.declared.outcome.Outcome.TheVariants.{Checked, BadWords, DiskFault, NoMemory, LinkFault}
 use Rattle.tams_top.specs.declared.words.Command.{Command}
-use Rattle.tams_top.specs.declared.words.Command.TheVariants.{Format, Check, Work, Replay, Serve}
+use Rattle.tams_top.specs.declared.words.Command.TheVariants.{Format, Check, Work, Replay, Serve, Workload}
 use Rattle.tams_top.specs.Words.{IsCommand}
 use Rattle.media_store.specs.declared.fault.StoreFault.TheVariants as faults
 use Rattle.store_opening.specs.Laws.{DamagedStandsForNone}
 use Rattle.store_core.specs.Prepared.{counts_of}
 use Rattle.store_states.specs.States.{StandsFor, StoreState}
 use Rattle.tams_top.specs.Formatting.{formatted_state}
+use Rattle.tams_top.specs.Generating.{WorkloadEnds}
 use Rattle.tams_top.specs.Histories.{BeginsFrom, IsSettled, NoPeer, OnePeer, Replayed, ServedAll, beginning}
 use Rattle.tams_top.specs.Running.{CheckEnds, CommandEnds, FormatRunEnds, IsNoCommand, IsReplayFrom, IsServeFrom, IsWorkFrom, LinkFaults, OpenedCause, RefusedFor, ReplayEnds, RunEnds, ServeEnds, ServesNobody, Untouched, WorkCause, WorkEnds, no_peer_fault, status_of}
 use Rattle.tams_top.proofs.FormattingLemmas.{untouched_bare}
 use Rattle.tams_top.proofs.RunningLemmas.{no_peer}
-use Rattle.tams_top.proofs.StatusLemmas.{check_done, check_only, check_refused, check_untouched, cut_by, format_done, format_only, format_refused, format_starved, link_fault_by, no_memory_by, opened_only, opened_refused, work_only, work_refused}
+use Rattle.tams_top.proofs.StatusLemmas.{check_done, check_only, check_refused, check_untouched, cut_by, format_done, format_only, format_refused, format_starved, link_fault_by, no_memory_by, opened_only, opened_refused, work_only, work_refused, workload_unrefused}
 use Rattle.tams_top.specs.Working.{WorkedOff}
 use Rattle.tams_top.proofs.WordTheorems.{one_command}
 use Rattle.tams_top.proofs.WorkingLemmas.{no_turns}
@@ -32,6 +33,7 @@ module _ (words : List (List ℕ)) (old new : Device) (clock : Bool) (begun give
   command_refused damaged (Work path) ends s = work_refused old new damaged o ends.cause s
   command_refused damaged (Replay path base) ends s = opened_refused old new damaged o ends.cause s
   command_refused damaged (Serve path port base connections) ends s = opened_refused old new damaged o ends.cause s
+  command_refused damaged (Workload number count) ends s = absurd (workload_unrefused number count o ends.0 s)
 
   pub run_refused : DamagedStandsForNone → status_of o ≡ 2
       → Untouched old new × ((command : Command) × IsCommand words command × (old.shows ≡ true → RefusedFor old.seen command))
@@ -50,6 +52,7 @@ module _ (words : List (List ℕ)) (old new : Device) (clock : Bool) (begun give
   command_unread (Work path) ends s = ends.unread s
   command_unread (Replay path base) ends s = ends.unread s
   command_unread (Serve path port base connections) ends s = ends.unread s
+  command_unread (Workload number count) ends s = ends.2
 
   pub run_unread : status_of o ≡ 2 → given ≡ begun
   run_unread s = elim run.cause [
@@ -65,6 +68,7 @@ module _ (words : List (List ℕ)) (old new : Device) (clock : Bool) (begun give
   command_only (Work path) ends shows cause = work_only old new o ends.cause shows cause
   command_only (Replay path base) ends shows cause = opened_only old new o ends.cause shows cause
   command_only (Serve path port base connections) ends shows cause = opened_only old new o ends.cause shows cause
+  command_only (Workload number count) ends shows cause = absurd cause
 
   pub run_only : (command : Command) → IsCommand words command → old.shows ≡ true → RefusedFor old.seen command
       → (status_of o ≡ 2) ⊎ ((status_of o ≡ 3) ⊎ (status_of o ≡ 4))
@@ -152,12 +156,16 @@ module _ (words : List (List ℕ)) (old new : Device) (clock : Bool) (begun give
   work_unlinked : WorkCause old new o → o ≢ LinkFault
   work_unlinked cause is = subst (WorkCause old new) is cause
 
+  workload_unlinked : (number count : ℕ) → WorkloadEnds number count o → o ≢ LinkFault
+  workload_unlinked number count ends is = subst (WorkloadEnds number count) is ends
+
   command_linked : (command : Command) → CommandEnds old new clock begun given o command → o ≡ LinkFault → Rose old.link.faults new.link.faults
   command_linked (Format path blocks half id) ends is = absurd (format_unlinked _ ends.0 is)
   command_linked (Check path) ends is = absurd (check_unlinked ends.0 is)
   command_linked (Work path) ends is = absurd (work_unlinked ends.cause is)
   command_linked (Replay path base) ends is = (subst (λ (p : Outcome). LinkFaults p old.link.faults new.link.faults) is ends.link).1
   command_linked (Serve path port base connections) ends is = ends.link is
+  command_linked (Workload number count) ends is = absurd (workload_unlinked number count ends.0 is)
 
   pub run_linked : status_of o ≡ 5 → Rose old.link.faults new.link.faults
   run_linked s = elim run.cause [
@@ -264,12 +272,17 @@ module _ (words : List (List ℕ)) (old new : Device) (clock : Bool) (begun give
   opened_words BadWords cause s = cause
   opened_words _ cause s = omega (arith, s)
 
+  workload_words : (number count : ℕ) (p : Outcome) → WorkloadEnds number count p → status_of p ≢ 1
+  workload_words number count BadWords ends s = ends
+  workload_words number count _ ends s = omega (arith, s)
+
   command_words : (command : Command) → CommandEnds old new clock begun given o command → status_of o ≢ 1
   command_words (Format path blocks half id) ends s = format_words _ o ends.0 s
   command_words (Check path) ends s = check_words o ends.0 s
   command_words (Work path) ends s = work_words o ends.cause s
   command_words (Replay path base) ends s = opened_words o ends.cause s
   command_words (Serve path port base connections) ends s = opened_words o ends.cause s
+  command_words (Workload number count) ends s = workload_words number count o ends.0 s
 
   pub run_words : status_of o ≡ 1 → IsNoCommand words × Untouched old new
   run_words s = elim run.cause [
@@ -358,6 +371,31 @@ module _ (words : List (List ℕ)) (old new : Device) (clock : Bool) (begun give
       ]
     ]
 
+  -- `workload` touches nothing of the outside
+  module _ (number count : ℕ) (is : IsCommand words (Workload number count)) where
+    workload_ends : (did : Command) → IsCommand words did → CommandEnds old new clock begun given o did
+        → WorkloadEnds number count o × Untouched old new × (given ≡ begun)
+    workload_ends did it ends = subst (CommandEnds old new clock begun given o) (one_command words did (Workload number count) it is) ends
+
+    pub run_apart : Untouched old new × (given ≡ begun)
+    run_apart = elim run.cause [
+      | inl starved ↦ (starved.2, starved.1)
+      | inr other ↦ elim other [
+        | inl bad ↦ absurd (bad.1 (Workload number count) is)
+        | inr did ↦ let ends = workload_ends did.0 did.1 did.2 in (ends.1, ends.2)
+      ]
+    ]
+
+    -- and ends with its numbers, or for want of memory
+    pub run_generated : WorkloadEnds number count o
+    run_generated = elim run.cause [
+      | inl starved ↦ subst (WorkloadEnds number count) (sym starved.0) tt
+      | inr other ↦ elim other [
+        | inl bad ↦ absurd (bad.1 (Workload number count) is)
+        | inr did ↦ (workload_ends did.0 did.1 did.2).0
+      ]
+    ]
+
   -- a run that ended for want of memory
   pub run_starved : status_of o ≡ 4 → ServesNobody old new begun given
       ⊎ (((path : List ℕ) × IsCommand words (Work path))
@@ -395,3 +433,4 @@ module _ (words : List (List ℕ)) (old new : Device) (clock : Bool) (begun give
                 (subst (OnePeer base (beginning from old begun) new given) is (served from replay.begins))))
           ]
       command_starved (Serve path port base connections) it ends s = inl (ends.starved (no_memory_by o s))
+      command_starved (Workload number count) it ends s = inl (record { link = ends.1.link; given_is = ends.2 })

@@ -10,3 +10,4 @@ mod StatusLemmas
 mod WordLemmas
 pub mod WordTheorems
 mod WorkingLemmas
+mod WorkloadLemmas

@@ -1,5 +1,5 @@
 -- What the status of a command says of its end. A status of another end is another number.
-use Rattle.std.proofs.Common.{◌≡◌, ◌⊎◌, true, length, refl, ap, inl, inr, arith}
+use Rattle.std.proofs.Common.{◌≡◌, ◌≢◌, ◌⊎◌, ℕ, true, length, refl, ap, inl, inr, arith}
 use Rattle.disk_trait.specs.Device.{Device}
 use Rattle.media_journal.specs.declared.header.Header.{Header}
 use Rattle.media_journal.specs.File.{HasOpenHeader}
@@ -8,9 +8,11 @@ use Rattle.store_opening.specs.Laws.{DamagedStandsForNone}
 use Rattle.store_core.specs.Prepared.{counts_of}
 use Rattle.store_states.specs.States.{StandsFor, StoreState}
 use Rattle.tams_top.specs.declared.outcome.Outcome.{Outcome}
-use Rattle.tams_top.specs.declared.outcome.Outcome.TheVariants.{Formatted, Checked, Worked, Served, Cut, NotStore, AlreadyStore, TooSmall, Damaged, DiskFault, NoMemory, LinkFault}
+use Rattle.tams_top.specs.declared.outcome.Outcome.TheVariants.{Formatted, Checked, Worked, Served, Generated, Cut, NotStore, AlreadyStore, TooSmall, Damaged, DiskFault, NoMemory, LinkFault}
 use Rattle.tams_top.specs.Formatting.{empty_rows, formatted_state}
-use Rattle.tams_top.specs.Running.{CheckEnds, FormatRunEnds, OpenedCause, StandsForNone, Untouched, WorkCause, status_of}
+use Rattle.tams_top.specs.declared.outcome.WorkloadRun.{WorkloadRun}
+use Rattle.tams_top.specs.Generating.{IsWorkloadRun, WorkloadEnds}
+use Rattle.tams_top.specs.Running.{CheckEnds, FormatRunEnds, OpenedCause, StandsForNone, Untouched, WorkCause, generated_line, line_of, status_of}
 use Rattle.tams_top.proofs.RunningLemmas.{no_store}
 
 module _ (old new : Device) (h : Header) where
@@ -27,6 +29,7 @@ module _ (old new : Device) (h : Header) where
   format_done (Checked counts) ends s = absurd ends
   format_done (Worked turns) ends s = absurd ends
   format_done (Served requests changes skipped) ends s = absurd ends
+  format_done (Generated run) ends s = absurd ends
   format_done _ ends s = absurd (omega (arith, s))
 
   pub format_starved : (o : Outcome) → FormatRunEnds old new h o → status_of o ≡ 4 → Untouched old new
@@ -97,6 +100,7 @@ module _ (old new : Device) where
   check_done (Formatted blocks half media) ends s shows from stands = absurd ends
   check_done (Worked turns) ends s shows from stands = absurd ends
   check_done (Served requests changes skipped) ends s shows from stands = absurd ends
+  check_done (Generated run) ends s shows from stands = absurd ends
   check_done _ ends s shows from stands = absurd (omega (arith, s))
 
   pub work_refused : DamagedStandsForNone → (o : Outcome) → WorkCause old new o → status_of o ≡ 2
@@ -115,6 +119,29 @@ module _ (old new : Device) where
   work_only DiskFault cause shows none = inr (inl refl)
   work_only NoMemory cause shows none = inr (inr refl)
   work_only _ cause shows none = absurd cause
+
+-- `workload` ends with its numbers, or for want of memory
+pub workload_unrefused : (number count : ℕ) (o : Outcome) → WorkloadEnds number count o → status_of o ≢ 2
+workload_unrefused number count NotStore ends s = ends
+workload_unrefused number count AlreadyStore ends s = ends
+workload_unrefused number count TooSmall ends s = ends
+workload_unrefused number count (Damaged at) ends s = ends
+workload_unrefused number count _ ends s = omega (arith, s)
+
+-- the run whose numbers it ended with
+pub workload_done : (number count : ℕ) (o : Outcome) → WorkloadEnds number count o → status_of o ≡ 0
+    → (run : WorkloadRun) × IsWorkloadRun number count run × (line_of o ≡ generated_line run)
+workload_done number count (Generated run) ends s = (run, ends, refl)
+workload_done number count (Formatted blocks half media) ends s = absurd ends
+workload_done number count (Checked counts) ends s = absurd ends
+workload_done number count (Worked turns) ends s = absurd ends
+workload_done number count (Served requests changes skipped) ends s = absurd ends
+workload_done number count _ ends s = absurd (omega (arith, s))
+
+pub workload_whole : (number count : ℕ) (o : Outcome) → WorkloadEnds number count o → (status_of o ≡ 0) ⊎ (status_of o ≡ 4)
+workload_whole number count (Generated run) ends = inl refl
+workload_whole number count NoMemory ends = inr refl
+workload_whole number count _ ends = absurd ends
 
 -- statuses of one outcome alone
 pub no_memory_by : (p : Outcome) → status_of p ≡ 4 → p ≡ NoMemory

@@ -3,5 +3,6 @@ pub mod Formatting
 pub mod Histories
 pub mod Working
 pub mod Within
-pub mod Running
 pub mod Completeness
+pub mod Generating
+pub mod Running

@@ -14,12 +14,14 @@ use Rattle.store_core.specs.declared.library.Counts.{Counts}
 use Rattle.store_core.specs.Prepared.{counts_of}
 use Rattle.store_opening.specs.Opening.{StoreDamagedAt}
 use Rattle.store_states.specs.States.{StandsFor, StoreState}
+use Rattle.tams_top.specs.declared.outcome.WorkloadRun.{WorkloadRun}
 use Rattle.tams_top.specs.declared.outcome.Outcome.{Outcome}
-use Rattle.tams_top.specs.declared.outcome.Outcome.TheVariants.{Formatted, Checked, Worked, Served, Cut, BadWords, NotStore, AlreadyStore, TooSmall, Damaged, DiskFault, NoMemory, LinkFault}
+use Rattle.tams_top.specs.declared.outcome.Outcome.TheVariants.{Formatted, Checked, Worked, Served, Generated, Cut, BadWords, NotStore, AlreadyStore, TooSmall, Damaged, DiskFault, NoMemory, LinkFault}
 use Rattle.tams_top.specs.declared.words.Command.{Command}
-use Rattle.tams_top.specs.declared.words.Command.TheVariants.{Format, Check, Work, Replay, Serve}
+use Rattle.tams_top.specs.declared.words.Command.TheVariants.{Format, Check, Work, Replay, Serve, Workload}
 use Rattle.tams_top.specs.Words.{IsCommand}
 use Rattle.tams_top.specs.Formatting.{empty_rows, formatted_state}
+use Rattle.tams_top.specs.Generating.{WorkloadEnds}
 use Rattle.tams_top.specs.Working.{WorkedOff}
 use Rattle.tams_top.specs.Histories.{BeginsFrom, IsSettled, OnePeer, Replayed, ServedAll, beginning}
 
@@ -29,6 +31,7 @@ status_of (Formatted blocks half media) = 0
 status_of (Checked counts) = 0
 status_of (Worked turns) = 0
 status_of (Served requests changes skipped) = 0
+status_of (Generated run) = 0
 status_of BadWords = 1
 status_of NotStore = 2
 status_of AlreadyStore = 2
@@ -54,17 +57,23 @@ abbrev pub served_line : ℕ → ℕ → ℕ → List ℕ
 served_line requests changes skipped =
     numbered (codes "ok: ") requests (numbered (codes " requests, ") changes (changes_end skipped))
 
--- the end of the line of a store that was checked
-abbrev pub waiting_end : Counts → List ℕ
-waiting_end n =
-    numbered (codes " objects, ") n.requests (numbered (codes " requests, ") n.hooks
-    (numbered (codes " hooks, ") n.events (codes " events\n")))
-
 -- the line of a store that was checked: how much it keeps
 abbrev pub checked_line : Counts → List ℕ
 checked_line n =
     numbered (codes "ok: ") n.flows (numbered (codes " flows, ") n.segments
-    (numbered (codes " segments, ") n.objects (waiting_end n)))
+    (numbered (codes " segments, ") n.objects (numbered (codes " objects, ") n.requests
+    (numbered (codes " requests, ") n.hooks
+    (numbered (codes " hooks, ") n.events (codes " events\n"))))))
+
+-- the line of a run of generated requests: their two numbers, its answers and changes, and what the
+-- store keeps then
+abbrev pub generated_line : WorkloadRun → List ℕ
+generated_line n =
+    numbered (codes "workload ") n.number (numbered (codes " ") n.count
+    (numbered (codes ": requests ") n.requests (numbered (codes ", changes ") n.changes
+    (numbered (codes ", flows ") n.kept.flows (numbered (codes ", segments ") n.kept.segments
+    (numbered (codes ", objects ") n.kept.objects
+    (numbered (codes ", bytes ") n.bytes (codes "\n"))))))))
 
 -- the line of each end in the notes
 abbrev pub line_of : Outcome → List ℕ
@@ -74,6 +83,7 @@ line_of (Formatted blocks half media) =
 line_of (Checked counts) = checked_line counts
 line_of (Worked turns) = numbered (codes "worked: ") turns (codes " turns\n")
 line_of (Served requests changes skipped) = served_line requests changes skipped
+line_of (Generated run) = generated_line run
 line_of BadWords = codes "bad words\n"
 line_of NotStore = codes "not a store\n"
 line_of AlreadyStore = codes "already a store\n"
@@ -267,6 +277,8 @@ CommandEnds old new clock begun given o (Replay path base) =
     ReplayEnds base old new clock begun given o
 CommandEnds old new clock begun given o (Serve path port base connections) =
     ServeEnds base old new clock begun given connections o
+CommandEnds old new clock begun given o (Workload number count) =
+    WorkloadEnds number count o × Untouched old new × (given ≡ begun)
 
 -- no call of the disk failed
 abbrev pub no_disk_fault : Outcome → Bool
@@ -293,7 +305,7 @@ pub record RunEnds (words : List (List ℕ)) (old new : Device) (clock : Bool) (
   pub cause : EndCause words old new clock begun given o
 
 -- why a command is refused: there is a store already, or the numbers make none of the file's
--- length; and the file stands for no state
+-- length; and the file stands for no state; a `workload` never is
 abbrev pub RefusedFor : List ℕ → Command → Type 0
 RefusedFor image (Format path blocks half id) = HasOpenHeader image
     ⊎ ¬ (FitsStore record { blocks = blocks; half = half; id = id } (length image) empty_rows)
@@ -301,3 +313,4 @@ RefusedFor image (Check path) = StandsForNone image
 RefusedFor image (Work path) = StandsForNone image
 RefusedFor image (Replay path base) = StandsForNone image
 RefusedFor image (Serve path port base connections) = StandsForNone image
+RefusedFor image (Workload number count) = ⊥

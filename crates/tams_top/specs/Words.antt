@@ -4,7 +4,7 @@ use Rattle.std.specs.List.{starts_with}
 use Rattle.std.specs.Fmt.{decimal}
 use Rattle.media_rows.specs.Ids.{id_of}
 use Rattle.tams_top.specs.declared.words.Command.{Command}
-use Rattle.tams_top.specs.declared.words.Command.TheVariants.{Format, Check, Work, Replay, Serve}
+use Rattle.tams_top.specs.declared.words.Command.TheVariants.{Format, Check, Work, Replay, Serve, Workload}
 use Rattle.tams_top.specs.declared.words.Wanted.{Wanted}
 use Rattle.tams_top.specs.declared.words.Wanted.TheVariants.{Nothing, Plain, Fresh, Listen}
 
@@ -18,6 +18,11 @@ pub record IsNumber (most : ℕ) (word : List ℕ) (n : ℕ) : Type 0 where
   pub text : word ≡ decimal n
   pub least : 1 ≤ n
   pub fits : n ≤ most
+
+-- 0, or such a number
+pub data IsNumberOrZero (most : ℕ) (word : List ℕ) (n : ℕ) : Type 0 where
+  Zero : word ≡ codes "0" → n ≡ 0 → IsNumberOrZero most word n
+  Other : IsNumber most word n → IsNumberOrZero most word n
 
 -- a printed character of ASCII but for the quote, `<` and `>`
 pub record IsBaseByte (c : ℕ) : Type 0 where
@@ -74,6 +79,14 @@ pub record IsServe (words : List (List ℕ)) (path : List ℕ) (port : ℕ) (bas
   pub base_is : IsBase base
   pub connections_is : IsNumber 1000000000 connections_word connections
 
+-- workload NUMBER COUNT
+pub record IsWorkload (words : List (List ℕ)) (number count : ℕ) : Type 0 where
+  pub number_word : List ℕ
+  pub count_word : List ℕ
+  pub words_are : words ≡ codes "workload" ∷ number_word ∷ count_word ∷ []
+  pub number_is : IsNumberOrZero 1000000 number_word number
+  pub count_is : IsNumber 1000 count_word count
+
 -- the words are the command's name and its own words, each of its form
 abbrev pub HasForm : List (List ℕ) → Command → Type 0
 HasForm words (Format path blocks half id) = IsFormat words path blocks half id
@@ -81,6 +94,7 @@ HasForm words (Check path) = IsCheck words path
 HasForm words (Work path) = IsWork words path
 HasForm words (Replay path base) = IsReplay words path base
 HasForm words (Serve path port base connections) = IsServe words path port base connections
+HasForm words (Workload number count) = IsWorkload words number count
 
 -- the words are in the command set, and spell this command
 pub record IsCommand (words : List (List ℕ)) (command : Command) : Type 0 where
@@ -93,10 +107,11 @@ FormIs words (Some command) = HasForm words command
 FormIs words None = (command : Command) → HasForm words command → ⊥
 
 -- What the program opens for these words: a file of a length in bytes for `format`, a file that is
--- there for `check`, `work` and `replay`, that and a port for `serve`, and nothing for words that
--- are no command.
+-- there for `check`, `work` and `replay`, that and a port for `serve`, and nothing for `workload`
+-- and for words that are no command.
 abbrev pub WantedFor : List (List ℕ) → Wanted → Type 0
-WantedFor words Nothing = (command : Command) → IsCommand words command → ⊥
+WantedFor words Nothing = ((command : Command) → IsCommand words command → ⊥)
+    ⊎ ((number count : ℕ) × IsCommand words (Workload number count))
 WantedFor words (Plain path) =
     IsCommand words (Check path) ⊎ (IsCommand words (Work path)
     ⊎ ((base : List ℕ) × IsCommand words (Replay path base)))

@@ -1,9 +1,48 @@
-//! What the top call makes a store of.
-ghost use Rattle.std.specs.Prelude.{◌≡◌};
+//! The command that makes a store.
+ghost use Rattle.std.specs.Prelude.{◌≡◌, ◌≤◌};
+ghost use Rattle.disk_trait.specs.Calls.{IsCounted};
 ghost use Rattle.tams_top.specs.Formatting.{empty_rows};
+ghost use Rattle.tams_top.specs.Running.{FormatMoments, FormatRunEnds, no_disk_fault};
+
+use crate::outcome::Outcome;
+use media_journal::{FormatFault, MOST_BLOCKS, MOST_HALF, format_device};
+use site_edge::Site;
+use std::alloc::Global;
+
+/// Makes an empty store of the site's device.
+pub(crate) fn format<X: Site>(
+    alloc: Global,
+    site: &mut X,
+    blocks: u64,
+    half: u64,
+    id: u128,
+) -> Outcome
+    requires some_half { 1 ≤ half }
+    requires half { half ≤ MOST_HALF }
+    requires blocks { blocks ≤ MOST_BLOCKS }
+    ensures disk { IsCounted (no_disk_fault result) (X.device site.old).faults
+        (X.device site.new).faults }
+    ensures nobody { (X.device site.new).link ≡ (X.device site.old).link }
+    ensures ends { FormatRunEnds (X.device site.old) (X.device site.new)
+        record { blocks = blocks; half = half; id = id } result }
+    ensures moments { FormatMoments (X.device site.old) (X.device site.new)
+        record { blocks = blocks; half = half; id = id } result }
+{
+    match format_device(alloc, site, blocks, half, id, &empty_rows()) {
+        Ok(()) => Outcome::Formatted {
+            blocks,
+            half,
+            media: blocks.saturating_sub(2 * half + 2),
+        },
+        Err(FormatFault::AlreadyStore) => Outcome::AlreadyStore,
+        Err(FormatFault::TooSmall) => Outcome::TooSmall,
+        Err(FormatFault::Disk) => Outcome::DiskFault,
+        Err(FormatFault::Memory) => Outcome::NoMemory,
+    }
+}
 
 /// The rows of the empty library: one row with the next serial, which is 1.
-pub(crate) fn empty_rows() -> [u8; 13]
+fn empty_rows() -> [u8; 13]
     ensures { result ≡ empty_rows }
 {
     [8, 0, 0, 0, 8, 0, 0, 0, 0, 0, 0, 0, 1]

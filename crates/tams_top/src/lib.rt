@@ -4,9 +4,11 @@
 
 mod checking;
 mod formatting;
+mod generating;
 mod outcome;
 mod premises;
 mod serving;
+mod still_clock;
 mod top;
 mod words;
 mod working;

@@ -1,12 +1,25 @@
 //! What a run ends with: its status, and its line in the notes.
 ghost use Rattle.std.specs.Prelude.{◌≡◌, ◌++◌, is_ok};
 ghost use Rattle.std.specs.Fmt.{decimal};
-ghost use Rattle.tams_top.specs.Running.{TakesPart, changes_end, checked_line, line_of, opening_outcome, served_line, waiting_end};
+ghost use Rattle.tams_top.specs.Running.{TakesPart, checked_line, generated_line, line_of, opening_outcome, served_line};
+ghost use Rattle.tams_top.specs.Within.Parts.{line_by};
 
 use itoa::Buffer;
 use media_journal::JournalFault;
 use site_edge::{Sink, SinkFailed};
 use store_core::Counts;
+
+/// What a run of generated requests came to: the two numbers that they were made from, how many were
+/// answered, the changes, what the store keeps at its end, and the bytes of its objects.
+#[derive(Clone, Copy, Debug, PartialEq, Eq)]
+pub(crate) struct WorkloadRun {
+    pub(crate) number: u64,
+    pub(crate) count: u64,
+    pub(crate) requests: u64,
+    pub(crate) changes: u64,
+    pub(crate) kept: Counts,
+    pub(crate) bytes: u64,
+}
 
 /// How a run ended.
 #[derive(Clone, Copy, Debug, PartialEq, Eq)]
@@ -27,6 +40,8 @@ pub(crate) enum Outcome {
         changes: u64,
         skipped: u64,
     },
+    /// Generated requests were answered.
+    Generated(WorkloadRun),
     /// The input ended within a request.
     Cut,
     BadWords,
@@ -50,7 +65,8 @@ impl Outcome {
             Outcome::Formatted { .. }
             | Outcome::Checked(_)
             | Outcome::Worked(_)
-            | Outcome::Served { .. } => 0,
+            | Outcome::Served { .. }
+            | Outcome::Generated(_) => 0,
             Outcome::BadWords => 1,
             Outcome::NotStore | Outcome::AlreadyStore | Outcome::TooSmall | Outcome::Damaged(_) =>
                 2,
@@ -72,25 +88,22 @@ impl Outcome {
                 half,
                 media,
             } => {
-                put_number(notes, b"formatted ", blocks)?;
-                put_number(notes, b" blocks, ", half)?;
-                put_number(notes, b" per half, ", media)?;
-                notes.put(b" for media\n")
+                let parts = [
+                    part(b"formatted ", blocks),
+                    part(b" blocks, ", half),
+                    part(b" per half, ", media),
+                ];
+                put_parts(notes, &parts, b" for media\n")
             }
             Outcome::Checked(counts) => put_checked(notes, counts),
-            Outcome::Worked(turns) => {
-                put_number(notes, b"worked: ", turns)?;
-                notes.put(b" turns\n")
-            }
+            Outcome::Worked(turns) => put_parts(notes, &[part(b"worked: ", turns)], b" turns\n"),
             Outcome::Served {
                 requests,
                 changes,
                 skipped,
             } => put_served(notes, requests, changes, skipped),
-            Outcome::Damaged(at) => {
-                put_number(notes, b"damaged at ", at)?;
-                notes.put(b"\n")
-            }
+            Outcome::Generated(run) => put_generated(notes, run),
+            Outcome::Damaged(at) => put_parts(notes, &[part(b"damaged at ", at)], b"\n"),
             Outcome::BadWords => notes.put(b"bad words\n"),
             Outcome::NotStore => notes.put(b"not a store\n"),
             Outcome::AlreadyStore => notes.put(b"already a store\n"),
@@ -120,21 +133,15 @@ fn put_checked<N: Sink>(notes: &mut N, counts: Counts) -> Result<(), SinkFailed>
     ensures { TakesPart (is_ok result) (N.tells notes.old) (checked_line counts)
         (N.faults notes.old) (N.faults notes.new) (N.taken notes.old) (N.taken notes.new) }
 {
-    put_number(notes, b"ok: ", counts.flows)?;
-    put_number(notes, b" flows, ", counts.segments)?;
-    put_number(notes, b" segments, ", counts.objects)?;
-    put_waiting_end(notes, counts)
-}
-
-/// Puts the end of that line.
-fn put_waiting_end<N: Sink>(notes: &mut N, counts: Counts) -> Result<(), SinkFailed>
-    ensures { TakesPart (is_ok result) (N.tells notes.old) (waiting_end counts)
-        (N.faults notes.old) (N.faults notes.new) (N.taken notes.old) (N.taken notes.new) }
-{
-    put_number(notes, b" objects, ", counts.requests)?;
-    put_number(notes, b" requests, ", counts.hooks)?;
-    put_number(notes, b" hooks, ", counts.events)?;
-    notes.put(b" events\n")
+    let parts = [
+        part(b"ok: ", counts.flows),
+        part(b" flows, ", counts.segments),
+        part(b" segments, ", counts.objects),
+        part(b" objects, ", counts.requests),
+        part(b" requests, ", counts.hooks),
+        part(b" hooks, ", counts.events),
+    ];
+    put_parts(notes, &parts, b" events\n")
 }
 
 /// Puts the line of a run that served.
@@ -147,21 +154,56 @@ fn put_served<N: Sink>(
     ensures { TakesPart (is_ok result) (N.tells notes.old) (served_line requests changes skipped)
         (N.faults notes.old) (N.faults notes.new) (N.taken notes.old) (N.taken notes.new) }
 {
-    put_number(notes, b"ok: ", requests)?;
-    put_number(notes, b" requests, ", changes)?;
-    put_changes_end(notes, skipped)
+    let served = [part(b"ok: ", requests), part(b" requests, ", changes)];
+    if skipped == 0 {
+        return put_parts(notes, &served, b" changes\n");
+    }
+    let [answered, changed] = served;
+    let parts = [answered, changed, part(b" changes, ", skipped)];
+    put_parts(notes, &parts, b" turns skipped\n")
 }
 
-/// Puts the end of that line.
-fn put_changes_end<N: Sink>(notes: &mut N, skipped: u64) -> Result<(), SinkFailed>
-    ensures { TakesPart (is_ok result) (N.tells notes.old) (changes_end skipped)
+/// Puts the line of a run of generated requests.
+fn put_generated<N: Sink>(notes: &mut N, run: WorkloadRun) -> Result<(), SinkFailed>
+    ensures { TakesPart (is_ok result) (N.tells notes.old) (generated_line run)
         (N.faults notes.old) (N.faults notes.new) (N.taken notes.old) (N.taken notes.new) }
 {
-    if skipped == 0 {
-        return notes.put(b" changes\n");
-    }
-    put_number(notes, b" changes, ", skipped)?;
-    notes.put(b" turns skipped\n")
+    let parts = [
+        part(b"workload ", run.number),
+        part(b" ", run.count),
+        part(b": requests ", run.requests),
+        part(b", changes ", run.changes),
+        part(b", flows ", run.kept.flows),
+        part(b", segments ", run.kept.segments),
+        part(b", objects ", run.kept.objects),
+        part(b", bytes ", run.bytes),
+    ];
+    put_parts(notes, &parts, b"\n")
+}
+
+/// A text of a line, and the number behind it.
+#[derive(Clone, Copy)]
+struct LinePart<'a> {
+    text: &'a [u8],
+    number: u64,
+}
+
+fn part<'a>(text: &'a [u8], number: u64) -> LinePart<'a>
+    ensures { result ≡ record { text = text.entry; number = number } }
+{
+    LinePart { text, number }
+}
+
+/// Puts these parts of a line, and then its end.
+fn put_parts<N: Sink>(notes: &mut N, parts: &[LinePart], end: &[u8]) -> Result<(), SinkFailed>
+    ensures { TakesPart (is_ok result) (N.tells notes.old) (line_by parts.now end.now)
+        (N.faults notes.old) (N.faults notes.new) (N.taken notes.old) (N.taken notes.new) }
+{
+    let Some((first, later)) = parts.split_first() else {
+        return notes.put(end);
+    };
+    put_number(notes, first.text, first.number)?;
+    put_parts(notes, later, end)
 }
 
 /// Puts a text and a number behind it.

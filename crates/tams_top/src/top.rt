@@ -1,28 +1,30 @@
 //! The top call.
 ghost use Rattle.std.specs.Prelude.{◌≡◌, ◌≢◌, ◌≤◌, ◌<◌, ◌⊎◌, ℕ, List, Bool, true};
-ghost use Rattle.disk_trait.specs.Calls.{IsCounted, Rose};
+ghost use Rattle.disk_trait.specs.Calls.{Rose};
 ghost use Rattle.disk_trait.specs.Device.{Left};
 ghost use Rattle.media_journal.specs.File.{HasOpenHeader};
 ghost use Rattle.store_core.specs.Prepared.{counts_of};
 ghost use Rattle.store_states.specs.States.{StandsFor, StoreState};
 ghost use Rattle.tams_top.specs.Completeness.{AreServedWhole, IsServedWhole, NoneRose};
 ghost use Rattle.tams_top.specs.Formatting.{formatted_state};
+ghost use Rattle.tams_top.specs.Generating.{IsWorkloadRun};
 ghost use Rattle.tams_top.specs.Histories.{IsSettled, OnePeer, Replayed, ServedAll, beginning};
-ghost use Rattle.tams_top.specs.Running.{FormatMoments, FormatRunEnds, IsNoCommand, IsReplayFrom, IsServeFrom, IsWorkFrom, RefusedFor, RunEnds, ServesNobody, TakesPart, Untouched, checked_line, line_of, no_disk_fault, status_of};
+ghost use Rattle.tams_top.specs.Running.{IsNoCommand, IsReplayFrom, IsServeFrom, IsWorkFrom, RefusedFor, RunEnds, ServesNobody, TakesPart, Untouched, checked_line, generated_line, line_of, status_of};
 ghost use Rattle.tams_top.specs.Words.{IsCommand};
 ghost use Rattle.tams_top.specs.Working.{WorkedOff};
 ghost use Rattle.tams_top.specs.declared.outcome.Outcome.{Outcome};
+ghost use Rattle.tams_top.specs.declared.outcome.WorkloadRun.{WorkloadRun};
 ghost use Rattle.tams_top.specs.declared.words.Command.{Command};
-ghost use Rattle.tams_top.specs.declared.words.Command.TheVariants.{Format, Check, Work, Replay, Serve};
+ghost use Rattle.tams_top.specs.declared.words.Command.TheVariants.{Format, Check, Work, Replay, Serve, Workload};
 
 use crate::checking::check;
-use crate::formatting::empty_rows;
+use crate::formatting::format;
+use crate::generating::workload;
 use crate::outcome::Outcome;
 use crate::serving::{replay, serve};
 use crate::words::{Command, read_words};
 use crate::working::work;
 use disk_trait::{Memory, TextList};
-use media_journal::{FormatFault, MOST_BLOCKS, MOST_HALF, format_device};
 use site_edge::{Clock, Sink, Site};
 use std::alloc::Global;
 use store_opening::damaged_images_stand_for_none;
@@ -74,6 +76,12 @@ pub fn run<X: Site, C: Clock, N: Sink>(
     ensures cut { (path base : List ℕ) (port connections : ℕ)
         → IsCommand words.now (Serve path port base connections) → result ≢ 6 }
 
+    // `workload` touches nothing of the outside, and ends with 0 or for want of memory.
+    ensures untouched_workload { (number count : ℕ) → IsCommand words.now (Workload number count)
+        → Untouched (X.device site.old) (X.device site.new) × (C.given clock.new ≡ C.given clock.old) }
+    ensures complete_workload { (number count : ℕ) → IsCommand words.now (Workload number count)
+        → (result ≡ 0) ⊎ (result ≡ 4) }
+
     // Words that are no command, `format` and `check` wait for no peer and read no clock, and `work` waits for
     // no peer; where there is no memory `format` writes nothing, and `check` never does. `serve` ends for want
     // of memory only before it waits for a peer, and `replay` there, or with a request of its one connection.
@@ -114,6 +122,13 @@ pub fn run<X: Site, C: Clock, N: Sink>(
         → StandsFor (X.device site.old).seen from → (line_put : Bool)
         × TakesPart line_put (N.tells notes.old) (checked_line (counts_of from.archive.library))
         (N.faults notes.old) (N.faults notes.new) (N.taken notes.old) (N.taken notes.new) }
+
+    // `workload` puts the line with the numbers of one run of its requests over an empty store in memory.
+    ensures generated { result ≡ 0 → (number count : ℕ)
+        → IsCommand words.now (Workload number count) → (run : WorkloadRun)
+        × IsWorkloadRun number count run × ((line_put : Bool)
+        × TakesPart line_put (N.tells notes.old) (generated_line run) (N.faults notes.old)
+        (N.faults notes.new) (N.taken notes.old) (N.taken notes.new)) }
 
     // At each moment of `format` over a device without a store a crash leaves none, or the new one.
     ensures formatting { (path : List ℕ) (blocks half id : ℕ)
@@ -219,31 +234,6 @@ fn outcome_of<X: Site, C: Clock>(
                 },
             ),
         ) => serve(alloc, site, clock, base, connections),
-    }
-}
-
-/// Makes an empty store of the site's device.
-fn format<X: Site>(alloc: Global, site: &mut X, blocks: u64, half: u64, id: u128) -> Outcome
-    requires some_half { 1 ≤ half }
-    requires half { half ≤ MOST_HALF }
-    requires blocks { blocks ≤ MOST_BLOCKS }
-    ensures disk { IsCounted (no_disk_fault result) (X.device site.old).faults
-        (X.device site.new).faults }
-    ensures nobody { (X.device site.new).link ≡ (X.device site.old).link }
-    ensures ends { FormatRunEnds (X.device site.old) (X.device site.new)
-        record { blocks = blocks; half = half; id = id } result }
-    ensures moments { FormatMoments (X.device site.old) (X.device site.new)
-        record { blocks = blocks; half = half; id = id } result }
-{
-    match format_device(alloc, site, blocks, half, id, &empty_rows()) {
-        Ok(()) => Outcome::Formatted {
-            blocks,
-            half,
-            media: blocks.saturating_sub(2 * half + 2),
-        },
-        Err(FormatFault::AlreadyStore) => Outcome::AlreadyStore,
-        Err(FormatFault::TooSmall) => Outcome::TooSmall,
-        Err(FormatFault::Disk) => Outcome::DiskFault,
-        Err(FormatFault::Memory) => Outcome::NoMemory,
+        Ok(Some(Command::Workload { number, count })) => workload(alloc, number, count),
     }
 }

@@ -1,10 +1,11 @@
 //! The words of the command line, and what the program opens for them.
-ghost use Rattle.std.specs.Prelude.{◌≡◌, ◌∷◌, [], ◌↔◌, ℕ, All, codes, IfOk, IfSome, IsNone, IsTrue};
-ghost use Rattle.tams_top.specs.Words.{IsPlain, IsNumber, IsBaseByte, HasScheme, IsBase, FormIs, IsCommand, WantedFor};
+ghost use Rattle.std.specs.Prelude.{◌∷◌, [], ◌↔◌, ℕ, All, codes, IfOk, IfSome, IsNone, IsTrue};
+ghost use Rattle.tams_top.specs.Words.{IsPlain, IsNumber, IsNumberOrZero, IsBaseByte, HasScheme, IsBase, FormIs, IsCommand, WantedFor};
 ghost use Rattle.tams_top.specs.declared.words.Command.{Command};
 
 use connection_loop::MOST_CONNECTIONS;
 use disk_trait::{Memory, Text, TextList, same_bytes};
+use generated_workload::{MOST_COUNT, MOST_NUMBER};
 use media_journal::{BLOCK, MOST_BLOCKS, MOST_HALF};
 use media_rows::read_id;
 use std::alloc::Global;
@@ -48,12 +49,17 @@ pub enum Command {
         base: Text,
         connections: u64,
     },
+    /// Serves one connection with requests that are generated from two numbers, over a store in memory.
+    Workload {
+        number: u64,
+        count: u64,
+    },
 }
 
 /// What the program opens for its words.
 #[derive(Drop)]
 pub enum Wanted {
-    /// Nothing, as the words are no command.
+    /// Nothing, as the words are no command, or one that needs no file.
     Nothing,
     /// The file at this path.
     Plain(Text),
@@ -73,7 +79,7 @@ pub fn devices(alloc: Global, words: &TextList) -> Result<Wanted, Memory>
         Some(Command::Work { path }) => Ok(Wanted::Plain(path)),
         Some(Command::Replay { path, .. }) => Ok(Wanted::Plain(path)),
         Some(Command::Serve { path, port, .. }) => Ok(Wanted::Listen(path, port)),
-        None => Ok(Wanted::Nothing),
+        Some(Command::Workload { .. }) | None => Ok(Wanted::Nothing),
     }
 }
 
@@ -89,7 +95,7 @@ pub(crate) fn read_words(alloc: Global, words: &TextList) -> Result<Option<Comma
     }
     match items {
         [name, path, third, fourth, fifth] => { read_five(alloc, name, path, third, fourth, fifth) }
-        [name, path, base] => read_replay(alloc, name, path, base),
+        [name, second, third] => read_three(alloc, name, second, third),
         [name, path] => read_two(alloc, name, path),
         _ => Ok(None),
     }
@@ -173,21 +179,47 @@ fn read_serve(
 }
 
 /// The command that three words spell by their forms.
-fn read_replay(
+fn read_three(
     alloc: Global,
     name: &Text,
-    path: &Text,
-    base: &Text,
+    second: &Text,
+    third: &Text,
 ) -> Result<Option<Command>, Memory>
-    ensures { IfOk result (FormIs (name.now ∷ path.now ∷ base.now ∷ [])) }
+    ensures { IfOk result (FormIs (name.now ∷ second.now ∷ third.now ∷ [])) }
 {
-    if !same_bytes(name.bytes(), b"replay") || !is_base(base.bytes()) {
+    if same_bytes(name.bytes(), b"replay") {
+        read_replay(alloc, second, third)
+    } else if same_bytes(name.bytes(), b"workload") {
+        Ok(read_workload(second, third))
+    } else {
+        Ok(None)
+    }
+}
+
+/// The command that the two words behind `replay` spell by their forms.
+fn read_replay(alloc: Global, path: &Text, base: &Text) -> Result<Option<Command>, Memory>
+    ensures { IfOk result (FormIs (codes "replay" ∷ path.now ∷ base.now ∷ [])) }
+{
+    if !is_base(base.bytes()) {
         return Ok(None);
     }
     Ok(Some(Command::Replay {
         path: path.copy(alloc)?,
         base: base.copy(alloc)?,
     }))
+}
+
+/// The command that the two words behind `workload` spell by their forms.
+fn read_workload(number: &Text, count: &Text) -> Option<Command>
+    ensures { FormIs (codes "workload" ∷ number.now ∷ count.now ∷ []) result }
+{
+    let Some(number) = read_number_or_zero(number.bytes(), MOST_NUMBER) else {
+        return None;
+    };
+    let Some(count) = read_number(count.bytes(), MOST_COUNT) else {
+        return None;
+    };
+    Some(Command::Workload { number, count })
 }
 
 /// The command that two words spell by their forms.
@@ -234,6 +266,17 @@ fn read_number(word: &[u8], most: u64) -> Option<u64>
         Ok(number) if number <= most => Some(number),
         _ => None,
     }
+}
+
+/// The number that a word is, if it is one from 0 to the most.
+fn read_number_or_zero(word: &[u8], most: u64) -> Option<u64>
+    ensures found { IfSome result (IsNumberOrZero most word.now) }
+    ensures none { IsNone result → (n : ℕ) → IsNumberOrZero most word.now n → ⊥ }
+{
+    if same_bytes(word, b"0") {
+        return Some(0);
+    }
+    read_number(word, most)
 }
 
 /// Whether a word is an address that paths can be put behind.

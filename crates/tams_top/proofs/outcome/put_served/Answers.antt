@@ -1,22 +1,12 @@
-use Rattle.std.proofs.lemmas.Result.{err_from_is_err_and}
-use Rattle.tams_top.proofs.NoteLemmas.{takes_front, takes_twice}
+use Rattle.tams_top.proofs.NoteLemmas.{changes_end-some}
 use Rattle.tams_top.proofs.outcome.put_served.Goals as goal
 
--- A part of the line failed to be put: those before it were put whole.
-pub returns-in_err-put_number : goal.returns-in_err-put_number
-returns-in_err-put_number g c =
-    let p = err_from_is_err_and c.from_residual.result c.from_residual.ensures.1 in
-    rw p.1 (takes_front _ _ _ _ _ _ _ c.in_err-put_number.ensures.takes)
+-- No turn was skipped.
+pub returns-then-skipped-eq0 : goal.returns-then-skipped-eq0
+returns-then-skipped-eq0 g c = rw c.if-skipped-eq0.true (rw (c.part.ensures, c.part-2.ensures) at c.put_parts.ensures)
 
-pub returns-in_err-put_number-2 : goal.returns-in_err-put_number-2
-returns-in_err-put_number-2 g c =
-    let p = err_from_is_err_and c.from_residual-in_err-put_number-2.result c.from_residual-in_err-put_number-2.ensures.1 in
-    rw p.1
-    (takes_twice _ _ _ _ _ _ _ _ _ _ _ c.put_number.ensures.tells c.in_ok-put_number.ensures.takes
-    (takes_front _ _ _ _ _ _ _ c.in_err-put_number-2.ensures.takes))
-
--- The parts before the last were put whole.
+-- Some were.
 pub returns : goal.returns
 returns g c =
-    takes_twice _ _ _ _ _ _ _ _ _ _ _ c.put_number.ensures.tells c.in_ok-put_number.ensures.takes
-    (takes_twice _ _ _ _ _ _ _ _ _ _ _ c.put_number-2.ensures.tells c.in_ok-put_number-2.ensures.takes c.put_changes_end.ensures)
+    rw (changes_end-some c.args.skipped c.if-skipped-eq0.false)
+    (rw (c.part.ensures, c.part-2.ensures, c.part-3.ensures) at c.put_parts-2.ensures)

@@ -1,7 +1,8 @@
 use Rattle.std.proofs.Common.{sym, ◌∙◌}
 use Rattle.std.specs.Prelude.{is_ok}
 use Rattle.tams_top.proofs.CompletenessLemmas.{all_served_whole, checked_whole, formatted_whole, served_whole, worked_whole}
-use Rattle.tams_top.proofs.EndingLemmas.{run_alone, run_bad, run_checked, run_formats, run_formatted, run_formatting, run_linked, run_linked_only, run_only, run_peers, run_peers_only, run_refused, run_replayed, run_served, run_starved, run_starved_format, run_starved_serve, run_uncut, run_unlinked, run_unread, run_unwritten, run_words, run_worked}
+use Rattle.tams_top.proofs.EndingLemmas.{run_alone, run_apart, run_bad, run_checked, run_formats, run_formatted, run_formatting, run_generated, run_linked, run_linked_only, run_only, run_peers, run_peers_only, run_refused, run_replayed, run_served, run_starved, run_starved_format, run_starved_serve, run_uncut, run_unlinked, run_unread, run_unwritten, run_words, run_worked}
+use Rattle.tams_top.proofs.StatusLemmas.{workload_done, workload_whole}
 use Rattle.tams_top.proofs.top.run.Goals as goal
 
 pub returns-clause-words : goal.returns-clause-words
@@ -118,3 +119,15 @@ returns-clause-worked g c = λ from work. (
 pub returns-clause-complete_work : goal.returns-clause-complete_work
 returns-clause-complete_work g c = λ path is none.
     rw c.status.ensures (worked_whole _ _ _ _ _ _ _ c.outcome_of-outcome.ensures path is none)
+
+pub returns-clause-untouched_workload : goal.returns-clause-untouched_workload
+returns-clause-untouched_workload g c = λ number count is. run_apart _ _ _ _ _ _ _ c.outcome_of-outcome.ensures number count is
+
+pub returns-clause-complete_workload : goal.returns-clause-complete_workload
+returns-clause-complete_workload g c = λ number count is.
+    rw c.status.ensures (workload_whole number count _ (run_generated _ _ _ _ _ _ _ c.outcome_of-outcome.ensures number count is))
+
+pub returns-clause-generated : goal.returns-clause-generated
+returns-clause-generated g c = λ s number count is.
+    let done = workload_done number count _ (run_generated _ _ _ _ _ _ _ c.outcome_of-outcome.ensures number count is) (sym c.status.ensures ∙ s) in
+    (done.0, done.1, (is_ok c.put_line.result, rw done.2 at c.put_line.ensures))

@@ -1,6 +1,6 @@
 use Rattle.std.proofs.Common.{refl, arith}
 use Rattle.tams_top.proofs.FormattingLemmas.{formatting_each, new_stands}
-use Rattle.tams_top.proofs.top.format.Goals as goal
+use Rattle.tams_top.proofs.formatting.format.Goals as goal
 
 -- The store was made, and stands for the empty library.
 pub returns-in-Ok-clause-ends : goal.returns-in-Ok-clause-ends

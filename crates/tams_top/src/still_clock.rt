@@ -1,0 +1,45 @@
+//! A clock that stands.
+ghost use Rattle.std.specs.Prelude.{◌≡◌, ◌∷◌, ◌++◌, [], Some, true};
+ghost use Rattle.site_edge.specs.Clocks.{IsMoment};
+ghost use Rattle.tams_top.specs.Within.Standing.{tells_zeros, zeros_given};
+
+use site_edge::Clock;
+
+/// Gives moment 0 at each call. It counts its calls, and tells none once there were more than a `u64` counts.
+#[derive(Drop)]
+pub(crate) struct StillClock {
+    calls: Option<u64>,
+}
+
+impl StillClock {
+    /// A clock that gave no moment yet.
+    pub(crate) fn new() -> StillClock
+        ensures { result.calls ≡ Some 0 }
+    {
+        StillClock { calls: Some(0) }
+    }
+
+    /// Whether it tells the moments that it gave.
+    pub(crate) fn tells(&self) -> bool
+        ensures { result ≡ tells_zeros self.now }
+    {
+        self.calls.is_some()
+    }
+}
+
+impl Clock for StillClock {
+    ghost tells = { tells_zeros };
+
+    ghost given = { zeros_given };
+
+    fn now(&mut self) -> u64
+        ensures moment { IsMoment result }
+        ensures told_before { tells_zeros self.new ≡ true → tells_zeros self.old ≡ true }
+        ensures given { tells_zeros self.new ≡ true
+            → zeros_given self.new ≡ zeros_given self.old ++ result ∷ [] }
+    {
+        let calls = self.calls.unwrap_or(u64::MAX);
+        self.calls = calls.checked_add(1);
+        0
+    }
+}
