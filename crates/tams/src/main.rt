@@ -1,8 +1,11 @@
 //! The program. It makes the file, the peer, the clock and the sink that its words name, and hands them
-//! to the top call, which does the rest. What fails before that call it reports itself.
+//! to the top call, which does the rest. What fails before that call it reports itself, and where a word asks
+//! for help or the version it shows that and does nothing else.
 #![tactic(auto)]
 
 ghost use Rattle.std.specs.Prelude.{◌≡◌};
+
+mod help;
 
 use disk_trait::{Memory, MemoryDisk, NumberList, Text, TextList};
 use site_edge::{
@@ -11,11 +14,14 @@ use site_edge::{
 use std::alloc::Global;
 use std::env;
 use std::fs::File;
-use std::io::{ErrorKind, Stderr, Stdin, Stdout};
+use std::io::{Eprint, ErrorKind, Print, Stderr, Stdin, Stdout};
 use std::net::{Ipv4Addr, Net, TcpListener, TcpStream};
 use std::process::ExitCode;
 use std::rt::{Clock, Env, Files};
 use tams_top::Wanted;
+
+/// The status where all is done.
+const DONE: u8 = 0;
 
 /// The status where the file can't be opened, made, lengthened, locked or synced.
 const DISK_FAULT: u8 = 3;
@@ -56,10 +62,15 @@ fn status_of<
     R: Files<File = File>
         + Env
         + Clock
+        + Print
+        + Eprint
         + Net<Stream = TcpStream, Listener = TcpListener>
         + AllocGlobal,
 >(rt: &R, streams: Streams) -> Result<u8, Memory> {
     let words = words_of(rt)?;
+    if help::is_shown(rt, rt.alloc(), &words)? {
+        return Ok(DONE);
+    }
     let wanted = tams_top::devices(rt.alloc(), &words)?;
     let mut clock = HostClock::new(rt);
     let mut notes = notes_of(&wanted, &words, streams);
