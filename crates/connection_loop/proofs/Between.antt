@@ -7,9 +7,9 @@ use Rattle.disk_trait.specs.Calls.{Elapses, IsCounted, Rose, Unchanged}
 use Rattle.disk_trait.proofs.Theorems.{counted_twice, same_device_twice}
 use Rattle.site_edge.specs.Links.{AddsConnection, Closed, LinkCall}
 use Rattle.run_history.specs.Machine.{Machine}
-use Rattle.run_history.specs.Sessions.{Session, has_failed, stops}
+use Rattle.run_history.specs.Sessions.{Session, has_link_failed, stops}
 use Rattle.run_history.specs.Runs.{Beginning}
-use Rattle.run_history.specs.Serving.{Counts, is_cut, starves}
+use Rattle.run_history.specs.Serving.{RunCounts, is_cut, starves}
 use Rattle.run_history.proofs.Ends.{run_stops-push}
 use Rattle.run_history.proofs.Going.{served_quiet}
 use Rattle.connection_loop.specs.declared.ending.Ending.{Ending}
@@ -34,7 +34,7 @@ same_connected old new time =
 
 -- It was closed.
 pub ends_closed : {State Request : Type 0} (m : Machine State Request) (b : Beginning State) (old new : Device) (given : List ℕ)
-    (keeps keeps_now : State → Type 0) (finished : List (Session Request)) (n : Counts) (ending : Ending) → EndsAs m b old given keeps finished n ending
+    (keeps keeps_now : State → Type 0) (finished : List (Session Request)) (n : RunCounts) (ending : Ending) → EndsAs m b old given keeps finished n ending
     → Elapses Unchanged Unchanged old new → new.link.connections ≡ old.link.connections → ((s : State) → keeps s → keeps_now s)
     → EndsAs m b new given keeps_now finished n ending
 ends_closed m b old new given keeps keeps_now finished n ending e time same kept = record {
@@ -47,7 +47,7 @@ ends_closed m b old new given keeps keeps_now finished n ending e time same kept
 
 -- None came.
 pub between_quiet : {State Request : Type 0} (m : Machine State Request) (b : Beginning State) (old new : Device) (given : List ℕ)
-    (keeps keeps_now : State → Type 0) (sessions : List (Session Request)) (n : Counts) → IsBetween m b old given keeps sessions n
+    (keeps keeps_now : State → Type 0) (sessions : List (Session Request)) (n : RunCounts) → IsBetween m b old given keeps sessions n
     → Elapses Unchanged Unchanged old new → new.link.connections ≡ old.link.connections → ((s : State) → keeps s → keeps_now s)
     → IsBetween m b new given keeps_now sessions n
 between_quiet m b old new given keeps keeps_now sessions n i time same kept = record {
@@ -94,7 +94,7 @@ unlinked_calls within ended old new call peers same = record {
 
 -- whether the disk failed shows in how a connection ended
 pub stopped-ending : {Request : Type 0} (session : Session Request) → is_stopped (ending_of session) ≡ stops session.steps
-stopped-ending session = by_flags (stops session.steps) (starves session.steps) (has_failed session.link) (is_cut session.steps)
+stopped-ending session = by_flags (stops session.steps) (starves session.steps) (has_link_failed session.link) (is_cut session.steps)
   where
     by_flags : (a b c d : Bool) → is_stopped (if a then Stopped else if b then Starved else if c then Unlinked else if d then Cut else Complete) ≡ a
     by_flags true b c d = refl
@@ -142,7 +142,7 @@ counted_later a b c (s ∷ sessions) so_far least more =
 
 -- a connection more
 pub between_more : {State Request : Type 0} (m : Machine State Request) (b : Beginning State) (first now d : Device) (given : List ℕ)
-    (keeps : State → Type 0) (sessions : List (Session Request)) (n : Counts) (ending : Ending) (counter : ℕ)
+    (keeps : State → Type 0) (sessions : List (Session Request)) (n : RunCounts) (ending : Ending) (counter : ℕ)
     → EndsAs m b d given keeps sessions n ending → is_stopped ending ≡ false → length sessions ≡ counter
     → AreCounted first.link.faults now.link.faults sessions
     → first.link.faults ≤ now.link.faults → LinkCount (Some ending) now.link.faults d.link.faults
@@ -162,7 +162,7 @@ between_more m b first now d given keeps sessions n ending counter e on count co
 
 -- the disk failed in it
 pub ended_stopped : {State Request : Type 0} (m : Machine State Request) (b : Beginning State) (first now d : Device) (given : List ℕ)
-    (keeps : State → Type 0) (sessions : List (Session Request)) (n : Counts) (ending : Ending) (counter connections : ℕ)
+    (keeps : State → Type 0) (sessions : List (Session Request)) (n : RunCounts) (ending : Ending) (counter connections : ℕ)
     → EndsAs m b d given keeps sessions n ending → is_stopped ending ≡ true → length sessions ≡ counter → counter < connections
     → AreCounted first.link.faults now.link.faults sessions → first.link.faults ≤ now.link.faults → LinkCount (Some ending) now.link.faults d.link.faults
     → HasEnded m b first d given n connections run.Stopped
@@ -247,7 +247,7 @@ no_run_calls d = record {
 
 -- before the first connection
 pub served_first : {State Request Setting : Type 0} (m : Machine State Request) (setting : Setting) (d : Device) (tells : Bool) (given : List ℕ)
-    (keeps : State → Type 0) (n : Counts) (size : ℕ) → n.answers ≡ 0 → HasServedSo m setting setting d d tells tells given given keeps keeps n n size size 0
+    (keeps : State → Type 0) (n : RunCounts) (size : ℕ) → n.answers ≡ 0 → HasServedSo m setting setting d d tells tells given given keeps keeps n n size size 0
 served_first m setting d tells given keeps n size none = record {
   calls = no_run_calls d;
   setting_is = refl;
@@ -261,7 +261,7 @@ served_first m setting d tells given keeps n size none = record {
 -- a connection more
 pub served_more : {State Request Setting : Type 0} (machine : Setting → Machine State Request) (setting_first setting setting_next : Setting)
     (first now last : Device) (tells_first tells_now tells_next : Bool)
-    (given_first given more : List ℕ) (keeps_first keeps keeps_next : State → Type 0) (n_first n n_next : Counts)
+    (given_first given more : List ℕ) (keeps_first keeps keeps_next : State → Type 0) (n_first n n_next : RunCounts)
     (size_first size size_next counter : ℕ) (ending : Ending)
     → HasServedSo (machine setting_first) setting_first setting first now tells_first tells_now given_first given keeps_first keeps n_first n size_first size
     counter

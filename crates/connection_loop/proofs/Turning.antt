@@ -11,7 +11,7 @@ use Rattle.run_history.specs.Machine.{Machine}
 use Rattle.run_history.specs.Steps.{Step}
 use Rattle.run_history.specs.Sessions.{Session}
 use Rattle.run_history.specs.Runs.{Beginning}
-use Rattle.run_history.specs.Serving.{Counts, Going}
+use Rattle.run_history.specs.Serving.{RunCounts, Going}
 use Rattle.connection_loop.specs.declared.ending.Ending.{Ending}
 use Rattle.connection_loop.specs.declared.ending.Ending.TheVariants.{Complete, Cut, Unlinked, Starved, Stopped}
 use Rattle.connection_loop.specs.Turns.{GivesMore, GoesOn, LinkCount, SiteCalls, TellsAll, disk_held, held_with}
@@ -78,7 +78,7 @@ gives_twice a b c first second = record {
 
 -- before the first turn
 pub turned_first : {State Request Setting : Type 0} (m : Machine State Request) (setting : Setting) (ready : Type 0) (d : Device) (tells : Bool)
-    (given unread : List ℕ) (taken : ℕ) (keeps : State → Type 0) (n : Counts) (size turns : ℕ) → ready → taken ≡ 0 → turns ≡ 0
+    (given unread : List ℕ) (taken : ℕ) (keeps : State → Type 0) (n : RunCounts) (size turns : ℕ) → ready → taken ≡ 0 → turns ≡ 0
     → HasTurned m setting setting ready d d tells tells given given unread unread taken taken keeps keeps n n size size turns 0
 turned_first m setting ready d tells given unread taken keeps n size turns is_ready none zero = record {
   calls = no_calls d;
@@ -98,7 +98,7 @@ turned_first m setting ready d tells given unread taken keeps n size turns is_re
 pub turned_more : {State Request Setting : Type 0} (machine : Setting → Machine State Request) (setting_first setting setting_next : Setting)
     (ready ready_next : Type 0) (first now next : Device) (tells_first tells_now tells_next : Bool)
     (given_first given more unread_first unread unread_next : List ℕ) (taken_first taken taken_next : ℕ) (keeps_first keeps keeps_next : State → Type 0)
-    (n_first n n_next : Counts) (size_first size size_next turns turns_next counter : ℕ)
+    (n_first n n_next : RunCounts) (size_first size size_next turns turns_next counter : ℕ)
     → HasTurned (machine setting_first) setting_first setting ready first now tells_first tells_now given_first given unread_first unread taken_first taken
     keeps_first keeps n_first n size_first size turns counter
     → SiteCalls None now next → setting_next ≡ setting → ready_next → size_next ≤ size → (tells_next ≡ true → tells_now ≡ true)

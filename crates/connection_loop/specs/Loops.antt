@@ -6,7 +6,7 @@ use Rattle.disk_trait.specs.Calls.{IsCounted, Rose, SameDevice}
 use Rattle.run_history.specs.Machine.{Machine}
 use Rattle.run_history.specs.Sessions.{Session}
 use Rattle.run_history.specs.Runs.{Beginning}
-use Rattle.run_history.specs.Serving.{Counts, Going, HasServed, run_stops}
+use Rattle.run_history.specs.Serving.{RunCounts, Going, HasServed, run_stops}
 use Rattle.connection_loop.specs.declared.connection.Next.{Next}
 use Rattle.connection_loop.specs.declared.connection.Next.TheVariants.{NoMore, Unlinked, Ended}
 use Rattle.connection_loop.specs.declared.run.RunEnd.{RunEnd}
@@ -20,7 +20,7 @@ use Rattle.connection_loop.specs.Turns.{EndsAs, GivesMore, GoesOn, IsBetween, Li
 pub record HasTurned {State Request Setting : Type 0} (m : Machine State Request)
     (setting_first setting : Setting) (ready : Type 0) (first now : Device)
     (tells_first tells_now : Bool) (given_first given unread_first unread : List ℕ)
-    (taken_first taken : ℕ) (keeps_first keeps : State → Type 0) (n_first n : Counts)
+    (taken_first taken : ℕ) (keeps_first keeps : State → Type 0) (n_first n : RunCounts)
     (size_first size turns counter : ℕ) : Type 0
   where
     pub calls : SiteCalls None first now
@@ -67,7 +67,7 @@ pub record NextCalls (next : Next) (old new : Device) : Type 0 where
 -- What waiting for the next connection and serving it leads to: no more will come; waiting for one
 -- failed; or one has ended.
 abbrev pub NextLeads : {State Request : Type 0} → Machine State Request → Beginning State → Device
-    → List ℕ → (State → Type 0) → List (Session Request) → Counts → Next → Type 0
+    → List ℕ → (State → Type 0) → List (Session Request) → RunCounts → Next → Type 0
 NextLeads m b d given keeps sessions n NoMore =
     IsBetween m b d given keeps sessions n × (d.link.closed ≡ true)
 NextLeads m b d given keeps sessions n Unlinked = IsBetween m b d given keeps sessions n
@@ -117,7 +117,8 @@ AreCounted before now =
 
 -- Connections were served one after another since the first device, and the run has ended so.
 pub record HasEnded {State Request : Type 0} (m : Machine State Request) (b : Beginning State)
-    (first d : Device) (given : List ℕ) (n : Counts) (connections : ℕ) (end : RunEnd) : Type 0 where
+    (first d : Device) (given : List ℕ) (n : RunCounts) (connections : ℕ)
+    (end : RunEnd) : Type 0 where
   pub sessions : List (Session Request)
   pub served : HasServed m b d given sessions n
   pub ends : RunEnds d sessions connections end
@@ -125,7 +126,7 @@ pub record HasEnded {State Request : Type 0} (m : Machine State Request) (b : Be
 
 -- Connections so far, none of which stopped the run.
 pub record GoesOnBetween {State Request : Type 0} (m : Machine State Request) (b : Beginning State)
-    (first d : Device) (given : List ℕ) (keeps : State → Type 0) (n : Counts)
+    (first d : Device) (given : List ℕ) (keeps : State → Type 0) (n : RunCounts)
     (counter : ℕ) : Type 0 where
   pub sessions : List (Session Request)
   pub between : IsBetween m b d given keeps sessions n
@@ -136,7 +137,8 @@ pub record GoesOnBetween {State Request : Type 0} (m : Machine State Request) (b
 pub record HasServedSo {State Request Setting : Type 0} (m : Machine State Request)
     (setting_first setting : Setting) (first now : Device)
     (tells_first tells_now : Bool) (given_first given : List ℕ)
-    (keeps_first keeps : State → Type 0) (n_first n : Counts) (size_first size counter : ℕ) : Type 0
+    (keeps_first keeps : State → Type 0) (n_first n : RunCounts)
+    (size_first size counter : ℕ) : Type 0
   where
     pub calls : RunCalls Complete first now
     pub setting_is : setting ≡ setting_first

@@ -5,10 +5,10 @@ use Rattle.disk_trait.specs.Calls.{IsCounted, Rose, SameDevice}
 use Rattle.site_edge.specs.Clocks.{IsMoment}
 use Rattle.run_history.specs.Machine.{Machine}
 use Rattle.run_history.specs.Steps.{Step}
-use Rattle.run_history.specs.Sessions.{Session, after_sessions, has_failed, stops}
+use Rattle.run_history.specs.Sessions.{Session, after_sessions, has_link_failed, stops}
 use Rattle.run_history.specs.Traces.{start_of}
 use Rattle.run_history.specs.Runs.{Beginning}
-use Rattle.run_history.specs.Serving.{Counts, Going, HasServed, Held, is_cut, run_stops, starves}
+use Rattle.run_history.specs.Serving.{RunCounts, Going, HasServed, Held, is_cut, run_stops, starves}
 use Rattle.connection_loop.specs.declared.ending.Ending.{Ending}
 use Rattle.connection_loop.specs.declared.ending.Ending.TheVariants.{Complete, Cut, Unlinked, Starved, Stopped}
 
@@ -36,7 +36,7 @@ abbrev pub ending_of : {Request : Type 0} → Session Request → Ending
 ending_of session =
     if stops session.steps then Stopped
     else if starves session.steps then Starved
-    else if has_failed session.link then Unlinked
+    else if has_link_failed session.link then Unlinked
     else if is_cut session.steps then Cut
     else Complete
 
@@ -56,7 +56,7 @@ held_with s unread taken = record { state = s; unread = unread; taken = taken }
 -- failed.
 pub record EndsAs {State Request : Type 0} (m : Machine State Request) (b : Beginning State)
     (d : Device) (given : List ℕ) (keeps : State → Type 0)
-    (finished : List (Session Request)) (n : Counts) (ending : Ending) : Type 0 where
+    (finished : List (Session Request)) (n : RunCounts) (ending : Ending) : Type 0 where
   pub session : Session Request
   pub served : HasServed m b d given (finished ++ session ∷ []) n
   pub unstopped : run_stops finished ≡ false
@@ -67,7 +67,7 @@ pub record EndsAs {State Request : Type 0} (m : Machine State Request) (b : Begi
 -- A connection goes on, in a state that is kept.
 pub record GoesOn {State Request : Type 0} (m : Machine State Request) (b : Beginning State)
     (d : Device) (given unread : List ℕ) (taken : ℕ) (keeps : State → Type 0)
-    (finished : List (Session Request)) (n : Counts) : Type 0 where
+    (finished : List (Session Request)) (n : RunCounts) : Type 0 where
   pub steps : List (Step Request)
   pub state : State
   pub kept : keeps state
@@ -75,7 +75,7 @@ pub record GoesOn {State Request : Type 0} (m : Machine State Request) (b : Begi
 
 -- what a turn leads to: the connection goes on, or it has ended
 abbrev pub TurnLeads : {State Request : Type 0} → Machine State Request → Beginning State → Device
-    → List ℕ → List ℕ → ℕ → (State → Type 0) → List (Session Request) → Counts → Option Ending
+    → List ℕ → List ℕ → ℕ → (State → Type 0) → List (Session Request) → RunCounts → Option Ending
     → Type 0
 TurnLeads m b d given unread taken keeps finished n None =
     GoesOn m b d given unread taken keeps finished n
@@ -113,7 +113,7 @@ pub record SiteCalls (ending : Option Ending) (old new : Device) : Type 0 where
 -- they led is kept.
 pub record IsBetween {State Request : Type 0} (m : Machine State Request) (b : Beginning State)
     (d : Device) (given : List ℕ) (keeps : State → Type 0)
-    (sessions : List (Session Request)) (n : Counts) : Type 0 where
+    (sessions : List (Session Request)) (n : RunCounts) : Type 0 where
   pub served : HasServed m b d given sessions n
   pub unstopped : run_stops sessions ≡ false
   pub kept : keeps (after_sessions m (start_of b.state) sessions).state

@@ -1,6 +1,6 @@
 //! The numbers of a run: its answers, its changes and the turns that it skipped.
 ghost use Rattle.std.specs.Prelude.{◌≡◌, ◌≤◌, ◌<◌, ◌+◌, ◌^◌, if◌then◌else◌};
-ghost use Rattle.run_history.specs.Serving.{Counts};
+ghost use Rattle.run_history.specs.Serving.{RunCounts};
 
 use std::marker::Model;
 
@@ -14,10 +14,10 @@ pub struct Tally {
 
 impl Model for Tally {
     ghost use Rattle.std.specs.Prelude.{◌≤◌, ◌*◌};
-    ghost use Rattle.run_history.specs.Serving.{Counts};
+    ghost use Rattle.run_history.specs.Serving.{RunCounts};
     ghost use Rattle.connection_loop.specs.Tallies.{IsTally};
 
-    ghost Value = { Counts };
+    ghost Value = { RunCounts };
 
     ghost view = { λ t. record { answers = t.answers; changes = t.changes; skipped = t.skipped } };
 
@@ -25,7 +25,7 @@ impl Model for Tally {
 }
 
 impl Tally {
-    ghost use Rattle.connection_loop.specs.Tallies.{counted, nothing_counted};
+    ghost use Rattle.connection_loop.specs.Tallies.{plus_answer, nothing_counted};
 
     /// The numbers of a run that hasn't begun.
     pub fn new() -> Tally
@@ -42,7 +42,7 @@ impl Tally {
     pub fn count(&mut self, changes: u64, skipped: bool)
         requires room { self.old.answers < 2 ^ 60 }
         requires few { changes ≤ 2 }
-        ensures { self.new ≡ counted changes skipped self.old }
+        ensures { self.new ≡ plus_answer changes skipped self.old }
     {
         self.answers += 1;
         self.changes += changes;

@@ -53,7 +53,8 @@ due_kept catalog segments requests good row e =
     let passes = list_all-In (is_request_good catalog.flows segments) requests good row here.0 in
     ap (λ t. when t NoFlow)
     (found_kept row.flow catalog.flows
-    (kept_is (is_unfinished row) (is_kept catalog.flows row.flow) (not row.delete_flow || (is_eternity row.range && is_after_segments segments row)) here.1 passes))
+    (kept_is (is_unfinished row) (is_kept catalog.flows row.flow)
+    (not row.delete_flow || (is_eternity row.range && is_after_segments segments row)) here.1 passes))
 
 pub ready : (library : Library) → Good library → IsReady library
 ready library good =

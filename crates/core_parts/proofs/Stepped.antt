@@ -24,14 +24,16 @@ use Rattle.core_parts.proofs.Changed.{both_within, touched_unless}
 abbrev with_book : List DeleteRow → Library → Library
 with_book book library = record library { requests = book }
 
-going : (library : Library) (flow : ℕ) (rows : List SegmentRow) (moment : ℕ) (happened : List Happened) (book : List DeleteRow) (hull : Option Span) (none : Bool)
+going : (library : Library) (flow : ℕ) (rows : List SegmentRow) (moment : ℕ) (happened : List Happened) (book : List DeleteRow) (hull : Option Span)
+    (none : Bool)
     → library_of_parts library.id (without_rows rows moment (media_of library))
     (with_events_of happened moment (touched_by flow (if none then None else Some hull) moment (with_requests book (registry_of library))))
     ≡ with_happened happened moment (remove_segments rows moment (touched_unless none flow moment (with_book book library)))
 going library flow rows moment happened book hull true = refl
 going library flow rows moment happened book hull false = refl
 
-ending : GoingFlowsForget → (library : Library) (flow : ℕ) (rows : List SegmentRow) (moment : ℕ) (happened : List Happened) (book : List DeleteRow) (none : Bool)
+ending : GoingFlowsForget → (library : Library) (flow : ℕ) (rows : List SegmentRow) (moment : ℕ) (happened : List Happened) (book : List DeleteRow)
+    (none : Bool)
     → library_of_parts library.id (without_rows rows moment (media_of library))
     (with_events_of happened moment (without_flow flow moment (with_requests book (registry_of library))))
     ≡ with_happened happened moment (remove_flow flow moment (remove_segments rows moment (touched_unless none flow moment (with_book book library))))
@@ -43,7 +45,8 @@ ending forget library flow rows moment happened book false =
 
 -- the first segments of a request go, and its flow with them where that is said
 either : GoingIsTold → GoingFlowsForget → (library : Library) (flow : ℕ) (rows : List SegmentRow) (moment : ℕ) (book : List DeleteRow) (gone : Bool)
-    → library_of_parts library.id (without_rows rows moment (media_of library)) (lost_by gone flow (hull_if_any rows) moment (with_requests book (registry_of library)))
+    → library_of_parts library.id (without_rows rows moment (media_of library)) (lost_by gone flow (hull_if_any rows) moment
+    (with_requests book (registry_of library)))
     ≡ with_happened (if gone then drop_events library.catalog flow rows else removed_events library.catalog flow rows) moment
     (if gone
     then remove_flow flow moment (remove_segments rows moment (touch_flow flow rows moment (with_book book library)))
@@ -54,7 +57,8 @@ either told forget library flow rows moment book true =
     ∙ ending forget library flow rows moment (drop_events library.catalog flow rows) book (length rows == 0)
 either told forget library flow rows moment book false =
     ap (λ happened. library_of_parts library.id (without_rows rows moment (media_of library))
-    (with_events_of happened moment (touched_by flow (hull_if_any rows) moment (with_requests book (registry_of library))))) (sym (told.segments library.catalog flow rows))
+    (with_events_of happened moment (touched_by flow (hull_if_any rows) moment (with_requests book (registry_of library)))))
+    (sym (told.segments library.catalog flow rows))
     ∙ going library flow rows moment (removed_events library.catalog flow rows) book (hull_of_segments rows) (length rows == 0)
 
 -- a step of the request that is due

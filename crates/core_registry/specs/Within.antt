@@ -17,8 +17,8 @@ reached_at registry outbox (Some serial) =
     Some (record registry { outbox = outbox; next_serial = serial })
 
 -- the registry to which posting has come
-abbrev pub reached : Registry → Posted → Option Registry
-reached registry posted = reached_at registry posted.outbox posted.next
+abbrev pub registry_reached : Registry → Posted → Option Registry
+registry_reached registry posted = reached_at registry posted.outbox posted.next
 
 -- segments of a flow went, if a hull of them is told
 abbrev pub hull_if_told : FlowRow → Option (Option Span) → List Happened

@@ -4,7 +4,7 @@ ghost use Rattle.media_rows.specs.Answer.{change_refusal, deleting_refusal};
 ghost use Rattle.webhook_outbox.specs.Delivered.{IsBehind};
 ghost use Rattle.core_registry.specs.Going.{with_requests};
 ghost use Rattle.core_registry.specs.Registry.{bare_library, empty_registry, with_events_of, within};
-ghost use Rattle.core_registry.specs.Within.{reached};
+ghost use Rattle.core_registry.specs.Within.{registry_reached};
 
 use delete_work::DeleteBook;
 use disk_trait::Memory;
@@ -201,7 +201,7 @@ impl Registry {
 
     /// The registry to which posting has come.
     fn reach(&self, alloc: Global, posted: Posted) -> Result<Option<Registry>, Memory>
-        ensures { IfOk result (λ next. next ≡ reached self.now posted) }
+        ensures { IfOk result (λ next. next ≡ registry_reached self.now posted) }
     {
         let Posted { outbox, next } = posted;
         match next {

@@ -27,7 +27,7 @@ use Rattle.core_rows.specs.Kinds.{Kinds, kinds_of, library_of_kinds}
 use Rattle.media_book.specs.Media.{Media, are_media_good, are_objects_good, are_rows_good, media_if, media_of}
 use Rattle.library_laws.proofs.RestoreLemmas.{stays}
 use Rattle.core_restore.specs.Restored.{are_rows_of_good, have_numbers}
-use Rattle.core_restore.specs.Within.{AreInOrder, are_parts_good, are_tied, are_values_good, is_rest_good, library_with, registry_rows}
+use Rattle.core_restore.specs.Within.{AreInOrder, are_parts_good, are_tied, are_values_good, is_rest_good, library_from_kinds, registry_rows}
 
 -- ---- answers
 
@@ -71,7 +71,7 @@ media_rise media e =
 
 -- rows in their order are put in order as they stand
 pub registry_same : (id blocks next : ℕ) (kinds : Kinds) → AreInOrder kinds
-    → registry_of_rows (registry_rows (library_with id blocks next kinds)) next ≡ registry_of (library_with id blocks next kinds)
+    → registry_of_rows (registry_rows (library_from_kinds id blocks next kinds)) next ≡ registry_of (library_from_kinds id blocks next kinds)
 registry_same id blocks next kinds order =
     rw (
       stays (λ (row : SourceRow). row.id) kinds.sources order.sources,
@@ -119,30 +119,30 @@ no_numbers id blocks all kinds is none =
 
 -- what is restored of the rest is restored of all, where values and media are good
 pub from_rest : (id blocks next : ℕ) (kinds : Kinds) (media : Media) (result : Result Library ApplyFault)
-    → is_good (library_with id blocks next kinds) ≡ are_parts_good (library_with id blocks next kinds)
-    → are_values_good (library_with id blocks next kinds) ≡ true → are_media_good (media_of (library_with id blocks next kinds)) ≡ true
-    → media ≡ media_of (library_with id blocks next kinds)
-    → Restores (is_rest_good (library_with id media.blocks next kinds)) (library_with id media.blocks next kinds) result
-    → Restores (is_good (library_with id blocks next kinds)) (library_with id blocks next kinds) result
+    → is_good (library_from_kinds id blocks next kinds) ≡ are_parts_good (library_from_kinds id blocks next kinds)
+    → are_values_good (library_from_kinds id blocks next kinds) ≡ true → are_media_good (media_of (library_from_kinds id blocks next kinds)) ≡ true
+    → media ≡ media_of (library_from_kinds id blocks next kinds)
+    → Restores (is_rest_good (library_from_kinds id media.blocks next kinds)) (library_from_kinds id media.blocks next kinds) result
+    → Restores (is_good (library_from_kinds id blocks next kinds)) (library_from_kinds id blocks next kinds) result
 from_rest id blocks next kinds media result law values good is h =
-    let library = library_with id blocks next kinds in
+    let library = library_from_kinds id blocks next kinds in
     let tested : is_rest_good library ≡ is_good library =
     sym (law ∙ both_first (are_values_good library) (are_media_good (media_of library) && is_rest_good library) values
     ∙ both_first (are_media_good (media_of library)) (is_rest_good library) good) in
     subst (λ b. Restores b library result) tested
-    (subst (λ n. Restores (is_rest_good (library_with id n next kinds)) (library_with id n next kinds) result) (ap (λ (m : Media). m.blocks) is) h)
+    (subst (λ n. Restores (is_rest_good (library_from_kinds id n next kinds)) (library_from_kinds id n next kinds) result) (ap (λ (m : Media). m.blocks) is) h)
 
 -- rows as they are taken apart, and what was made of them: a registry, and what is looked at to tie it to media
 pub record Made (id next : ℕ) (seen kinds : Kinds) (media : Media) (registry : Registry) : Type 0 where
   pub same : seen ≡ kinds
   pub order : AreInOrder kinds
-  pub stored : media ≡ media_of (library_with 0 media.blocks 0 kinds)
-  pub listed : registry ≡ registry_of_rows (registry_rows (library_with id media.blocks next seen)) next
+  pub stored : media ≡ media_of (library_from_kinds 0 media.blocks 0 kinds)
+  pub listed : registry ≡ registry_of_rows (registry_rows (library_from_kinds id media.blocks next seen)) next
 
 registry_is : (id next : ℕ) (seen kinds : Kinds) (media : Media) (registry : Registry) → Made id next seen kinds media registry
-    → registry ≡ registry_of (library_with id media.blocks next kinds)
+    → registry ≡ registry_of (library_from_kinds id media.blocks next kinds)
 registry_is id next seen kinds media registry made =
-    made.listed ∙ ap (λ k. registry_of_rows (registry_rows (library_with id media.blocks next k)) next) made.same
+    made.listed ∙ ap (λ k. registry_of_rows (registry_rows (library_from_kinds id media.blocks next k)) next) made.same
     ∙ registry_same id media.blocks next kinds made.order
 
 -- flows, segments and requests that are looked at
@@ -166,21 +166,21 @@ tied_same id next seen kinds media registry catalog segments requests tied made 
 -- what isn't tied is no part of a good library
 pub rest_fails : (id next : ℕ) (seen kinds : Kinds) (media : Media) (registry : Registry) (catalog : Catalog) (segments : List SegmentRow)
     (requests : List DeleteRow) (tied : Bool) → Made id next seen kinds media registry → Looked seen registry catalog segments requests tied → tied ≡ false
-    → is_rest_good (library_with id media.blocks next kinds) ≡ false
+    → is_rest_good (library_from_kinds id media.blocks next kinds) ≡ false
 rest_fails id next seen kinds media registry catalog segments requests tied made look e =
-    none_second (can_restore (registry_rows (library_with id media.blocks next kinds))) (are_tied kinds.flows kinds.segments kinds.requests)
+    none_second (can_restore (registry_rows (library_from_kinds id media.blocks next kinds))) (are_tied kinds.flows kinds.segments kinds.requests)
     (sym (tied_same id next seen kinds media registry catalog segments requests tied made look) ∙ e)
 
 -- what is tied is, and media and the registry are the library
 pub rest_stands : (id next : ℕ) (seen kinds : Kinds) (media : Media) (registry : Registry) (catalog : Catalog) (segments : List SegmentRow)
     (requests : List DeleteRow) (tied : Bool) (whole : Library) → Made id next seen kinds media registry
     → Looked seen registry catalog segments requests tied → tied ≡ true
-    → can_restore (registry_rows (library_with id media.blocks next seen)) ≡ true → whole ≡ library_of_parts id media registry
-    → IsTrue (is_rest_good (library_with id media.blocks next kinds)) × (whole ≡ library_with id media.blocks next kinds)
+    → can_restore (registry_rows (library_from_kinds id media.blocks next seen)) ≡ true → whole ≡ library_of_parts id media registry
+    → IsTrue (is_rest_good (library_from_kinds id media.blocks next kinds)) × (whole ≡ library_from_kinds id media.blocks next kinds)
 rest_stands id next seen kinds media registry catalog segments requests tied whole made look e can is =
-    let library = library_with id media.blocks next kinds in (
+    let library = library_from_kinds id media.blocks next kinds in (
       and_from (can_restore (registry_rows library)) (are_tied kinds.flows kinds.segments kinds.requests)
-          (subst (λ k. can_restore (registry_rows (library_with id media.blocks next k)) ≡ true) made.same can)
+          (subst (λ k. can_restore (registry_rows (library_from_kinds id media.blocks next k)) ≡ true) made.same can)
           (sym (tied_same id next seen kinds media registry catalog segments requests tied made look) ∙ e),
       is ∙ ap (library_of_parts id media) (registry_is id next seen kinds media registry made)
           ∙ ap (λ s. record library { segments = s; objects = media.objects }) (ap (λ (m : Media). m.segments) made.stored)
@@ -189,12 +189,12 @@ rest_stands id next seen kinds media registry catalog segments requests tied who
 
 -- books that can't be restored are those of no good library
 pub rest_refused : (id next : ℕ) (seen kinds : Kinds) (media : Media) (fault : ApplyFault) → seen ≡ kinds
-    → Restores (can_restore (registry_rows (library_with id media.blocks next seen)))
-    (registry_of_rows (registry_rows (library_with id media.blocks next seen)) next) (Err fault)
-    → Restores (is_rest_good (library_with id media.blocks next kinds)) (library_with id media.blocks next kinds) (Err fault)
+    → Restores (can_restore (registry_rows (library_from_kinds id media.blocks next seen)))
+    (registry_of_rows (registry_rows (library_from_kinds id media.blocks next seen)) next) (Err fault)
+    → Restores (is_rest_good (library_from_kinds id media.blocks next kinds)) (library_from_kinds id media.blocks next kinds) (Err fault)
 rest_refused id next seen kinds media fault same h =
-    let library = library_with id media.blocks next kinds in
+    let library = library_from_kinds id media.blocks next kinds in
     handed_on fault (can_restore (registry_rows library)) (is_rest_good library) (registry_of_rows (registry_rows library) next) library
     (λ never. none_first (can_restore (registry_rows library)) (are_tied kinds.flows kinds.segments kinds.requests) never)
-    (subst (λ k. Restores (can_restore (registry_rows (library_with id media.blocks next k)))
-    (registry_of_rows (registry_rows (library_with id media.blocks next k)) next) (Err fault)) same h)
+    (subst (λ k. Restores (can_restore (registry_rows (library_from_kinds id media.blocks next k)))
+    (registry_of_rows (registry_rows (library_from_kinds id media.blocks next k)) next) (Err fault)) same h)

@@ -23,7 +23,7 @@ use Rattle.library_laws.proofs.OutboxKept.{Names-from, Names-test}
 use Rattle.library_laws.proofs.RestoreLemmas.{books_are_restored}
 use Rattle.core_rows.specs.Kinds.{Kinds}
 use Rattle.core_restore.proofs.Numbered.{one_test}
-use Rattle.core_restore.specs.Within.{AreInOrder, library_with, are_parts_good, are_tied, are_values_good, is_rest_good, registry_rows}
+use Rattle.core_restore.specs.Within.{AreInOrder, library_from_kinds, are_parts_good, are_tied, are_values_good, is_rest_good, registry_rows}
 
 -- ---- a good library is so in its parts
 
@@ -59,10 +59,10 @@ segments_of_both flows segments ends kept =
     (list_all-In (λ (row : SegmentRow). has_both_ends row.segment.range) segments ends row here)
     (list_all-In (λ (row : SegmentRow). is_kept flows row.flow) segments kept row here))
 
-good_of_parts : (id blocks next : ℕ) (kinds : Kinds) → AreInOrder kinds → are_parts_good (library_with id blocks next kinds) ≡ true
-    → Good (library_with id blocks next kinds)
+good_of_parts : (id blocks next : ℕ) (kinds : Kinds) → AreInOrder kinds → are_parts_good (library_from_kinds id blocks next kinds) ≡ true
+    → Good (library_from_kinds id blocks next kinds)
 good_of_parts id blocks next kinds order e =
-    let library = library_with id blocks next kinds in
+    let library = library_from_kinds id blocks next kinds in
     let flows = library.catalog.flows in
     let segments = library.segments in
     let objects = library.objects in
@@ -115,8 +115,8 @@ good_of_parts id blocks next kinds order e =
 
 -- a library is good just where its parts are
 pub good_is_parts : MediaAreGood → (id blocks next : ℕ) (kinds : Kinds) → AreInOrder kinds
-    → is_good (library_with id blocks next kinds) ≡ are_parts_good (library_with id blocks next kinds)
+    → is_good (library_from_kinds id blocks next kinds) ≡ are_parts_good (library_from_kinds id blocks next kinds)
 good_is_parts media id blocks next kinds order =
-    let library = library_with id blocks next kinds in
+    let library = library_from_kinds id blocks next kinds in
     one_test (is_good library) (are_parts_good library) (λ e. parts_of_good media library ((good_is_tested library).0 e))
     (λ e. (good_is_tested library).1 (good_of_parts id blocks next kinds order e))

@@ -29,8 +29,8 @@ pub record AreInOrder (kinds : Kinds) : Type 0 where
 
 -- the library of an id and of so many media blocks that has just these rows, in their order, and
 -- this next serial
-abbrev pub library_with : ℕ → ℕ → ℕ → Kinds → Library
-library_with id blocks next_serial kinds = record {
+abbrev pub library_from_kinds : ℕ → ℕ → ℕ → Kinds → Library
+library_from_kinds id blocks next_serial kinds = record {
   id = id;
   blocks = blocks;
   catalog = record { sources = kinds.sources; flows = kinds.flows };

@@ -6,7 +6,7 @@ ghost use Rattle.media_rows.specs.Snapshot.{library_of};
 ghost use Rattle.media_book.specs.Media.{are_media_good, media_of};
 ghost use Rattle.core_rows.specs.Kinds.{library_of_kinds};
 ghost use Rattle.core_restore.specs.Restored.{are_rows_of_good};
-ghost use Rattle.core_restore.specs.Within.{AreInOrder, is_rest_good, library_with};
+ghost use Rattle.core_restore.specs.Within.{AreInOrder, is_rest_good, library_from_kinds};
 
 use crate::order::{by_serial, do_rise};
 use crate::ties::are_tied;
@@ -65,8 +65,8 @@ fn parts_of_lists(
     next_serial: u64,
 ) -> Result<Parts, ApplyFault>
     requires order { AreInOrder kinds }
-    ensures { Restores (is_good (library_with id blocks next_serial kinds))
-        (library_with id blocks next_serial kinds) result }
+    ensures { Restores (is_good (library_from_kinds id blocks next_serial kinds))
+        (library_from_kinds id blocks next_serial kinds) result }
 {
     media_are_good();
     if !are_values_good(alloc, &kinds, next_serial)? {
@@ -88,8 +88,8 @@ fn with_rest(
 ) -> Result<Parts, ApplyFault>
     requires order { AreInOrder kinds }
     requires rising { IsTrue (rises_by (λ row. row.serial) kinds.segments) }
-    requires media { media ≡ media_of (library_with 0 media.blocks 0 kinds) }
-    ensures { let library = library_with id media.blocks next_serial kinds in
+    requires media { media ≡ media_of (library_from_kinds 0 media.blocks 0 kinds) }
+    ensures { let library = library_from_kinds id media.blocks next_serial kinds in
         Restores (is_rest_good library) library result }
 {
     let rows = RegistryRows {
@@ -113,7 +113,7 @@ fn with_rest(
 
 /// The media of rows.
 fn media_of(alloc: Global, blocks: u64, kinds: &Kinds) -> Result<MediaBook, ApplyFault>
-    ensures { let media = media_of (library_with 0 blocks 0 kinds.now) in
+    ensures { let media = media_of (library_from_kinds 0 blocks 0 kinds.now) in
         Restores (are_media_good media) media result }
 {
     match MediaBook::from_rows(alloc, blocks, kinds.segments.items(), kinds.objects.items())? {

@@ -2,7 +2,7 @@
 ghost use Rattle.std.specs.Prelude.{◌≡◌, ◌++◌, ℕ, IfOk, OnOk, map};
 ghost use Rattle.media_rows.specs.Good.{are_serials_good};
 ghost use Rattle.media_rows.specs.Library.{serials_of};
-ghost use Rattle.core_restore.specs.Within.{library_with, rise_within};
+ghost use Rattle.core_restore.specs.Within.{library_from_kinds, rise_within};
 
 use core_rows::Kinds;
 use disk_trait::Memory;
@@ -19,7 +19,7 @@ pub(crate) fn are_serials_good(
     next_serial: u64,
 ) -> Result<bool, Memory>
     ensures { IfOk result (λ good. good
-        ≡ are_serials_good next_serial (serials_of (library_with 0 0 next_serial kinds.now))) }
+        ≡ are_serials_good next_serial (serials_of (library_from_kinds 0 0 next_serial kinds.now))) }
 {
     let mut serials = all_serials(alloc, kinds)?;
     serials.sort()?;
@@ -43,7 +43,7 @@ fn rise_within(next_serial: u64, serials: &[u64]) -> bool
 /// The serials of all rows, kind by kind.
 fn all_serials(alloc: Global, kinds: &Kinds) -> Result<Vec<u64>, Memory>
     ensures { IfOk result
-        (λ serials. serials.items ≡ serials_of (library_with 0 0 0 kinds.now)) }
+        (λ serials. serials.items ≡ serials_of (library_from_kinds 0 0 0 kinds.now)) }
 {
     let mut serials = Vec::new(alloc);
     append_serials(kinds.objects.items(), &mut serials)?;

@@ -1,7 +1,7 @@
 //! What rows hold by themselves.
 ghost use Rattle.std.specs.Prelude.{◌≡◌, IfOk};
 ghost use Rattle.media_rows.specs.Good.{are_texts_good};
-ghost use Rattle.core_restore.specs.Within.{are_values_good, library_with};
+ghost use Rattle.core_restore.specs.Within.{are_values_good, library_from_kinds};
 
 use crate::serials::are_serials_good;
 use core_rows::Kinds;
@@ -19,7 +19,7 @@ pub(crate) fn are_values_good(
     next_serial: u64,
 ) -> Result<bool, Memory>
     ensures { IfOk result
-        (λ good. good ≡ are_values_good (library_with 0 0 next_serial kinds.now)) }
+        (λ good. good ≡ are_values_good (library_from_kinds 0 0 next_serial kinds.now)) }
 {
     if !are_serials_good(alloc, kinds, next_serial)? {
         return Ok(false);
@@ -29,7 +29,7 @@ pub(crate) fn are_values_good(
 
 /// Whether texts and moments are good. Memory is asked for the essences of flows alone.
 fn are_texts_good(alloc: Global, kinds: &Kinds) -> Result<bool, Memory>
-    ensures { IfOk result (λ good. good ≡ are_texts_good (library_with 0 0 0 kinds.now)) }
+    ensures { IfOk result (λ good. good ≡ are_texts_good (library_from_kinds 0 0 0 kinds.now)) }
 {
     let flows = are_flows_good(alloc, kinds.flows.items())?;
     Ok(

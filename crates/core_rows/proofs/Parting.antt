@@ -48,7 +48,8 @@ one_behind [] row = joined_none (kind_of row)
 one_behind (first ∷ rows) row = ap (joined (kind_of first)) (one_behind rows row) ∙ sym (joined_assoc (kind_of first) (kinds_of rows) (kind_of row))
 
 -- a row before others makes of the library what its kind makes
-row_first : (id blocks : ℕ) (row : Row) (kinds : Kinds) → with_row row (library_of_kinds id blocks kinds) ≡ library_of_kinds id blocks (joined (kind_of row) kinds)
+row_first : (id blocks : ℕ) (row : Row) (kinds : Kinds) → with_row row (library_of_kinds id blocks kinds) ≡ library_of_kinds id blocks
+    (joined (kind_of row) kinds)
 row_first id blocks (rows.Source row) kinds = refl
 row_first id blocks (rows.Flow row) kinds = refl
 row_first id blocks (rows.Object row) kinds = refl

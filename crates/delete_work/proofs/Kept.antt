@@ -17,7 +17,7 @@ use Rattle.id_index.specs.Index.{Links, Unlinks, has_pairs, ids_at, naming}
 use Rattle.id_index.proofs.Ids.{below_key, same_key}
 use Rattle.id_index.proofs.Named.{index_none, index_with, index_without}
 use Rattle.id_index.proofs.Pairs.{filter_swap}
-use Rattle.delete_work.specs.Within.Keeping.{AreRequests, IsEnding, entered_if, flow_ending, is_done_pair, is_ending, is_unfinished_pair, request_before, request_key, request_serial, without_first_done}
+use Rattle.delete_work.specs.Within.Keeping.{AreRequests, IsEnding, entered_if, flow_ending, is_done_pair, is_ending, is_unfinished_pair, request_before, request_key, serial_of_row, without_first_done}
 use Rattle.delete_work.proofs.Lists.{all_two, number_turn, some_same}
 
 abbrev pub Rows : Type 0
@@ -127,12 +127,12 @@ named_is flow row = by (is_unfinished row) row.delete_flow (row.flow == flow) (n
     by true false b e = refl
     by false d b e = refl
 
-pub deleting_is : (flow : ℕ) (rows : Rows) → has_pairs (naming request_serial flow_ending flow rows) ≡ is_deleting (values rows) flow
+pub deleting_is : (flow : ℕ) (rows : Rows) → has_pairs (naming serial_of_row flow_ending flow rows) ≡ is_deleting (values rows) flow
 deleting_is flow [] = refl
 deleting_is flow (p ∷ rows) = by (has_number flow (flow_ending p.1)) (named_is flow p.1) (deleting_is flow rows)
   where
-    by : (t : Bool) → t ≡ (is_unfinished p.1 && p.1.delete_flow && (p.1.flow == flow)) → has_pairs (naming request_serial flow_ending flow rows)
-        ≡ is_deleting (values rows) flow → has_pairs (map (λ q. (q.0, request_serial q.1)) (cond t
+    by : (t : Bool) → t ≡ (is_unfinished p.1 && p.1.delete_flow && (p.1.flow == flow)) → has_pairs (naming serial_of_row flow_ending flow rows)
+        ≡ is_deleting (values rows) flow → has_pairs (map (λ q. (q.0, serial_of_row q.1)) (cond t
         (p ∷ filter (λ q. has_number flow (flow_ending q.1)) rows) (filter (λ q. has_number flow (flow_ending q.1)) rows)))
         ≡ is_deleting (p.1 ∷ values rows) flow
     by true e ih = rw (sym e) refl
@@ -149,29 +149,29 @@ no_flow_named row e = rw e refl
 pub ending_none : (row : DeleteRow) (rows : Rows) (index next : List (ℤ × List (ℤ × ℕ))) → IsRising rows → value_at (request_key row) rows ≡ None
     → IsEnding rows index → next ≡ index → IsEnding (without_key (request_key row) rows) next
 ending_none row rows index next rising none indexed is =
-    subst (IsEnding (without_key (request_key row) rows)) (sym is) (index_none request_serial flow_ending row.serial rows index rising none indexed)
+    subst (IsEnding (without_key (request_key row) rows)) (sym is) (index_none serial_of_row flow_ending row.serial rows index rising none indexed)
 
 pub ending_gone : (row old : DeleteRow) (rows : Rows) (index next : List (ℤ × List (ℤ × ℕ))) → IsRising rows → value_at (request_key row) rows ≡ Some old
     → IsEnding rows index → is_ending old ≡ true → Unlinks (old.flow ∷ []) row.serial index next → IsEnding (without_key (request_key row) rows) next
 ending_gone row old rows index next rising found indexed e gone =
-    index_without request_serial flow_ending row.serial old rows index next rising found indexed
+    index_without serial_of_row flow_ending row.serial old rows index next rising found indexed
     (subst (λ l. Unlinks l row.serial index next) (sym (flow_named old e)) gone)
 
 pub ending_stays : (row old : DeleteRow) (rows : Rows) (index next : List (ℤ × List (ℤ × ℕ))) → IsRising rows → value_at (request_key row) rows ≡ Some old
     → IsEnding rows index → is_ending old ≡ false → next ≡ index → IsEnding (without_key (request_key row) rows) next
 ending_stays row old rows index next rising found indexed e is =
-    index_without request_serial flow_ending row.serial old rows index next rising found indexed
+    index_without serial_of_row flow_ending row.serial old rows index next rising found indexed
     (subst (λ l. Unlinks l row.serial index next) (sym (no_flow_named old e)) (λ a. ap (ids_at a) is))
 
 pub ending_linked : (row : DeleteRow) (rows : Rows) (left next : List (ℤ × List (ℤ × ℕ))) → IsEnding (without_key (request_key row) rows) left
     → is_ending row ≡ true → Links (row.flow ∷ []) row.serial left next → IsEnding (with_pair (request_key row, row) rows) next
 ending_linked row rows left next indexed e come =
-    index_with request_serial flow_ending row.serial row rows left next refl indexed (subst (λ l. Links l row.serial left next) (sym (flow_named row e)) come)
+    index_with serial_of_row flow_ending row.serial row rows left next refl indexed (subst (λ l. Links l row.serial left next) (sym (flow_named row e)) come)
 
 pub ending_same : (row : DeleteRow) (rows : Rows) (left : List (ℤ × List (ℤ × ℕ))) → IsEnding (without_key (request_key row) rows) left
     → is_ending row ≡ false → IsEnding (with_pair (request_key row, row) rows) left
 ending_same row rows left indexed e =
-    index_with request_serial flow_ending row.serial row rows left left refl indexed
+    index_with serial_of_row flow_ending row.serial row rows left left refl indexed
     (subst (λ l. Links l row.serial left left) (sym (no_flow_named row e)) (λ a. refl))
 
 -- ---- the first request

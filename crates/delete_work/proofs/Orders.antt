@@ -12,7 +12,7 @@ use Rattle.shared_tree.proofs.Counted.{all_append}
 use Rattle.shared_tree.proofs.Rising.{all_map, filter_all, filter_none}
 use Rattle.id_index.proofs.Ids.{below_key}
 use Rattle.delete_work.specs.Work.{are_requests_below}
-use Rattle.delete_work.specs.Within.Keeping.{done_row, ended_by, has_request, request_before, request_key, request_serial}
+use Rattle.delete_work.specs.Within.Keeping.{done_row, ended_by, has_request, request_before, request_key, serial_of_row}
 use Rattle.delete_work.proofs.Kept.{Rows}
 use Rattle.delete_work.proofs.Lists.{append_one, both, each_is, found_has, number_same, parts, some_same}
 use Rattle.std.proofs.lemmas.Int.{ints}
@@ -71,10 +71,10 @@ through a b c e f = by (nat_lt a c) refl
 
 -- ---- keys and serials
 
-pub rises : (rows : List DeleteRow) → rises_by request_serial rows ≡ true → Rises rows
+pub rises : (rows : List DeleteRow) → rises_by serial_of_row rows ≡ true → Rises rows
 rises [] e = tt
 rises (row ∷ rows) e =
-    let p = parts (list_all (request_before row) rows) (rises_by request_serial rows) e in
+    let p = parts (list_all (request_before row) rows) (rises_by serial_of_row rows) e in
     (each_is (request_before row) rows p.0, rises rows p.1)
 
 serials_less : (p : ℤ × DeleteRow) (ps : Rows) → p.0 ≡ request_key p.1 → IsKeyedBy request_key ps → AllByRecursion (λ q. p.0 <ℤ q.0) ps
@@ -88,10 +88,10 @@ serials_less p (q ∷ ps) own keyed lt =
     less : (a b : ℤ) → a <ℤ b → int_lt a b ≡ true
     less a b l = grind (arith, ints)
 
-pub serials_rise : (ps : Rows) → IsRising ps → IsKeyedBy request_key ps → rises_by request_serial (values ps) ≡ true
+pub serials_rise : (ps : Rows) → IsRising ps → IsKeyedBy request_key ps → rises_by serial_of_row (values ps) ≡ true
 serials_rise [] rising keyed = refl
 serials_rise (p ∷ ps) rising keyed =
-    both (list_all (request_before p.1) (values ps)) (rises_by request_serial (values ps)) (serials_less p ps keyed.0 keyed.1 rising.0)
+    both (list_all (request_before p.1) (values ps)) (rises_by serial_of_row (values ps)) (serials_less p ps keyed.0 keyed.1 rising.0)
     (serials_rise ps rising.1 keyed.1)
 
 -- ---- a request at its place

@@ -10,7 +10,7 @@ use Rattle.media_rows.specs.Lists.{are_distinct, inserted}
 use Rattle.media_rows.specs.Refusals.{Restores}
 use Rattle.media_rows.specs.Requests.{done_count, done_kept, is_done}
 use Rattle.media_rows.specs.Restoring.{can_restore_requests, requests_of}
-use Rattle.delete_work.specs.Within.Keeping.{HoldsJust, has_request, request_before, request_serial}
+use Rattle.delete_work.specs.Within.Keeping.{HoldsJust, has_request, request_before, serial_of_row}
 use Rattle.delete_work.proofs.Lists.{number_turn}
 
 or_swap : (a b c : Bool) → (a || (b || c)) ≡ (b || (a || c))
@@ -31,17 +31,17 @@ any_ordered : (test : DeleteRow → Bool) (xs : List DeleteRow) → list_any tes
 any_ordered test [] = refl
 any_ordered test (x ∷ xs) = any_inserted test x (requests_of xs) ∙ ap (λ b. test x || b) (any_ordered test xs)
 
-all_serials : (serial : ℕ) (rows : List DeleteRow) → not (has_request serial rows) ≡ list_all (λ other. not (serial == other)) (map request_serial rows)
+all_serials : (serial : ℕ) (rows : List DeleteRow) → not (has_request serial rows) ≡ list_all (λ other. not (serial == other)) (map serial_of_row rows)
 all_serials serial [] = refl
 all_serials serial (r ∷ rows) = rw (number_turn serial r.serial) (by (r.serial == serial) (all_serials serial rows))
   where
-    by : (t : Bool) → not (has_request serial rows) ≡ list_all (λ other. not (serial == other)) (map request_serial rows)
-        → not (t || has_request serial rows) ≡ (not t && list_all (λ other. not (serial == other)) (map request_serial rows))
+    by : (t : Bool) → not (has_request serial rows) ≡ list_all (λ other. not (serial == other)) (map serial_of_row rows)
+        → not (t || has_request serial rows) ≡ (not t && list_all (λ other. not (serial == other)) (map serial_of_row rows))
     by true ih = refl
     by false ih = ih
 
 new_serial : (serial : ℕ) (rows : List DeleteRow)
-    → not (has_request serial (requests_of rows)) ≡ list_all (λ other. not (serial == other)) (map request_serial rows)
+    → not (has_request serial (requests_of rows)) ≡ list_all (λ other. not (serial == other)) (map serial_of_row rows)
 new_serial serial rows = ap not (any_ordered (λ r. r.serial == serial) rows) ∙ all_serials serial rows
 
 and_true : (a b : Bool) → a ≡ true → b ≡ true → (a && b) ≡ true
@@ -60,22 +60,22 @@ pub gathered_more : (row : DeleteRow) (rows more : List DeleteRow) (kept next : 
     → next ≡ inserted request_before row kept → more ≡ row ∷ rows → HoldsJust more next
 gathered_more row rows more kept next was new is shape =
     rw shape (record {
-      distinct = and_true (list_all (λ other. not (row.serial == other)) (map request_serial rows)) (are_distinct (map request_serial rows))
+      distinct = and_true (list_all (λ other. not (row.serial == other)) (map serial_of_row rows)) (are_distinct (map serial_of_row rows))
           (sym (new_serial row.serial rows) ∙ ap (λ k. not (has_request row.serial k)) (sym was.is) ∙ new) was.distinct;
       is = is ∙ ap (inserted request_before row) was.is;
     })
 
-names_tail : (n : ℕ) (rows : List DeleteRow) → are_distinct (map request_serial (drop n rows)) ≡ false → are_distinct (map request_serial rows) ≡ false
+names_tail : (n : ℕ) (rows : List DeleteRow) → are_distinct (map serial_of_row (drop n rows)) ≡ false → are_distinct (map serial_of_row rows) ≡ false
 names_tail zero rows e = e
 names_tail (suc n) [] e = e
 names_tail (suc n) (r ∷ rows) e =
-    second_fails (list_all (λ other. not (r.serial == other)) (map request_serial rows)) (are_distinct (map request_serial rows)) (names_tail n rows e)
+    second_fails (list_all (λ other. not (r.serial == other)) (map serial_of_row rows)) (are_distinct (map serial_of_row rows)) (names_tail n rows e)
 
 pub not_gathered : (n : ℕ) (row : DeleteRow) (rows all : List DeleteRow) (kept : List DeleteRow) → HoldsJust rows kept
-    → not (has_request row.serial kept) ≡ false → drop n all ≡ row ∷ rows → are_distinct (map request_serial all) ≡ false
+    → not (has_request row.serial kept) ≡ false → drop n all ≡ row ∷ rows → are_distinct (map serial_of_row all) ≡ false
 not_gathered n row rows all kept was new shape =
-    names_tail n all (ap (λ l. are_distinct (map request_serial l)) shape
-    ∙ first_fails (list_all (λ other. not (row.serial == other)) (map request_serial rows)) (are_distinct (map request_serial rows))
+    names_tail n all (ap (λ l. are_distinct (map serial_of_row l)) shape
+    ∙ first_fails (list_all (λ other. not (row.serial == other)) (map serial_of_row rows)) (are_distinct (map serial_of_row rows))
     (sym (new_serial row.serial rows) ∙ ap (λ k. not (has_request row.serial k)) (sym was.is) ∙ new))
 
 pub handed_on : {T S : Type 0} (fault : ApplyFault) (good all : Bool) (part : T) (whole : S) → (good ≡ false → all ≡ false) → Restores good part (Err fault)
@@ -133,18 +133,18 @@ past n lt = by (nat_le n 64) refl
     by true e = absurd (grind (arith, nat_tests))
     by false e = e
 
-pub restored_twice : (rows : List DeleteRow) → are_distinct (map request_serial rows) ≡ false → can_restore_requests rows ≡ false
-restored_twice rows e = first_fails (are_distinct (map request_serial rows)) (nat_le (done_count rows) done_kept) e
+pub restored_twice : (rows : List DeleteRow) → are_distinct (map serial_of_row rows) ≡ false → can_restore_requests rows ≡ false
+restored_twice rows e = first_fails (are_distinct (map serial_of_row rows)) (nat_le (done_count rows) done_kept) e
 
 pub both_restore : (rows book : List DeleteRow) (result : Result (List DeleteRow) ApplyFault)
-    → (are_distinct (map request_serial rows) ≡ true) × (book ≡ requests_of rows) → Restores (nat_le (done_count book) done_kept) book result
+    → (are_distinct (map serial_of_row rows) ≡ true) × (book ≡ requests_of rows) → Restores (nat_le (done_count book) done_kept) book result
     → Restores (can_restore_requests rows) (requests_of rows) result
 both_restore rows book (Ok next) was h = (
-  and_true (are_distinct (map request_serial rows)) (nat_le (done_count rows) done_kept) was.0
+  and_true (are_distinct (map serial_of_row rows)) (nat_le (done_count rows) done_kept) was.0
       (subst (λ n. nat_le n done_kept ≡ true) (ap done_count was.1 ∙ count_ordered rows) h.0),
   h.1 ∙ was.1,
 )
 both_restore rows book (Err faults.Refused) was h =
-    second_fails (are_distinct (map request_serial rows)) (nat_le (done_count rows) done_kept)
+    second_fails (are_distinct (map serial_of_row rows)) (nat_le (done_count rows) done_kept)
     (subst (λ n. nat_le n done_kept ≡ false) (ap done_count was.1 ∙ count_ordered rows) h)
 both_restore rows book (Err faults.Memory) was h = h

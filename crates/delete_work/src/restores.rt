@@ -3,7 +3,7 @@ ghost use Rattle.std.specs.Prelude.{◌≡◌, map, not};
 ghost use Rattle.media_rows.specs.Lists.{are_distinct, inserted};
 ghost use Rattle.media_rows.specs.Refusals.{Restores};
 ghost use Rattle.media_rows.specs.Restoring.{requests_of};
-ghost use Rattle.delete_work.specs.Within.Keeping.{has_request, request_before, request_serial};
+ghost use Rattle.delete_work.specs.Within.Keeping.{has_request, request_before, serial_of_row};
 
 use crate::DeleteBook;
 use media_rows::{ApplyFault, DeleteRow};
@@ -11,7 +11,7 @@ use std::alloc::Global;
 
 /// The book of these requests, however many are done. The last one is put first.
 pub(crate) fn gathered(alloc: Global, requests: &[DeleteRow]) -> Result<DeleteBook, ApplyFault>
-    ensures { Restores (are_distinct (map request_serial requests.now))
+    ensures { Restores (are_distinct (map serial_of_row requests.now))
         (requests_of requests.now) result }
 {
     let mut book = DeleteBook::empty();

@@ -6,7 +6,7 @@ use Rattle.std.proofs.lemmas.Bool.Decides.{nat_tests}
 use Rattle.std.proofs.lemmas.List.Sums.{sum_by_push}
 use Rattle.std.specs.Prelude.{Result, Ok, Err, is_ok, OnOk, IsFalse, Contains}
 use Rattle.disk_trait.specs.Device.{Left}
-use Rattle.disk_trait.specs.Calls.{Request, ReadAt, WriteAt, SyncAll, LeavesOnly, SameDevice, Torn, Follows, Elapses, DiskCall, IsCounted, Rose, overwritten}
+use Rattle.disk_trait.specs.Calls.{DiskRequest, ReadAt, WriteAt, SyncAll, LeavesOnly, SameDevice, Torn, Follows, Elapses, DiskCall, IsCounted, Rose, overwritten}
 use Rattle.disk_trait.specs.History.{IsQuiet, Past, call_of, kept_bytes, seen_of, with_call, has_passed, has_failed}
 use Rattle.disk_trait.specs.MemoryDisk.{DiskState, LeavesAt, LeavesSince, left_after, left_after_call, memory_device, MakesCall, FailsAsListed, DiskCalled, next_number, counted_on, after_make, step_of}
 use Rattle.disk_trait.specs.MemoryDiskLaws.{torn-put_over, length-kept_bytes, length-seen_after_call, itself_after, leaves_at_last, leaves_at_more}
@@ -151,12 +151,12 @@ fails_as_listed call false disk listed =
     record { never_falls = counted_on_never_falls disk.starved; listed = λ _. refl; starved = λ _. refl; only = λ _. inr (counted_on_rises disk.starved) }
 
 -- a call passed by what its entry says
-passed_of : (asked : Request) (passed : Bool) → has_passed (call_of asked passed) ≡ passed
+passed_of : (asked : DiskRequest) (passed : Bool) → has_passed (call_of asked passed) ≡ passed
 passed_of (ReadAt at n) passed = refl
 passed_of (WriteAt at bytes) passed = refl
 passed_of SyncAll passed = refl
 
-called : (asked : Request) (passed noted : Bool) (disk : DiskState) → (IsFalse (has_passed (call_of asked passed)) ↔ Contains disk.fail (next_number disk))
+called : (asked : DiskRequest) (passed noted : Bool) (disk : DiskState) → (IsFalse (has_passed (call_of asked passed)) ↔ Contains disk.fail (next_number disk))
     → DiskCalled asked disk (after_make noted (call_of asked passed) disk) (noted && has_passed (call_of asked passed))
 called asked passed true disk listed = record {
   fails = fails_as_listed (call_of asked passed) true disk listed;
@@ -169,7 +169,7 @@ called asked passed false disk listed = record {
   past = inl (record { past = refl; rose = counted_on_rises disk.starved });
 }
 
-pub disk_called : (asked : Request) (passed : Bool) (old new : DiskState) (ok : Bool) → MakesCall (call_of asked passed) old new ok
+pub disk_called : (asked : DiskRequest) (passed : Bool) (old new : DiskState) (ok : Bool) → MakesCall (call_of asked passed) old new ok
     → DiskCalled asked old new ok
 disk_called asked passed old new ok made = rw (made.after, made.answer) (called asked passed made.noted old made.listed)
 

@@ -6,10 +6,10 @@ use Rattle.disk_trait.specs.Device.{Device, Left, may_leave}
 
 -- What a call of a disk asks for: to read so many bytes at an offset, to write these bytes at one,
 -- or to sync.
-pub data Request : Type 0 where
-  ReadAt : (at n : ℕ) → Request
-  WriteAt : (at : ℕ) (bytes : List ℕ) → Request
-  SyncAll : Request
+pub data DiskRequest : Type 0 where
+  ReadAt : (at n : ℕ) → DiskRequest
+  WriteAt : (at : ℕ) (bytes : List ℕ) → DiskRequest
+  SyncAll : DiskRequest
 
 -- the n bytes at this offset
 abbrev pub bytes_at : List ℕ → ℕ → ℕ → List ℕ

@@ -1,7 +1,7 @@
 -- What a device in memory has been through. Its calls are kept in order; all else follows from
 -- them.
 use Rattle.std.specs.Prelude.{◌+◌, zero, suc, ◌≤◌, Option, None, option_map, unwrap_or, slice_get, All, ◌≡◌, ◌/◌, ◌∷◌, ◌++◌, [], ℕ, Bool, true, false, not, List, length, take}
-use Rattle.disk_trait.specs.Calls.{Request, ReadAt, WriteAt, SyncAll, overwritten}
+use Rattle.disk_trait.specs.Calls.{DiskRequest, ReadAt, WriteAt, SyncAll, overwritten}
 use Rattle.disk_trait.specs.declared.history.Call.{Call}
 use Rattle.disk_trait.specs.declared.history.Call.TheVariants.{Read, Write, Sync}
 
@@ -39,7 +39,7 @@ abbrev pub with_call : Call → Past → Past
 with_call call past = record past { calls = past.calls ++ call ∷ [] }
 
 -- the entry of a call that asked for this, and passed or failed
-abbrev pub call_of : Request → Bool → Call
+abbrev pub call_of : DiskRequest → Bool → Call
 call_of (ReadAt at n) passed = Read at n passed
 call_of (WriteAt at bytes) passed = Write at bytes passed
 call_of SyncAll passed = Sync passed

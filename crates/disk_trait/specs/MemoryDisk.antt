@@ -1,7 +1,7 @@
 -- What a disk in memory means. It is honest, and tells all that a disk can tell.
 use Rattle.std.specs.Prelude.{◌≡◌, ◌<◌, ◌≤◌, ◌+◌, ◌^◌, ◌↔◌, ◌⊎◌, ◌&&◌, if◌then◌else◌, nat_lt, ℕ, Bool, true, false, List, [], ◌∷◌, length, take, sum_by, count_by, Contains, IsFalse}
 use Rattle.disk_trait.specs.Device.{Device, Left}
-use Rattle.disk_trait.specs.Calls.{Request, Torn, TornWrite, Unchanged, Rose}
+use Rattle.disk_trait.specs.Calls.{DiskRequest, Torn, TornWrite, Unchanged, Rose}
 use Rattle.disk_trait.specs.Fakes.{no_link}
 use Rattle.disk_trait.specs.History.{Past, call_of, seen_after_call, seen_of, with_call, has_passed, has_failed, handed_by}
 use Rattle.disk_trait.specs.declared.history.Call.{Call}
@@ -99,7 +99,7 @@ pub record IsStarved (old new : DiskState) : Type 0 where
 -- what it asked for and whether it passed. What a read gives then, and what a crash may leave,
 -- follows from the calls: a write that failed keeps its first half, and a read or sync that failed
 -- leaves all as it was.
-pub record DiskCalled (asked : Request) (old new : DiskState) (ok : Bool) : Type 0 where
+pub record DiskCalled (asked : DiskRequest) (old new : DiskState) (ok : Bool) : Type 0 where
   pub fails : FailsAsListed (next_number old) old.fail old.starved new.starved ok
   pub fail : new.fail ≡ old.fail
   pub past : IsStarved old new ⊎ (new.past ≡ with_call (call_of asked ok) old.past)

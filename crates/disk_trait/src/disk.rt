@@ -1,7 +1,7 @@
 //! A file of fixed size as the store sees it.
 ghost use Rattle.std.specs.Prelude.{◌≡◌, ◌≤◌, ◌+◌, ℕ, Bool, true, length, is_ok, OnOk};
 ghost use Rattle.disk_trait.specs.Device.{Device, IsDevice};
-ghost use Rattle.disk_trait.specs.Calls.{Request, ReadAt, WriteAt, SyncAll, bytes_at, overwritten, Torn, TornWrite, Unchanged, DiskCall, LeavesOnly};
+ghost use Rattle.disk_trait.specs.Calls.{DiskRequest, ReadAt, WriteAt, SyncAll, bytes_at, overwritten, Torn, TornWrite, Unchanged, DiskCall, LeavesOnly};
 
 use crate::Failed;
 

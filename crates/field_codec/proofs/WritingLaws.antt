@@ -26,7 +26,8 @@ unfolding range_spelling
 never_wrote old new range never e = rw never (record { written = e; fits = (tt, tt) })
 
 spans_wrote : (old flag middle new : List ℕ) (span : Span) → IsRange (Some span) → flag ≡ old ++ 1 ∷ []
-    → WritesValue end_spelling flag (low_end span.low) middle → WritesValue end_spelling middle (high_end span.high) new → WritesValue range_spelling old (Some span) new
+    → WritesValue end_spelling flag (low_end span.low) middle → WritesValue end_spelling middle (high_end span.high) new → WritesValue range_spelling old
+    (Some span) new
 unfolding range_spelling
 spans_wrote old flag middle new span is e low high = record {
   written = high.written ∙ ap (λ (t : List ℕ). end_spelling.onto t (high_end span.high))

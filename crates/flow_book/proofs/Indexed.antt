@@ -26,7 +26,7 @@ use Rattle.id_index.proofs.Ids.{same_key}
 use Rattle.id_index.proofs.Named.{index_changed, index_kept, index_none, index_with, index_without, named_there, put_there}
 use Rattle.id_index.proofs.Pairs.{standing, value_at_with}
 use Rattle.flow_book.specs.Within.Answers.{catalog_with}
-use Rattle.flow_book.specs.Within.Order.{AreUsed, IsByCollected, IsBySource, IsKept, SourceLinked, all_cleared, collection_of, flow_id, flows_named, source_named, source_put}
+use Rattle.flow_book.specs.Within.Order.{AreUsed, IsByCollected, IsBySource, IsKeptInOrder, SourceLinked, all_cleared, collection_of, flow_id, flows_named, source_named, source_put}
 use Rattle.flow_book.proofs.CatalogOrder.{set_source_stays, set_stays}
 use Rattle.flow_book.proofs.Changes.{found_id, left_values}
 use Rattle.flow_book.proofs.DropSteps.{clear_keyed, clear_values, entries_stay, has_flow_is, sources_stay}
@@ -77,12 +77,12 @@ module _ (body : FlowBody) (moment : ℕ) (sources : List (ℤ × SourceRow)) (f
       (new, all_kept _ (is_above (id_key body.source)) sources used)
   put_used (Some kept) used new = used
 
-  pub put_kept : (next_sources : List (ℤ × SourceRow)) (next_flows : List (ℤ × FlowRow)) → IsRising flows → IsKept sources flows by_source collectors
+  pub put_kept : (next_sources : List (ℤ × SourceRow)) (next_flows : List (ℤ × FlowRow)) → IsRising flows → IsKeptInOrder sources flows by_source collectors
       → put_refusal (catalog_with (values sources) (values flows)) body ≡ None → IsKeyedBy source_key next_sources → IsKeyedBy flow_key next_flows
       → next_sources ≡ source_put (source_of body.source (values sources)) (new_source body moment) sources
       → next_flows ≡ with_pair (key, put_row (flow_of body.id (values flows)) body moment) flows → SourceLinked (flow_of body.id (values flows)) body by_source
       next_by_source → ((row : FlowRow) → row.body.id ≡ body.id → row.body.members ≡ body.members → IsByCollected (with_pair (key, row) flows) next_collectors)
-      → IsKept next_sources next_flows next_by_source next_collectors
+      → IsKeptInOrder next_sources next_flows next_by_source next_collectors
   put_kept next_sources next_flows rising kept allowed sources_keyed flows_keyed es ef linked collected =
       let found = flow_of body.id (values flows) in
       let row = put_row found body moment in
@@ -150,9 +150,10 @@ set_by_source part moment id flows next by_source rising indexed is =
     (λ row. ap (λ s. s ∷ []) (source_stays part row.body)) (λ row. set_stays part row.body) indexed)
 
 pub touch_kept : (moment id : ℕ) (sources next_sources : List (ℤ × SourceRow)) (flows next : List (ℤ × FlowRow))
-    (by_source collectors next_by next_col : List (ℤ × List (ℤ × ℕ))) → IsRising flows → IsKept sources flows by_source collectors → next_sources ≡ sources
+    (by_source collectors next_by next_col : List (ℤ × List (ℤ × ℕ))) → IsRising flows → IsKeptInOrder sources flows by_source collectors → next_sources
+    ≡ sources
     → next_by ≡ by_source → next_col ≡ collectors → IsKeyedBy flow_key next → next ≡ changed_row (id_key id) (touched moment) (value_at (id_key id) flows) flows
-    → IsKept next_sources next next_by next_col
+    → IsKeptInOrder next_sources next next_by next_col
 touch_kept moment id sources next_sources flows next by_source collectors next_by next_col rising kept es eb ec keyed is =
     rw (es, eb, ec) (record {
       sources_keyed = kept.sources_keyed;
@@ -165,9 +166,11 @@ touch_kept moment id sources next_sources flows next by_source collectors next_b
     })
 
 pub set_kept : (part : Part) (moment id : ℕ) (sources next_sources : List (ℤ × SourceRow)) (flows next : List (ℤ × FlowRow))
-    (by_source collectors next_by next_col : List (ℤ × List (ℤ × ℕ))) → IsRising flows → IsKept sources flows by_source collectors → next_sources ≡ sources
+    (by_source collectors next_by next_col : List (ℤ × List (ℤ × ℕ))) → IsRising flows → IsKeptInOrder sources flows by_source collectors → next_sources
+    ≡ sources
     → next_by ≡ by_source → IsKeyedBy flow_key next → next ≡ changed_row (id_key id) (set_row part moment) (value_at (id_key id) flows) flows
-    → IsByCollected (changed_row (id_key id) (set_row part moment) (value_at (id_key id) flows) flows) next_col → IsKept next_sources next next_by next_col
+    → IsByCollected (changed_row (id_key id) (set_row part moment) (value_at (id_key id) flows) flows) next_col
+    → IsKeptInOrder next_sources next next_by next_col
 set_kept part moment id sources next_sources flows next by_source collectors next_by next_col rising kept es eb keyed is collected =
     rw (es, eb) (record {
       sources_keyed = kept.sources_keyed;
@@ -191,9 +194,9 @@ used_changed part moment id by_source sources (Some old) e used =
     (new, all_kept _ (is_above (id_key id)) sources used)
 
 pub set_source_kept : (part : Part) (moment id : ℕ) (sources next_sources : List (ℤ × SourceRow)) (flows next : List (ℤ × FlowRow))
-    (by_source collectors next_by next_col : List (ℤ × List (ℤ × ℕ))) → IsKept sources flows by_source collectors → next ≡ flows → next_by ≡ by_source
+    (by_source collectors next_by next_col : List (ℤ × List (ℤ × ℕ))) → IsKeptInOrder sources flows by_source collectors → next ≡ flows → next_by ≡ by_source
     → next_col ≡ collectors → IsKeyedBy source_key next_sources → next_sources ≡ changed_row (id_key id) (set_source_row part moment)
-    (value_at (id_key id) sources) sources → IsKept next_sources next next_by next_col
+    (value_at (id_key id) sources) sources → IsKeptInOrder next_sources next next_by next_col
 set_source_kept part moment id sources next_sources flows next by_source collectors next_by next_col kept ef eb ec keyed is =
     rw (ef, eb, ec) (record {
       sources_keyed = keyed;
@@ -218,18 +221,18 @@ module _ (id : ℕ) (row : FlowRow) (sources next_sources : List (ℤ × SourceR
   abbrev is_used : ℤ × SourceRow → Bool
   is_used p = has_pairs (ids_at p.1.id next_by)
 
-  pub left_by_source : IsRising flows → IsKept sources flows by_source collectors → Some row ≡ flow_of id (values flows)
+  pub left_by_source : IsRising flows → IsKeptInOrder sources flows by_source collectors → Some row ≡ flow_of id (values flows)
       → Unlinks (row.body.source ∷ []) id by_source next_by → IsBySource left next_by
   left_by_source rising kept found gone = index_without flow_id source_named id row flows by_source next_by rising
       (flow_found id flows kept.flows_keyed ∙ sym found) kept.sources_indexed gone
 
-  pub left_collectors : IsRising flows → IsKept sources flows by_source collectors → Some row ≡ flow_of id (values flows)
+  pub left_collectors : IsRising flows → IsKeptInOrder sources flows by_source collectors → Some row ≡ flow_of id (values flows)
       → Unlinks (member_ids row.body.members) id collectors middle → IsByCollected left middle
   left_collectors rising kept found gone = index_without flow_id flows_named id row flows collectors middle rising
       (flow_found id flows kept.flows_keyed ∙ sym found) kept.collectors_indexed gone
 
   -- the sources that still have a flow
-  still_used : IsRising sources → IsKept sources flows by_source collectors → Unlinks (row.body.source ∷ []) id by_source next_by
+  still_used : IsRising sources → IsKeptInOrder sources flows by_source collectors → Unlinks (row.body.source ∷ []) id by_source next_by
       → next_sources ≡ (if has_pairs (ids_at row.body.source next_by) then sources else without_key (id_key row.body.source) sources)
       → next_sources ≡ filter is_used sources
   still_used rising kept gone is = is ∙ by (has_pairs (ids_at row.body.source next_by)) refl
@@ -266,10 +269,10 @@ module _ (id : ℕ) (row : FlowRow) (sources next_sources : List (ℤ × SourceR
               on true h = ap not (at true h) ∙ sym (ap (λ a. has_pairs (ids_at a next_by)) (eqb-true p.1.id source h) ∙ e)
               on false h = ap not (at false h) ∙ sym (other p.1.id h used.0)
 
-  pub drop_kept : IsRising sources → IsRising flows → IsKept sources flows by_source collectors → Some row ≡ flow_of id (values flows)
+  pub drop_kept : IsRising sources → IsRising flows → IsKeptInOrder sources flows by_source collectors → Some row ≡ flow_of id (values flows)
       → Unlinks (row.body.source ∷ []) id by_source next_by → Unlinks (member_ids row.body.members) id collectors middle → Forgets id middle next_col
       → next_sources ≡ (if has_pairs (ids_at row.body.source next_by) then sources else without_key (id_key row.body.source) sources)
-      → next_flows ≡ all_cleared id left → IsKept next_sources next_flows next_by next_col
+      → next_flows ≡ all_cleared id left → IsKeptInOrder next_sources next_flows next_by next_col
   drop_kept sources_rise rising kept found gone gone_col forgotten es ef =
       let used = still_used sources_rise kept gone es in
       let by_left = left_by_source rising kept found gone in
@@ -283,12 +286,12 @@ module _ (id : ℕ) (row : FlowRow) (sources next_sources : List (ℤ × SourceR
         used = subst (AreUsed next_by) (sym used) (each_passes is_used sources);
       }
 
-  pub drop_flows : IsRising flows → IsKept sources flows by_source collectors → next_flows ≡ all_cleared id left
+  pub drop_flows : IsRising flows → IsKeptInOrder sources flows by_source collectors → next_flows ≡ all_cleared id left
       → values next_flows ≡ flows_after_drop id (values flows)
   drop_flows rising kept ef = ap values ef ∙ clear_values id left ∙ ap (map (without_entries id))
       (left_values flow_id id flows left rising kept.flows_keyed refl)
 
-  pub drop_sources : IsRising sources → IsRising flows → IsKept sources flows by_source collectors → Some row ≡ flow_of id (values flows)
+  pub drop_sources : IsRising sources → IsRising flows → IsKeptInOrder sources flows by_source collectors → Some row ≡ flow_of id (values flows)
       → Unlinks (row.body.source ∷ []) id by_source next_by → next_sources ≡ (if has_pairs (ids_at row.body.source next_by) then sources else without_key
       (id_key row.body.source) sources) → values next_sources ≡ filter (has_flow (flows_after_drop id (values flows))) (values sources)
   drop_sources sources_rise rising kept found gone es =
@@ -311,7 +314,7 @@ module _ (id : ℕ) (row : FlowRow) (sources next_sources : List (ℤ × SourceR
   same_catalog : (s other_s : List SourceRow) (f other_f : List FlowRow) → s ≡ other_s → f ≡ other_f → catalog_with s f ≡ catalog_with other_s other_f
   same_catalog s other_s f other_f es ef = rw (es, ef) refl
 
-  pub drop_catalog : IsRising sources → IsRising flows → IsKept sources flows by_source collectors → Some row ≡ flow_of id (values flows)
+  pub drop_catalog : IsRising sources → IsRising flows → IsKeptInOrder sources flows by_source collectors → Some row ≡ flow_of id (values flows)
       → Unlinks (row.body.source ∷ []) id by_source next_by → next_sources ≡ (if has_pairs (ids_at row.body.source next_by) then sources else without_key
       (id_key row.body.source) sources) → next_flows ≡ all_cleared id left → catalog_with (values next_sources) (values next_flows) ≡ after_drop id
       (catalog_with (values sources) (values flows))

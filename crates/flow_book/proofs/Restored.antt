@@ -13,7 +13,7 @@ use Rattle.media_rows.specs.Views.{id_key}
 use Rattle.shared_tree.specs.Pairs.{IsRising, value_at, values, with_pair}
 use Rattle.id_index.specs.Index.{Links, has_pairs, ids_at}
 use Rattle.id_index.proofs.Named.{index_none, index_with}
-use Rattle.flow_book.specs.Within.Order.{AreGathered, AreUsed, IsByCollected, IsBySource, IsKept, flow_id, flows_named, gathered, source_named}
+use Rattle.flow_book.specs.Within.Order.{AreGathered, AreUsed, IsByCollected, IsBySource, IsKeptInOrder, flow_id, flows_named, gathered, source_named}
 use Rattle.flow_book.proofs.DropSteps.{has_flow_is}
 use Rattle.flow_book.specs.Within.Gathering.{GathersSources, are_placed, is_acyclic}
 use Rattle.flow_book.proofs.Gathering.{any_gathered, first_gathered, found_gathered, gathered_all, gathered_at}
@@ -90,7 +90,7 @@ used_gathered (source ∷ sources) rows flows by_source collectors h e =
 
 pub restored_kept : (sources : List SourceRow) (rows : List FlowRow) (s : List (ℤ × SourceRow)) (flows : List (ℤ × FlowRow))
     (by_source collectors : List (ℤ × List (ℤ × ℕ))) → can_restore_catalog sources rows ≡ true → s ≡ gathered (λ (row : SourceRow). row.id) sources
-    → AreGathered rows flows by_source collectors → IsKept s flows by_source collectors
+    → AreGathered rows flows by_source collectors → IsKeptInOrder s flows by_source collectors
 restored_kept sources rows s flows by_source collectors can es h =
     let good = (and_parts (are_distinct (map (λ (row : SourceRow). row.id) sources) && are_distinct (map flow_id rows))
     (is_catalog_good (record { sources = sources; flows = rows })) can).1 in

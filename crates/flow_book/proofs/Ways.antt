@@ -17,7 +17,7 @@ use Rattle.id_index.specs.Index.{naming}
 use Rattle.id_index.proofs.Ids.{same_key}
 use Rattle.id_index.proofs.Pairs.{value_at_without}
 use Rattle.flow_book.specs.Within.Order.{flow_id, flows_named}
-use Rattle.flow_book.specs.Within.Ways.{AreFollowed, leads, swept}
+use Rattle.flow_book.specs.Within.Ways.{AreFollowed, leads, moved_to_waiting}
 use Rattle.flow_book.proofs.Keys.{flow_found}
 use Rattle.flow_book.proofs.Kept.{found_kept}
 
@@ -61,7 +61,7 @@ collecting_kept to from flows keyed c =
     ∙ list_any-from_In (λ (row : FlowRow). row.body.id == from) (values flows) c.row (In-from_Contains (values flows) c.row c.kept)
     (eq-eqb c.row.body.id from c.row_is)
 
--- ---- what is swept
+-- ---- what is moved_to_waiting
 
 none_some : {V : Type 0} (o : Option V) → is_some o ≡ false → o ≡ None
 none_some None e = refl
@@ -77,7 +77,7 @@ none_either true o e = refl
 none_either false o e = e
 
 pub swept_apart : (a : ℕ) (ids : List ℕ) (apart : List (ℤ × FlowRow)) (waiting : List ℕ)
-    → value_at (id_key a) (swept ids apart waiting).0 ≡ cond (has_number a ids) None (value_at (id_key a) apart)
+    → value_at (id_key a) (moved_to_waiting ids apart waiting).0 ≡ cond (has_number a ids) None (value_at (id_key a) apart)
 swept_apart a [] apart waiting = refl
 swept_apart a (x ∷ ids) apart waiting = by (is_some (value_at (id_key x) apart)) refl
     (swept_apart a ids (without_key (id_key x) apart) (waiting ++ x ∷ [])) (swept_apart a ids apart waiting)
@@ -93,10 +93,10 @@ swept_apart a (x ∷ ids) apart waiting = by (is_some (value_at (id_key x) apart
     not_here e false h = refl
 
     by : (t : Bool) → is_some (value_at (id_key x) apart) ≡ t
-        → value_at (id_key a) (swept ids (without_key (id_key x) apart) (waiting ++ x ∷ [])).0 ≡ cond (has_number a ids) None
+        → value_at (id_key a) (moved_to_waiting ids (without_key (id_key x) apart) (waiting ++ x ∷ [])).0 ≡ cond (has_number a ids) None
         (value_at (id_key a) (without_key (id_key x) apart))
-        → value_at (id_key a) (swept ids apart waiting).0 ≡ cond (has_number a ids) None there
-        → value_at (id_key a) (cond t (swept ids (without_key (id_key x) apart) (waiting ++ x ∷ [])) (swept ids apart waiting)).0 ≡ cond
+        → value_at (id_key a) (moved_to_waiting ids apart waiting).0 ≡ cond (has_number a ids) None there
+        → value_at (id_key a) (cond t (moved_to_waiting ids (without_key (id_key x) apart) (waiting ++ x ∷ [])) (moved_to_waiting ids apart waiting)).0 ≡ cond
         ((a == x) || has_number a ids) None there
     by true e gone stays =
         gone
@@ -121,7 +121,7 @@ stayed false true false o none = sym (none refl)
 stayed false false h o none = refl
 
 pub swept_waiting : (a : ℕ) (ids : List ℕ) (apart : List (ℤ × FlowRow)) (waiting : List ℕ)
-    → has_number a (swept ids apart waiting).1 ≡ (has_number a waiting || (has_number a ids && is_some (value_at (id_key a) apart)))
+    → has_number a (moved_to_waiting ids apart waiting).1 ≡ (has_number a waiting || (has_number a ids && is_some (value_at (id_key a) apart)))
 swept_waiting a [] apart waiting = or_false (has_number a waiting)
 swept_waiting a (x ∷ ids) apart waiting = by (is_some (value_at (id_key x) apart)) refl
     (swept_waiting a ids (without_key (id_key x) apart) (waiting ++ x ∷ [])) (swept_waiting a ids apart waiting)
@@ -133,10 +133,11 @@ swept_waiting a (x ∷ ids) apart waiting = by (is_some (value_at (id_key x) apa
     as_is t e h = ap (λ n. is_some (value_at (id_key n) apart)) (eqb-true a x h) ∙ e
 
     by : (t : Bool) → is_some (value_at (id_key x) apart) ≡ t
-        → has_number a (swept ids (without_key (id_key x) apart) (waiting ++ x ∷ [])).1 ≡ (has_number a (waiting ++ x ∷ []) || (has_number a ids && is_some
+        → has_number a (moved_to_waiting ids (without_key (id_key x) apart) (waiting ++ x ∷ [])).1 ≡ (has_number a (waiting ++ x ∷ [])
+        || (has_number a ids && is_some
         (value_at (id_key a) (without_key (id_key x) apart))))
-        → has_number a (swept ids apart waiting).1 ≡ (has_number a waiting || (has_number a ids && is_some there))
-        → has_number a (cond t (swept ids (without_key (id_key x) apart) (waiting ++ x ∷ [])) (swept ids apart waiting)).1
+        → has_number a (moved_to_waiting ids apart waiting).1 ≡ (has_number a waiting || (has_number a ids && is_some there))
+        → has_number a (cond t (moved_to_waiting ids (without_key (id_key x) apart) (waiting ++ x ∷ [])) (moved_to_waiting ids apart waiting)).1
         ≡ (has_number a waiting || (((a == x) || has_number a ids) && is_some there))
     by true e gone stays =
         gone
@@ -152,17 +153,19 @@ not_empty key (p ∷ ps) e = omega arith
 
 -- each that goes waits
 pub swept_count : (ids : List ℕ) (apart : List (ℤ × FlowRow)) (waiting : List ℕ) → IsRising apart
-    → length (swept ids apart waiting).0 + length (swept ids apart waiting).1 ≡ length apart + length waiting
+    → length (moved_to_waiting ids apart waiting).0 + length (moved_to_waiting ids apart waiting).1 ≡ length apart + length waiting
 swept_count [] apart waiting rising = refl
 swept_count (x ∷ ids) apart waiting rising = by (is_some (value_at (id_key x) apart)) refl
     (swept_count ids (without_key (id_key x) apart) (waiting ++ x ∷ []) (rising_without (id_key x) apart rising)) (swept_count ids apart waiting rising)
   where
     by : (t : Bool) → is_some (value_at (id_key x) apart) ≡ t
-        → length (swept ids (without_key (id_key x) apart) (waiting ++ x ∷ [])).0 + length (swept ids (without_key (id_key x) apart) (waiting ++ x ∷ [])).1
+        → length (moved_to_waiting ids (without_key (id_key x) apart) (waiting ++ x ∷ [])).0 + length (moved_to_waiting ids (without_key (id_key x) apart)
+        (waiting ++ x ∷ [])).1
         ≡ length (without_key (id_key x) apart) + length (waiting ++ x ∷ [])
-        → length (swept ids apart waiting).0 + length (swept ids apart waiting).1 ≡ length apart + length waiting
-        → length (cond t (swept ids (without_key (id_key x) apart) (waiting ++ x ∷ [])) (swept ids apart waiting)).0 + length
-        (cond t (swept ids (without_key (id_key x) apart) (waiting ++ x ∷ [])) (swept ids apart waiting)).1 ≡ length apart + length waiting
+        → length (moved_to_waiting ids apart waiting).0 + length (moved_to_waiting ids apart waiting).1 ≡ length apart + length waiting
+        → length (cond t (moved_to_waiting ids (without_key (id_key x) apart) (waiting ++ x ∷ [])) (moved_to_waiting ids apart waiting)).0 + length
+        (cond t (moved_to_waiting ids (without_key (id_key x) apart) (waiting ++ x ∷ [])) (moved_to_waiting ids apart waiting)).1
+        ≡ length apart + length waiting
     by true e gone stays =
         let fewer = others_there (id_key x) apart rising e in
         let some = not_empty (id_key x) apart e in
@@ -171,7 +174,7 @@ swept_count (x ∷ ids) apart waiting rising = by (is_some (value_at (id_key x) 
     by false e gone stays = stays
 
 pub swept_fewer : (ids : List ℕ) (apart : List (ℤ × FlowRow)) (waiting rest : List ℕ) (next : ℕ) (new : List (ℤ × FlowRow) × List ℕ) → IsRising apart
-    → new ≡ swept ids apart rest → waiting ≡ rest ++ next ∷ [] → length new.0 + length new.1 < length apart + length waiting
+    → new ≡ moved_to_waiting ids apart rest → waiting ≡ rest ++ next ∷ [] → length new.0 + length new.1 < length apart + length waiting
 swept_fewer ids apart waiting rest next new rising is popped =
     let count : length new.0 + length new.1 ≡ length apart + length rest = ap (λ (s : List (ℤ × FlowRow) × List ℕ). length s.0 + length s.1) is ∙ swept_count
     ids apart rest rising in
@@ -202,7 +205,7 @@ newly_found false true false o old new = absurd (true≢false (sym new ∙ old))
 
 pub followed_on : (flows apart : List (ℤ × FlowRow)) (to next : ℕ) (rest ids : List ℕ) → IsKeyedBy flow_key flows
     → ids ≡ values (naming flow_id flows_named next flows) → AreFollowed flows apart to (rest ++ next ∷ [])
-    → AreFollowed flows (swept ids apart rest).0 to (swept ids apart rest).1
+    → AreFollowed flows (moved_to_waiting ids apart rest).0 to (moved_to_waiting ids apart rest).1
 followed_on flows apart to next rest ids keyed ids_are old =
     record {
       sound = λ from e. elim (cases_Bool (has_number from ids)) [
@@ -217,17 +220,17 @@ followed_on flows apart to next rest ids keyed ids_are old =
           ];
       closed = λ from n c e. elim (cases_Bool (leads flows apart to n)) [
         | inl led ↦ elim (or_cases (leads flows apart to from) (has_number n (rest ++ next ∷ [])) (old.closed from n c led)) [
-          | inl both ↦ or_left (leads flows (swept ids apart rest).0 to from) (has_number n (swept ids apart rest).1) (still from both)
+          | inl both ↦ or_left (leads flows (moved_to_waiting ids apart rest).0 to from) (has_number n (moved_to_waiting ids apart rest).1) (still from both)
           | inr waited ↦ elim (In-append rest (next ∷ []) n (has_number-In n (rest ++ next ∷ []) waited)) [
-            | inl front ↦ or_right (leads flows (swept ids apart rest).0 to from) (has_number n (swept ids apart rest).1)
+            | inl front ↦ or_right (leads flows (moved_to_waiting ids apart rest).0 to from) (has_number n (moved_to_waiting ids apart rest).1)
                 (swept_waiting n ids apart rest ∙ or_left (has_number n rest) (has_number n ids && is_some (value_at (id_key n) apart))
                 (In-has_number n rest front))
-            | inr (inl same) ↦ or_left (leads flows (swept ids apart rest).0 to from) (has_number n (swept ids apart rest).1)
+            | inr (inl same) ↦ or_left (leads flows (moved_to_waiting ids apart rest).0 to from) (has_number n (moved_to_waiting ids apart rest).1)
                 (found from (subst (λ m. Collects (values flows) from m) same c))
             | inr (inr none) ↦ absurd none
           ]
         ]
-        | inr apart_yet ↦ or_right (leads flows (swept ids apart rest).0 to from) (has_number n (swept ids apart rest).1)
+        | inr apart_yet ↦ or_right (leads flows (moved_to_waiting ids apart rest).0 to from) (has_number n (moved_to_waiting ids apart rest).1)
             (swept_waiting n ids apart rest ∙ or_right (has_number n rest) (has_number n ids && is_some (value_at (id_key n) apart))
             (newly_found (n == to) (kept n) (has_number n ids) (value_at (id_key n) apart) apart_yet (sym (now n) ∙ e)))
       ];
@@ -236,16 +239,17 @@ followed_on flows apart to next rest ids keyed ids_are old =
     kept : ℕ → Bool
     kept a = is_some (value_at (id_key a) flows)
 
-    now : (a : ℕ) → leads flows (swept ids apart rest).0 to a ≡ ((a == to) || (kept a && is_none (cond (has_number a ids) None (value_at (id_key a) apart))))
+    now : (a : ℕ) → leads flows (moved_to_waiting ids apart rest).0 to a
+      ≡ ((a == to) || (kept a && is_none (cond (has_number a ids) None (value_at (id_key a) apart))))
     now a = ap (λ o. (a == to) || (kept a && is_none o)) (swept_apart a ids apart rest)
 
-    still : (a : ℕ) → leads flows apart to a ≡ true → leads flows (swept ids apart rest).0 to a ≡ true
+    still : (a : ℕ) → leads flows apart to a ≡ true → leads flows (moved_to_waiting ids apart rest).0 to a ≡ true
     still a e = now a ∙ stays_found (a == to) (kept a) (has_number a ids) (value_at (id_key a) apart) e
 
     collector : (a : ℕ) → has_number a ids ≡ true → Collects (values flows) a next
     collector a e = collecting next a flows (ap (has_number a) (sym ids_are) ∙ e)
 
-    found : (a : ℕ) → Collects (values flows) a next → leads flows (swept ids apart rest).0 to a ≡ true
+    found : (a : ℕ) → Collects (values flows) a next → leads flows (moved_to_waiting ids apart rest).0 to a ≡ true
     found a c = now a ∙ is_found (a == to) (kept a) (has_number a ids) (value_at (id_key a) apart) (collecting_kept next a flows keyed c)
         (ap (has_number a) ids_are ∙ collecting_named next a flows c)
 

@@ -43,13 +43,13 @@ pub struct FlowBook {
 impl Model for FlowBook {
     ghost use Rattle.media_rows.specs.Catalog.{Catalog};
     ghost use Rattle.shared_tree.specs.Pairs.{values};
-    ghost use Rattle.flow_book.specs.Within.Order.{IsKept};
+    ghost use Rattle.flow_book.specs.Within.Order.{IsKeptInOrder};
 
     ghost Value = { Catalog };
 
     ghost view = { λ b. record { sources = values b.sources; flows = values b.flows } };
 
-    ghost invariant = { λ b. IsKept b.sources b.flows b.by_source b.collectors };
+    ghost invariant = { λ b. IsKeptInOrder b.sources b.flows b.by_source b.collectors };
 }
 
 impl FlowBook {

@@ -7,7 +7,7 @@ ghost use Rattle.shared_tree.specs.Pairs.{values, values_of};
 ghost use Rattle.shared_tree.specs.Rows.{IsKeyedBy};
 ghost use Rattle.catalog_rows.specs.Answers.{Computes};
 ghost use Rattle.flow_book.specs.Within.Order.{IsByCollected};
-ghost use Rattle.flow_book.specs.Within.Ways.{leads, swept};
+ghost use Rattle.flow_book.specs.Within.Ways.{leads, moved_to_waiting};
 
 use disk_trait::Memory;
 use id_index::{IdIndex, row_at, without_row};
@@ -65,7 +65,7 @@ fn swept(
     waiting: &mut Vec<u128>,
 ) -> Result<Version<FlowRow>, Memory>
     ensures { IfOk result (λ left. (left, waiting.new.items)
-        ≡ swept (values_of ids.now) apart.now waiting.old.items) }
+        ≡ moved_to_waiting (values_of ids.now) apart.now waiting.old.items) }
 {
     let mut left = apart.share()?;
     for id in ids {

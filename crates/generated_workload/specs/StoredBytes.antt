@@ -11,19 +11,19 @@ use Rattle.media_rows.specs.Library.{Library}
 use Rattle.media_rows.specs.Snapshot.{rows_of}
 
 -- the bytes of an object in this state: none as long as it isn't stored
-abbrev pub state_bytes : ObjectState → ℕ
-state_bytes Allocated = 0
-state_bytes (Stored start_block length) = length
+abbrev pub length_if_stored : ObjectState → ℕ
+length_if_stored Allocated = 0
+length_if_stored (Stored start_block length) = length
 
 -- the bytes of all these objects
-abbrev pub object_bytes : List ObjectRow → ℕ
-object_bytes objects = sum_by (λ row. state_bytes row.state) objects
+abbrev pub stored_total : List ObjectRow → ℕ
+stored_total objects = sum_by (λ row. length_if_stored row.state) objects
 
 -- the bytes of a row's object; a row of another kind has none
 abbrev pub row_bytes : Row → ℕ
 row_bytes (rows.Source row) = 0
 row_bytes (rows.Flow row) = 0
-row_bytes (rows.Object row) = state_bytes row.state
+row_bytes (rows.Object row) = length_if_stored row.state
 row_bytes (rows.Segment row) = 0
 row_bytes (rows.Request row) = 0
 row_bytes (rows.Hook row) = 0
@@ -37,4 +37,4 @@ stored_bytes_of rows = sum_by row_bytes rows
 -- the rows of a library have the bytes of its objects
 abbrev pub StoredBytesAreTheObjects : Type 0
 StoredBytesAreTheObjects =
-    (library : Library) → stored_bytes_of (rows_of library) ≡ object_bytes library.objects
+    (library : Library) → stored_bytes_of (rows_of library) ≡ stored_total library.objects

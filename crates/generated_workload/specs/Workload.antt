@@ -21,8 +21,8 @@ abbrev pub request_line : List ℕ → List ℕ → List ℕ
 request_line method target = method ++ codes " " ++ target ++ codes " HTTP/1.1" ++ crlf
 
 -- a request without a body
-abbrev pub bare : List ℕ → List ℕ → List ℕ
-bare method target = request_line method target ++ crlf
+abbrev pub bare_request : List ℕ → List ℕ → List ℕ
+bare_request method target = request_line method target ++ crlf
 
 -- the field that says how many bytes a body has
 abbrev pub length_field : List ℕ → List ℕ
@@ -67,8 +67,8 @@ abbrev pub store_id : List ℕ
 store_id = codes "00000000-0000-4000-8000-000000000001"
 
 -- the id of the i-th object: that of the store, and the object's number, counted from 1
-abbrev pub object_id : ℕ → List ℕ
-object_id i = store_id ++ codes "-" ++ decimal (i + 1)
+abbrev pub generated_id : ℕ → List ℕ
+generated_id i = store_id ++ codes "-" ++ decimal (i + 1)
 
 -- how many bytes it has: from 1 to 4,096
 abbrev pub media_size : ℕ → ℕ → ℕ
@@ -97,13 +97,13 @@ segment_range i = seconds_range (segment_start i) (segment_start (i + 1))
 -- the body that posts its segment
 abbrev pub segment_body : ℕ → List ℕ
 segment_body i =
-    codes "{\"object_id\":\"" ++ object_id i
+    codes "{\"generated_id\":\"" ++ generated_id i
     ++ codes "\",\"timerange\":\"" ++ segment_range i ++ codes "\"}"
 
 -- the request that puts it
 abbrev pub put_object : ℕ → ℕ → List ℕ
 put_object number i =
-    request (codes "PUT") (codes "/media/" ++ object_id i) (media_bytes number i)
+    request (codes "PUT") (codes "/media/" ++ generated_id i) (media_bytes number i)
 
 -- the request that posts its segment
 abbrev pub post_segment : ℕ → List ℕ
@@ -117,7 +117,7 @@ object_requests number i = put_object number i ++ post_segment i
 
 -- the request that lists the segments
 abbrev pub list_segments : List ℕ
-list_segments = bare (codes "GET") (segments_path ++ codes "?limit=1000")
+list_segments = bare_request (codes "GET") (segments_path ++ codes "?limit=1000")
 
 -- the second at which the first half of the segments ends, which is the smaller one where their
 -- number is odd
@@ -142,11 +142,11 @@ half_target count = segments_path ++ codes "?" ++ half_query count
 
 -- the request that deletes them
 abbrev pub delete_segments : ℕ → List ℕ
-delete_segments count = bare (codes "DELETE") (half_target count)
+delete_segments count = bare_request (codes "DELETE") (half_target count)
 
 -- the request for the root
 abbrev pub get_root : List ℕ
-get_root = bare (codes "GET") (codes "/")
+get_root = bare_request (codes "GET") (codes "/")
 
 -- how many groups of 32 the deleted segments make, with the last one, which may not be full
 abbrev pub deleted_groups : ℕ → ℕ

@@ -1,7 +1,7 @@
 //! Requests as bytes (RFC 9112), with no field but the length of a body.
 ghost use Rattle.std.specs.Prelude.{◌≡◌, ◌++◌, OnOk};
 ghost use Rattle.std.specs.Fmt.{decimal};
-ghost use Rattle.generated_workload.specs.Workload.{bare, length_field, request, request_line};
+ghost use Rattle.generated_workload.specs.Workload.{bare_request, length_field, request, request_line};
 
 use disk_trait::{Memory, Text};
 use itoa::Buffer;
@@ -23,7 +23,7 @@ pub(crate) fn append_request(
 
 /// Adds a request without a body at the end.
 pub(crate) fn append_bare(method: &[u8], target: &[u8], out: &mut Text) -> Result<(), Memory>
-    ensures { OnOk result (out.new ≡ out.old ++ bare method.now target.now) }
+    ensures { OnOk result (out.new ≡ out.old ++ bare_request method.now target.now) }
 {
     append_request_line(method, target, out)?;
     out.append(b"\r\n")

@@ -1,6 +1,6 @@
 //! How many bytes the objects of a store have.
 ghost use Rattle.std.specs.Prelude.{◌≡◌, ◌≤◌, ◌^◌, IfSome, IsNone};
-ghost use Rattle.generated_workload.specs.StoredBytes.{row_bytes, state_bytes, stored_bytes_of};
+ghost use Rattle.generated_workload.specs.StoredBytes.{row_bytes, length_if_stored, stored_bytes_of};
 
 use media_rows::{ObjectState, Row, RowList};
 
@@ -27,7 +27,7 @@ fn row_bytes(row: &Row) -> u64
 }
 
 fn state_bytes(state: ObjectState) -> u64
-    ensures { result ≡ state_bytes state }
+    ensures { result ≡ length_if_stored state }
 {
     match state {
         ObjectState::Allocated => 0,

@@ -2,7 +2,7 @@
 ghost use Rattle.std.specs.Prelude.{◌≡◌, ◌++◌, ◌≤◌, ◌<◌, IfOk, OnOk, string_bytes};
 ghost use Rattle.std.specs.List.{flat_map};
 ghost use Rattle.media_rows.specs.Lists.{numbers_below};
-ghost use Rattle.generated_workload.specs.Workload.{ask_objects, delete_segments, flow_path, half_query, half_target, limit_body, list_segments, media_bytes, object_id, object_requests, post_segment, put_flow, put_object, root_requests, seconds_range, segment_body, workload_requests};
+ghost use Rattle.generated_workload.specs.Workload.{ask_objects, delete_segments, flow_path, half_query, half_target, limit_body, list_segments, media_bytes, generated_id, object_requests, post_segment, put_flow, put_object, root_requests, seconds_range, segment_body, workload_requests};
 
 use crate::requests::{append_bare, append_number, append_request};
 use disk_trait::{Memory, Text};
@@ -123,7 +123,7 @@ fn append_media(
 ) -> Result<(), Memory>
     requires number { number ≤ MOST_NUMBER }
     requires index { i < MOST_COUNT }
-    requires object { object.now ≡ object_id i }
+    requires object { object.now ≡ generated_id i }
     ensures { OnOk result (out.new ≡ out.old ++ put_object number i) }
 {
     let mut target = Text::from_bytes(alloc, b"/media/")?;
@@ -135,7 +135,7 @@ fn append_media(
 /// Adds the request that posts the segment of the i-th object, of this id.
 fn append_segment(alloc: Global, i: u64, object: &Text, out: &mut Text) -> Result<(), Memory>
     requires index { i < MOST_COUNT }
-    requires object { object.now ≡ object_id i }
+    requires object { object.now ≡ generated_id i }
     ensures { OnOk result (out.new ≡ out.old ++ post_segment i) }
 {
     let target = flow_target(alloc, b"/segments")?;
@@ -146,7 +146,7 @@ fn append_segment(alloc: Global, i: u64, object: &Text, out: &mut Text) -> Resul
 /// The id of the i-th object.
 fn object_id(alloc: Global, i: u64) -> Result<Text, Memory>
     requires { i < MOST_COUNT }
-    ensures { IfOk result (λ id. id ≡ object_id i) }
+    ensures { IfOk result (λ id. id ≡ generated_id i) }
 {
     let mut id = Text::from_bytes(alloc, STORE_ID)?;
     id.append(b"-")?;
@@ -171,7 +171,7 @@ fn media_bytes(alloc: Global, number: u64, i: u64) -> Result<Text, Memory>
 /// The body that posts the segment of the i-th object, of this id.
 fn segment_body(alloc: Global, i: u64, object: &Text) -> Result<Text, Memory>
     requires index { i < MOST_COUNT }
-    requires object { object.now ≡ object_id i }
+    requires object { object.now ≡ generated_id i }
     ensures { IfOk result (λ body. body ≡ segment_body i) }
 {
     let range = seconds_range(alloc, SEGMENT_SECONDS * i, SEGMENT_SECONDS * (i + 1))?;

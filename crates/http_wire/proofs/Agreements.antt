@@ -6,7 +6,7 @@ use Rattle.std.proofs.lemmas.List.{drop-append-le, length-take-le}
 use Rattle.std.proofs.Math.Seq.{take-append-add}
 use Rattle.std.proofs.lemmas.List.{take-append-drop}
 use Rattle.httparse.specs.Grammar.{RequestHead}
-use Rattle.http_wire.specs.Agreeing.{Agrees, AgreesAtStart, AgreesBy, AgreesOnBody, AgreesOnHead, AgreesOnPush, AgreesOnRefusal, AgreesOnWait, AgreesOnWhole, Continues, Given, MayTurn, MediaAgrees, OpenAgrees, before, settled, settled_by, with_bytes}
+use Rattle.http_wire.specs.Agreeing.{Agrees, AgreesAtStart, AgreesBy, AgreesOnBody, AgreesOnHead, AgreesOnPush, AgreesOnRefusal, AgreesOnWait, AgreesOnWhole, HearsBehind, Given, MayTurn, MediaAgrees, OpenAgrees, before, settled, settled_by, with_bytes}
 use Rattle.http_wire.specs.Feeds.{Fed, is_last_request, left_of}
 use Rattle.http_wire.specs.Framing.{ends_connection}
 use Rattle.http_wire.specs.Heads.{whole}
@@ -111,7 +111,7 @@ agrees_on_refusal all so_far old new fault agrees may refuses =
 -- what follows a request makes what follows from it on
 on_by_end : (ends : Bool) (requests n : ℕ) (unread later : List ℕ) (head : RequestHead) (body : List ℕ) (tail : HeardRequests) → requests < 1000000
     → ends ≡ ends_with (1000000 - (requests + 1)) head → IsNext unread (whole (given head body) n) → n ≤ length unread
-    → Continues ends (requests + 1) (drop n unread ++ later) tail → IsHeard (1000000 - requests) (unread ++ later) (and_then head body tail)
+    → HearsBehind ends (requests + 1) (drop n unread ++ later) tail → IsHeard (1000000 - requests) (unread ++ later) (and_then head body tail)
 on_by_end true requests n unread later head body tail few is next inside follows =
     rw (one_less requests few, follows) (ends_last (1000000 - (requests + 1)) unread later head body n next inside (sym is))
 on_by_end false requests n unread later head body tail few is next inside follows =
@@ -133,7 +133,7 @@ agrees_on_whole all so_far old new shown agrees may gives =
 
 media_by_end : (ends : Bool) (requests n size : ℕ) (unread later : List ℕ) (head : RequestHead) (tail : HeardRequests) → requests < 1000000
     → ends ≡ ends_with (1000000 - (requests + 1)) head → IsNext unread (whole (opened head size) n) → n ≤ length unread
-    → size ≤ length (drop n unread ++ later) → Continues ends (requests + 1) (drop size (drop n unread ++ later)) tail
+    → size ≤ length (drop n unread ++ later) → HearsBehind ends (requests + 1) (drop size (drop n unread ++ later)) tail
     → IsHeard (1000000 - requests) (unread ++ later) (and_then head (take size (drop n unread ++ later)) tail)
 media_by_end true requests n size unread later head tail few is next inside long follows =
     rw (one_less requests few, follows) (ends_last_media (1000000 - (requests + 1)) unread later head size n next inside (sym is) long)

@@ -4,7 +4,7 @@ use Rattle.std.proofs.lemmas.Bool.{false≢true}
 use Rattle.std.proofs.lemmas.Bool.Decides.{nat_tests}
 use Rattle.std.proofs.lemmas.List.{drop-take, drop_all, take-take, length-take-le}
 use Rattle.httparse.specs.Grammar.{RequestHead}
-use Rattle.http_wire.specs.Chunks.{behind_data, body_end, capped_data, chunk_data, chunked, chunks, chunks_within, ending_of, count_lines, line_size, lined_chunk, one_chunk, prefixed, sized_chunk, trailer, trailer_by}
+use Rattle.http_wire.specs.Chunks.{behind_data, body_end, capped_data, chunk_data, chunked, chunks, chunks_within, data_ending, count_lines, line_size, lined_chunk, one_chunk, prefixed, sized_chunk, trailer, trailer_by}
 use Rattle.http_wire.specs.Framing.{has_body, is_coded, fields_of, declared, is_media, judge, judged_framing, max_body, wants_interim}
 use Rattle.http_wire.specs.Heads.{Front, IsHead, IsHeadBy, more, refused, whole}
 use Rattle.http_wire.specs.Lines.{behind_byte, further, head_end, line_end, looked, next_place, one_on}
@@ -106,7 +106,7 @@ two_bytes : (both : Bool) (n : ℕ) → cond both (Ended 2) Wrong ≡ Ended n �
 two_bytes true n e = cc
 two_bytes false n e = cc
 
-ending-take : (bytes : List ℕ) (n k : ℕ) → ending_of bytes ≡ Ended n → n ≤ k → ending_of (take k bytes) ≡ Ended n
+ending-take : (bytes : List ℕ) (n k : ℕ) → data_ending bytes ≡ Ended n → n ≤ k → data_ending (take k bytes) ≡ Ended n
 ending-take [] n k e le = cc
 ending-take (c ∷ []) n k e le = absurd (no_end (nat_eq c 13) n e)
 ending-take (c ∷ l ∷ bytes) n zero e le = absurd (omega (arith, le, two_bytes (nat_eq c 13 && nat_eq l 10) n e))
@@ -163,7 +163,7 @@ body_end-is Wrong body n e = cc
 body_end-is (Ended m) body n e = let same : m ≡ n = cc in ap (λ k. Ended k) same
 
 module _ (next : List ℕ → Front (List ℕ)) (alone : Alone next) (size : ℕ) where
-  data_alone : (end : Ending) (bytes body : List ℕ) (n k : ℕ) → size ≤ length bytes → ending_of (drop size bytes) ≡ end
+  data_alone : (end : Ending) (bytes body : List ℕ) (n k : ℕ) → size ≤ length bytes → data_ending (drop size bytes) ≡ end
       → behind_data next size bytes end ≡ whole body n → n ≤ k → chunk_data next size (take k bytes) ≡ whole body n
   data_alone Open bytes body n k inside is e le = cc
   data_alone Wrong bytes body n k inside is e le = cc
@@ -172,8 +172,8 @@ module _ (next : List ℕ → Front (List ℕ)) (alone : Alone next) (size : ℕ
       let far : size + m ≤ k = omega (arith, there.sum, le) in
       let long : nat_lt (length (take k bytes)) size ≡ false =
       (let enough : size ≤ length (take k bytes) = omega (arith, length-take k bytes, inside, far) in search (arith, rules, nat_tests)) in
-      let ends : ending_of (drop size (take k bytes)) ≡ Ended m =
-      ap ending_of (drop-front size k bytes (omega (arith, far))) ∙ ending-take (drop size bytes) m (k - size) is (omega (arith, far)) in
+      let ends : data_ending (drop size (take k bytes)) ≡ Ended m =
+      ap data_ending (drop-front size k bytes (omega (arith, far))) ∙ ending-take (drop size bytes) m (k - size) is (omega (arith, far)) in
       rw (long, ends, take-take size k bytes (omega (arith, far)))
       (there.again (next (drop (size + m) (take k bytes)))
       (ap next (drop-front (size + m) k bytes far) ∙ alone (drop (size + m) bytes) there.rest there.behind (k - (size + m)) there.front_is omega (
@@ -183,12 +183,12 @@ module _ (next : List ℕ → Front (List ℕ)) (alone : Alone next) (size : ℕ
       )))
 
   chunk_alone_by : (short : Bool) (bytes body : List ℕ) (n k : ℕ) → nat_lt (length bytes) size ≡ short
-      → cond short more (behind_data next size bytes (ending_of (drop size bytes))) ≡ whole body n → n ≤ k
+      → cond short more (behind_data next size bytes (data_ending (drop size bytes))) ≡ whole body n → n ≤ k
       → chunk_data next size (take k bytes) ≡ whole body n
   chunk_alone_by true bytes body n k is e le = cc
   chunk_alone_by false bytes body n k is e le =
       let inside : size ≤ length bytes = grind (arith, nat_tests) in
-      data_alone (ending_of (drop size bytes)) bytes body n k inside refl e le
+      data_alone (data_ending (drop size bytes)) bytes body n k inside refl e le
 
   chunk_alone : Alone (chunk_data next size)
   chunk_alone bytes body n k e le = chunk_alone_by (nat_lt (length bytes) size) bytes body n k refl e le

@@ -2,7 +2,7 @@
 use Rattle.std.proofs.Common.{◌≡◌, ℕ, zero, suc, ◌+◌, ◌-◌, ◌<◌, ◌≤◌, Bool, true, false, cond, List, [], ◌∷◌, ◌++◌, length, take, drop, refl, sym, ap, ◌∙◌, arith, rules, Option, Some, None, append_assoc, nat_eq, nat_lt, length-append, length-drop, drop-drop, add_assoc}
 use Rattle.std.proofs.lemmas.Bool.Decides.{nat_tests}
 use Rattle.std.proofs.lemmas.List.{drop-append-le, take-append-le}
-use Rattle.http_wire.specs.Chunks.{behind_data, chunk_data, chunks, chunks_within, ending_of, line_size, lined_chunk, one_chunk, prefixed, sized_chunk, trailer, body_end}
+use Rattle.http_wire.specs.Chunks.{behind_data, chunk_data, chunks, chunks_within, data_ending, line_size, lined_chunk, one_chunk, prefixed, sized_chunk, trailer, body_end}
 use Rattle.http_wire.specs.Heads.{Front, more, refused, whole}
 use Rattle.http_wire.specs.declared.framing.WireFault.TheVariants.{TooLarge}
 use Rattle.http_wire.specs.Lines.{line_end}
@@ -30,13 +30,13 @@ open_or_wrong : (b : Bool) → cond b Open Wrong ≡ Ended 2 → ⊥
 open_or_wrong true e = cc
 open_or_wrong false e = cc
 
-closed-append : (bytes later : List ℕ) → ending_of bytes ≡ Ended 2 → ending_of (bytes ++ later) ≡ Ended 2
+closed-append : (bytes later : List ℕ) → data_ending bytes ≡ Ended 2 → data_ending (bytes ++ later) ≡ Ended 2
 closed-append [] later e = cc
 closed-append (c ∷ []) later e = absurd (open_or_wrong (nat_eq c 13) e)
 closed-append (c ∷ l ∷ bytes) later e = e
 
 -- a chunk's data, whatever follows
-data_steps : (rest : List ℕ) (s : ℕ) → s + 2 ≤ length rest → ending_of (drop s rest) ≡ Ended 2 → (next : List ℕ → Front (List ℕ)) (later : List ℕ)
+data_steps : (rest : List ℕ) (s : ℕ) → s + 2 ≤ length rest → data_ending (drop s rest) ≡ Ended 2 → (next : List ℕ → Front (List ℕ)) (later : List ℕ)
     → chunk_data next s (rest ++ later) ≡ prefixed (take s rest) (s + 2) (next (drop (s + 2) (rest ++ later)))
 data_steps rest s inside ends next later =
     let long : s ≤ length (rest ++ later) = omega (arith, length-append rest later) in
@@ -57,7 +57,7 @@ chunk_steps bytes room n s chunk next later =
     let some : nat_eq s 0 ≡ false = search (arith, rules, nat_tests) in
     let fits : nat_lt room s ≡ false = search (arith, rules, nat_tests) in
     let long : s + 2 ≤ length (drop n bytes) = omega (arith, length-drop n bytes, chunk.inside) in
-    let closes : ending_of (drop s (drop n bytes)) ≡ Ended 2 = rw drop-drop chunk.ends in
+    let closes : data_ending (drop s (drop n bytes)) ≡ Ended 2 = rw drop-drop chunk.ends in
     let sums : n + (s + 2) ≡ n + s + 2 = omega arith in
     let behind_it : drop (s + 2) (drop n bytes ++ later) ≡ drop (n + s + 2) (bytes ++ later) =
     ap (drop (s + 2)) (sym rest) ∙ drop-drop (s + 2) n (bytes ++ later) ∙ ap (λ k. drop k (bytes ++ later)) sums in
@@ -73,9 +73,9 @@ data_same f g s bytes Wrong same = refl
 data_same f g s bytes (Ended m) same = ap (prefixed (take s bytes) (s + m)) (same (drop (s + m) bytes))
 
 chunk_data_same : (f g : List ℕ → Front (List ℕ)) (s : ℕ) (bytes : List ℕ) (short : Bool) → ((rest : List ℕ) → f rest ≡ g rest)
-    → cond short more (behind_data f s bytes (ending_of (drop s bytes))) ≡ cond short more (behind_data g s bytes (ending_of (drop s bytes)))
+    → cond short more (behind_data f s bytes (data_ending (drop s bytes))) ≡ cond short more (behind_data g s bytes (data_ending (drop s bytes)))
 chunk_data_same f g s bytes true same = refl
-chunk_data_same f g s bytes false same = data_same f g s bytes (ending_of (drop s bytes)) same
+chunk_data_same f g s bytes false same = data_same f g s bytes (data_ending (drop s bytes)) same
 
 -- two ways to go on agree behind each chunk with data
 abbrev Agree : ℕ → (ℕ → List ℕ → Front (List ℕ)) → (ℕ → List ℕ → Front (List ℕ)) → Type 0

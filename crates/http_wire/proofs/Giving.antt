@@ -5,41 +5,41 @@ use Rattle.std.proofs.lemmas.List.{drop-take, length-take-le, take-take, take_al
 use Rattle.std.proofs.Common.{length-drop}
 use Rattle.http_wire.specs.Feeds.{StepsTo, AnswersBy, Fed, Leaves, TellsHead, TellsBody, Turns, feed_room, is_last_request, no_place}
 use Rattle.http_wire.specs.Heads.{refused, span_text}
-use Rattle.http_wire.specs.Parts.{Parts, held}
+use Rattle.http_wire.specs.Parts.{GivenParts, held}
 use Rattle.http_wire.specs.Requests.{IsNext}
-use Rattle.http_wire.specs.Within.Seeing.{IsFound, IsContentGiven, IsMediaOpened, IsShown}
+use Rattle.http_wire.specs.Within.Seeing.{IsFound, IsContentGiven, IsMediaOpened, ShowsHead}
 use Rattle.http_wire.specs.declared.framing.WireFault.{WireFault}
 use Rattle.http_wire.specs.declared.head.FoundHead.{FoundHead}
-use Rattle.http_wire.specs.declared.head.Span.{Span}
+use Rattle.http_wire.specs.declared.head.FeedSpan.{FeedSpan}
 use Rattle.http_wire.specs.declared.stage.Head.{Head}
 use Rattle.http_wire.specs.declared.stage.Stage.{Stage}
 use Rattle.http_wire.specs.declared.stage.Stage.TheVariants.{Failed, Media, Open}
-use Rattle.http_wire.specs.declared.stage.Step.{Step}
-use Rattle.http_wire.specs.declared.stage.Step.TheVariants as steps
+use Rattle.http_wire.specs.declared.stage.FeedStep.{FeedStep}
+use Rattle.http_wire.specs.declared.stage.FeedStep.TheVariants as steps
 use Rattle.http_wire.specs.Steps.{wire_refusal}
 use Rattle.media_rows.specs.declared.refusal.Refusal.{Refusal}
 use Rattle.http_wire.proofs.Seeking.{text_at-take}
 
 -- an answer where nothing was refused
-answers_by : (stage : Stage) (old new : Fed) (step : Step) → ((fault : WireFault) → stage ≡ Failed fault → ⊥) → Turns old step new
+answers_by : (stage : Stage) (old new : Fed) (step : FeedStep) → ((fault : WireFault) → stage ≡ Failed fault → ⊥) → Turns old step new
     → AnswersBy stage old step new
 answers_by Open old new step other turns = turns
 answers_by (Media left) old new step other turns = turns
 answers_by (Failed fault) old new step other turns = absurd (other fault refl)
 
-pub answers_turn : (old new : Fed) (step : Step) → ((fault : WireFault) → old.stage ≡ Failed fault → ⊥) → Turns old step new → StepsTo old step new
+pub answers_turn : (old new : Fed) (step : FeedStep) → ((fault : WireFault) → old.stage ≡ Failed fault → ⊥) → Turns old step new → StepsTo old step new
 answers_turn old new step other turns = answers_by old.stage old new step other turns
 
 -- ---- places in the bytes that are given
 
-kept_place : (span : Span) (n : ℕ) → span.start + span.length ≤ n → n ≤ 16384 → nat_lt span.start feed_room ≡ true
+kept_place : (span : FeedSpan) (n : ℕ) → span.start + span.length ≤ n → n ≤ 16384 → nat_lt span.start feed_room ≡ true
 kept_place span n inside small =
     let below : span.start < feed_room = omega arith in
     search (arith, rules, nat_tests)
 
 -- the target is in the head's bytes
-pub tells_found : (unread : List ℕ) (n number size : ℕ) (found : FoundHead) (known : IsFound unread found) (body : Span) (shown : Head) (fed : Fed)
-    → found.length ≤ n → n ≤ length unread → fed.last ≡ take n unread → IsShown found body size number shown
+pub tells_found : (unread : List ℕ) (n number size : ℕ) (found : FoundHead) (known : IsFound unread found) (body : FeedSpan) (shown : Head) (fed : Fed)
+    → found.length ≤ n → n ≤ length unread → fed.last ≡ take n unread → ShowsHead found body size number shown
     → TellsHead fed known.head number shown
 tells_found unread n number size found known body shown fed few inside last is =
     let low : nat_lt found.target.start feed_room ≡ true = kept_place found.target found.length known.tells.inside known.small in
@@ -58,9 +58,9 @@ tells_found unread n number size found known body shown fed few inside last is =
     }
 
 -- a body of so many bytes is behind them
-pub tells_plain : (unread : List ℕ) (n size number : ℕ) (found : FoundHead) (place : Span) (shown : Head) (fed : Fed)
+pub tells_plain : (unread : List ℕ) (n size number : ℕ) (found : FoundHead) (place : FeedSpan) (shown : Head) (fed : Fed)
     → n ≤ 16384 → n + size ≤ length unread → fed.last ≡ take (n + size) unread → place ≡ record { start = n; length = size }
-    → IsShown found place size number shown → TellsBody fed (take size (drop n unread)) shown
+    → ShowsHead found place size number shown → TellsBody fed (take size (drop n unread)) shown
 tells_plain unread n size number found place shown fed small inside last there is =
     let low : nat_lt n feed_room ≡ true = search (arith, rules, nat_tests) in
     let long : length fed.last ≡ n + size = ap length last ∙ length-take-le (n + size) unread inside in
@@ -75,9 +75,9 @@ tells_plain unread n size number found place shown fed small inside last there i
     }
 
 -- a decoded body is apart
-pub tells_decoded : (size number : ℕ) (found : FoundHead) (place : Span) (shown : Head) (fed : Fed)
+pub tells_decoded : (size number : ℕ) (found : FoundHead) (place : FeedSpan) (shown : Head) (fed : Fed)
     → size ≡ length fed.body → place ≡ record { start = 8404993; length = size }
-    → IsShown found place size number shown → TellsBody fed fed.body shown
+    → ShowsHead found place size number shown → TellsBody fed fed.body shown
 tells_decoded size number found place shown fed long there is =
     let body = is.body_is ∙ there in
     record {
@@ -89,7 +89,7 @@ tells_decoded size number found place shown fed long there is =
 -- ---- the turns of a feed
 
 -- a feed by its parts
-abbrev pub fed_of : Parts → List ℕ → Stage → ℕ → Bool → Fed
+abbrev pub fed_of : GivenParts → List ℕ → Stage → ℕ → Bool → Fed
 fed_of parts body stage requests ended = record {
   last = parts.last;
   unread = parts.unread;
@@ -99,7 +99,7 @@ fed_of parts body stage requests ended = record {
   ended = ended;
 }
 
-leaves_by : (kept parts : Parts) (content body : List ℕ) (was stage other : Stage) (requests number n : ℕ) (had ended : Bool)
+leaves_by : (kept parts : GivenParts) (content body : List ℕ) (was stage other : Stage) (requests number n : ℕ) (had ended : Bool)
     → parts ≡ held n kept → stage ≡ other
     → Leaves (fed_of kept content was requests had) (fed_of parts body stage number ended) n other number ended
 leaves_by kept parts content body was stage other requests number n had ended is same = record {
@@ -110,7 +110,7 @@ leaves_by kept parts content body was stage other requests number n had ended is
   ended_is = refl;
 }
 
-module _ (kept parts : Parts) (bytes content body : List ℕ) (was : Stage) (requests : ℕ) (had : Bool) (there : bytes ≡ kept.unread) where
+module _ (kept parts : GivenParts) (bytes content body : List ℕ) (was : Stage) (requests : ℕ) (had : Bool) (there : bytes ≡ kept.unread) where
   pub turn_refused : (fault : WireFault) (refusal : Refusal) → parts ≡ held 0 kept → refusal ≡ wire_refusal fault → IsNext bytes (refused fault)
       → Turns (fed_of kept content was requests had) (steps.Refused refusal) (fed_of parts body (Failed fault) requests had)
   turn_refused fault refusal is name next = (
@@ -122,8 +122,8 @@ module _ (kept parts : Parts) (bytes content body : List ℕ) (was : Stage) (req
     },
   )
 
-  pub turn_opened : (found : FoundHead) (size : ℕ) (place : Span) (shown : Head) → parts ≡ held found.length kept → IsMediaOpened bytes found size
-      → place ≡ no_place → IsShown found place size (requests + 1) shown
+  pub turn_opened : (found : FoundHead) (size : ℕ) (place : FeedSpan) (shown : Head) → parts ≡ held found.length kept → IsMediaOpened bytes found size
+      → place ≡ no_place → ShowsHead found place size (requests + 1) shown
       → Turns (fed_of kept content was requests had) (steps.Head shown) (fed_of parts body (Media size) (requests + 1) shown.ends)
   turn_opened found size place shown is found_it at told = record {
     head = found_it.known.head;
@@ -139,9 +139,9 @@ module _ (kept parts : Parts) (bytes content body : List ℕ) (was : Stage) (req
     apart = told.body_is ∙ at;
   }
 
-  pub turn_plain : (found : FoundHead) (size : ℕ) (place : Span) (shown : Head) → parts ≡ held (found.length + size) kept
+  pub turn_plain : (found : FoundHead) (size : ℕ) (place : FeedSpan) (shown : Head) → parts ≡ held (found.length + size) kept
       → IsContentGiven bytes (take size (drop found.length bytes)) found size → place ≡ record { start = found.length; length = size }
-      → IsShown found place size (requests + 1) shown
+      → ShowsHead found place size (requests + 1) shown
       → Turns (fed_of kept content was requests had) (steps.Whole shown) (fed_of parts body Open (requests + 1) shown.ends)
   turn_plain found size place shown is found_it at told = record {
     head = found_it.known.head;
@@ -158,9 +158,9 @@ module _ (kept parts : Parts) (bytes content body : List ℕ) (was : Stage) (req
         at told;
   }
 
-  pub turn_decoded : (found : FoundHead) (size long : ℕ) (place : Span) (shown : Head) → parts ≡ held (found.length + size) kept
+  pub turn_decoded : (found : FoundHead) (size long : ℕ) (place : FeedSpan) (shown : Head) → parts ≡ held (found.length + size) kept
       → IsContentGiven bytes body found size → place ≡ record { start = 8404993; length = long } → long ≡ length body
-      → IsShown found place long (requests + 1) shown
+      → ShowsHead found place long (requests + 1) shown
       → Turns (fed_of kept content was requests had) (steps.Whole shown) (fed_of parts body Open (requests + 1) shown.ends)
   turn_decoded found size long place shown is found_it at all told = record {
     head = found_it.known.head;

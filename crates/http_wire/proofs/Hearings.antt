@@ -3,7 +3,7 @@ use Rattle.std.proofs.Common.{◌≡◌, ℕ, zero, suc, Bool, true, false, List
 use Rattle.std.proofs.lemmas.Bool.Decides.{nat_tests}
 use Rattle.std.proofs.lemmas.List.{drop-append-le}
 use Rattle.httparse.specs.Grammar.{RequestHead}
-use Rattle.http_wire.specs.Hearing.{HeardRequests, IsHeard, HeardFrom, GoesOn, MediaGoesOn, and_then, ends_with, IsOneHearing, StaysDecided, StaysRefused, HearsOn, HearsOnMedia, EndsLast, EndsLastMedia}
+use Rattle.http_wire.specs.Hearing.{HeardRequests, IsHeard, HeardFrom, RequestAndRest, MediaGoesOn, and_then, ends_with, IsOneHearing, StaysDecided, StaysRefused, HearsOn, HearsOnMedia, EndsLast, EndsLastMedia}
 use Rattle.http_wire.specs.Heads.{Front, IsHeadBy, more, refused, whole}
 use Rattle.http_wire.specs.Lines.{head_end}
 use Rattle.http_wire.specs.Requests.{Got, IsNext, after_read, given, opened}
@@ -48,7 +48,7 @@ abbrev IsOne : (List ℕ → HeardRequests → Type 0) → Type 0
 IsOne later = (bytes : List ℕ) (heard other : HeardRequests) → later bytes heard → later bytes other → heard ≡ other
 
 goes_one : (ends : Bool) (later : List ℕ → HeardRequests → Type 0) (head : RequestHead) (body bytes : List ℕ) (heard other : HeardRequests) → IsOne later
-    → GoesOn ends later head body bytes heard → GoesOn ends later head body bytes other → heard ≡ other
+    → RequestAndRest ends later head body bytes heard → RequestAndRest ends later head body bytes other → heard ≡ other
 goes_one true later head body bytes heard other one a b = a ∙ sym b
 goes_one false later head body bytes heard other one a b =
     a.2 ∙ ap (and_then head body) (one bytes a.0 b.0 a.1 b.1) ∙ sym b.2

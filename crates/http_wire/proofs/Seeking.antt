@@ -9,7 +9,7 @@ use Rattle.http_wire.specs.Heads.{Describes, IsHead, IsHeadBy, IsOneHead, span_t
 use Rattle.http_wire.specs.Lines.{head_end, looked, max_head}
 use Rattle.http_wire.specs.Within.Seeing.{FindsHead, IsFound, IsSeeking, IsSeen}
 use Rattle.http_wire.specs.declared.head.FoundHead.{FoundHead}
-use Rattle.http_wire.specs.declared.head.Span.{Span}
+use Rattle.http_wire.specs.declared.head.FeedSpan.{FeedSpan}
 use Rattle.http_wire.specs.declared.lines.Looked.{Looked}
 use Rattle.http_wire.specs.declared.lines.Looked.TheVariants.{Ended, Still}
 use Rattle.http_wire.specs.declared.lines.Place.{Place}
@@ -45,7 +45,7 @@ pub seek_refused : (unread : List ℕ) (place : Place) → head_end unread ≡ S
 seek_refused unread place still long = rw still (refl, omega (arith, length-take max_head unread))
 
 -- a place within the head's bytes
-pub text_at-take : (bytes : List ℕ) (n : ℕ) (span : Span) → span.start + span.length ≤ n → span_text (take n bytes) span ≡ span_text bytes span
+pub text_at-take : (bytes : List ℕ) (n : ℕ) (span : FeedSpan) → span.start + span.length ≤ n → span_text (take n bytes) span ≡ span_text bytes span
 text_at-take bytes n span inside =
     let sums : span.start + (n - span.start) ≡ n = omega arith in
     let few : span.length ≤ n - span.start = omega arith in
@@ -109,7 +109,7 @@ pub IsHead_later : (bytes later : List ℕ) (head : RequestHead) (n : ℕ) → n
 IsHead_later bytes later head n inside stands = head_later_by bytes later head n (head_end bytes) inside refl stands
 
 -- bytes at a place stay
-pub text_at-append : (bytes later : List ℕ) (span : Span) → span.start + span.length ≤ length bytes
+pub text_at-append : (bytes later : List ℕ) (span : FeedSpan) → span.start + span.length ≤ length bytes
     → span_text (bytes ++ later) span ≡ span_text bytes span
 text_at-append bytes later span inside =
     let start : span.start ≤ length bytes = omega arith in

@@ -5,7 +5,7 @@ use Rattle.std.proofs.lemmas.Bool.Decides.{nat_tests}
 use Rattle.std.proofs.lemmas.List.{drop-append-le, take-append-le}
 use Rattle.std.proofs.lemmas.List.Sums.{sum_by-append}
 use Rattle.httparse.specs.Grammar.{RequestHead}
-use Rattle.http_wire.specs.Chunks.{behind_data, body_end, capped_data, chunk_data, chunked, chunks, chunks_within, ending_of, count_lines, line_size, lined_chunk, one_chunk, prefixed, sized_chunk, trailer, trailer_by}
+use Rattle.http_wire.specs.Chunks.{behind_data, body_end, capped_data, chunk_data, chunked, chunks, chunks_within, data_ending, count_lines, line_size, lined_chunk, one_chunk, prefixed, sized_chunk, trailer, trailer_by}
 use Rattle.http_wire.specs.Framing.{is_media, judge, max_body}
 use Rattle.http_wire.specs.Heads.{Front, IsHead, IsHeadBy, more, refused, whole}
 use Rattle.http_wire.specs.Lines.{behind_byte, further, head_end, line_end, looked, next_place, one_on}
@@ -67,11 +67,11 @@ one_return : (first second : Bool) → KeepsEnd (cond first Open Wrong) (cond (f
 one_return true second = tt
 one_return false second = refl
 
-closed_keeps : (bytes later : List ℕ) → KeepsEnd (ending_of bytes) (ending_of (bytes ++ later))
+closed_keeps : (bytes later : List ℕ) → KeepsEnd (data_ending bytes) (data_ending (bytes ++ later))
 closed_keeps [] later = tt
-closed_keeps (c ∷ []) [] = same_end (ending_of (c ∷ []))
+closed_keeps (c ∷ []) [] = same_end (data_ending (c ∷ []))
 closed_keeps (c ∷ []) (l ∷ later) = one_return (nat_eq c 13) (nat_eq l 10)
-closed_keeps (c ∷ l ∷ bytes) later = same_end (ending_of (c ∷ l ∷ bytes))
+closed_keeps (c ∷ l ∷ bytes) later = same_end (data_ending (c ∷ l ∷ bytes))
 
 two_inside : (both : Bool) (n k : ℕ) → cond both (Ended 2) Wrong ≡ Ended n → n ≤ suc (suc k)
 two_inside true n k e = let same : 2 ≡ n = cc in omega arith
@@ -81,7 +81,7 @@ no_end : (first : Bool) (n : ℕ) → cond first Open Wrong ≡ Ended n → n �
 no_end true n e = cc
 no_end false n e = cc
 
-closed_inside : (bytes : List ℕ) (n : ℕ) → ending_of bytes ≡ Ended n → n ≤ length bytes
+closed_inside : (bytes : List ℕ) (n : ℕ) → data_ending bytes ≡ Ended n → n ≤ length bytes
 closed_inside [] n e = cc
 closed_inside (c ∷ []) n e = no_end (nat_eq c 13) n e
 closed_inside (c ∷ l ∷ bytes) n e = two_inside (nat_eq c 13 && nat_eq l 10) n (length bytes) e
@@ -200,26 +200,26 @@ end_keeps (Ended n) after keeps = rw keeps refl
 -- ---- chunks
 
 module _ (next : List ℕ → Front (List ℕ)) (size : ℕ) (rest later : List ℕ) (stays : (r : List ℕ) → Keeps (next r) (next (r ++ later))) where
-  data_keeps : (end : Ending) → size ≤ length rest → ending_of (drop size rest) ≡ end
-      → Keeps (behind_data next size rest end) (behind_data next size (rest ++ later) (ending_of (drop size rest ++ later)))
+  data_keeps : (end : Ending) → size ≤ length rest → data_ending (drop size rest) ≡ end
+      → Keeps (behind_data next size rest end) (behind_data next size (rest ++ later) (data_ending (drop size rest ++ later)))
   data_keeps Open inside is = tt
   data_keeps Wrong inside is =
-      let keeps : KeepsEnd Wrong (ending_of (drop size rest ++ later)) = rw is at (closed_keeps (drop size rest) later) in
+      let keeps : KeepsEnd Wrong (data_ending (drop size rest ++ later)) = rw is at (closed_keeps (drop size rest) later) in
       rw keeps refl
   data_keeps (Ended m) inside is =
-      let keeps : KeepsEnd (Ended m) (ending_of (drop size rest ++ later)) = rw is at (closed_keeps (drop size rest) later) in
+      let keeps : KeepsEnd (Ended m) (data_ending (drop size rest ++ later)) = rw is at (closed_keeps (drop size rest) later) in
       let there : size + m ≤ length rest = omega (arith, closed_inside (drop size rest) m is, length-drop size rest) in
       rw (keeps, take-append-le size rest later inside, drop-append-le (size + m) rest later there)
       (keeps_prefixed (take size rest) (size + m) _ _ (stays (drop (size + m) rest)))
 
   chunk_data_by : (short : Bool) → nat_lt (length rest) size ≡ short
-      → Keeps (cond short more (behind_data next size rest (ending_of (drop size rest)))) (chunk_data next size (rest ++ later))
+      → Keeps (cond short more (behind_data next size rest (data_ending (drop size rest)))) (chunk_data next size (rest ++ later))
   chunk_data_by true is = tt
   chunk_data_by false is =
       let inside : size ≤ length rest = grind (arith, nat_tests) in
       let long : nat_lt (length (rest ++ later)) size ≡ false =
       (let sum : size ≤ length (rest ++ later) = omega (arith, length-append rest later) in search (arith, rules, nat_tests)) in
-      rw (long, drop-append-le size rest later inside) (data_keeps (ending_of (drop size rest)) inside refl)
+      rw (long, drop-append-le size rest later inside) (data_keeps (data_ending (drop size rest)) inside refl)
 
 -- ways to go on, each of which keeps what is decided
 abbrev KeepOn : (ℕ → List ℕ → Front (List ℕ)) → List ℕ → Type 0

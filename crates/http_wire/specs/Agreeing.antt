@@ -32,15 +32,15 @@ abbrev pub settled : Given → List Asked
 settled given = settled_by given.done given.media
 
 -- what may be heard of the bytes behind so many requests, unless the last one ended the connection
-abbrev pub Continues : Bool → ℕ → List ℕ → HeardRequests → Type 0
-Continues true requests bytes tail = tail ≡ nothing_heard bytes
-Continues false requests bytes tail = IsHeard (max_requests - requests) bytes tail
+abbrev pub HearsBehind : Bool → ℕ → List ℕ → HeardRequests → Type 0
+HearsBehind true requests bytes tail = tail ≡ nothing_heard bytes
+HearsBehind false requests bytes tail = IsHeard (max_requests - requests) bytes tail
 
 -- Whatever follows the bytes so far: the requests, and then what the unread bytes and those that
 -- follow spell, are what all of them spell.
 abbrev pub OpenAgrees : List ℕ → List Asked → Bool → ℕ → List ℕ → Type 0
 OpenAgrees all done ended requests unread =
-    (later : List ℕ) (tail : HeardRequests) → Continues ended requests (unread ++ later) tail
+    (later : List ℕ) (tail : HeardRequests) → HearsBehind ended requests (unread ++ later) tail
     → IsHeardOf (all ++ later) (before done tail)
 
 -- the same behind a media PUT, of whose body so many bytes are still to be handed on
@@ -48,7 +48,7 @@ abbrev pub MediaAgrees : ℕ → List ℕ → List Asked → Option Asked → Bo
 MediaAgrees left all done None ended requests unread = ⊥
 MediaAgrees left all done (Some last) ended requests unread =
     (later : List ℕ) (tail : HeardRequests) → left ≤ length (unread ++ later)
-    → Continues ended requests (drop left (unread ++ later)) tail
+    → HearsBehind ended requests (drop left (unread ++ later)) tail
     → IsHeardOf (all ++ later)
     (before done (and_then last.head (last.body ++ take left (unread ++ later)) tail))
 

@@ -85,10 +85,10 @@ prefixed content n (refused fault) = refused fault
 prefixed content n (whole body m) = whole (content ++ body) (n + m)
 
 -- the end of a chunk's data: CR LF
-abbrev pub ending_of : List ℕ → Ending
-ending_of [] = Open
-ending_of (c ∷ []) = if c == carriage_return then Open else Wrong
-ending_of (c ∷ l ∷ bytes) = if (c == carriage_return) && (l == line_feed) then Ended 2 else Wrong
+abbrev pub data_ending : List ℕ → Ending
+data_ending [] = Open
+data_ending (c ∷ []) = if c == carriage_return then Open else Wrong
+data_ending (c ∷ l ∷ bytes) = if (c == carriage_return) && (l == line_feed) then Ended 2 else Wrong
 
 -- the end of the body behind the last chunk
 abbrev pub body_end : Ending → Front (List ℕ)
@@ -105,7 +105,7 @@ behind_data next n bytes (Ended m) = prefixed (take n bytes) (n + m) (next (drop
 -- a chunk's data of so many bytes, and what stands behind the chunk
 abbrev pub chunk_data : (List ℕ → Front (List ℕ)) → ℕ → List ℕ → Front (List ℕ)
 chunk_data next n bytes =
-    if nat_lt (length bytes) n then more else behind_data next n bytes (ending_of (drop n bytes))
+    if nat_lt (length bytes) n then more else behind_data next n bytes (data_ending (drop n bytes))
 
 -- a chunk by its size, whose line has so many bytes: the last one, or one with data, after which
 -- the others have so much less room

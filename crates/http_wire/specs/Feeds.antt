@@ -6,12 +6,12 @@ use Rattle.http_wire.specs.Heads.{IsHead, more, refused, span_text, whole}
 use Rattle.http_wire.specs.Requests.{IsNext, given, opened}
 use Rattle.http_wire.specs.Steps.{wire_refusal}
 use Rattle.http_wire.specs.declared.framing.WireFault.{WireFault}
-use Rattle.http_wire.specs.declared.head.Span.{Span}
+use Rattle.http_wire.specs.declared.head.FeedSpan.{FeedSpan}
 use Rattle.http_wire.specs.declared.stage.Head.{Head}
 use Rattle.http_wire.specs.declared.stage.Stage.{Stage}
 use Rattle.http_wire.specs.declared.stage.Stage.TheVariants.{Failed, Media, Open}
-use Rattle.http_wire.specs.declared.stage.Step.{Step}
-use Rattle.http_wire.specs.declared.stage.Step.TheVariants as steps
+use Rattle.http_wire.specs.declared.stage.FeedStep.{FeedStep}
+use Rattle.http_wire.specs.declared.stage.FeedStep.TheVariants as steps
 
 -- What a feed is seen as: the bytes of the request that was given last, or of the head of a media
 -- PUT; the bytes behind them, which weren't given yet; the data of a chunked body; the stage; the
@@ -71,28 +71,28 @@ handed_on fed n = record fed { unread = drop n fed.unread; stage = less_by n fed
 
 -- Whether a place is in the bytes of the last request. Otherwise it is in the data of its chunked
 -- body, which is counted from the most bytes that a feed keeps.
-abbrev pub is_kept_place : Span → Bool
+abbrev pub is_kept_place : FeedSpan → Bool
 is_kept_place span = nat_lt span.start feed_room
 
 -- the same place, counted from the front of the data
-abbrev pub body_place : Span → Span
+abbrev pub body_place : FeedSpan → FeedSpan
 body_place span = record { start = span.start - feed_room; length = span.length }
 
 -- a place lies in bytes
-abbrev pub IsInside : Span → List ℕ → Type 0
+abbrev pub IsInside : FeedSpan → List ℕ → Type 0
 IsInside span bytes = span.start + span.length ≤ length bytes
 
 -- a place is one of the feed's, by where it is
-abbrev pub IsPlaceBy : Bool → Fed → Span → Type 0
+abbrev pub IsPlaceBy : Bool → Fed → FeedSpan → Type 0
 IsPlaceBy true fed span = IsInside span fed.last
 IsPlaceBy false fed span = IsInside (body_place span) fed.body
 
 -- a place is one of the feed's
-abbrev pub IsPlace : Fed → Span → Type 0
+abbrev pub IsPlace : Fed → FeedSpan → Type 0
 IsPlace fed span = IsPlaceBy (is_kept_place span) fed span
 
 -- the bytes at a place
-abbrev pub span_bytes : Fed → Span → List ℕ
+abbrev pub span_bytes : Fed → FeedSpan → List ℕ
 span_bytes fed span =
     if is_kept_place span then span_text fed.last span else span_text fed.body (body_place span)
 
@@ -126,7 +126,7 @@ pub record TellsBody (fed : Fed) (body : List ℕ) (shown : Head) : Type 0 where
   pub content : span_bytes fed shown.body ≡ body
 
 -- the place of no bytes
-abbrev pub no_place : Span
+abbrev pub no_place : FeedSpan
 no_place = record { start = 0; length = 0 }
 
 -- a media PUT is given at its head, and its body is handed on apart
@@ -161,7 +161,7 @@ pub record Waits (old new : Fed) : Type 0 where
   pub leaves : Leaves old new 0 Open old.requests old.ended
 
 -- an answer to the question for the next request, where nothing was refused
-abbrev pub Turns : Fed → Step → Fed → Type 0
+abbrev pub Turns : Fed → FeedStep → Fed → Type 0
 Turns old steps.More new = Waits old new
 Turns old (steps.Head shown) new = GivesHead old new shown
 Turns old (steps.Whole shown) new = GivesWhole old new shown
@@ -169,17 +169,17 @@ Turns old (steps.Refused refusal) new =
     (fault : WireFault) × (refusal ≡ wire_refusal fault) × Refuses old new fault
 
 -- what was refused stays so, and nothing changes
-abbrev pub Stays : Fed → WireFault → Step → Fed → Type 0
+abbrev pub Stays : Fed → WireFault → FeedStep → Fed → Type 0
 Stays old fault step new = (step ≡ steps.Refused (wire_refusal fault)) × (new ≡ old)
 
 -- the answer by the stage
-abbrev pub AnswersBy : Stage → Fed → Step → Fed → Type 0
+abbrev pub AnswersBy : Stage → Fed → FeedStep → Fed → Type 0
 AnswersBy Open old step new = Turns old step new
 AnswersBy (Media left) old step new = Turns old step new
 AnswersBy (Failed fault) old step new = Stays old fault step new
 
 -- what a feed answers to the question for the next request
-abbrev pub StepsTo : Fed → Step → Fed → Type 0
+abbrev pub StepsTo : Fed → FeedStep → Fed → Type 0
 StepsTo old step new = AnswersBy old.stage old step new
 
 -- The head at the front of the unread bytes is whole, none of the five refusals stands in it, and

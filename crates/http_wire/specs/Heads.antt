@@ -8,7 +8,7 @@ use Rattle.http_wire.specs.declared.framing.WireFault.{WireFault}
 use Rattle.http_wire.specs.declared.framing.WireFault.TheVariants.{BadHead}
 use Rattle.http_wire.specs.declared.lines.Looked.{Looked}
 use Rattle.http_wire.specs.declared.lines.Looked.TheVariants.{Ended, Still}
-use Rattle.http_wire.specs.declared.head.Span.{Span}
+use Rattle.http_wire.specs.declared.head.FeedSpan.{FeedSpan}
 use Rattle.http_wire.specs.declared.head.FoundHead.{FoundHead}
 
 -- What stands at the front of bytes: nothing whole as yet, a refusal, or a thing and the number of
@@ -43,7 +43,7 @@ abbrev pub IsHead : List ℕ → Front RequestHead → Type 0
 IsHead bytes front = IsHeadBy (head_end bytes) bytes front
 
 -- the bytes at a place
-abbrev pub span_text : List ℕ → Span → List ℕ
+abbrev pub span_text : List ℕ → FeedSpan → List ℕ
 span_text bytes span = take span.length (drop span.start bytes)
 
 -- what is told of a head that stands in bytes

@@ -41,11 +41,11 @@ abbrev pub ends_with : ℕ → RequestHead → Bool
 ends_with left head = ends_connection head || left == 0
 
 -- a request, and what is heard of the bytes behind it unless it ends the connection
-abbrev pub GoesOn
+abbrev pub RequestAndRest
     : Bool → (List ℕ → HeardRequests → Type 0) → RequestHead → List ℕ → List ℕ
     → HeardRequests → Type 0
-GoesOn true later head body bytes heard = heard ≡ and_then head body (nothing_heard bytes)
-GoesOn false later head body bytes heard =
+RequestAndRest true later head body bytes heard = heard ≡ and_then head body (nothing_heard bytes)
+RequestAndRest false later head body bytes heard =
     (tail : HeardRequests) × later bytes tail × (heard ≡ and_then head body tail)
 
 -- the same of a media PUT, whose body may not be whole
@@ -54,7 +54,7 @@ abbrev pub MediaGoesOn
     → HeardRequests → Type 0
 MediaGoesOn true ends later head size all bytes heard = heard ≡ nothing_heard all
 MediaGoesOn false ends later head size all bytes heard =
-    GoesOn ends later head (take size bytes) (drop size bytes) heard
+    RequestAndRest ends later head (take size bytes) (drop size bytes) heard
 
 -- what is heard, by what stands at the front
 abbrev pub HeardFrom
@@ -62,7 +62,7 @@ abbrev pub HeardFrom
 HeardFrom left later bytes more heard = heard ≡ nothing_heard bytes
 HeardFrom left later bytes (refused fault) heard = heard ≡ stopped_by fault bytes
 HeardFrom left later bytes (whole (given head body) n) heard =
-    GoesOn (ends_with left head) later head body (drop n bytes) heard
+    RequestAndRest (ends_with left head) later head body (drop n bytes) heard
 HeardFrom left later bytes (whole (opened head size) n) heard =
     MediaGoesOn (nat_lt (length (drop n bytes)) size) (ends_with left head) later head size bytes
     (drop n bytes) heard

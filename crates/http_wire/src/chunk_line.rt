@@ -1,6 +1,6 @@
 //! The line before a chunk, and the trailer behind the last one (RFC 9112, section 7.1).
 ghost use Rattle.std.specs.Prelude.{◌≡◌, ◌≤◌, IfSome, None, length, take};
-ghost use Rattle.http_wire.specs.Chunks.{ending_of, count_lines, line_size, trailer, trailer_by};
+ghost use Rattle.http_wire.specs.Chunks.{data_ending, count_lines, line_size, trailer, trailer_by};
 ghost use Rattle.http_wire.specs.Within.Lines.{IsEndedIn};
 ghost use Rattle.http_wire.specs.Lines.{line_end};
 
@@ -66,7 +66,7 @@ pub(crate) fn read_size(line: &[u8]) -> Option<u64>
 
 /// The end of a chunk's data: CR LF.
 pub(crate) fn closed(bytes: &[u8]) -> Ending
-    ensures { result ≡ ending_of bytes.now }
+    ensures { result ≡ data_ending bytes.now }
 {
     match bytes {
         [] => Ending::Open,

@@ -1,15 +1,15 @@
 //! A feed cuts the bytes of a connection into requests, in whatever pieces they come.
 ghost use Rattle.std.specs.Prelude.{◌≡◌, ◌-◌, ◌+◌, ◌++◌, ◌↔◌, ◌≤◌, [], IfOk, IsFalse, IsTrue, drop, length, min, take};
 ghost use Rattle.http_wire.specs.Feeds.{StepsTo, IsInterimDue, IsPlace, span_bytes, feed_room, handed_on, heard, is_last_request, kept_count, left_of, new_feed};
-ghost use Rattle.http_wire.specs.Within.Seeing.{IsShown, KnowsHead};
+ghost use Rattle.http_wire.specs.Within.Seeing.{ShowsHead, KnowsHead};
 
 use crate::framing::BODY_ROOM;
 use crate::front::{NextFound, find_next};
-use crate::head::{FoundHead, Span};
+use crate::head::{FeedSpan, FoundHead};
 use crate::kept::{KEPT_ROOM, Kept};
 use crate::lines::{Place, front, part};
 use crate::seek::{HeadFound, Seen, seek};
-use crate::stage::{Head, Stage, Step};
+use crate::stage::{FeedStep, Head, Stage};
 use disk_trait::Memory;
 use std::alloc::Global;
 use std::marker::Model;
@@ -18,7 +18,7 @@ use std::marker::Model;
 const MAX_REQUESTS: u64 = 1_000_000;
 
 /// No bytes.
-const NO_PLACE: Span = Span {
+const NO_PLACE: FeedSpan = FeedSpan {
     start: 0,
     length: 0,
 };
@@ -119,13 +119,13 @@ impl Feed {
 
     /// The next request, the head of the next media PUT, or a refusal of the wire, where one stands in the
     /// bytes so far. It takes no memory.
-    pub fn next_request(&mut self) -> Step
+    pub fn next_request(&mut self) -> FeedStep
         requires handed_on { left_of self.old.stage ≡ 0 }
         requires goes_on { IsFalse self.old.ended }
         ensures { StepsTo self.old result self.new }
     {
         if let Stage::Failed(fault) = self.stage {
-            return Step::Refused(fault.refusal());
+            return FeedStep::Refused(fault.refusal());
         }
         let next = find_next(self.kept.unread(), self.seen, &mut self.body);
         self.seen = UNSEEN;
@@ -134,12 +134,12 @@ impl Feed {
             NextFound::More(seen) => {
                 self.kept.hold(0);
                 self.seen = seen;
-                Step::More
+                FeedStep::More
             }
             NextFound::Refused(fault) => {
                 self.kept.hold(0);
                 self.stage = Stage::Failed(fault);
-                Step::Refused(fault.refusal())
+                FeedStep::Refused(fault.refusal())
             }
             NextFound::Opened(found, size) => {
                 self.kept.hold(found.length);
@@ -147,27 +147,27 @@ impl Feed {
                 self.requests += 1;
                 let head = show(&found, NO_PLACE, size, self.requests);
                 self.ended = head.ends;
-                Step::Head(head)
+                FeedStep::Head(head)
             }
             NextFound::Plain(found, size) => {
                 self.kept.hold(found.length + size);
                 self.requests += 1;
                 let head = show_plain(&found, size, self.requests);
                 self.ended = head.ends;
-                Step::Whole(head)
+                FeedStep::Whole(head)
             }
             NextFound::Decoded(found, size) => {
                 self.kept.hold(found.length + size);
                 self.requests += 1;
                 let head = show_decoded(&found, self.body.len(), self.requests);
                 self.ended = head.ends;
-                Step::Whole(head)
+                FeedStep::Whole(head)
             }
         }
     }
 
     /// The bytes at a place of the last head.
-    pub fn bytes(&self, span: Span) -> &[u8]
+    pub fn bytes(&self, span: FeedSpan) -> &[u8]
         requires { IsPlace self.now span }
         ensures { result.now ≡ span_bytes self.now span }
     {
@@ -228,8 +228,8 @@ fn write_front(out: &mut [u8], bytes: &[u8])
 }
 
 /// The head of the so many-th request, as it is shown.
-fn show(found: &FoundHead, body: Span, length: u64, number: u64) -> Head
-    ensures { IsShown found.now body length number result }
+fn show(found: &FoundHead, body: FeedSpan, length: u64, number: u64) -> Head
+    ensures { ShowsHead found.now body length number result }
 {
     Head {
         method: found.method,
@@ -243,10 +243,10 @@ fn show(found: &FoundHead, body: Span, length: u64, number: u64) -> Head
 
 /// The same, with a body of so many bytes behind the head.
 fn show_plain(found: &FoundHead, size: usize, number: u64) -> Head
-    ensures { IsShown found.now (record { start = found.now.length; length = size }) size number
+    ensures { ShowsHead found.now (record { start = found.now.length; length = size }) size number
         result }
 {
-    let place = Span {
+    let place = FeedSpan {
         start: found.length,
         length: size,
     };
@@ -255,9 +255,9 @@ fn show_plain(found: &FoundHead, size: usize, number: u64) -> Head
 
 /// The same, with a decoded body of so many bytes.
 fn show_decoded(found: &FoundHead, size: usize, number: u64) -> Head
-    ensures { IsShown found.now (record { start = feed_room; length = size }) size number result }
+    ensures { ShowsHead found.now (record { start = feed_room; length = size }) size number result }
 {
-    let place = Span {
+    let place = FeedSpan {
         start: KEPT_ROOM,
         length: size,
     };

@@ -24,7 +24,7 @@ pub enum MethodKind {
 
 /// A place in the bytes of a feed.
 #[derive(Clone, Copy, Debug, PartialEq, Eq)]
-pub struct Span {
+pub struct FeedSpan {
     pub start: usize,
     pub length: usize,
 }
@@ -35,7 +35,7 @@ pub(crate) struct FoundHead {
     /// The number of the head's bytes.
     pub(crate) length: usize,
     pub(crate) method: MethodKind,
-    pub(crate) target: Span,
+    pub(crate) target: FeedSpan,
     /// A PUT to a target that begins with `/media/`.
     pub(crate) is_media: bool,
     pub(crate) framing: Result<Framing, WireFault>,
@@ -87,7 +87,7 @@ fn describe(bytes: &[u8], headers: &[HeaderSpan], spans: &RequestSpans) -> Found
     FoundHead {
         length: spans.len,
         method: method_kind(method),
-        target: Span {
+        target: FeedSpan {
             start: spans.path.start,
             length: spans.path.end - spans.path.start,
         },

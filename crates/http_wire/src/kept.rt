@@ -29,10 +29,10 @@ pub(crate) struct Kept {
 impl Model for Kept {
     ghost use Rattle.std.specs.Prelude.{◌+◌, ◌-◌, ◌≤◌, drop, take, vec_len};
     ghost use Rattle.std.specs.Vec.{vec_capacity};
-    ghost use Rattle.http_wire.specs.Parts.{Parts};
+    ghost use Rattle.http_wire.specs.Parts.{GivenParts};
     ghost use Rattle.http_wire.specs.declared.kept.TheConstants.{BUFFER_ROOM, KEPT_ROOM};
 
-    ghost Value = { Parts };
+    ghost Value = { GivenParts };
 
     ghost view = { λ k. record {
       last = take k.taken (drop k.start k.bytes.items);

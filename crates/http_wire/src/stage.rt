@@ -3,7 +3,7 @@ ghost use Rattle.std.specs.Prelude.{◌≡◌};
 ghost use Rattle.http_wire.specs.Steps.{wire_refusal};
 
 use crate::framing::WireFault;
-use crate::head::{MethodKind, Span};
+use crate::head::{FeedSpan, MethodKind};
 use media_rows::Refusal;
 
 /// Where a feed stands between two calls.
@@ -22,9 +22,9 @@ pub(crate) enum Stage {
 pub struct Head {
     pub method: MethodKind,
     /// The target, as it was sent.
-    pub target: Span,
+    pub target: FeedSpan,
     /// The decoded body; empty where it is handed on apart.
-    pub body: Span,
+    pub body: FeedSpan,
     /// The length of the body in bytes.
     pub length: u64,
     /// An interim response is due before the answer (RFC 9110, section 10.1.1).
@@ -35,7 +35,7 @@ pub struct Head {
 
 /// What a feed answers.
 #[derive(Drop)]
-pub enum Step {
+pub enum FeedStep {
     /// No whole request, no whole head of a media PUT and no fault stands in the bytes so far.
     More,
     /// A media PUT, whose body is handed on apart.

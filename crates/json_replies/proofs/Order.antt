@@ -6,11 +6,11 @@ use Rattle.std.proofs.lemmas.Bool.{and_parts}
 use Rattle.json.specs.Token.{Token}
 use Rattle.media_rows.specs.Lists.{text_before, rises}
 use Rattle.media_rows.specs.declared.flow.Tag.{Tag}
-use Rattle.json_replies.specs.Shapes.{Member, name_if, keys_of}
+use Rattle.json_replies.specs.Shapes.{ObjectMember, name_if, keys_of}
 use Rattle.json_replies.specs.Values.{tag_member}
 
 -- the names of all members
-abbrev names : List Member → List (List ℕ)
+abbrev names : List ObjectMember → List (List ℕ)
 names members = map (λ m. m.name) members
 
 -- a name passes where it is there, and so do those behind it
@@ -20,7 +20,7 @@ pass_if test name None rest h k = k
 pass_if test name (Some value) rest h k = ap₂ (λ a b. a && b) h k
 
 -- what holds of all names holds of those that are there
-keys_pass : (test : List ℕ → Bool) (members : List Member) → list_all test (names members) ≡ true → list_all test (keys_of members) ≡ true
+keys_pass : (test : List ℕ → Bool) (members : List ObjectMember) → list_all test (names members) ≡ true → list_all test (keys_of members) ≡ true
 keys_pass test [] h = refl
 keys_pass test (m ∷ ms) h =
     let both = and_parts (test m.name) (list_all test (names ms)) h in pass_if test m.name m.value (keys_of ms) both.0 (keys_pass test ms both.1)
@@ -32,7 +32,7 @@ rise_if name None rest h k = k
 rise_if name (Some value) rest h k = ap₂ (λ a b. a && b) h k
 
 -- the names that are there rise where all names do
-pub keys_rise : (members : List Member) → rises text_before (names members) ≡ true → rises text_before (keys_of members) ≡ true
+pub keys_rise : (members : List ObjectMember) → rises text_before (names members) ≡ true → rises text_before (keys_of members) ≡ true
 keys_rise [] h = refl
 keys_rise (m ∷ ms) h =
     let both = and_parts (list_all (text_before m.name) (names ms)) (rises text_before (names ms)) h in

@@ -12,7 +12,7 @@ use Rattle.media_rows.specs.declared.segment.Segment.{Segment}
 use Rattle.media_rows.specs.declared.source.SourceRow.{SourceRow}
 use Rattle.json_replies.specs.Replies.{refusal_members, service_members}
 use Rattle.json_replies.specs.Rows.{source_members, flow_members, get_url_members, segment_members, object_members, put_url_members, allocated_members, storage_members, request_members, hook_members}
-use Rattle.json_replies.specs.Shapes.{AreInOrder}
+use Rattle.json_replies.specs.Shapes.{HasRisingKeys}
 use Rattle.json_replies.specs.Values.{collected_members, tag_member}
 
 -- tags rise by name, as those of a kept flow or source do
@@ -21,18 +21,18 @@ AreTagsInOrder tags = IsTrue (rises (λ a b. text_before a.name b.name) tags)
 
 -- each object's keys rise; those of the object of tags do where its tags rise by name
 pub record KeysRise : Type 0 where
-  pub service : (store : ℕ) → AreInOrder (service_members store)
-  pub source : (row : SourceRow) → AreInOrder (source_members row)
-  pub flow : (flow : FlowShown) → AreInOrder (flow_members flow)
-  pub collected : (m : Member) → AreInOrder (collected_members m)
-  pub tags : (tags : List Tag) → AreTagsInOrder tags → AreInOrder (map tag_member tags)
-  pub segment : (base : List ℕ) (segment : Segment) → AreInOrder (segment_members base segment)
-  pub get_url : (base object : List ℕ) → AreInOrder (get_url_members base object)
-  pub object : (row : ObjectRow) (flows : List ℕ) → AreInOrder (object_members row flows)
-  pub put_url : (base object : List ℕ) → AreInOrder (put_url_members base object)
-  pub allocated : (base object : List ℕ) → AreInOrder (allocated_members base object)
+  pub service : (store : ℕ) → HasRisingKeys (service_members store)
+  pub source : (row : SourceRow) → HasRisingKeys (source_members row)
+  pub flow : (flow : FlowShown) → HasRisingKeys (flow_members flow)
+  pub collected : (m : Member) → HasRisingKeys (collected_members m)
+  pub tags : (tags : List Tag) → AreTagsInOrder tags → HasRisingKeys (map tag_member tags)
+  pub segment : (base : List ℕ) (segment : Segment) → HasRisingKeys (segment_members base segment)
+  pub get_url : (base object : List ℕ) → HasRisingKeys (get_url_members base object)
+  pub object : (row : ObjectRow) (flows : List ℕ) → HasRisingKeys (object_members row flows)
+  pub put_url : (base object : List ℕ) → HasRisingKeys (put_url_members base object)
+  pub allocated : (base object : List ℕ) → HasRisingKeys (allocated_members base object)
   pub storage :
-      (base : List ℕ) (objects : List (List ℕ)) → AreInOrder (storage_members base objects)
-  pub request : (store : ℕ) (row : DeleteRow) → AreInOrder (request_members store row)
-  pub hook : (shown : HookShown) → AreInOrder (hook_members shown)
-  pub refusal : (refusal : Refusal) → AreInOrder (refusal_members refusal)
+      (base : List ℕ) (objects : List (List ℕ)) → HasRisingKeys (storage_members base objects)
+  pub request : (store : ℕ) (row : DeleteRow) → HasRisingKeys (request_members store row)
+  pub hook : (shown : HookShown) → HasRisingKeys (hook_members shown)
+  pub refusal : (refusal : Refusal) → HasRisingKeys (refusal_members refusal)

@@ -15,7 +15,7 @@ use Rattle.media_rows.specs.declared.reply.View.{View}
 use Rattle.media_rows.specs.declared.reply.View.TheVariants as views
 use Rattle.time_range.specs.Printing.{canonical_range_text}
 use Rattle.json_replies.specs.Rows.{source_value, flow_value, segment_value, object_value, storage_value, request_value, hook_value}
-use Rattle.json_replies.specs.Shapes.{string_value, number_value, truth_value, list_tokens, object_tokens, Member, always, where_set}
+use Rattle.json_replies.specs.Shapes.{string_value, number_value, truth_value, list_tokens, object_tokens, ObjectMember, always, where_set}
 use Rattle.json_replies.specs.Values.{id_value, tag_value, tags_value, collection_value}
 
 -- ---- refusals
@@ -56,7 +56,7 @@ refusal_detail refusals.JournalFull = None
 refusal_detail refusals.MediaFull = None
 
 -- the members of a refusal
-abbrev pub refusal_members : Refusal → List Member
+abbrev pub refusal_members : Refusal → List ObjectMember
 refusal_members refusal =
     where_set (codes "detail") string_value (refusal_detail refusal)
     ∷ always (codes "type") (string_value (refusal_name refusal))
@@ -92,7 +92,7 @@ root_names =
     ∷ codes "sources" ∷ []
 
 -- the members of the service: the store's id and its type
-abbrev pub service_members : ℕ → List Member
+abbrev pub service_members : ℕ → List ObjectMember
 service_members store =
     always (codes "store_id") (id_value store)
     ∷ always (codes "type") (string_value (codes "tams-profile-1"))

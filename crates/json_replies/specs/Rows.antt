@@ -15,13 +15,13 @@ use Rattle.media_rows.specs.declared.segment.Segment.{Segment}
 use Rattle.media_rows.specs.declared.segment.SegmentRow.{SegmentRow}
 use Rattle.media_rows.specs.declared.source.SourceRow.{SourceRow}
 use Rattle.json_replies.specs.Addresses.{media_address}
-use Rattle.json_replies.specs.Shapes.{string_value, number_value, truth_value, list_tokens, object_tokens, Member, always, where_set, where_any}
+use Rattle.json_replies.specs.Shapes.{string_value, number_value, truth_value, list_tokens, object_tokens, ObjectMember, always, where_set, where_any}
 use Rattle.json_replies.specs.Values.{id_value, moment_value, stamp_value, range_value, format_value, event_value, status_value, hook_status_value, kept_value, tags_value, collection_value}
 
 -- ---- sources
 
 -- the members of a source
-abbrev pub source_members : SourceRow → List Member
+abbrev pub source_members : SourceRow → List ObjectMember
 source_members row =
     always (codes "created") (moment_value row.created)
     ∷ where_set (codes "description") string_value row.description
@@ -39,7 +39,7 @@ source_value row = object_tokens (source_members row)
 -- ---- flows
 
 -- the first members of a flow: its rate, its codec, its making and its description
-abbrev pub flow_first : FlowRow → List Member
+abbrev pub flow_first : FlowRow → List ObjectMember
 flow_first row =
     where_set (codes "avg_bit_rate") number_value row.body.avg_bit_rate
     ∷ where_set (codes "codec") string_value row.body.codec
@@ -50,7 +50,7 @@ flow_first row =
     ∷ []
 
 -- the next: what it collects, what it is and its last change
-abbrev pub flow_middle : FlowRow → List Member
+abbrev pub flow_middle : FlowRow → List ObjectMember
 flow_middle row =
     where_any (codes "flow_collection") collection_value row.body.members
     ∷ always (codes "format") (format_value row.body.format)
@@ -61,7 +61,7 @@ flow_middle row =
     ∷ []
 
 -- the last: the mark, its segments, its source and its tags
-abbrev pub flow_last : FlowShown → List Member
+abbrev pub flow_last : FlowShown → List ObjectMember
 flow_last flow =
     always (codes "read_only") (truth_value flow.row.body.read_only)
     ∷ where_set (codes "segments_updated") moment_value flow.row.segments_updated
@@ -71,7 +71,7 @@ flow_last flow =
     ∷ []
 
 -- the members of a flow
-abbrev pub flow_members : FlowShown → List Member
+abbrev pub flow_members : FlowShown → List ObjectMember
 flow_members flow = flow_first flow.row ++ (flow_middle flow.row ++ flow_last flow)
 
 -- a flow, with the hull of its segments
@@ -81,7 +81,7 @@ flow_value flow = object_tokens (flow_members flow)
 -- ---- segments
 
 -- where the media of an object are got
-abbrev pub get_url_members : List ℕ → List ℕ → List Member
+abbrev pub get_url_members : List ℕ → List ℕ → List ObjectMember
 get_url_members base object = always (codes "url") (string_value (media_address base object)) ∷ []
 
 -- the one such address of an object
@@ -89,7 +89,7 @@ abbrev pub get_url_value : List ℕ → List ℕ → List Token
 get_url_value base object = object_tokens (get_url_members base object)
 
 -- the members of a segment
-abbrev pub segment_members : List ℕ → Segment → List Member
+abbrev pub segment_members : List ℕ → Segment → List ObjectMember
 segment_members base segment =
     always (codes "get_urls") (list_tokens (get_url_value base) (segment.object ∷ []))
     ∷ where_set (codes "key_frame_count") number_value segment.key_frames
@@ -113,7 +113,7 @@ stored_length Allocated = None
 stored_length (Stored start size) = Some size
 
 -- the members of an object, with the flows that refer to it
-abbrev pub object_members : ObjectRow → List ℕ → List Member
+abbrev pub object_members : ObjectRow → List ℕ → List ObjectMember
 object_members row flows =
     where_set (codes "length") number_value (stored_length row.state)
     ∷ always (codes "object_id") (string_value row.id)
@@ -128,14 +128,14 @@ object_value row flows = object_tokens (object_members row flows)
 -- ---- storage
 
 -- where the media of an object are put
-abbrev pub put_url_members : List ℕ → List ℕ → List Member
+abbrev pub put_url_members : List ℕ → List ℕ → List ObjectMember
 put_url_members base object =
     always (codes "content-type") (string_value (codes "application/octet-stream"))
     ∷ always (codes "url") (string_value (media_address base object))
     ∷ []
 
 -- the members of an allocated object
-abbrev pub allocated_members : List ℕ → List ℕ → List Member
+abbrev pub allocated_members : List ℕ → List ℕ → List ObjectMember
 allocated_members base object =
     always (codes "object_id") (string_value object)
     ∷ always (codes "put_url") (object_tokens (put_url_members base object))
@@ -146,7 +146,7 @@ unfoldable pub allocated_value : List ℕ → List ℕ → List Token
 allocated_value base object = object_tokens (allocated_members base object)
 
 -- the one member of what an allocation answers
-abbrev pub storage_members : List ℕ → List (List ℕ) → List Member
+abbrev pub storage_members : List ℕ → List (List ℕ) → List ObjectMember
 storage_members base objects =
     always (codes "media_objects") (list_tokens (allocated_value base) objects) ∷ []
 
@@ -161,7 +161,7 @@ unfoldable pub request_id : ℕ → ℕ → List ℕ
 request_id store serial = id_text store ++ 45 ∷ decimal serial
 
 -- the members of a delete request
-abbrev pub request_members : ℕ → DeleteRow → List Member
+abbrev pub request_members : ℕ → DeleteRow → List ObjectMember
 request_members store row =
     always (codes "created") (moment_value row.created)
     ∷ always (codes "delete_flow") (truth_value row.delete_flow)
@@ -179,7 +179,7 @@ request_value store row = object_tokens (request_members store row)
 -- ---- hooks
 
 -- the members of a hook, with the number of its waiting events; the value of its key isn't shown
-abbrev pub hook_members : HookShown → List Member
+abbrev pub hook_members : HookShown → List ObjectMember
 hook_members shown =
     where_set (codes "api_key_name") string_value shown.row.hook.key_name
     ∷ always (codes "events") (list_tokens event_value shown.row.hook.events)

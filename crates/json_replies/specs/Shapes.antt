@@ -30,16 +30,16 @@ list_tokens value xs = begin_array ∷ flat_map value xs ++ end_array ∷ []
 -- ---- members of an object
 
 -- a member's name, and its value where it is there
-pub record Member : Type 0 where
+pub record ObjectMember : Type 0 where
   pub name : List ℕ
   pub value : Option (List Token)
 
 -- a member that is always there
-abbrev pub always : List ℕ → List Token → Member
+abbrev pub always : List ℕ → List Token → ObjectMember
 always name value = record { name = name; value = Some value }
 
 -- a member that is there where it is set
-abbrev pub where_set : {X : Type 0} → List ℕ → (X → List Token) → Option X → Member
+abbrev pub where_set : {X : Type 0} → List ℕ → (X → List Token) → Option X → ObjectMember
 where_set name value x = record { name = name; value = option_map value x }
 
 -- the value of some items, where there is one
@@ -48,7 +48,7 @@ if_any value [] = None
 if_any value (x ∷ xs) = Some (value (x ∷ xs))
 
 -- a member that is there where it has an item
-abbrev pub where_any : {X : Type 0} → List ℕ → (List X → List Token) → List X → Member
+abbrev pub where_any : {X : Type 0} → List ℕ → (List X → List Token) → List X → ObjectMember
 where_any name value xs = record { name = name; value = if_any value xs }
 
 -- the tokens of a name with its value
@@ -57,15 +57,15 @@ named_tokens name None = []
 named_tokens name (Some value) = key name ∷ value
 
 -- the tokens of a member: none where it isn't there
-unfoldable pub member_tokens : Member → List Token
+unfoldable pub member_tokens : ObjectMember → List Token
 member_tokens m = named_tokens m.name m.value
 
 -- the tokens of members, in their order
-abbrev pub members_tokens : List Member → List Token
+abbrev pub members_tokens : List ObjectMember → List Token
 members_tokens members = flat_map member_tokens members
 
 -- an object with these members
-abbrev pub object_tokens : List Member → List Token
+abbrev pub object_tokens : List ObjectMember → List Token
 object_tokens members = begin_object ∷ members_tokens members ++ end_object ∷ []
 
 -- a member's name, where the member is there
@@ -74,9 +74,9 @@ name_if name None = []
 name_if name (Some value) = name ∷ []
 
 -- the names of the members that are there, which are the keys of their object, in order
-abbrev pub keys_of : List Member → List (List ℕ)
+abbrev pub keys_of : List ObjectMember → List (List ℕ)
 keys_of members = flat_map (λ m. name_if m.name m.value) members
 
 -- the keys of an object with these members rise, byte by byte, and so each stands once
-abbrev pub AreInOrder : List Member → Type 0
-AreInOrder members = IsTrue (rises text_before (keys_of members))
+abbrev pub HasRisingKeys : List ObjectMember → Type 0
+HasRisingKeys members = IsTrue (rises text_before (keys_of members))

@@ -8,12 +8,12 @@ use Rattle.media_rows.specs.Ids.{id_text}
 use Rattle.media_rows.specs.Moments.{moment_text}
 use Rattle.media_rows.specs.declared.event.EventKind.{EventKind}
 use Rattle.media_rows.specs.declared.flow.FormatKind.{FormatKind}
-use Rattle.media_rows.specs.declared.flow.Member.{Member as Collected}
+use Rattle.media_rows.specs.declared.flow.Member.{ObjectMember as Collected}
 use Rattle.media_rows.specs.declared.flow.Tag.{Tag}
 use Rattle.media_rows.specs.declared.request.DeleteStatus.{DeleteStatus}
 use Rattle.time_range.specs.Printing.{canonical_ts_text, canonical_range_text}
 use Rattle.time_range.specs.declared.ranges.Span.{Span}
-use Rattle.json_replies.specs.Shapes.{string_value, list_tokens, object_tokens, Member, always, where_set}
+use Rattle.json_replies.specs.Shapes.{string_value, list_tokens, object_tokens, ObjectMember, always, where_set}
 
 -- the id of a source, a flow or the store
 abbrev pub id_value : ℕ → List Token
@@ -60,7 +60,7 @@ abbrev pub tag_value : Tag → List Token
 tag_value tag = value_lists tag.single tag.values
 
 -- a tag as a member of the object of tags
-abbrev pub tag_member : Tag → Member
+abbrev pub tag_member : Tag → ObjectMember
 tag_member tag = always tag.name (tag_value tag)
 
 -- tags, in their order
@@ -68,7 +68,7 @@ abbrev pub tags_value : List Tag → List Token
 tags_value tags = object_tokens (map tag_member tags)
 
 -- the members of a flow that another one collects
-abbrev pub collected_members : Collected → List Member
+abbrev pub collected_members : Collected → List ObjectMember
 collected_members m =
     always (codes "id") (id_value m.flow)
     ∷ where_set (codes "role") string_value m.role

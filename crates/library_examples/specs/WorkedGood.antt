@@ -43,8 +43,8 @@ abbrev pub naming_object : List ℕ → SegmentRow
 naming_object object = record { flow = first_flow; serial = 4; segment = piece_of object 10 20 }
 
 -- the studio with other objects
-abbrev pub with_objects : List ObjectRow → Library
-with_objects objects = record studio { objects = objects }
+abbrev pub studio_with_objects : List ObjectRow → Library
+studio_with_objects objects = record studio { objects = objects }
 
 -- the studio with other flows
 abbrev pub with_flows : List FlowRow → Library
@@ -96,7 +96,8 @@ pub record BadExtents : Type 0 where
   pub no_bytes : are_extents_good 46 (at 1 0 ∷ []) ≡ false
   pub no_bytes_at_0 : are_extents_good 46 (at 0 0 ∷ at 0 1 ∷ []) ≡ true
   pub no_good_library :
-      is_good (with_objects (object_a ∷ object_b ∷ record object_c { state = Stored 2 1 } ∷ []))
+      is_good (studio_with_objects (object_a ∷ object_b ∷ record object_c { state = Stored 2 1 }
+        ∷ []))
       ≡ false
 
 -- Ids and addresses are distinct, lists stand in their order, and serials are distinct, at least 1,
@@ -105,14 +106,16 @@ pub record BadNames : Type 0 where
   pub fine : are_names_good studio ≡ true
   pub flow_twice : are_names_good (with_flows (main_flow ∷ main_flow ∷ [])) ≡ false
   pub flows_turned : are_names_good (with_flows (sound_flow ∷ main_flow ∷ [])) ≡ false
-  pub object_twice : are_names_good (with_objects (object_a ∷ record object_a { serial = 2 } ∷ []))
+  pub object_twice : are_names_good
+      (studio_with_objects (object_a ∷ record object_a { serial = 2 } ∷ []))
       ≡ false
   pub hook_twice : are_names_good (with_outbox (one_hook ∷ record one_hook { serial = 11 } ∷ []) [])
       ≡ false
-  pub serial_twice : are_names_good (with_objects (object_a ∷ record object_b { serial = 4 } ∷ []))
+  pub serial_twice : are_names_good
+      (studio_with_objects (object_a ∷ record object_b { serial = 4 } ∷ []))
       ≡ false
   pub serials_turned : are_names_good (with_segments (early_piece ∷ later_piece ∷ [])) ≡ false
-  pub serial_0 : are_names_good (with_objects (record object_a { serial = 0 } ∷ [])) ≡ false
+  pub serial_0 : are_names_good (studio_with_objects (record object_a { serial = 0 } ∷ [])) ≡ false
   pub not_below : are_names_good (record studio { next_serial = 14 }) ≡ false
   pub last : are_names_good (record studio { next_serial = 9223372036854775807 }) ≡ true
   pub past_the_last : are_names_good (record studio { next_serial = 9223372036854775808 }) ≡ false
@@ -236,9 +239,11 @@ pub record BadTexts : Type 0 where
       flows = [];
     };
   }) ≡ false
-  pub object : are_texts_good (with_objects (record object_a { id = codes "a b" } ∷ [])) ≡ false
-  pub no_id : are_texts_good (with_objects (record object_a { id = [] } ∷ [])) ≡ false
-  pub idle : are_texts_good (with_objects (record object_a { idle_since = too_late } ∷ [])) ≡ false
+  pub object : are_texts_good (studio_with_objects (record object_a { id = codes "a b" } ∷ []))
+      ≡ false
+  pub no_id : are_texts_good (studio_with_objects (record object_a { id = [] } ∷ [])) ≡ false
+  pub idle : are_texts_good (studio_with_objects (record object_a { idle_since = too_late } ∷ []))
+      ≡ false
   pub request :
       are_texts_good (record studio { requests = record open_request { updated = too_late } ∷ [] })
       ≡ false

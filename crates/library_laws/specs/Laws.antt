@@ -189,14 +189,14 @@ RangeAnswerIsInOrder = (segments : List SegmentRow) (flow : ℕ) (range : Option
 
 -- a page has at most as many items as its limit, and where no next key comes it has all that lie
 -- past its own
-pub record Cut {X : Type 0} (key : X → ℤ) (page : Page) (xs : List X) : Type 0 where
+pub record IsCutAtLimit {X : Type 0} (key : X → ℤ) (page : Page) (xs : List X) : Type 0 where
   pub whole : next_key key page xs ≡ None → page_items key page xs ≡ items_past key page xs
   pub most : length (page_items key page xs) ≤ page.limit
 
 -- this holds of pages of segments, whose limit is at least 1
 abbrev pub PagesHaveAll : Type 0
 PagesHaveAll = (segments : List SegmentRow) (page : Page) → 1 ≤ page.limit
-    → Cut first_point page segments
+    → IsCutAtLimit first_point page segments
 
 -- the page past a key
 abbrev pub page_past : Page → ℤ → Page

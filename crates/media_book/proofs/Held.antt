@@ -12,9 +12,9 @@ use Rattle.media_rows.specs.declared.object.ObjectState.TheVariants.{Allocated, 
 use Rattle.media_rows.specs.Good.{are_states_apart, is_extent_good}
 use Rattle.media_rows.specs.Lists.{each_pair, numbers_below}
 use Rattle.media_rows.specs.Objects.{are_apart, blocks_of, is_clear_of}
-use Rattle.object_blobs.specs.Holes.{Area, IsAllFree, IsGiven, IsPlaceTaken, LeavesFree, each_block, has_block, is_free_block, is_free_place, is_taken_place}
+use Rattle.object_blobs.specs.Holes.{Area, IsAllFree, GivesBlocks, IsPlaceTaken, LeavesFree, each_block, has_block, is_free_block, is_free_place, is_taken_place}
 use Rattle.media_book.specs.Media.{stored_size}
-use Rattle.media_book.specs.Within.Ties.{AreHeld, states_of}
+use Rattle.media_book.specs.Within.Ties.{AreHeld, object_states}
 use Rattle.media_book.proofs.Serials.{all_amid, pairs_amid}
 
 -- ---- an item amid others
@@ -164,7 +164,7 @@ with_extent f b start size area new bytes h clear good taken = record {
 -- ---- an extent that is given back
 
 pub without_extent : (f b : List ObjectState) (start size : ℕ) (area new : Area) (bytes : ℕ) → AreHeld (f ++ Stored start size ∷ b) area bytes
-    → IsGiven start (blocks_of size) area new → AreHeld (f ++ b) new (bytes - size)
+    → GivesBlocks start (blocks_of size) area new → AreHeld (f ++ b) new (bytes - size)
 without_extent f b start size area new bytes h given =
     let pairs = and_parts (list_all (are_states_apart (Stored start size)) (f ++ b)) (each_pair are_states_apart (f ++ b))
     (sym (pairs_amid are_states_apart apart_turns f (Stored start size) b) ∙ h.apart) in
@@ -270,7 +270,7 @@ may_give f b start size area bytes h =
 -- ---- objects
 
 -- free blocks in the library's words
-pub leaves_free : (objects : List ObjectRow) (area : Area) (bytes : ℕ) → AreHeld (states_of objects) area bytes → LeavesFree objects area
+pub leaves_free : (objects : List ObjectRow) (area : Area) (bytes : ℕ) → AreHeld (object_states objects) area bytes → LeavesFree objects area
 leaves_free objects area bytes h = record {
   free = λ block. h.free block
       ∙ ap (λ r. nat_le (block + 1) area.blocks && r) (list_all-map (is_clear_of block 1) (λ (row : ObjectRow). row.state) objects);

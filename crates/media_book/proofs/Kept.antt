@@ -24,7 +24,7 @@ use Rattle.library_laws.proofs.ListLemmas.{In-from_Contains, list_all-In, list_a
 use Rattle.reference_laws.specs.Laws.{ObjectsChange, ObjectsCome, ReferencesCome, ReferencesGo}
 use Rattle.reference_laws.specs.Ties.{AreTied}
 use Rattle.media_book.specs.Media.{are_segments_below, can_take, no_media, with_allocated, with_posts, with_stored, without_rows}
-use Rattle.media_book.specs.Within.Ties.{AreHeld, IsMedia, media_seen, states_of}
+use Rattle.media_book.specs.Within.Ties.{AreHeld, IsMedia, media_seen, object_states}
 use Rattle.media_book.proofs.Held.{may_take, none_held, with_empty, with_extent, without_empty}
 use Rattle.media_book.proofs.ObjectRows.{filled, good_still, new_objects, referred_objects, states_append, stored_after, stored_behind, stored_objects, unkept_unnamed}
 use Rattle.media_book.proofs.Posts.{rises_last}
@@ -61,16 +61,16 @@ pub new_is : ObjectsCome → (segments : List SegmentRow) (kept : List Kept) (ar
     → IsMedia segments kept area bytes → is_some (object_of id (objects_in kept)) ≡ false → IsMedia segments (with_new id serial moment kept) area bytes
 new_is comes segments kept area bytes id serial moment was none =
     let objects = new_objects id serial moment kept in
-    let states : states_of (objects_in (with_new id serial moment kept)) ≡ states_of (objects_in kept) ++ Allocated ∷ [] =
-    ap states_of objects ∙ states_append (objects_in kept) (allocated_rows serial moment (id ∷ [])) in
+    let states : object_states (objects_in (with_new id serial moment kept)) ≡ object_states (objects_in kept) ++ Allocated ∷ [] =
+    ap object_states objects ∙ states_append (objects_in kept) (allocated_rows serial moment (id ∷ [])) in
     record {
       tied = comes segments id serial moment kept was.tied (unkept_unnamed (objects_in kept) segments id was.named none);
       named = ap (λ l. are_references_good l segments) objects
           ∙ good_still (objects_in kept) (objects_in kept ++ allocated_rows serial moment (id ∷ []))
           (stored_behind (allocated_rows serial moment (id ∷ [])) (objects_in kept)) segments was.named;
       held = subst (λ l. AreHeld l area bytes) (sym states)
-          (with_empty (states_of (objects_in kept)) [] area bytes
-          (subst (λ l. AreHeld l area bytes) (sym (append-nil (states_of (objects_in kept)))) was.held));
+          (with_empty (object_states (objects_in kept)) [] area bytes
+          (subst (λ l. AreHeld l area bytes) (sym (append-nil (object_states (objects_in kept)))) was.held));
       rising = was.rising;
     }
 
@@ -84,7 +84,7 @@ new_seen segments kept area id serial moment =
 -- what a place that may be taken gives
 pub record IsRoom (objects : List ObjectRow) (area : Area) (extent : Extent) : Type 0 where
   pub fits : nat_le (extent.start + blocks_of extent.length) area.blocks ≡ true
-  pub clear : list_all (is_clear_of extent.start (blocks_of extent.length)) (states_of objects) ≡ true
+  pub clear : list_all (is_clear_of extent.start (blocks_of extent.length)) (object_states objects) ≡ true
   pub good : is_extent_good area.blocks (Stored extent.start extent.length) ≡ true
 
 pub room_of : (segments : List SegmentRow) (kept : List Kept) (area : Area) (extent : Extent) → can_take (media_seen segments kept area) extent ≡ true
@@ -100,10 +100,10 @@ room_of segments kept area extent can =
       good = and_from (nat_le (start + count) area.blocks) (nat_lt 0 extent.length || (start == 0)) free.0 both.1;
     }
 
-pub room_free : (kept : List Kept) (area : Area) (bytes : ℕ) (extent : Extent) → AreHeld (states_of (objects_in kept)) area bytes
+pub room_free : (kept : List Kept) (area : Area) (bytes : ℕ) (extent : Extent) → AreHeld (object_states (objects_in kept)) area bytes
     → IsRoom (objects_in kept) area extent → is_free_place area.holes (blocks_of extent.length) extent.start ≡ true
 room_free kept area bytes extent held room =
-    may_take (states_of (objects_in kept)) area bytes extent.start (blocks_of extent.length) held room.fits room.clear
+    may_take (object_states (objects_in kept)) area bytes extent.start (blocks_of extent.length) held room.fits room.clear
 
 clear_others : (p : ObjectState → Bool) (f : List ObjectState) (b : List ObjectState) → list_all p (f ++ Allocated ∷ b) ≡ true → list_all p (f ++ b) ≡ true
 clear_others p [] b e = (and_parts (p Allocated) (list_all p b) e).1
@@ -126,7 +126,7 @@ stored_is changes segments kept area new bytes id extent moment was distinct fre
       named = ap (λ l. are_references_good l segments) objects
           ∙ good_still (objects_in kept) (with_object id (stored_row extent.start extent.length moment) (objects_in kept))
           (stored_after id extent.start extent.length moment (objects_in kept)) segments was.named;
-      held = subst (λ l. AreHeld l new (bytes + extent.length)) (sym (ap states_of objects ∙ fill.is))
+      held = subst (λ l. AreHeld l new (bytes + extent.length)) (sym (ap object_states objects ∙ fill.is))
           (with_extent fill.front fill.back extent.start extent.length area new bytes bare clear room.good taken);
       rising = was.rising;
     }
@@ -153,7 +153,7 @@ added_is comes segments kept area bytes row why was free below =
           ∙ list_all-append (λ r. is_stored_object (objects_in kept) r.segment.object) segments (row ∷ [])
           ∙ and_from (are_references_good (objects_in kept) segments) (are_references_good (objects_in kept) (row ∷ [])) was.named
           (and_from (is_stored_object (objects_in kept) row.segment.object) true stored refl);
-      held = subst (λ l. AreHeld (states_of l) area bytes) (sym objects) was.held;
+      held = subst (λ l. AreHeld (object_states l) area bytes) (sym objects) was.held;
       rising = rises_last segments row was.rising below;
     }
 
@@ -198,7 +198,7 @@ less_is goes segments kept next area bytes row moment was there objects flows =
             (without_segments (row ∷ []) segments)
             (list_all-filter (λ r. is_stored_object (objects_in kept) r.segment.object) _ segments was.named);
         held = subst (λ l. AreHeld l area bytes)
-            (sym (ap states_of rows ∙ idled_states segments (without_segments (row ∷ []) segments) moment (objects_in kept))) was.held;
+            (sym (ap object_states rows ∙ idled_states segments (without_segments (row ∷ []) segments) moment (objects_in kept))) was.held;
         rising = rises-filter (λ (a : SegmentRow) b. nat_lt a.serial b.serial) _ segments was.rising;
       };
       seen = ap (λ l. record { blocks = area.blocks; segments = without_segments (row ∷ []) segments; objects = l }) rows;

@@ -20,7 +20,7 @@ use Rattle.library_laws.proofs.ListLemmas.{find-In}
 use Rattle.object_refs.specs.declared.kept.Kept.{Kept}
 use Rattle.object_refs.specs.References.{are_below, changed_at, objects_in, referred, stored_at, with_new}
 use Rattle.media_book.specs.Media.{Media, are_objects_below, library_with}
-use Rattle.media_book.specs.Within.Ties.{states_of}
+use Rattle.media_book.specs.Within.Ties.{object_states}
 
 pub same_id : (a b : List ℕ) → bytes_eq a b ≡ true → a ≡ b
 same_id a b e = let d = bytes_decides a b in d.0 e
@@ -127,7 +127,7 @@ stored_after at start size moment (row ∷ rows) id e =
 
 -- ---- states
 
-pub states_append : (a b : List ObjectRow) → states_of (a ++ b) ≡ states_of a ++ states_of b
+pub states_append : (a b : List ObjectRow) → object_states (a ++ b) ≡ object_states a ++ object_states b
 states_append [] b = refl
 states_append (row ∷ a) b = ap (λ l. row.state ∷ l) (states_append a b)
 
@@ -135,8 +135,8 @@ states_append (row ∷ a) b = ap (λ l. row.state ∷ l) (states_append a b)
 pub record IsFilled (start size : ℕ) (objects next : List ObjectRow) : Type 0 where
   pub front : List ObjectState
   pub back : List ObjectState
-  pub was : states_of objects ≡ front ++ Allocated ∷ back
-  pub is : states_of next ≡ front ++ Stored start size ∷ back
+  pub was : object_states objects ≡ front ++ Allocated ∷ back
+  pub is : object_states next ≡ front ++ Stored start size ∷ back
 
 pub filled : (id : List ℕ) (start size moment : ℕ) (objects : List ObjectRow) → are_object_ids_distinct objects ≡ true
     → keep_refusal (object_of id objects) ≡ None → IsFilled start size objects (with_object id (stored_row start size moment) objects)
@@ -167,9 +167,9 @@ filled id start size moment (row ∷ rows) distinct free =
         → IsFilled start size (row ∷ rows) (cond p (stored_row start size moment row) row ∷ with_object id (stored_row start size moment) rows)
     by true e held apart rest = record {
       front = [];
-      back = states_of rows;
-      was = ap (λ s. s ∷ states_of rows) (state_is row.state held);
-      is = ap (λ l. Stored start size ∷ states_of l) (others rows (same_id row.id id e) apart);
+      back = object_states rows;
+      was = ap (λ s. s ∷ object_states rows) (state_is row.state held);
+      is = ap (λ l. Stored start size ∷ object_states l) (others rows (same_id row.id id e) apart);
     }
     by false e held apart rest =
         let r = rest held in

@@ -13,7 +13,7 @@ use Rattle.object_refs.specs.References.{objects_in, reference_of, references_in
 use Rattle.library_laws.proofs.ListLemmas.{In, In-back, In-front, filter-In, in_order-In, list_any-from_In, map-In}
 use Rattle.reference_laws.specs.Ties.{AreTied, flows_to}
 use Rattle.media_book.specs.Media.{AreSome, Media, without_rows}
-use Rattle.media_book.specs.Within.Ties.{Removing, states_of}
+use Rattle.media_book.specs.Within.Ties.{Removing, object_states}
 use Rattle.media_book.proofs.ObjectRows.{bytes_turned}
 use Rattle.media_book.proofs.Serials.{is_other, kept_all, some_left, without_twice}
 
@@ -72,7 +72,8 @@ idled_keeps : (before after : List SegmentRow) (moment : ℕ) (row : ObjectRow) 
 idled_keeps before after moment row true = (refl, refl)
 idled_keeps before after moment row false = (refl, refl)
 
-pub idled_states : (before after : List SegmentRow) (moment : ℕ) (objects : List ObjectRow) → states_of (idled before after moment objects) ≡ states_of objects
+pub idled_states : (before after : List SegmentRow) (moment : ℕ) (objects : List ObjectRow) → object_states (idled before after moment objects)
+    ≡ object_states objects
 idled_states before after moment [] = refl
 idled_states before after moment (row ∷ rows) =
     ap₂ (λ s l. s ∷ l) ((idled_keeps before after moment row (is_named before row.id && not (is_named after row.id))).0)

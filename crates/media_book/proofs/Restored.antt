@@ -26,7 +26,7 @@ use Rattle.media_rows.specs.Segments.{overlapping, starts_before}
 use Rattle.library_laws.proofs.ListLemmas.{In-take, list_all-In, list_all-from_In, take-whole}
 use Rattle.segment_book.specs.Answers.{meeting_refusal}
 use Rattle.media_book.specs.Media.{Media, MediaAreGood, are_objects_below, are_objects_good, are_rows_good, are_segments_below, can_take, media_if, no_media, with_allocated, with_stored}
-use Rattle.media_book.specs.Within.Restoring.{ObjectsCame, RowsCame, can_come, can_follow, can_hold, with_objects, with_rows}
+use Rattle.media_book.specs.Within.Restoring.{ObjectsCame, RowsCame, can_come, can_follow, can_hold, with_objects, with_segments_behind}
 use Rattle.media_book.specs.Within.Ties.{row_refusal}
 use Rattle.media_book.proofs.Held.{apart_turns, clear_apart, same_all}
 use Rattle.media_book.proofs.ObjectRows.{same_bytes}
@@ -326,11 +326,11 @@ come_is start count all media row none was =
 
 pub rows_more : (start : Media) (count : ℕ) (all : List SegmentRow) (media next : Media) (row : SegmentRow) → start.segments ≡ []
     → RowsCame start count all media → take (count + 1) all ≡ take count all ++ row ∷ []
-    → Some next ≡ media_if (can_come media row) (with_rows (row ∷ []) media) → RowsCame start (count + 1) all next
+    → Some next ≡ media_if (can_come media row) (with_segments_behind (row ∷ []) media) → RowsCame start (count + 1) all next
 rows_more start count all media next row none was shape e =
-    let told = told_some (can_come media row) next (with_rows (row ∷ []) media) e in
+    let told = told_some (can_come media row) next (with_segments_behind (row ∷ []) media) e in
     record {
-      is = told.1 ∙ ap (with_rows (row ∷ [])) was.is
+      is = told.1 ∙ ap (with_segments_behind (row ∷ [])) was.is
           ∙ ap (λ l. record { blocks = start.blocks; segments = l; objects = start.objects })
           (append_assoc start.segments (take count all) (row ∷ []) ∙ ap (λ l. start.segments ++ l) (sym shape));
       good = ap (are_rows_good start.objects) shape ∙ rows_step start.blocks start.objects (take count all) row
@@ -341,33 +341,33 @@ rows_more start count all media next row none was shape e =
 
 pub rows_fail : (start : Media) (count : ℕ) (all : List SegmentRow) (media : Media) (row : SegmentRow) → start.segments ≡ []
     → RowsCame start count all media → take (count + 1) all ≡ take count all ++ row ∷ []
-    → None ≡ media_if (can_come media row) (with_rows (row ∷ []) media)
-    → None ≡ media_if (are_rows_good start.objects all) (with_rows all start)
+    → None ≡ media_if (can_come media row) (with_segments_behind (row ∷ []) media)
+    → None ≡ media_if (are_rows_good start.objects all) (with_segments_behind all start)
 rows_fail start count all media row none was shape e =
     let here = can_come (record { blocks = start.blocks; segments = take count all; objects = start.objects }) row in
-    unless_good (are_rows_good start.objects all) (with_rows all start)
+    unless_good (are_rows_good start.objects all) (with_segments_behind all start)
     (failed (are_rows_good start.objects all) (are_rows_good start.objects (take (count + 1) all)) here (rows_front start.objects (count + 1) all)
     (λ part. (and_parts (are_rows_good start.objects (take count all)) here
     (sym (ap (are_rows_good start.objects) shape ∙ rows_step start.blocks start.objects (take count all) row) ∙ part)).1)
-    (sym (come_is start count all media row none was) ∙ told_none (can_come media row) (with_rows (row ∷ []) media) e))
+    (sym (come_is start count all media row none was) ∙ told_none (can_come media row) (with_segments_behind (row ∷ []) media) e))
 
 pub rows_done : (start : Media) (count : ℕ) (all : List SegmentRow) (media : Media) → RowsCame start count all media → length all ≤ count
-    → Some media ≡ media_if (are_rows_good start.objects all) (with_rows all start)
+    → Some media ≡ media_if (are_rows_good start.objects all) (with_segments_behind all start)
 rows_done start count all media was done =
     let whole = take-whole count all done in
-    if_good (are_rows_good start.objects all) media (with_rows all start) (ap (are_rows_good start.objects) (sym whole) ∙ was.good)
-    (was.is ∙ ap (λ l. with_rows l start) whole)
+    if_good (are_rows_good start.objects all) media (with_segments_behind all start) (ap (are_rows_good start.objects) (sym whole) ∙ was.good)
+    (was.is ∙ ap (λ l. with_segments_behind l start) whole)
 
 -- ---- one after the other
 
 -- what none of the objects and then none of the segments refuses
 pub both_good : (blocks : ℕ) (objects : List ObjectRow) (rows : List SegmentRow) (bare : Media) (result : Option Media)
     → Some bare ≡ media_if (are_objects_good blocks objects) (with_objects objects (no_media blocks))
-    → result ≡ media_if (are_rows_good bare.objects rows) (with_rows rows bare)
+    → result ≡ media_if (are_rows_good bare.objects rows) (with_segments_behind rows bare)
     → result ≡ media_if (are_objects_good blocks objects && are_rows_good objects rows) (record { blocks = blocks; segments = rows; objects = objects })
 both_good blocks objects rows bare result e is =
     let told = told_some (are_objects_good blocks objects) bare (with_objects objects (no_media blocks)) e in
-    is ∙ ap (λ m. media_if (are_rows_good m.objects rows) (with_rows rows m)) told.1
+    is ∙ ap (λ m. media_if (are_rows_good m.objects rows) (with_segments_behind rows m)) told.1
     ∙ ap (λ b. media_if (b && are_rows_good objects rows) (record { blocks = blocks; segments = rows; objects = objects })) (sym told.0)
 
 pub none_good : (blocks : ℕ) (objects : List ObjectRow) (rows : List SegmentRow)

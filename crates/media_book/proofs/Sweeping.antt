@@ -18,7 +18,7 @@ use Rattle.shared_tree.proofs.Counted.{all_kept}
 use Rattle.library_laws.proofs.ListLemmas.{In, In-filter, In-from_Contains, In-in_order, In-take, find-In, find-filter, list_all-In, list_all-from_In, list_any-In, list_any-from_In, rises-In, rises-filter}
 use Rattle.reference_laws.specs.Ties.{AreTied, flows_to}
 use Rattle.media_book.specs.Media.{stored_size, swept}
-use Rattle.media_book.specs.Within.Ties.{AreHeld, AreSomeObjects, Freeing, IsLost, IsMedia, MayLose, media_seen, states_of}
+use Rattle.media_book.specs.Within.Ties.{AreHeld, AreSomeObjects, Freeing, IsLost, IsMedia, MayLose, media_seen, object_states}
 use Rattle.media_book.proofs.Held.{may_give, sizes_amid, without_empty, without_extent}
 use Rattle.media_book.proofs.ObjectRows.{bytes_turned, states_append}
 use Rattle.media_book.proofs.Serials.{amid, are_two, distinct_of_two, kept_all, left_out, pairs_ordered, pairs_taken, some_left, there_of, two_of_rising, two_turned, without_twice}
@@ -57,27 +57,27 @@ lost_held f (Stored start size) b area new bytes after h lost = (
 -- ---- the loop
 
 pub freeing_starts : (objects : List ObjectRow) (area new : Area) (bytes : ℕ) (gone : List ObjectRow) → new ≡ area
-    → AreHeld (states_of objects) area bytes → AreSomeObjects gone objects → rises_by (λ (row : ObjectRow). row.serial) objects ≡ true
+    → AreHeld (object_states objects) area bytes → AreSomeObjects gone objects → rises_by (λ (row : ObjectRow). row.serial) objects ≡ true
     → Freeing objects area.blocks new bytes gone gone
 freeing_starts objects area new bytes gone same held some rise = record {
   objects = objects;
   rest = refl;
-  held = subst (λ a. AreHeld (states_of objects) a bytes) (sym same) held;
+  held = subst (λ a. AreHeld (object_states objects) a bytes) (sym same) held;
   same = ap (λ a. a.blocks) same;
   some = some;
   rising = rise;
 }
 
 amid_states : (front : List ObjectRow) (row : ObjectRow) (back objects : List ObjectRow) → objects ≡ front ++ row ∷ back
-    → states_of objects ≡ states_of front ++ row.state ∷ states_of back
-amid_states front row back objects is = ap states_of is ∙ states_append front (row ∷ back)
+    → object_states objects ≡ object_states front ++ row.state ∷ object_states back
+amid_states front row back objects is = ap object_states is ∙ states_append front (row ∷ back)
 
 pub freeing_row : (start : List ObjectRow) (blocks : ℕ) (area : Area) (bytes : ℕ) (all left later : List ObjectRow) (row : ObjectRow)
     → Freeing start blocks area bytes all left → left ≡ row ∷ later → MayLose row.state area bytes
 freeing_row start blocks area bytes all left later row was shape =
     let there = (subst (λ l. AllByRecursion (Contains was.objects) l) shape was.some.there).0 in
     let at = amid row was.objects (In-from_Contains was.objects row there) in
-    may_lose (states_of at.front) row.state (states_of at.back) area bytes
+    may_lose (object_states at.front) row.state (object_states at.back) area bytes
     (subst (λ l. AreHeld l area bytes) (amid_states at.front row at.back was.objects at.is) was.held)
 
 pub freeing_more : (start : List ObjectRow) (blocks : ℕ) (area new : Area) (bytes after : ℕ) (all left later : List ObjectRow) (row : ObjectRow)
@@ -91,21 +91,21 @@ freeing_more start blocks area new bytes after all left later row was shape lost
     let left_is : without_objects (row ∷ []) was.objects ≡ at.front ++ at.back =
     ap (without_objects (row ∷ [])) at.is
     ∙ left_out object_serial at.front row at.back (subst (λ l. rises_by (λ (r : ObjectRow). r.serial) l ≡ true) at.is was.rising) in
-    let held = lost_held (states_of at.front) row.state (states_of at.back) area new bytes after
+    let held = lost_held (object_states at.front) row.state (object_states at.back) area new bytes after
     (subst (λ l. AreHeld l area bytes) (amid_states at.front row at.back was.objects at.is) was.held) lost in
     record {
       objects = without_objects (row ∷ []) was.objects;
       rest = without_twice object_serial row later was.objects ∙ ap (λ l. without_objects l was.objects) (sym shape) ∙ was.rest;
-      held = subst (λ l. AreHeld l new after) (sym (ap states_of left_is ∙ states_append at.front at.back)) held.0;
+      held = subst (λ l. AreHeld l new after) (sym (ap object_states left_is ∙ states_append at.front at.back)) held.0;
       same = held.1 ∙ was.same;
       some = record { there = some_left object_serial row later was.objects there.1 once.0; once = once.1 };
       rising = rises-filter (λ (a : ObjectRow) b. nat_lt a.serial b.serial) _ was.objects was.rising;
     }
 
 pub freeing_done : (start : List ObjectRow) (blocks : ℕ) (area : Area) (bytes : ℕ) (all left : List ObjectRow)
-    → Freeing start blocks area bytes all left → left ≡ [] → AreHeld (states_of (without_objects all start)) area bytes × (area.blocks ≡ blocks)
+    → Freeing start blocks area bytes all left → left ≡ [] → AreHeld (object_states (without_objects all start)) area bytes × (area.blocks ≡ blocks)
 freeing_done start blocks area bytes all left was none = (
-  subst (λ l. AreHeld (states_of l) area bytes)
+  subst (λ l. AreHeld (object_states l) area bytes)
       (sym (kept_all object_serial was.objects) ∙ ap (λ l. without_objects l was.objects) (sym none) ∙ was.rest) was.held,
   was.same,
 )
@@ -183,7 +183,7 @@ pub swept_is : (segments : List SegmentRow) (kept next : List Kept) (area new : 
     → IsMedia segments kept area bytes → rises_by (λ (row : ObjectRow). row.serial) (objects_in kept) ≡ true
     → gone ≡ swept_objects segments (objects_in kept) moment → next ≡ without_swept gone kept
     → objects_in next ≡ without_objects gone (objects_in kept)
-    → AreHeld (states_of (without_objects gone (objects_in kept))) new after → IsMedia segments next new after
+    → AreHeld (object_states (without_objects gone (objects_in kept))) new after → IsMedia segments next new after
 swept_is segments kept next area new bytes after gone moment was rise is left rows held =
     let all = objects_in kept in
     record {
@@ -192,7 +192,7 @@ swept_is segments kept next area new bytes after gone moment was rise is left ro
           ∙ list_all-from_In (λ r. is_stored_object (without_objects (swept_objects segments all moment) all) r.segment.object) segments
           (λ row here. stored_left segments all moment row rise here
           (list_all-In (λ (r : SegmentRow). is_stored_object all r.segment.object) segments was.named row here));
-      held = subst (λ l. AreHeld (states_of l) new after) (sym rows) held;
+      held = subst (λ l. AreHeld (object_states l) new after) (sym rows) held;
       rising = was.rising;
     }
 

@@ -5,7 +5,7 @@ ghost use Rattle.media_rows.specs.Good.{rises_by};
 ghost use Rattle.media_rows.specs.Objects.{object_of};
 ghost use Rattle.media_rows.specs.Ranges.{has_both_ends};
 ghost use Rattle.media_book.specs.Media.{Media, MediaAreGood, are_media_good, are_objects_below, are_objects_good, are_rows_good, are_segments_below, can_take, media_if, no_media, with_allocated, with_stored};
-ghost use Rattle.media_book.specs.Within.Restoring.{can_come, can_follow, can_hold, with_objects, with_rows};
+ghost use Rattle.media_book.specs.Within.Restoring.{can_come, can_follow, can_hold, with_objects, with_segments_behind};
 
 use crate::MediaBook;
 use disk_trait::{Duplicate, Memory};
@@ -113,7 +113,7 @@ impl MediaBook {
     ) -> Result<Option<MediaBook>, Memory>
         requires none { self.now.segments ≡ [] }
         ensures { IfOk result (λ media. media ≡ media_if
-            (are_rows_good self.now.objects segments.now) (with_rows segments.now self.now)) }
+            (are_rows_good self.now.objects segments.now) (with_segments_behind segments.now self.now)) }
     {
         let mut media = self.share()?;
         for index in 0..segments.len() {
@@ -134,7 +134,7 @@ impl MediaBook {
     ) -> Result<Option<MediaBook>, Memory>
         requires front { front.now ≡ self.now.segments }
         ensures { IfOk result (λ media. media
-            ≡ media_if (can_come self.now row.now) (with_rows (row.now ∷ []) self.now)) }
+            ≡ media_if (can_come self.now row.now) (with_segments_behind (row.now ∷ []) self.now)) }
     {
         self.is_in_order();
         if !is_behind_segments(front, row.serial) || !has_both_ends(&row.segment.range) {

@@ -4,7 +4,7 @@ ghost use Rattle.media_rows.specs.Good.{rises_by};
 ghost use Rattle.media_rows.specs.Objects.{without_objects};
 ghost use Rattle.object_refs.specs.References.{objects_in};
 ghost use Rattle.media_book.specs.Media.{swept};
-ghost use Rattle.media_book.specs.Within.Ties.{AreHeld, AreSomeObjects, IsLost, MayLose, states_of};
+ghost use Rattle.media_book.specs.Within.Ties.{AreHeld, AreSomeObjects, IsLost, MayLose, object_states};
 
 use crate::MediaBook;
 use crate::objects::blocks_of;
@@ -51,10 +51,10 @@ fn freed(
     bytes: u64,
     gone: &[ObjectRow],
 ) -> Result<Room, Memory>
-    requires held { AreHeld (states_of (objects_in objects.now)) space.now bytes }
+    requires held { AreHeld (object_states (objects_in objects.now)) space.now bytes }
     requires some { AreSomeObjects gone.now (objects_in objects.now) }
     ensures held { IfOk result (λ left. AreHeld
-        (states_of (without_objects gone.now (objects_in objects.now))) left.space left.bytes) }
+        (object_states (without_objects gone.now (objects_in objects.now))) left.space left.bytes) }
     ensures blocks { IfOk result (λ left. left.space.blocks ≡ space.now.blocks) }
 {
     objects.is_in_order();

@@ -282,15 +282,15 @@ put_media_answer library held object bytes moment =
     (stored_put (bytes_eq (bytes_of object library.objects held) bytes))
 
 -- the length of an object's bytes, where they are stored; an allocated object has none to give
-abbrev pub media_of : ObjectState → Reply
-media_of Allocated = replies.Refused refusals.UnknownObject
-media_of (Stored start size) = replies.Media size
+abbrev pub media_answer : ObjectState → Reply
+media_answer Allocated = replies.Refused refusals.UnknownObject
+media_answer (Stored start size) = replies.Media size
 
 -- the same of an object that may be missing, where one that isn't kept is as unknown as one without
 -- bytes
 abbrev pub media_reply : Option ObjectRow → Reply
 media_reply None = replies.Refused refusals.UnknownObject
-media_reply (Some row) = media_of row.state
+media_reply (Some row) = media_answer row.state
 
 -- the reply to a GET of an object's bytes: their length, where the object is kept and stored
 abbrev pub get_media_reply : Library → List ℕ → Reply

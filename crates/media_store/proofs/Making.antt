@@ -18,7 +18,7 @@ use Rattle.store_states.proofs.Making.{libraries_are_good}
 use Rattle.store_commits.specs.Carrying.{AreRowsOf, Carries, ReplaceEnds, Replaces, journal_for, kept_written}
 use Rattle.store_plans.specs.declared.outcome.Planned.{Planned}
 use Rattle.store_plans.specs.Plans.{ComesFirst, MakesChange}
-use Rattle.media_store.specs.Changes.{CameThere, Makes, archive_next, kept_by, kept_with}
+use Rattle.media_store.specs.Changes.{CameThere, ChangesStore, archive_next, kept_by, kept_with}
 use Rattle.media_store.specs.Stores.{archive_of, journal_of}
 
 -- ---- the bytes of the next library's objects
@@ -58,7 +58,7 @@ half_stays p (Some text) = refl
 pub carried : (ok : Bool) (old new : Device) (kept : StoreView) (held : List (List ℕ)) (change : Change) (came : List ℕ) (rows : Option (List ℕ))
     (next : Library) (payload : List ℕ) → next ≡ after change kept.library
     → Carries ok (archive_of kept held) (kept_written kept rows next payload) (archive_next kept held change came).held old new
-    → Makes ok change came kept (kept_written kept rows next payload) held old new
+    → ChangesStore ok change came kept (kept_written kept rows next payload) held old new
 carried ok old new kept held change came rows next payload is carries =
     let bytes = (archive_next kept held change came).held in
     let halved = subst
@@ -94,11 +94,11 @@ pub commit_makes : (ok : Bool) (old new : Device) (kept : StoreView) (held : Lis
     → ((k : StoreView) (h : List (List ℕ)) (next : Library) (next_held : List (List ℕ)) → AgreesWith old k h → k.journal ≡ journal
     → AreRowsOf planned.rows k.library → StepOf payload k.library next → HoldsEach old (media_start k.journal.half) next.objects next_held
     → Carries ok (kept_state k h).archive (kept_written k planned.rows next payload) next_held old new)
-    → Makes ok change came kept (kept_by kept planned) held old new
+    → ChangesStore ok change came kept (kept_by kept planned) held old new
 commit_makes ok old new kept held change came planned payload journal is same agrees makes fits there carries =
     let next = planned.next in
     let step = step_is kept change planned payload makes is in
     let bytes = next_bytes old kept held change came next agrees makes.made fits there in
     let made = carries kept held next (archive_next kept held change came).held agrees same (rows_are kept change planned.rows makes.first) step bytes in
-    subst (λ (frame : Option (List ℕ)). Makes ok change came kept (kept_with kept planned frame) held old new) (sym is)
+    subst (λ (frame : Option (List ℕ)). ChangesStore ok change came kept (kept_with kept planned frame) held old new) (sym is)
     (carried ok old new kept held change came planned.rows next payload (applied_is_sound kept.library change next makes.made).gives made)

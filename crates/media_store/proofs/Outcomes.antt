@@ -13,7 +13,7 @@ use Rattle.store_states.specs.States.{media_start}
 use Rattle.store_writes.specs.Writes.{Keeps}
 use Rattle.store_plans.specs.declared.outcome.Planned.{Planned}
 use Rattle.store_plans.specs.Plans.{IsPlanOf, IsStepPlan, MakesChange, MakesStep, PlanFits}
-use Rattle.media_store.specs.Changes.{CameThere, CanCommit, IsNext, IsNextIf, Makes, MakesIf, archive_next, bytes_by, bytes_if, bytes_with, kept_by, kept_with, stores}
+use Rattle.media_store.specs.Changes.{CameThere, CanCommit, IsAfterChange, IsNextIf, ChangesStore, MakesIf, archive_next, bytes_by, bytes_if, bytes_with, kept_by, kept_with, stores}
 use Rattle.media_store.specs.Stores.{journal_of}
 use Rattle.media_store.specs.Turns.{turn_change}
 use Rattle.media_store.proofs.Commands.{none_came, none_stand}
@@ -21,7 +21,7 @@ use Rattle.media_store.proofs.Planning.{planned_blocks, planned_bytes, planned_n
 
 -- what is kept next hangs on the success of a change alone
 by_success : (ok : Bool) (old new : Device) (kept made next : StoreView) (held : List (List ℕ)) (change : Change) → (ok ≡ true → next ≡ made)
-    → Makes ok change [] kept made held old new → Makes ok change [] kept next held old new
+    → ChangesStore ok change [] kept made held old new → ChangesStore ok change [] kept next held old new
 by_success ok old new kept made next held change same makes = record {
   moments = makes.moments;
   agrees = λ is. subst (λ (k : StoreView). AgreesWith new k (archive_next kept held change []).held) (sym (same is)) (makes.agrees is);
@@ -31,7 +31,7 @@ pub made_if : (ok : Bool) (old new : Device) (kept next : StoreView) (held : Lis
     → MakesStep (journal_of kept) change planned → stores change ≡ false → (ok ≡ true → next ≡ kept_by kept planned)
     → (planned.frame ≡ None → Keeps kept held old new)
     → ((c : Change) (came : List ℕ) → MakesChange (journal_of kept) c planned → fits_bytes c came ≡ true → CameThere old kept c came
-    → Makes ok c came kept (kept_by kept planned) held old new)
+    → ChangesStore ok c came kept (kept_by kept planned) held old new)
     → MakesIf ok change kept next held old new
 made_if ok old new kept next held None planned step none same nothing makes = nothing step.frame
 made_if ok old new kept next held (Some change) planned step none same nothing makes =
@@ -41,7 +41,7 @@ made_if ok old new kept next held (Some change) planned step none same nothing m
 pub next_if : (kept next : StoreView) (change : Option Change) (planned : Planned) → MakesStep (journal_of kept) change planned
     → next ≡ kept_by kept planned → IsNextIf kept change next
 next_if kept next None planned step is = is ∙ ap (kept_with kept planned) step.frame
-next_if kept next (Some change) planned step is = subst (IsNext kept change) (sym is) (planned_next kept change planned step)
+next_if kept next (Some change) planned step is = subst (IsAfterChange kept change) (sym is) (planned_next kept change planned step)
 
 pub bytes_if_are : (kept : StoreView) (change : Option Change) (planned : Planned) → MakesStep (journal_of kept) change planned
     → bytes_by planned ≡ bytes_if (journal_of kept) change

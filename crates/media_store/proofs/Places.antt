@@ -16,7 +16,7 @@ use Rattle.object_blobs.specs.Extents.{IsOnDevice}
 use Rattle.store_states.specs.Kept.{StoreView}
 use Rattle.store_states.specs.States.{media_start}
 use Rattle.media_store.specs.Pieces.{IsExtent}
-use Rattle.media_store.specs.Stores.{IsStore}
+use Rattle.media_store.specs.Stores.{IsSoundStore}
 
 -- the extent of a stored object lies in the media blocks
 pub extent_within : (library : Library) (extent : Extent) → Good library → IsExtent library extent
@@ -32,7 +32,8 @@ extent_within library extent good is =
     grind (arith, nat_tests)
 
 -- and so on each device of the file's blocks
-pub on_device : (kept : StoreView) (extent : Extent) (size : ℕ) → IsStore kept → 4096 * kept.journal.blocks ≤ size → extent.start + blocks_of extent.length ≤ kept.library.blocks
+pub on_device : (kept : StoreView) (extent : Extent) (size : ℕ) → IsSoundStore kept → 4096 * kept.journal.blocks ≤ size
+    → extent.start + blocks_of extent.length ≤ kept.library.blocks
     → IsOnDevice (media_start kept.journal.half) extent size
 on_device kept extent size store device within =
     let blocks = store.blocks in

@@ -13,7 +13,7 @@ use Rattle.store_states.specs.Kept.{StoreView}
 use Rattle.store_commits.specs.Carrying.{kept_written, written_bytes}
 use Rattle.store_plans.specs.declared.outcome.Planned.{Planned}
 use Rattle.store_plans.specs.Plans.{ComesFirst, IsPlanOf, MakesChange, MakesStep}
-use Rattle.media_store.specs.Changes.{IsNext, bytes_by, bytes_of_change, bytes_with, kept_by, kept_with}
+use Rattle.media_store.specs.Changes.{IsAfterChange, bytes_by, bytes_of_change, bytes_with, kept_by, kept_with}
 use Rattle.media_store.specs.Stores.{journal_of}
 
 -- ---- media blocks
@@ -41,7 +41,7 @@ state_with half library room = record { library = library; room = room; half = h
 
 pub next_is : (kept : StoreView) (change : Change) (rows : Option (List ℕ)) (next : Library) (payload : List ℕ)
     → ComesFirst (journal_of kept) change rows → SpellsChange payload change → next ≡ after change kept.library
-    → IsNext kept change (kept_written kept rows next payload)
+    → IsAfterChange kept change (kept_written kept rows next payload)
 next_is kept change None next payload first spells is =
     let size = payload_size payload change spells in
     let before : room_before (journal_of kept) change ≡ kept.journal.room =
@@ -79,9 +79,9 @@ bytes_are kept change (Some text) payload first spells =
 
 -- what is kept behind a plan's change
 pub planned_next : (kept : StoreView) (change : Change) (planned : Planned) → MakesChange (journal_of kept) change planned
-    → IsNext kept change (kept_by kept planned)
+    → IsAfterChange kept change (kept_by kept planned)
 planned_next kept change planned makes =
-    subst (λ (frame : Option (List ℕ)). IsNext kept change (kept_with kept planned frame)) (sym makes.frame)
+    subst (λ (frame : Option (List ℕ)). IsAfterChange kept change (kept_with kept planned frame)) (sym makes.frame)
     (next_is kept change planned.rows planned.next makes.payload makes.first makes.spells
     (applied_is_sound kept.library change planned.next makes.made).gives)
 

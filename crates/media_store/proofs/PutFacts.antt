@@ -21,14 +21,14 @@ use Rattle.store_writes.specs.Writes.{Keeps}
 use Rattle.store_writes.proofs.Keeping.{quiet}
 use Rattle.media_store.specs.Pieces.{IsExtent}
 use Rattle.media_store.specs.Puts.{CanWrite, IsPlanFor, may_be_same}
-use Rattle.media_store.specs.Stores.{IsStore, journal_of, size_of}
+use Rattle.media_store.specs.Stores.{IsSoundStore, journal_of, size_of}
 use Rattle.media_store.specs.Within.{IsPlacedOn, LeavesObjects}
 use Rattle.media_store.proofs.Places.{extent_within, on_device}
 
 -- ---- where a put's bytes lie
 
 -- on each device of the file's blocks, up to as many as were announced
-pub placed : (kept : StoreView) (device total end : ℕ) (same : Bool) (plan : PutPlan) → Good kept.library → IsStore kept → size_of kept ≤ device
+pub placed : (kept : StoreView) (device total end : ℕ) (same : Bool) (plan : PutPlan) → Good kept.library → IsSoundStore kept → size_of kept ≤ device
     → end ≤ total → IsPlanFor kept total same plan → IsPlacedOn (media_start kept.journal.half) device plan same end
 placed kept device total end same (Refused why) good store sized fits is = tt
 placed kept device total end same (Kept extent) good store sized fits is =

@@ -18,8 +18,8 @@ use Rattle.store_states.specs.States.{StepOf, held_in, media_start}
 use Rattle.store_commits.specs.Carrying.{AreRowsOf, Carries, kept_written}
 use Rattle.store_plans.specs.declared.outcome.Planned.{Planned}
 use Rattle.store_plans.specs.Plans.{MakesChange}
-use Rattle.media_store.specs.Changes.{Makes, kept_by, kept_with}
-use Rattle.media_store.specs.Puts.{bytes_in, stores_at}
+use Rattle.media_store.specs.Changes.{ChangesStore, kept_by, kept_with}
+use Rattle.media_store.specs.Puts.{bytes_at_extent, stores_at}
 use Rattle.media_store.specs.Stores.{archive_of, journal_of}
 use Rattle.media_store.proofs.Making.{carried, image_bytes, rows_are, step_is}
 
@@ -79,16 +79,17 @@ pub store_makes : (ok : Bool) (old new : Device) (kept : StoreView) (held : List
     → ((k : StoreView) (h : List (List ℕ)) (next : Library) → AgreesWith old k h → k.journal ≡ journal → AreRowsOf planned.rows k.library
     → StepOf payload k.library next
     → Carries ok (kept_state k h).archive (kept_written k planned.rows next payload) (held_in old.seen (media_start k.journal.half) next.objects) old new)
-    → Makes ok change (bytes_in kept extent old.seen) kept (kept_by kept planned) held old new
+    → ChangesStore ok change (bytes_at_extent kept extent old.seen) kept (kept_by kept planned) held old new
 store_makes ok old new kept held change extent planned payload journal device honest shows tells on is same agrees makes stores carries =
     let next = planned.next in
     let area = media_start kept.journal.half in
-    let came = bytes_in kept extent old.seen in
+    let came = bytes_at_extent kept extent old.seen in
     let there : extent_start (media_start kept.journal.half) extent + extent.length ≤ length old.seen = omega (arith, on, device.length shows) in
     let step = step_is kept change planned payload makes is in
     let bytes = image_bytes old kept held change came next (as_read old) agrees (device.itself honest shows tells) makes.made
     (fits_there old.seen area change extent there stores) (stored_there old.seen area change extent stores) in
     let made = carries kept held next agrees same (rows_are kept change planned.rows makes.first) step in
-    let with_bytes = subst (λ (some : List (List ℕ)). Carries ok (archive_of kept held) (kept_written kept planned.rows next payload) some old new) bytes made in
-    subst (λ (frame : Option (List ℕ)). Makes ok change came kept (kept_with kept planned frame) held old new) (sym is)
+    let with_bytes = subst (λ (some : List (List ℕ)). Carries ok (archive_of kept held)
+      (kept_written kept planned.rows next payload) some old new) bytes made in
+    subst (λ (frame : Option (List ℕ)). ChangesStore ok change came kept (kept_with kept planned frame) held old new) (sym is)
     (carried ok old new kept held change came planned.rows next payload (applied_is_sound kept.library change next makes.made).gives with_bytes)

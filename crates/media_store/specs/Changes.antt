@@ -59,7 +59,7 @@ archive_next kept held change came = archive_after change came (archive_of kept 
 -- The call makes a change of a store, for which these bytes came, or fails: at each moment of it
 -- each image that a crash leaves stands for the archive before the change or for the one after it.
 -- Where it has succeeded, the one after it alone is left, and what is kept agrees with the device.
-pub record Makes (ok : Bool) (change : Change) (came : List ℕ) (kept next : StoreView)
+pub record ChangesStore (ok : Bool) (change : Change) (came : List ℕ) (kept next : StoreView)
     (held : List (List ℕ)) (old new : Device) : Type 0 where
   pub moments : Elapses
       (Replaces (BLOCK * kept.journal.half) (archive_of kept held)
@@ -69,21 +69,21 @@ pub record Makes (ok : Bool) (change : Change) (came : List ℕ) (kept next : St
   pub agrees : ok ≡ true → AgreesWith new next (archive_next kept held change came).held
 
 -- what is kept after a change: the library, the room and the sizes
-pub record IsNext (kept : StoreView) (change : Change) (next : StoreView) : Type 0 where
+pub record IsAfterChange (kept : StoreView) (change : Change) (next : StoreView) : Type 0 where
   pub journal : journal_of next ≡ with_record (journal_of kept) change
   pub blocks : next.journal.blocks ≡ kept.journal.blocks
 
 -- what is kept after a change, if there is one
 abbrev pub IsNextIf : StoreView → Option Change → StoreView → Type 0
 IsNextIf kept None next = next ≡ kept
-IsNextIf kept (Some change) next = IsNext kept change next
+IsNextIf kept (Some change) next = IsAfterChange kept change next
 
 -- The call makes a change that needs no bytes, if there is one, or fails within it. Otherwise what
 -- is kept stays.
 abbrev pub MakesIf : Bool → Option Change → StoreView → StoreView → List (List ℕ) → Device → Device
     → Type 0
 MakesIf ok None kept next held old new = Keeps kept held old new
-MakesIf ok (Some change) kept next held old new = Makes ok change [] kept next held old new
+MakesIf ok (Some change) kept next held old new = ChangesStore ok change [] kept next held old new
 
 -- The bytes that a change hands to the disk: those of its record and 6 more, and where that doesn't
 -- fit the room, first the rows of a checkpoint and 10 more.
@@ -111,6 +111,6 @@ brings_bytes (commands.Keep object start size) = true
 brings_bytes other = false
 
 -- what a command makes of a store at a moment
-abbrev pub outcome_of : StoreView → Command → ℕ → Outcome
-outcome_of kept command moment =
+abbrev pub fitted_outcome : StoreView → Command → ℕ → Outcome
+fitted_outcome kept command moment =
     fitted (journal_of kept) (answer kept.library command moment)

@@ -10,8 +10,8 @@ is_disk (Err Disk) = true
 is_disk (Err Memory) = false
 
 -- none did
-abbrev pub not_disk : {X : Type 0} → Result X StoreFault → Bool
-not_disk result = not (is_disk result)
+abbrev pub not_disk_fault : {X : Type 0} → Result X StoreFault → Bool
+not_disk_fault result = not (is_disk result)
 
 -- what holds where there was no memory
 abbrev pub OnMemory : {X : Type 0} → Result X StoreFault → Type 0 → Type 0

@@ -19,7 +19,7 @@ use Rattle.store_plans.specs.declared.puts.PutPlan.{PutPlan}
 use Rattle.store_plans.specs.declared.puts.PutPlan.TheVariants.{Refused, Kept, Write}
 use Rattle.store_plans.specs.Plans.{HasExtent, IsPutPlan, MakesChange}
 use Rattle.store_writes.specs.Writes.{IsFree, Keeps}
-use Rattle.media_store.specs.Changes.{CanCommit, Makes, bytes_by, kept_by}
+use Rattle.media_store.specs.Changes.{CanCommit, ChangesStore, bytes_by, kept_by}
 use Rattle.media_store.specs.Pieces.{IsExtent}
 use Rattle.media_store.specs.Stores.{journal_of}
 
@@ -88,8 +88,8 @@ pub record IsBegun (put : PutSeen) : Type 0 where
 -- ---- pieces
 
 -- the bytes of an extent of a store in an image
-abbrev pub bytes_in : StoreView → Extent → List ℕ → List ℕ
-bytes_in kept extent image = extent_bytes (media_start kept.journal.half) extent image
+abbrev pub bytes_at_extent : StoreView → Extent → List ℕ → List ℕ
+bytes_at_extent kept extent image = extent_bytes (media_start kept.journal.half) extent image
 
 -- What a piece makes of a put over a device that shows its bytes: bytes that are written stand
 -- behind those of before, and those that are compared are the same so far as their pieces are.
@@ -97,28 +97,29 @@ abbrev pub TakesPiece : StoreView → PutPlan → List ℕ → PutSeen → PutSe
 TakesPiece kept (Refused why) piece old new before after = Unit {0}
 TakesPiece kept (Kept extent) piece old new before after =
     new.same ≡ (old.same
-    && bytes_eq (bytes_at (bytes_in kept extent before.seen) old.handed (length piece)) piece)
+    && bytes_eq (bytes_at (bytes_at_extent kept extent before.seen) old.handed
+      (length piece)) piece)
 TakesPiece kept (Write extent planned) piece old new before after =
-    take new.handed (bytes_in kept extent after.seen)
-    ≡ take old.handed (bytes_in kept extent before.seen) ++ piece
+    take new.handed (bytes_at_extent kept extent after.seen)
+    ≡ take old.handed (bytes_at_extent kept extent before.seen) ++ piece
 
 -- how many bytes of a piece are handed to the disk
-abbrev pub piece_bytes : PutPlan → List ℕ → ℕ
-piece_bytes (Refused why) piece = 0
-piece_bytes (Kept extent) piece = 0
-piece_bytes (Write extent planned) piece = length piece
+abbrev pub handed_of_piece : PutPlan → List ℕ → ℕ
+handed_of_piece (Refused why) piece = 0
+handed_of_piece (Kept extent) piece = 0
+handed_of_piece (Write extent planned) piece = length piece
 
 -- the put has room for a piece of the bytes that it compares
-abbrev pub HasRoom : PutPlan → ℕ → Type 0
-HasRoom (Refused why) room = Unit {0}
-HasRoom (Kept extent) room = room ≡ 65536
-HasRoom (Write extent planned) room = Unit {0}
+abbrev pub HasRoomToCompare : PutPlan → ℕ → Type 0
+HasRoomToCompare (Refused why) room = Unit {0}
+HasRoomToCompare (Kept extent) room = room ≡ 65536
+HasRoomToCompare (Write extent planned) room = Unit {0}
 
 -- why a put is refused, if it is
-abbrev pub refusal_of : PutPlan → Option Refusal
-refusal_of (Refused why) = Some why
-refusal_of (Kept extent) = None
-refusal_of (Write extent planned) = None
+abbrev pub put_plan_refusal : PutPlan → Option Refusal
+put_plan_refusal (Refused why) = Some why
+put_plan_refusal (Kept extent) = None
+put_plan_refusal (Write extent planned) = None
 
 -- whether the end of a put writes a change
 abbrev pub writes_by : PutPlan → Bool
@@ -127,7 +128,7 @@ writes_by (Kept extent) = false
 writes_by (Write extent planned) = true
 
 -- a put goes on behind a piece
-pub record GoesOn (old new : PutSeen) (piece : List ℕ) : Type 0 where
+pub record PutMovesOn (old new : PutSeen) (piece : List ℕ) : Type 0 where
   pub sized : new.size ≡ old.size
   pub handed : new.handed ≡ old.handed + length piece
   pub plan : new.plan ≡ old.plan
@@ -147,10 +148,10 @@ put_reply put (Kept extent) = (stored_put put.same).reply
 put_reply put (Write extent planned) = planned.reply
 
 -- what is kept behind a put
-abbrev pub kept_behind : StoreView → PutPlan → StoreView
-kept_behind kept (Refused why) = kept
-kept_behind kept (Kept extent) = kept
-kept_behind kept (Write extent planned) = kept_by kept planned
+abbrev pub kept_after_put : StoreView → PutPlan → StoreView
+kept_after_put kept (Refused why) = kept
+kept_after_put kept (Kept extent) = kept
+kept_after_put kept (Write extent planned) = kept_by kept planned
 
 -- the change that a put's plan makes
 abbrev pub StoresAs : StoreView → Change → PutPlan → Type 0
@@ -160,10 +161,10 @@ StoresAs kept change (Write extent planned) =
     MakesChange (journal_of kept) change planned × IsTrue (stores_at change extent)
 
 -- how many bytes the end of a put hands to the disk
-abbrev pub handed_by : PutPlan → ℕ
-handed_by (Refused why) = 0
-handed_by (Kept extent) = 0
-handed_by (Write extent planned) = bytes_by planned
+abbrev pub handed_at_end : PutPlan → ℕ
+handed_at_end (Refused why) = 0
+handed_at_end (Kept extent) = 0
+handed_at_end (Write extent planned) = bytes_by planned
 
 -- What the end of a put makes of a store: the change of its plan, for which the bytes came that a
 -- read gives at the extent. Behind a put that writes nothing what is kept stays.
@@ -171,4 +172,5 @@ abbrev pub EndsPut : Bool → PutPlan → Change → StoreView → List (List �
 EndsPut ok (Refused why) change kept held old new = Keeps kept held old new
 EndsPut ok (Kept extent) change kept held old new = Keeps kept held old new
 EndsPut ok (Write extent planned) change kept held old new =
-    Makes ok change (bytes_in kept extent old.seen) kept (kept_by kept planned) held old new
+    ChangesStore ok change (bytes_at_extent kept extent old.seen) kept
+      (kept_by kept planned) held old new

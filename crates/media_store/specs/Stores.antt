@@ -22,7 +22,7 @@ pub record StoreSeen : Type 0 where
 
 -- A store's journal goes to the end of its half, its halves lie in the file, and its library has
 -- all media blocks of the file.
-pub record IsStore (kept : StoreView) : Type 0 where
+pub record IsSoundStore (kept : StoreView) : Type 0 where
   pub whole : IsWhole kept.journal
   pub sizes : 2 * kept.journal.half + 3 ≤ kept.journal.blocks
   pub blocks : kept.library.blocks ≡ kept.journal.blocks - blocks_before kept.journal.half

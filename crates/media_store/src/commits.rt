@@ -9,8 +9,8 @@ ghost use Rattle.media_rows.specs.Sound.{is_good_command};
 ghost use Rattle.disk_trait.specs.Calls.{DiskCalls};
 ghost use Rattle.store_plans.specs.Plans.{IsPlanOf, IsPlanned, MakesChange};
 ghost use Rattle.store_states.specs.Kept.{AgreesWith};
-ghost use Rattle.media_store.specs.Changes.{CameThere, CanCommit, IsNextIf, Makes, MakesIf, brings_bytes, bytes_by, bytes_if, kept_by, outcome_of, stores};
-ghost use Rattle.media_store.specs.Faults.{OnCalls, OnMemory, is_disk, not_disk};
+ghost use Rattle.media_store.specs.Changes.{CameThere, CanCommit, IsNextIf, ChangesStore, MakesIf, brings_bytes, bytes_by, bytes_if, kept_by, fitted_outcome, stores};
+ghost use Rattle.media_store.specs.Faults.{OnCalls, OnMemory, is_disk, not_disk_fault};
 ghost use Rattle.media_store.specs.Stores.{journal_of, size_of};
 
 use crate::{Store, StoreFault};
@@ -65,7 +65,7 @@ impl Store {
             → AgreesWith (D.device disk.old) self.old.kept held
             → MakesChange (journal_of self.old.kept) change planned
             → IsTrue (fits_bytes change came) → CameThere (D.device disk.old) self.old.kept change came
-            → Makes (is_ok result) change came self.old.kept (kept_by self.old.kept planned) held
+            → ChangesStore (is_ok result) change came self.old.kept (kept_by self.old.kept planned) held
             (D.device disk.old) (D.device disk.new) }
         ensures unchanged { planned.frame ≡ None → (disk.new ≡ disk.old) × IsTrue (is_ok result) }
 
@@ -145,22 +145,22 @@ impl Store {
         requires sent { IsFalse (brings_bytes command.now) }
         requires moment { IsTrue (is_moment now) }
         ensures reply { IfOk result (λ reply. reply
-            ≡ (outcome_of self.old.kept command.now now).reply) }
+            ≡ (fitted_outcome self.old.kept command.now now).reply) }
         ensures makes { (D.device disk.old).honest ≡ true → (D.device disk.old).shows ≡ true
             → (held : List (List ℕ)) → AgreesWith (D.device disk.old) self.old.kept held
-            → OnCalls result (λ ok. MakesIf ok (outcome_of self.old.kept command.now now).change
+            → OnCalls result (λ ok. MakesIf ok (fitted_outcome self.old.kept command.now now).change
             self.old.kept self.new.kept held (D.device disk.old) (D.device disk.new)) }
         ensures next { OnOk result (IsNextIf self.old.kept
-            (outcome_of self.old.kept command.now now).change self.new.kept) }
+            (fitted_outcome self.old.kept command.now now).change self.new.kept) }
         ensures memory { OnMemory result ((self.new ≡ self.old) × (disk.new ≡ disk.old)) }
         ensures spent { self.new.spent ≡ is_disk result }
         ensures handed { (D.device disk.old).tells ≡ true → OnOk result ((D.device disk.new).handed
             ≡ (D.device disk.old).handed + bytes_if (journal_of self.old.kept)
-            (outcome_of self.old.kept command.now now).change) }
+            (fitted_outcome self.old.kept command.now now).change) }
         ensures handed_at_most { (D.device disk.old).tells ≡ true → (D.device disk.new).handed
             ≤ (D.device disk.old).handed + bytes_if (journal_of self.old.kept)
-            (outcome_of self.old.kept command.now now).change }
-        ensures calls { DiskCalls (not_disk result) (D.device disk.old) (D.device disk.new) }
+            (fitted_outcome self.old.kept command.now now).change }
+        ensures calls { DiskCalls (not_disk_fault result) (D.device disk.old) (D.device disk.new) }
     {
         let planned = self.plan(alloc, command, now)?;
         match self.make(disk, planned) {

@@ -2,7 +2,7 @@
 ghost use Rattle.std.specs.Prelude.{◌≡◌, ◌≤◌, true, IfOk, IsFalse};
 ghost use Rattle.disk_trait.specs.Calls.{DiskReads, LeavesOnly};
 ghost use Rattle.media_journal.specs.Answers.{not_disk};
-ghost use Rattle.store_opening.specs.Opening.{kept_bytes};
+ghost use Rattle.store_opening.specs.Opening.{bytes_in_image};
 ghost use Rattle.store_states.specs.Kept.{AgreesWith};
 ghost use Rattle.media_store.specs.Stores.{OpensAs, size_of};
 
@@ -27,7 +27,7 @@ impl Store {
         ensures agrees { (D.device disk.old).shows ≡ true
             → LeavesOnly (D.device disk.old).seen (D.device disk.old)
             → IfOk result (λ store. AgreesWith (D.device disk.new) store.kept
-            (kept_bytes (D.device disk.old).seen store.kept)) }
+            (bytes_in_image (D.device disk.old).seen store.kept)) }
     {
         let OpenedStore { core, journal } = open_store(alloc, disk)?;
         Ok(Store {

@@ -12,8 +12,8 @@ ghost use Rattle.store_plans.specs.Plans.{MakesChange};
 ghost use Rattle.store_states.specs.Kept.{AgreesWith, StoreView};
 ghost use Rattle.store_states.specs.States.{media_start};
 ghost use Rattle.store_writes.specs.Writes.{Keeps};
-ghost use Rattle.media_store.specs.Changes.{CanCommit, Makes, bytes_by, kept_by};
-ghost use Rattle.media_store.specs.Puts.{EndsPut, GoesOn, HasBegun, HasRoom, IsBegun, IsPutOf, StoresAs, TakesPiece, bytes_in, handed_by, kept_behind, may_be_same, piece_bytes, put_reply, refusal_of, stores_at, writes_by};
+ghost use Rattle.media_store.specs.Changes.{CanCommit, ChangesStore, bytes_by, kept_by};
+ghost use Rattle.media_store.specs.Puts.{EndsPut, PutMovesOn, HasBegun, HasRoomToCompare, IsBegun, IsPutOf, StoresAs, TakesPiece, bytes_at_extent, handed_at_end, kept_after_put, may_be_same, handed_of_piece, put_reply, put_plan_refusal, stores_at, writes_by};
 ghost use Rattle.media_store.specs.Stores.{journal_of, size_of};
 ghost use Rattle.media_store.specs.Within.{IsPlacedOn, LeavesObjects, TakesAt, is_put_refusal};
 
@@ -43,19 +43,19 @@ pub struct Put {
 
 impl Model for Put {
     ghost use Rattle.std.specs.Prelude.{◌≡◌, length};
-    ghost use Rattle.media_store.specs.Puts.{HasRoom, PutSeen};
+    ghost use Rattle.media_store.specs.Puts.{HasRoomToCompare, PutSeen};
 
     ghost Value = { PutSeen };
 
     ghost view = { λ p. record { size = p.size; handed = p.handed; plan = p.plan; same = p.same } };
 
-    ghost invariant = { λ p. HasRoom p.plan (length p.buffer.items) };
+    ghost invariant = { λ p. HasRoomToCompare p.plan (length p.buffer.items) };
 }
 
 impl Put {
     /// Why the bytes are refused, where they are, whatever they will be.
     pub fn refusal(&self) -> Option<&Refusal>
-        ensures { option_copied result ≡ refusal_of self.now.plan }
+        ensures { option_copied result ≡ put_plan_refusal self.now.plan }
     {
         match &self.plan {
             PutPlan::Refused(why) => Some(why),
@@ -133,13 +133,13 @@ impl Store {
         ensures piece { (D.device disk.old).shows ≡ true → OnOk result
             (TakesPiece self.old.kept put.old.plan piece.now put.old put.new
             (D.device disk.old) (D.device disk.new)) }
-        ensures put { OnOk result (GoesOn put.old put.new piece.now × IsPutOf self.new.kept put.new) }
+        ensures put { OnOk result (PutMovesOn put.old put.new piece.now × IsPutOf self.new.kept put.new) }
         ensures kept { self.new.kept ≡ self.old.kept }
         ensures spent { self.new.spent ≡ is_err result }
         ensures handed { (D.device disk.old).tells ≡ true → OnOk result ((D.device disk.new).handed
-            ≡ (D.device disk.old).handed + piece_bytes put.old.plan piece.now) }
+            ≡ (D.device disk.old).handed + handed_of_piece put.old.plan piece.now) }
         ensures handed_at_most { (D.device disk.old).tells ≡ true → (D.device disk.new).handed
-            ≤ (D.device disk.old).handed + piece_bytes put.old.plan piece.now }
+            ≤ (D.device disk.old).handed + handed_of_piece put.old.plan piece.now }
         ensures calls { DiskCalls (is_ok result) (D.device disk.old) (D.device disk.new) }
     {
         self.library.keeps_good();
@@ -167,12 +167,12 @@ impl Store {
             → EndsPut (is_ok result) put.plan change self.old.kept held
             (D.device disk.old) (D.device disk.new) }
         ensures reply { IfOk result (λ reply. reply ≡ put_reply put put.plan) }
-        ensures kept { IfOk result (λ _. self.new.kept ≡ kept_behind self.old.kept put.plan) }
+        ensures kept { IfOk result (λ _. self.new.kept ≡ kept_after_put self.old.kept put.plan) }
         ensures spent { self.new.spent ≡ is_err result }
         ensures handed { (D.device disk.old).tells ≡ true → IfOk result (λ _. (D.device disk.new).handed
-            ≡ (D.device disk.old).handed + handed_by put.plan) }
+            ≡ (D.device disk.old).handed + handed_at_end put.plan) }
         ensures handed_at_most { (D.device disk.old).tells ≡ true
-            → (D.device disk.new).handed ≤ (D.device disk.old).handed + handed_by put.plan }
+            → (D.device disk.new).handed ≤ (D.device disk.old).handed + handed_at_end put.plan }
         ensures calls { DiskCalls (is_ok result) (D.device disk.old) (D.device disk.new) }
     {
         let Put { plan, same, .. } = put;
@@ -200,7 +200,7 @@ impl Store {
             → (D.device disk.old).tells ≡ true → (held : List (List ℕ)) → (change : Change)
             → AgreesWith (D.device disk.old) self.old.kept held
             → MakesChange (journal_of self.old.kept) change planned → IsTrue (stores_at change extent)
-            → Makes (is_ok result) change (bytes_in self.old.kept extent (D.device disk.old).seen)
+            → ChangesStore (is_ok result) change (bytes_at_extent self.old.kept extent (D.device disk.old).seen)
             self.old.kept (kept_by self.old.kept planned) held
             (D.device disk.old) (D.device disk.new) }
         ensures reply { IfOk result (λ reply. reply ≡ planned.reply) }
@@ -249,12 +249,12 @@ impl Put {
         ensures piece { (D.device disk.old).shows ≡ true → OnOk result
             (TakesAt area self.old.plan piece.now self.old.handed self.old.same self.new.same
             (D.device disk.old).seen (D.device disk.new).seen) }
-        ensures put { OnOk result (GoesOn self.old self.new piece.now) }
+        ensures put { OnOk result (PutMovesOn self.old self.new piece.now) }
         ensures same { self.new.same ≡ true → self.old.same ≡ true }
         ensures handed { (D.device disk.old).tells ≡ true → OnOk result ((D.device disk.new).handed
-            ≡ (D.device disk.old).handed + piece_bytes self.old.plan piece.now) }
+            ≡ (D.device disk.old).handed + handed_of_piece self.old.plan piece.now) }
         ensures handed_at_most { (D.device disk.old).tells ≡ true → (D.device disk.new).handed
-            ≤ (D.device disk.old).handed + piece_bytes self.old.plan piece.now }
+            ≤ (D.device disk.old).handed + handed_of_piece self.old.plan piece.now }
         ensures calls { DiskCalls (is_ok result) (D.device disk.old) (D.device disk.new) }
     {
         let at = self.handed;
@@ -278,7 +278,7 @@ fn take_piece<D: Disk>(
 ) -> Result<bool, Failed>
     requires place { IsPlacedOn area (D.device disk.old).size plan.now same (at + length piece.now) }
     requires short { length piece.now ≤ PIECE }
-    requires room { HasRoom plan.now (length room.old) }
+    requires room { HasRoomToCompare plan.now (length room.old) }
     ensures keeps { (kept : StoreView) → (held : List (List ℕ))
         → AgreesWith (D.device disk.old) kept held → area ≡ media_start kept.journal.half
         → LeavesObjects kept.library plan.now
@@ -289,9 +289,9 @@ fn take_piece<D: Disk>(
     ensures same { IfOk result (λ still. still ≡ true → same ≡ true) }
     ensures room { length room.new ≡ length room.old }
     ensures handed { (D.device disk.old).tells ≡ true → IfOk result (λ _. (D.device disk.new).handed
-        ≡ (D.device disk.old).handed + piece_bytes plan.now piece.now) }
+        ≡ (D.device disk.old).handed + handed_of_piece plan.now piece.now) }
     ensures handed_at_most { (D.device disk.old).tells ≡ true → (D.device disk.new).handed
-        ≤ (D.device disk.old).handed + piece_bytes plan.now piece.now }
+        ≤ (D.device disk.old).handed + handed_of_piece plan.now piece.now }
     ensures calls { DiskCalls (is_ok result) (D.device disk.old) (D.device disk.new) }
 {
     match plan {
@@ -347,7 +347,7 @@ fn may_be_same(plan: &PutPlan, size: u64) -> bool
 
 /// Room for a piece of the bytes that are to be compared, where there are some.
 fn buffer_for(alloc: Global, plan: &PutPlan) -> Result<Vec<u8>, Memory>
-    ensures { IfOk result (λ buffer. HasRoom plan.now (length buffer.items)) }
+    ensures { IfOk result (λ buffer. HasRoomToCompare plan.now (length buffer.items)) }
 {
     match plan {
         PutPlan::Kept(_) => Ok(vec![in alloc; 0u8; PIECE]?),

@@ -23,7 +23,7 @@ pub struct Store {
 
 impl Model for Store {
     ghost use Rattle.std.specs.Prelude.{◌≡◌, false};
-    ghost use Rattle.media_store.specs.Stores.{IsStore, StoreSeen};
+    ghost use Rattle.media_store.specs.Stores.{IsSoundStore, StoreSeen};
 
     ghost Value = { StoreSeen };
 
@@ -33,7 +33,7 @@ impl Model for Store {
     } };
 
     ghost invariant = { λ s. s.spent ≡ false
-        → IsStore (record { library = s.library; journal = s.journal }) };
+        → IsSoundStore (record { library = s.library; journal = s.journal }) };
 }
 
 impl Store {

@@ -7,7 +7,7 @@ ghost use Rattle.disk_trait.specs.Calls.{DiskCalls};
 ghost use Rattle.store_plans.specs.Plans.{IsStepPlan};
 ghost use Rattle.store_states.specs.Kept.{AgreesWith};
 ghost use Rattle.media_store.specs.Changes.{CanCommit, IsNextIf, MakesIf, bytes_if, stores};
-ghost use Rattle.media_store.specs.Faults.{OnCalls, OnDisk, OnMemory, is_disk, not_disk};
+ghost use Rattle.media_store.specs.Faults.{OnCalls, OnDisk, OnMemory, is_disk, not_disk_fault};
 ghost use Rattle.media_store.specs.Stores.{journal_of, size_of};
 ghost use Rattle.media_store.specs.Turns.{TurnIs, turn_change};
 
@@ -67,7 +67,7 @@ impl Store {
         ensures handed_at_most { (D.device disk.old).tells ≡ true → (D.device disk.new).handed
             ≤ (D.device disk.old).handed + bytes_if (journal_of self.old.kept)
             (turn_change (journal_of self.old.kept) (turn self.old.kept.library now)) }
-        ensures calls { DiskCalls (not_disk result) (D.device disk.old) (D.device disk.new) }
+        ensures calls { DiskCalls (not_disk_fault result) (D.device disk.old) (D.device disk.new) }
     {
         match plan_turn(alloc, &self.library, &self.journal, now)? {
             TurnPlan::Nothing => Ok(TurnMade::Nothing),
@@ -110,7 +110,7 @@ impl Store {
             → (change : Change) → IsStepPlan (journal_of self.old.kept) due change planned
             → (D.device disk.new).handed ≤ (D.device disk.old).handed
             + bytes_if (journal_of self.old.kept) (turn_change (journal_of self.old.kept) due) }
-        ensures calls { DiskCalls (not_disk result) (D.device disk.old) (D.device disk.new) }
+        ensures calls { DiskCalls (not_disk_fault result) (D.device disk.old) (D.device disk.new) }
     {
         match self.make(disk, planned) {
             Ok(_) => Ok(made),

@@ -9,7 +9,7 @@ use Rattle.shared_tree.specs.Pairs.{first, is_above, is_below, is_up_to, last, v
 use Rattle.shared_tree.proofs.Counted.{all_append}
 use Rattle.shared_tree.proofs.Rising.{all_map, filter_all, filter_none}
 use Rattle.object_blobs.specs.declared.space.Hole.{Hole}
-use Rattle.object_blobs.specs.Holes.{IsGiven, has_block, is_free_block, is_taken_place}
+use Rattle.object_blobs.specs.Holes.{GivesBlocks, has_block, is_free_block, is_taken_place}
 use Rattle.object_blobs.specs.Within.Keys.{AreHolesOf, area_of, joined_end, joined_start, without_joined}
 use Rattle.object_blobs.proofs.Runs.{each_at}
 use Rattle.object_blobs.proofs.Spaced.{has_from, same_tests}
@@ -366,7 +366,7 @@ now_free blocks start count rows new from to given block =
 
 pub given_area : (blocks start count : ℕ) (rows others new : List Pair) (from to : ℕ) → Asked blocks start count rows from to
     → others ≡ without_joined (start + count) to rows
-    → new ≡ with_pair (pos from, record { start = from; blocks = to - from }) others → IsGiven start count (area_of blocks rows) (area_of blocks new)
+    → new ≡ with_pair (pos from, record { start = from; blocks = to - from }) others → GivesBlocks start count (area_of blocks rows) (area_of blocks new)
 given_area blocks start count rows others new from to asked eo en = record {
   blocks = refl;
   free = now_free blocks start count rows new from to (given_is blocks start count rows others new from to asked eo en);

@@ -1,7 +1,7 @@
 -- What callers need of places: one that was found may be taken, and one that was taken may be given back.
 use Rattle.std.proofs.Common.{◌≡◌, ℕ, ◌+◌, ◌-◌, ◌<◌, ◌≤◌, Bool, true, false, not, Some, refl, sym, ap, ◌∙◌, arith}
 use Rattle.std.proofs.lemmas.Bool.{and_right, not_from_false}
-use Rattle.object_blobs.specs.Holes.{Area, HasHoles, IsGiven, IsPlaceTaken, has_block, is_free_block, is_free_place, is_taken_place, least_place}
+use Rattle.object_blobs.specs.Holes.{Area, HasHoles, GivesBlocks, IsPlaceTaken, has_block, is_free_block, is_free_place, is_taken_place, least_place}
 use Rattle.object_blobs.proofs.Placing.{found_free}
 use Rattle.object_blobs.proofs.Runs.{each_at, each_from}
 use Rattle.object_blobs.proofs.Spaced.{free_high, has_from, spaced_area}
@@ -36,7 +36,7 @@ taken_stays start count other other_count old new h taken = each_from (λ block.
     by block e = let is = h.free block in grind (arith, is, e)
 
 -- and while one that has none of its blocks is given back
-pub taken_apart : (start count other other_count : ℕ) (old new : Area) → IsGiven other other_count old new → is_taken_place old.holes count start ≡ true
+pub taken_apart : (start count other other_count : ℕ) (old new : Area) → GivesBlocks other other_count old new → is_taken_place old.holes count start ≡ true
     → ((block : ℕ) → start ≤ block → block < start + count → has_block other other_count block ≡ false) → is_taken_place new.holes count start ≡ true
 taken_apart start count other other_count old new h taken apart = each_from (λ block. not (is_free_block new.holes block)) count start (λ block l e.
     by block (each_at (λ b. not (is_free_block old.holes b)) count start block taken l e) (apart block l e))

@@ -77,7 +77,7 @@ pub record IsPlaceTaken (start count : ℕ) (old new : Area) : Type 0 where
       ≡ (is_free_block old.holes block && not (has_block start count block))
 
 -- an area once so many blocks from a first one on are free: no other block changes
-pub record IsGiven (start count : ℕ) (old new : Area) : Type 0 where
+pub record GivesBlocks (start count : ℕ) (old new : Area) : Type 0 where
   pub blocks : new.blocks ≡ old.blocks
   pub free : (block : ℕ) → is_free_block new.holes block
       ≡ (is_free_block old.holes block || has_block start count block)

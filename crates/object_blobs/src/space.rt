@@ -3,7 +3,7 @@ ghost use Rattle.std.specs.Prelude.{◌≡◌, ◌+◌, ◌<◌, ◌≤◌, IfOk
 ghost use Rattle.media_rows.specs.declared.object.ObjectRow.{ObjectRow};
 ghost use Rattle.media_rows.specs.Objects.{free_place, is_free};
 ghost use Rattle.std.specs.Prelude.{List};
-ghost use Rattle.object_blobs.specs.Holes.{HasHoles, IsAllFree, IsGiven, IsPlaceTaken, IsToldByFree, LeavesFree, is_free_place, is_taken_place, least_place};
+ghost use Rattle.object_blobs.specs.Holes.{HasHoles, IsAllFree, GivesBlocks, IsPlaceTaken, IsToldByFree, LeavesFree, is_free_place, is_taken_place, least_place};
 
 use crate::changes::{with_front, with_hole, with_rest, without_joined};
 use crate::looks::{first_fitting, has_place, holding, joined_end, joined_start};
@@ -136,7 +136,7 @@ impl Space {
     pub fn give(&self, alloc: Global, start: u64, blocks: u64) -> Result<Space, Memory>
         requires inside { start + blocks ≤ self.now.blocks }
         requires taken { IsTrue (is_taken_place self.now.holes blocks start) }
-        ensures { IfOk result (IsGiven start blocks self.now) }
+        ensures { IfOk result (GivesBlocks start blocks self.now) }
     {
         if blocks == 0 {
             return self.share();

@@ -8,7 +8,7 @@ use Rattle.object_refs.specs.declared.kept.Kept.{Kept}
 use Rattle.object_refs.specs.References.{are_below, kept_of, objects_in, with_new}
 use Rattle.object_refs.specs.declared.names.Named.{Named}
 use Rattle.object_refs.specs.Within.Names.{Renames, id_number}
-use Rattle.object_refs.specs.Within.Books.{IsBook, bare, has_serial, idle_entered, idle_key_of, with_row}
+use Rattle.object_refs.specs.Within.Books.{IsBook, bare, has_serial, idle_entered, idle_key_of, with_new_object}
 use Rattle.object_refs.proofs.Found.{object_is, unnamed}
 use Rattle.object_refs.proofs.Moving.{book_gains}
 use Rattle.object_refs.proofs.Restoring.{put_last, serial_none}
@@ -41,9 +41,9 @@ new_book row copied number key kept rows rows' names names' idle idle' book risi
     (is ∙ ap (λ k. idle_entered k row.serial idle) (ek ∙ ap idle_key_of made))
 
 pub new_at_end : (copied id : List ℕ) (serial moment : ℕ) (kept next : List Kept) → copied ≡ id → are_below serial kept ≡ true
-    → next ≡ with_row (record { id = copied; serial = serial; state = Allocated; idle_since = moment }) kept → next ≡ with_new id serial moment kept
+    → next ≡ with_new_object (record { id = copied; serial = serial; state = Allocated; idle_since = moment }) kept → next ≡ with_new id serial moment kept
 new_at_end copied id serial moment kept next e below is =
-    is ∙ ap (λ i. with_row (record { id = i; serial = serial; state = Allocated; idle_since = moment }) kept) e
+    is ∙ ap (λ i. with_new_object (record { id = i; serial = serial; state = Allocated; idle_since = moment }) kept) e
     ∙ put_last (record { id = id; serial = serial; state = Allocated; idle_since = moment }) kept below
 
 -- what isn't found isn't kept

@@ -14,7 +14,7 @@ use Rattle.media_rows.specs.Objects.{is_stored_object, is_stored_row, object_of,
 use Rattle.media_rows.specs.Restoring.{can_restore_objects, objects_of}
 use Rattle.object_refs.specs.declared.kept.Kept.{Kept}
 use Rattle.object_refs.specs.References.{book_of, changed_at, objects_in, referred, with_references}
-use Rattle.object_refs.specs.Within.Books.{AreReferred, IsGathered, are_names_distinct, bare, bare_objects, has_serial, kept_before, referring, with_row}
+use Rattle.object_refs.specs.Within.Books.{AreReferred, IsGathered, are_names_distinct, bare, bare_objects, has_serial, kept_before, referring, with_new_object}
 use Rattle.object_refs.proofs.Naming.{bytes_differ, bytes_same, same_bytes}
 
 abbrev serial_before : ObjectRow → ObjectRow → Bool
@@ -133,11 +133,11 @@ placed_bare row (r ∷ rows) = by (nat_lt r.serial row.serial) (placed_bare row 
     by false ih = refl
 
 pub gathered_more : (row : ObjectRow) (rows more : List ObjectRow) (kept next : List Kept) → IsGathered rows kept → is_new row kept ≡ true
-    → next ≡ with_row row kept → more ≡ row ∷ rows → IsGathered more next
+    → next ≡ with_new_object row kept → more ≡ row ∷ rows → IsGathered more next
 gathered_more row rows more kept next was new is shape =
     rw shape (record {
       distinct = names_more row rows was.distinct ∙ ap (is_new row) (sym was.is) ∙ new;
-      is = is ∙ ap (with_row row) was.is ∙ placed_bare row (objects_of rows);
+      is = is ∙ ap (with_new_object row) was.is ∙ placed_bare row (objects_of rows);
     })
 
 and_false : (a b c d : Bool) → (b && d) ≡ false → ((a && b) && (c && d)) ≡ false

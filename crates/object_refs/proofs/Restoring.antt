@@ -9,7 +9,7 @@ use Rattle.shared_tree.specs.Rows.{IsKeyedBy}
 use Rattle.shared_tree.proofs.Rising.{Around, filter_none, put_left, put_right}
 use Rattle.object_refs.specs.declared.kept.Kept.{Kept}
 use Rattle.object_refs.specs.References.{are_below}
-use Rattle.object_refs.specs.Within.Books.{bare, has_serial, kept_key, with_row}
+use Rattle.object_refs.specs.Within.Books.{bare, has_serial, kept_key, with_new_object}
 use Rattle.object_refs.proofs.Looks.{is_lower, is_same, not_lower, same_is}
 
 -- ---- serials
@@ -66,11 +66,11 @@ higher_serial : (a b : ℕ) → pos b <ℤ pos a → nat_lt a b ≡ false
 higher_serial a b lt = let l : b < a = omega (arith, ints, lt) in grind (arith, nat_tests)
 
 pub put_row : (row : ObjectRow) (rows next : List (ℤ × Kept)) → IsRising rows → IsKeyedBy kept_key rows → has_serial row.serial (values rows) ≡ false
-    → next ≡ with_pair (pos row.serial, bare row) rows → values next ≡ with_row row (values rows)
+    → next ≡ with_pair (pos row.serial, bare row) rows → values next ≡ with_new_object row (values rows)
 put_row row rows next rising keyed fresh is = ap values is ∙ places rows rising keyed fresh
   where
     places : (ps : List (ℤ × Kept)) → IsRising ps → IsKeyedBy kept_key ps → has_serial row.serial (values ps) ≡ false
-        → values (with_pair (pos row.serial, bare row) ps) ≡ with_row row (values ps)
+        → values (with_pair (pos row.serial, bare row) ps) ≡ with_new_object row (values ps)
     places [] up k f = refl
     places (p ∷ rest) up k f =
         by (int_lt p.0 (pos row.serial)) (int_lt (pos row.serial) p.0) refl refl (serial_tests row.serial (p ∷ rest) k f) (λ g. places rest up.1 k.1 g)
@@ -81,8 +81,8 @@ put_row row rows next rising keyed fresh is = ap values is ∙ places rows risin
 
         by : (b a : Bool) → int_lt p.0 (pos row.serial) ≡ b → int_lt (pos row.serial) p.0 ≡ a
             → AllByRecursion (λ q. is_at (pos row.serial) q ≡ false) (p ∷ rest)
-            → (has_serial row.serial (values rest) ≡ false → values (with_pair (pos row.serial, bare row) rest) ≡ with_row row (values rest))
-            → values (with_pair (pos row.serial, bare row) (p ∷ rest)) ≡ with_row row (values (p ∷ rest))
+            → (has_serial row.serial (values rest) ≡ false → values (with_pair (pos row.serial, bare row) rest) ≡ with_new_object row (values rest))
+            → values (with_pair (pos row.serial, bare row) (p ∷ rest)) ≡ with_new_object row (values (p ∷ rest))
         by true a eb ea others ih =
             let lt = is_lower p.0 (pos row.serial) eb in
             ap values (put_right (pos row.serial) (bare row) [] p rest (first_around p rest up) lt)
@@ -96,12 +96,12 @@ put_row row rows next rising keyed fresh is = ap values is ∙ places rows risin
             absurd (let same = is_same p.0 (pos row.serial) (not_lower p.0 (pos row.serial) eb ea) in let f' = others.0 in grind (arith, same, f'))
 
 -- one whose serial is above all others stands at the end
-pub put_last : (row : ObjectRow) (kept : List Kept) → are_below row.serial kept ≡ true → with_row row kept ≡ kept ++ bare row ∷ []
+pub put_last : (row : ObjectRow) (kept : List Kept) → are_below row.serial kept ≡ true → with_new_object row kept ≡ kept ++ bare row ∷ []
 put_last row [] e = refl
 put_last row (k ∷ kept) e = by (nat_lt k.row.serial row.serial) e (put_last row kept)
   where
-    by : (t : Bool) → (t && are_below row.serial kept) ≡ true → (are_below row.serial kept ≡ true → with_row row kept ≡ kept ++ bare row ∷ [])
-        → cond t (k ∷ with_row row kept) (bare row ∷ k ∷ kept) ≡ k ∷ (kept ++ bare row ∷ [])
+    by : (t : Bool) → (t && are_below row.serial kept) ≡ true → (are_below row.serial kept ≡ true → with_new_object row kept ≡ kept ++ bare row ∷ [])
+        → cond t (k ∷ with_new_object row kept) (bare row ∷ k ∷ kept) ≡ k ∷ (kept ++ bare row ∷ [])
     by true f ih = ap (λ l. k ∷ l) (ih f)
     by false f ih = absurd (grind (arith, f))
 

@@ -2,7 +2,7 @@
 ghost use Rattle.std.specs.Prelude.{◌≡◌, ◌<◌, ◌^◌, IfOk, IsFalse, IsTrue, None, Some};
 ghost use Rattle.media_rows.specs.Objects.{is_stored};
 ghost use Rattle.object_refs.specs.References.{are_below, changed_at, kept_of, referred, released_at, stored_at, with_new, without_id};
-ghost use Rattle.object_refs.specs.Within.Books.{has_serial, idle_entered, idle_left, with_row};
+ghost use Rattle.object_refs.specs.Within.Books.{has_serial, idle_entered, idle_left, with_new_object};
 ghost use Rattle.object_refs.specs.declared.kept.Kept.{Kept};
 
 use crate::ObjectBook;
@@ -42,7 +42,7 @@ impl ObjectBook {
     pub(crate) fn with_row(&self, alloc: Global, row: ObjectRow) -> Result<ObjectBook, Memory>
         requires id { kept_of row.id self.now ≡ None }
         requires serial { IsFalse (has_serial row.serial self.now) }
-        ensures { IfOk result (λ next. next ≡ with_row row self.now) }
+        ensures { IfOk result (λ next. next ≡ with_new_object row self.now) }
     {
         self.rows.keys_rise();
         let serial = row.serial;

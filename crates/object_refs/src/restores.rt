@@ -4,7 +4,7 @@ ghost use Rattle.std.specs.List.{list_all};
 ghost use Rattle.media_rows.specs.Objects.{is_stored_object, object_of};
 ghost use Rattle.media_rows.specs.Refusals.{Restores};
 ghost use Rattle.object_refs.specs.References.{changed_at, objects_in, referred};
-ghost use Rattle.object_refs.specs.Within.Books.{are_names_distinct, bare_objects, has_serial, referring, with_row};
+ghost use Rattle.object_refs.specs.Within.Books.{are_names_distinct, bare_objects, has_serial, referring, with_new_object};
 
 use crate::ObjectBook;
 use disk_trait::Duplicate;
@@ -30,7 +30,7 @@ fn with_object(alloc: Global, book: &ObjectBook, row: &ObjectRow) -> Result<Obje
     ensures { Restores
         (is_none (object_of row.now.id (objects_in book.now))
         && not (has_serial row.now.serial book.now))
-        (with_row row.now book.now) result }
+        (with_new_object row.now book.now) result }
 {
     if book.find(&row.id).is_some() || book.has_serial(row.serial) {
         return Err(ApplyFault::Refused);

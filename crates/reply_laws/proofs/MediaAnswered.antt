@@ -10,7 +10,7 @@ use Rattle.media_rows.specs.declared.object.ObjectState.{ObjectState}
 use Rattle.media_rows.specs.declared.object.ObjectState.TheVariants.{Allocated, Stored}
 use Rattle.media_rows.specs.declared.refusal.Refusal.TheVariants.{JournalFull}
 use Rattle.media_rows.specs.declared.reply.Reply.TheVariants.{Refused}
-use Rattle.media_rows.specs.Answer.{Outcome, unchanged, put_answer_by, put_by_state, placed_put, stored_put, media_of, media_reply}
+use Rattle.media_rows.specs.Answer.{Outcome, unchanged, put_answer_by, put_by_state, placed_put, stored_put, media_answer, media_reply}
 use Rattle.media_rows.specs.Objects.{object_of, free_place, blocks_of, bytes_of}
 use Rattle.store_states.specs.Fitting.{fitted_by}
 use Rattle.reply_laws.specs.Replies.{FittedHaveTexts, MediaAnswersHaveTexts}
@@ -35,7 +35,7 @@ by_row : (row : Option ObjectRow) (first second : Outcome) → Printed first →
 by_row None first second h k = record { is = refl }
 by_row (Some row) first second h k = by_state row.state first second h k
 
-given_state : (state : ObjectState) → has_reply_texts (media_of state) ≡ true
+given_state : (state : ObjectState) → has_reply_texts (media_answer state) ≡ true
 given_state Allocated = refl
 given_state (Stored start size) = refl
 

@@ -7,11 +7,11 @@ use Rattle.site_edge.specs.Links.{change_last}
 use Rattle.site_edge.specs.Saying.{ArePrefixes}
 use Rattle.run_history.specs.Machine.{Machine}
 use Rattle.run_history.specs.Steps.{Stage, Step, last_or}
-use Rattle.run_history.specs.Sessions.{Session, Whole, after_sessions, after_steps, all_changes, bytes_of, changes_of, pieces_of, texts_of}
-use Rattle.run_history.specs.Traces.{CountAtMost, Trace, start_of, state_after, state_now, trace_of, with_change}
+use Rattle.run_history.specs.Sessions.{Session, Whole, after_sessions, after_steps, all_changes, bytes_of_pieces, changes_of, pieces_of, texts_of}
+use Rattle.run_history.specs.Traces.{CountAtMost, Trace, start_of, state_after, state_now, trace_of, then_change}
 use Rattle.run_history.specs.Runs.{Beginning, IsRight, Reached, told_first}
 use Rattle.run_history.specs.Laws.{Wrote, under_way}
-use Rattle.run_history.specs.Serving.{Counts, Going, Held, connection_with}
+use Rattle.run_history.specs.Serving.{RunCounts, Going, Held, connection_with}
 use Rattle.run_history.proofs.Pieces.{begun-most}
 use Rattle.run_history.proofs.Pairs.{calls_add_up, state_after-change}
 use Rattle.run_history.proofs.Growth.{stages_count}
@@ -33,7 +33,7 @@ last_behind s (x ∷ xs) ys = last_behind x xs ys
 pub state_now-states : {State : Type 0} (t : Trace State) (states : List State) → state_now (with_states states t) ≡ last_or (state_now t) states
 state_now-states t states = sym (last_behind t.first t.changes states)
 
-pub state_now-change : {State : Type 0} (t : Trace State) (s : State) → state_now (with_change s t) ≡ s
+pub state_now-change : {State : Type 0} (t : Trace State) (s : State) → state_now (then_change s t) ≡ s
 state_now-change t s = state_now-states t (s ∷ [])
 
 -- the state after all changes is the last one
@@ -41,10 +41,10 @@ state_now-after : {State : Type 0} (t : Trace State) → state_after (length t.c
 state_now-after t = ap (last_or t.first) (take_all (length t.changes) t.changes (omega arith))
 
 -- and the one before a change is the last one so far
-pub state_before-change : {State : Type 0} (t : Trace State) (s : State) → state_after (length (t.changes ++ s ∷ []) - 1) (with_change s t) ≡ state_now t
+pub state_before-change : {State : Type 0} (t : Trace State) (s : State) → state_after (length (t.changes ++ s ∷ []) - 1) (then_change s t) ≡ state_now t
 state_before-change t s =
     let count : length (t.changes ++ s ∷ []) - 1 ≡ length t.changes = omega (arith, length-append t.changes (s ∷ [])) in
-    ap (λ k. state_after k (with_change s t)) count ∙ state_after-change t s (length t.changes) (omega arith) ∙ state_now-after t
+    ap (λ k. state_after k (then_change s t)) count ∙ state_after-change t s (length t.changes) (omega arith) ∙ state_now-after t
 
 -- the state after connections is the last one of their trace
 state-sessions : {State Request : Type 0} (m : Machine State Request) (at : Stage State) (sessions : List (Session Request))
@@ -65,7 +65,7 @@ state_now-interim true t = refl
 state_now-interim false t = refl
 
 module _ {State Request : Type 0} {m : Machine State Request} {b : Beginning State} {old : Device} {given : List ℕ} {held : Held State} {said : Bool}
-    {finished : List (Session Request)} {steps : List (Step Request)} {n : Counts} where
+    {finished : List (Session Request)} {steps : List (Step Request)} {n : RunCounts} where
   -- The state of a connection under way is the last one of its trace.
   pub state_now-open : Open m b old given held said finished steps n → state_now (asked_trace m b said finished steps) ≡ held.state
   state_now-open o =
@@ -81,7 +81,8 @@ module _ {State Request : Type 0} {m : Machine State Request} {b : Beginning Sta
 
 -- an image that stands for the last state is right
 right-last : {State Request : Type 0} (m : Machine State Request) (b : Beginning State) (t : Trace State) (told : List (List ℕ)) (p : Left)
-    → CountAtMost (length t.changes) t.scripts → p.told ≡ told_first b ++ told → ArePrefixes told (map bytes_of t.scripts) → m.stands p.image (state_now t)
+    → CountAtMost (length t.changes) t.scripts → p.told ≡ told_first b ++ told → ArePrefixes told (map bytes_of_pieces t.scripts) → m.stands p.image
+    (state_now t)
     → IsRight m b t p
 right-last m b t told p counts told_is prefixes stands = record {
   told = told;
@@ -119,7 +120,7 @@ kept_calls {State} {Request} m b t whole old new r time = record {
 -- ---- a request that has begun
 
 module _ {State Request : Type 0} {m : Machine State Request} {b : Beginning State} {d : Device} {given : List ℕ} {held : Held State}
-    {finished : List (Session Request)} {steps : List (Step Request)} {n : Counts} where
+    {finished : List (Session Request)} {steps : List (Step Request)} {n : RunCounts} where
   -- what is known of a connection under way, apart from the device
   pub under_way-going : (g : Going m b d given held finished steps n) → IsUnderWay m b g.connections given held.state held.taken finished steps n
   under_way-going g = record {
@@ -137,13 +138,13 @@ module _ {State Request : Type 0} {m : Machine State Request} {b : Beginning Sta
   }
 
 module _ {State Request : Type 0} {m : Machine State Request} {b : Beginning State} {old new : Device} {given : List ℕ} {held : Held State}
-    {finished : List (Session Request)} {steps : List (Step Request)} {n : Counts} where
+    {finished : List (Session Request)} {steps : List (Step Request)} {n : RunCounts} where
   -- It begins: these bytes were heard behind the unread ones, and its interim response was said where one was due.
   pub asking_first : (bytes : List ℕ) (said : Bool) → Going m b old given held finished steps n → HearsAndSays bytes said true true false old new
       → old.tells ≡ true → Asking m b new given (record held { unread = held.unread ++ bytes }) said finished steps n
   asking_first bytes said g h tells =
       let told = h.connections tells in
-      let so_far = bytes_of (pieces_of m (after_sessions m (start_of b.state) finished) steps) in
+      let so_far = bytes_of_pieces (pieces_of m (after_sessions m (start_of b.state) finished) steps) in
       record {
         begun = record {
           connections = g.connections;
@@ -172,7 +173,7 @@ module _ {State Request : Type 0} {m : Machine State Request} {b : Beginning Sta
         → Reached m b (asked_trace m b said finished steps) true false new
         → Asking m b new given (record held { unread = held.unread ++ bytes }) said finished steps n
     asking_taken bytes heard reached =
-        let so_far = bytes_of (pieces_of m (after_sessions m (start_of b.state) finished) steps) ++ interim_bytes said in
+        let so_far = bytes_of_pieces (pieces_of m (after_sessions m (start_of b.state) finished) steps) ++ interim_bytes said in
         record {
           begun = record {
             connections = a.begun.connections;

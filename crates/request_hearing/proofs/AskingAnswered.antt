@@ -6,11 +6,11 @@ use Rattle.disk_trait.specs.Device.{Connection, Device}
 use Rattle.site_edge.specs.Links.{Sends, after_say}
 use Rattle.run_history.specs.Machine.{Machine}
 use Rattle.run_history.specs.Steps.{Effect, Interim, Piece, Reply, Stage, Step, effect, interim_pieces, is_last, last_or, piece_bytes, step_text}
-use Rattle.run_history.specs.Sessions.{EndIs, IsTold, LinkEnd, RestIs, Saying, Session, Whole, after_sessions, after_steps, answers_in, bytes_of, has_failed, most_answers, pieces_of, stops_in_answer, texts_of}
+use Rattle.run_history.specs.Sessions.{EndIs, IsTold, LinkEnd, RestIs, Saying, Session, Whole, after_sessions, after_steps, answers_in, bytes_of_pieces, has_link_failed, most_answers, pieces_of, stops_in_answer, texts_of}
 use Rattle.run_history.specs.Traces.{Trace, start_of, trace_of, with_effect}
 use Rattle.run_history.specs.Runs.{Beginning, Reached}
 use Rattle.run_history.specs.Laws.{under_way}
-use Rattle.run_history.specs.Serving.{Counts, Going, HasServed, Held, connection_with}
+use Rattle.run_history.specs.Serving.{RunCounts, Going, HasServed, Held, connection_with}
 use Rattle.run_history.proofs.Pieces.{bytes-push}
 use Rattle.run_history.proofs.Growth.{trace-same}
 use Rattle.run_history.proofs.Invariant.{parts_suffice}
@@ -18,7 +18,7 @@ use Rattle.run_history.proofs.Ends.{answers-append, open-going}
 use Rattle.run_history.proofs.Going.{counts-same, last_changed, made-now}
 use Rattle.tams_machine.specs.Requests.{interim_text}
 use Rattle.request_hearing.specs.Hearing.{interim_bytes, interim_where, with_interim}
-use Rattle.request_hearing.specs.Asking.{IsAnswered, answered_trace, asked_trace, counted_more}
+use Rattle.request_hearing.specs.Asking.{IsAnswerStep, answered_trace, asked_trace, counted_more}
 use Rattle.request_hearing.proofs.AskingSteps.{counted_effect, ends_with_step, goes_with_step, pieces_grown, state_behind, texts_grown}
 use Rattle.request_hearing.proofs.Endings.{answers-interim, bytes-interim}
 use Rattle.request_hearing.proofs.SiteLemmas.{change_last-twice}
@@ -42,7 +42,7 @@ effect-answered false states bytes made later moments t =
 
 -- what was told of the last piece behind the pieces before it: all of it, or a part where a saying failed or the disk within it
 told-last : (stopped linked whole : Bool) (front : List Piece) (piece : Piece) (sent : List ℕ) → Sends whole (piece_bytes piece) sent
-    → (linked ≡ true → stopped ≡ false → whole ≡ true) → IsTold stopped (if linked then Whole else Saying) (bytes_of front ++ sent) (front ++ piece ∷ [])
+    → (linked ≡ true → stopped ≡ false → whole ≡ true) → IsTold stopped (if linked then Whole else Saying) (bytes_of_pieces front ++ sent) (front ++ piece ∷ [])
 told-last true linked whole front piece sent sends full = record {
   front = front;
   last = piece;
@@ -52,7 +52,7 @@ told-last true linked whole front piece sent sends full = record {
   prefix = sends.prefix;
 }
 told-last false true whole front piece sent sends full =
-    ap (λ s. bytes_of front ++ s) (sends.whole (full refl refl)) ∙ sym (bytes-push front piece)
+    ap (λ s. bytes_of_pieces front ++ s) (sends.whole (full refl refl)) ∙ sym (bytes-push front piece)
 told-last false false whole front piece sent sends full = record {
   front = front;
   last = piece;
@@ -62,14 +62,14 @@ told-last false false whole front piece sent sends full = record {
   prefix = sends.prefix;
 }
 
-failed_by : (linked : Bool) → false || not linked ≡ has_failed (if linked then Whole else Saying)
+failed_by : (linked : Bool) → false || not linked ≡ has_link_failed (if linked then Whole else Saying)
 failed_by true = refl
 failed_by false = refl
 
 module _ {State Request : Type 0} {m : Machine State Request} {b : Beginning State} {old new : Device} {given : List ℕ} {held : Held State} {said : Bool}
-    {finished : List (Session Request)} {steps : List (Step Request)} {n : Counts} {step : Step Request} {bytes : List ℕ} {made : ℕ}
+    {finished : List (Session Request)} {steps : List (Step Request)} {n : RunCounts} {step : Step Request} {bytes : List ℕ} {made : ℕ}
     {states later : List State} {moments rest : List ℕ} {whole linked writing : Bool}
-    (s : IsAnswered m b old new given held said finished steps n step bytes made states later moments rest whole linked writing) where
+    (s : IsAnswerStep m b old new given held said finished steps n step bytes made states later moments rest whole linked writing) where
   abbrev first : Stage State
   first = after_sessions m (start_of b.state) finished
 
@@ -109,9 +109,9 @@ module _ {State Request : Type 0} {m : Machine State Request} {b : Beginning Sta
   abbrev front : List Piece
   front = pieces_of m first steps ++ interim_pieces (interim_where said)
 
-  front_is : bytes_of (pieces_of m first steps) ++ interim_bytes said ≡ bytes_of front
+  front_is : bytes_of_pieces (pieces_of m first steps) ++ interim_bytes said ≡ bytes_of_pieces front
   front_is =
-      ap (λ x. bytes_of (pieces_of m first steps) ++ x) (sym (bytes-interim said))
+      ap (λ x. bytes_of_pieces (pieces_of m first steps) ++ x) (sym (bytes-interim said))
       ∙ sym (flat_map-append piece_bytes (pieces_of m first steps) (interim_pieces (interim_where said)))
 
   pieces_are : front ++ piece ∷ [] ≡ pieces_of m first (steps ++ step ∷ [])
@@ -125,7 +125,7 @@ module _ {State Request : Type 0} {m : Machine State Request} {b : Beginning Sta
 
   -- what it heard and was told
   abbrev connection : Connection
-  connection = after_say linked s.told.0 (connection_with (texts_of steps ++ held.unread) (bytes_of (pieces_of m first steps) ++ interim_bytes said))
+  connection = after_say linked s.told.0 (connection_with (texts_of steps ++ held.unread) (bytes_of_pieces (pieces_of m first steps) ++ interim_bytes said))
 
   connections_are : new.link.connections ≡ b.before ++ (s.begun.connections ++ connection ∷ [])
   connections_are =
@@ -143,15 +143,16 @@ module _ {State Request : Type 0} {m : Machine State Request} {b : Beginning Sta
   answered_goes all held_on stay few =
       let next : Held State = record { state = last_or held.state (states ++ later); unread = rest; taken = held.taken + 1 } in
       let written : writing ≡ false = sym s.written ∙ (open-going m (step ∷ []) (stay, tt)).writing in
-      let told : (bytes_of (pieces_of m first steps) ++ interim_bytes said) ++ s.told.0 ≡ bytes_of (pieces_of m first (steps ++ step ∷ [])) =
-      ap (λ x. x ++ s.told.0) front_is ∙ ap (λ x. bytes_of front ++ x) (s.told.1.whole all) ∙ sym (bytes-push front piece) ∙ ap bytes_of pieces_are in
+      let told : (bytes_of_pieces (pieces_of m first steps) ++ interim_bytes said) ++ s.told.0 ≡ bytes_of_pieces (pieces_of m first (steps ++ step ∷ [])) =
+      ap (λ x. x ++ s.told.0) front_is ∙ ap (λ x. bytes_of_pieces front ++ x) (s.told.1.whole all) ∙ sym (bytes-push front piece)
+        ∙ ap bytes_of_pieces pieces_are in
       subst (Going m b new (given ++ moments) next finished (steps ++ step ∷ [])) counts_are
       (goes_with_step s.begun.so_far step comes_to this new rest s.is stay few one_answer s.good
       (connections_are
       ∙ ap (λ (o : Bool). b.before ++ (s.begun.connections ++ after_say o s.told.0 (connection_with (texts_of steps ++ held.unread)
-      (bytes_of (pieces_of m first steps) ++ interim_bytes said)) ∷ [])) held_on
+      (bytes_of_pieces (pieces_of m first steps) ++ interim_bytes said)) ∷ [])) held_on
       ∙ ap (λ x. b.before ++ (s.begun.connections
-      ++ connection_with x ((bytes_of (pieces_of m first steps) ++ interim_bytes said) ++ s.told.0) ∷ [])) heard_is
+      ++ connection_with x ((bytes_of_pieces (pieces_of m first steps) ++ interim_bytes said) ++ s.told.0) ∷ [])) heard_is
       ∙ ap (λ x. b.before ++ (s.begun.connections ++ connection_with (texts_of (steps ++ step ∷ []) ++ rest) x ∷ [])) told)
       (subst (λ w. Reached m b (with_effect comes_to begun) true w new) written
       (subst (λ w. Reached m b (with_effect comes_to begun) w writing new) all reached_now)))
@@ -168,7 +169,7 @@ module _ {State Request : Type 0} {m : Machine State Request} {b : Beginning Sta
       (ends_with_step s.begun.so_far step comes_to this new link_behind connection rest s.is (omega (arith, one_answer)) s.good connections_are heard_is
       rest_is
       (subst (λ t. IsTold (stops_in_answer (step ∷ [])) link_behind t (pieces_of m first (steps ++ step ∷ []))) (ap (λ x. x ++ s.told.0) (sym front_is))
-      (subst (IsTold (stops_in_answer (step ∷ [])) link_behind (bytes_of front ++ s.told.0)) pieces_are
+      (subst (IsTold (stops_in_answer (step ∷ [])) link_behind (bytes_of_pieces front ++ s.told.0)) pieces_are
       (told-last (stops_in_answer (step ∷ [])) linked whole front piece s.told.0 s.told.1 s.full)))
       (failed_by linked) end_is
       (subst (λ w. Reached m b (with_effect comes_to begun) false w new) (sym s.written)

@@ -8,11 +8,11 @@ use Rattle.disk_trait.specs.Device.{Device}
 use Rattle.site_edge.specs.Links.{change_last}
 use Rattle.run_history.specs.Machine.{Machine}
 use Rattle.run_history.specs.Steps.{Cut, Piece, Step, interim_pieces, is_there, piece_bytes}
-use Rattle.run_history.specs.Sessions.{IsTold, IsUnfinished, LinkEnd, Saying, Session, Whole, Hearing, after_sessions, bytes_of, has_failed, pieces_of, texts_of}
+use Rattle.run_history.specs.Sessions.{IsTold, IsUnfinished, LinkEnd, Saying, Session, Whole, Hearing, after_sessions, bytes_of_pieces, has_link_failed, pieces_of, texts_of}
 use Rattle.run_history.specs.Traces.{start_of}
 use Rattle.run_history.specs.Runs.{Beginning, Reached}
 use Rattle.run_history.specs.Laws.{under_way}
-use Rattle.run_history.specs.Serving.{Counts, HasServed, Held}
+use Rattle.run_history.specs.Serving.{RunCounts, HasServed, Held}
 use Rattle.run_history.proofs.Going.{last_changed}
 use Rattle.run_history.proofs.Invariant.{parts_suffice}
 use Rattle.request_hearing.specs.Hearing.{after_hearing, interim_bytes, interim_where}
@@ -20,39 +20,40 @@ use Rattle.request_hearing.specs.Asking.{Asking, asked_trace}
 use Rattle.request_hearing.proofs.AskingSteps.{ends_with_step, pieces_grown, texts_grown}
 use Rattle.request_hearing.proofs.Endings.{answers-interim, bytes-interim, counts-cut, cut_effect, effect-interim, failed_is, or_nothing}
 
-told-held : (link : LinkEnd) (told : List ℕ) (pieces : List Piece) → link ≢ Saying → told ≡ bytes_of pieces → IsTold false link told pieces
+told-held : (link : LinkEnd) (told : List ℕ) (pieces : List Piece) → link ≢ Saying → told ≡ bytes_of_pieces pieces → IsTold false link told pieces
 told-held Whole told pieces not_saying is = is
 told-held Hearing told pieces not_saying is = is
 told-held Saying told pieces not_saying is = absurd (not_saying refl)
 
 module _ {State Request : Type 0} {m : Machine State Request} {b : Beginning State} {old : Device} {given : List ℕ} {held : Held State} {said : Bool}
-    {finished : List (Session Request)} {steps : List (Step Request)} {n : Counts} (a : Asking m b old given held said finished steps n)
+    {finished : List (Session Request)} {steps : List (Step Request)} {n : RunCounts} (a : Asking m b old given held said finished steps n)
     (text : List ℕ) (moment : Option ℕ) where
   abbrev step : Step Request
   step = Cut text (interim_where said) moment
 
   -- what it was told, in pieces
-  told_interim : bytes_of (pieces_of m (after_sessions m (start_of b.state) finished) steps) ++ interim_bytes said
-      ≡ bytes_of (pieces_of m (after_sessions m (start_of b.state) finished) (steps ++ step ∷ []))
+  told_interim : bytes_of_pieces (pieces_of m (after_sessions m (start_of b.state) finished) steps) ++ interim_bytes said
+      ≡ bytes_of_pieces (pieces_of m (after_sessions m (start_of b.state) finished) (steps ++ step ∷ []))
   told_interim =
       let so_far = pieces_of m (after_sessions m (start_of b.state) finished) steps in
-      ap (λ s. bytes_of so_far ++ s) (sym (bytes-interim said))
-      ∙ sym (ap bytes_of (pieces_grown a.begun.so_far step (cut_effect said moment) refl) ∙ flat_map-append piece_bytes so_far (interim_pieces (interim_where said)))
+      ap (λ s. bytes_of_pieces so_far ++ s) (sym (bytes-interim said))
+      ∙ sym (ap bytes_of_pieces (pieces_grown a.begun.so_far step (cut_effect said moment) refl) ∙ flat_map-append piece_bytes so_far
+      (interim_pieces (interim_where said)))
 
   -- Its peer's end came, or a hearing failed, behind these bytes: it is cut. All that was heard of it is its text.
   pub taken_cut : {new : Device} (bytes : List ℕ) (link : LinkEnd) (ended : Bool)
-      → new.link.connections ≡ change_last (after_hearing bytes [] ended (not (not (has_failed link)))) old.link.connections
+      → new.link.connections ≡ change_last (after_hearing bytes [] ended (not (not (has_link_failed link)))) old.link.connections
       → Reached m b (asked_trace m b said finished steps) true false new → link ≢ Saying → (link ≡ Whole → ended ≡ true)
       → held.unread ++ bytes ≡ text → text ≢ []
       → m.cuts text (record { interim = interim_where said; takes_moment = is_there moment }) → IsUnfinished m held.taken text
       → HasServed m b new (given ++ option_to_list moment) (finished ++ under_way (steps ++ step ∷ []) link ∷ []) n
   taken_cut {new} bytes link ended heard reached not_saying at_end text_is some cuts unfinished =
-      let told_so_far = bytes_of (pieces_of m (after_sessions m (start_of b.state) finished) steps) ++ interim_bytes said in
+      let told_so_far = bytes_of_pieces (pieces_of m (after_sessions m (start_of b.state) finished) steps) ++ interim_bytes said in
       let asked = asked_trace m b said finished steps in
       subst (HasServed m b new (given ++ option_to_list moment) (finished ++ under_way (steps ++ step ∷ []) link ∷ []))
       (counts-cut State Request n said moment text)
       (ends_with_step a.begun.so_far step (cut_effect said moment) refl new link _ [] (some, cuts) (omega (arith, answers-interim said)) (All-nil m.good)
-      (last_changed (after_hearing bytes [] ended (not (not (has_failed link)))) b.before a.begun.connections _ _ _ a.begun.connections_are heard)
+      (last_changed (after_hearing bytes [] ended (not (not (has_link_failed link)))) b.before a.begun.connections _ _ _ a.begun.connections_are heard)
       (append_assoc (texts_of steps) held.unread bytes ∙ ap (λ t. texts_of steps ++ t) text_is
       ∙ sym (append-nil (texts_of (steps ++ step ∷ [])) ∙ texts_grown a.begun.so_far step (cut_effect said moment) refl))
       ((λ _. (refl, unfinished)), (λ saying. absurd (not_saying saying)))

@@ -10,7 +10,7 @@ use Rattle.run_history.specs.Sessions.{Session}
 use Rattle.run_history.specs.Traces.{Trace, state_now}
 use Rattle.run_history.specs.Runs.{Beginning, Reached, sure_changes}
 use Rattle.run_history.specs.Laws.{Writes, Wrote}
-use Rattle.run_history.specs.Serving.{Counts, Held}
+use Rattle.run_history.specs.Serving.{RunCounts, Held}
 use Rattle.run_history.proofs.Growth.{trace-same}
 use Rattle.run_history.proofs.Invariant.{durable_changes, said_pieces, torn_changes}
 use Rattle.request_hearing.specs.Asking.{Open, asked_trace, replied_trace, with_states}
@@ -57,7 +57,7 @@ module _ {State : Type 0} (t : Trace State) (states : List State) (bytes : List 
 -- ---- what stands behind the reply
 
 module _ {State Request : Type 0} {m : Machine State Request} {b : Beginning State} {d : Device} {given : List ℕ} {held : Held State} {said : Bool}
-    {finished : List (Session Request)} {steps : List (Step Request)} {n : Counts} where
+    {finished : List (Session Request)} {steps : List (Step Request)} {n : RunCounts} where
   -- The state is the last one of those before it.
   pub state_now-replied : Open m b d given held said finished steps n → (states : List State) (bytes : List ℕ) (made : ℕ)
       → state_now (replied_trace states bytes made (asked_trace m b said finished steps)) ≡ last_or held.state states

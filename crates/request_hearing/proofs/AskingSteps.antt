@@ -5,18 +5,18 @@ use Rattle.std.proofs.lemmas.List.Elements.{All-append}
 use Rattle.disk_trait.specs.Device.{Connection, Device}
 use Rattle.run_history.specs.Machine.{Machine}
 use Rattle.run_history.specs.Steps.{Effect, IsStep, Stage, Step, effect, is_last, last_or, step_text}
-use Rattle.run_history.specs.Sessions.{AreSteps, EndIs, IsTold, LinkEnd, RestIs, Session, Whole, after_sessions, after_steps, all_moments, answers_in, bytes_of, has_failed, most_answers, pieces_of, scripts_of, skips_by, stops_in_answer, texts_of}
+use Rattle.run_history.specs.Sessions.{AreSteps, EndIs, IsTold, LinkEnd, RestIs, Session, Whole, after_sessions, after_steps, all_moments, answers_in, bytes_of_pieces, has_link_failed, most_answers, pieces_of, scripts_of, skips_by, stops_in_answer, texts_of}
 use Rattle.run_history.specs.Traces.{Trace, start_of, states_of, trace_of, with_effect}
 use Rattle.run_history.specs.Runs.{Beginning, Reached, stops_writing}
 use Rattle.run_history.specs.Laws.{under_way}
-use Rattle.run_history.specs.Serving.{Counts, Going, HasServed, all_answers, connection_with, counts_of}
+use Rattle.run_history.specs.Serving.{RunCounts, Going, HasServed, all_answers, connection_with, counts_of_run}
 use Rattle.run_history.proofs.Growth.{pieces-push, scripts-push, stage-push, steps_grow, traces_grow}
 use Rattle.run_history.proofs.Ends.{all_answers-push, all_skips-push, answers-append, end-push, end_like-push, open-push, rest-push, skips-push, stage-sessions, steps-push}
 use Rattle.run_history.proofs.Going.{counts-same, ends_with}
 use Rattle.request_hearing.specs.Asking.{IsUnderWay}
 
 -- the counts with what a step comes to
-abbrev pub counted_effect : {State Request : Type 0} → Counts → Effect State → Step Request → Counts
+abbrev pub counted_effect : {State Request : Type 0} → RunCounts → Effect State → Step Request → RunCounts
 counted_effect n e step = record {
   answers = n.answers + answers_in e.pieces;
   changes = n.changes + length e.changes;
@@ -24,7 +24,7 @@ counted_effect n e step = record {
 }
 
 module _ {State Request : Type 0} {m : Machine State Request} {b : Beginning State} {connections : List Connection} {given : List ℕ} {state : State}
-    {taken : ℕ} {finished : List (Session Request)} {steps : List (Step Request)} {n : Counts}
+    {taken : ℕ} {finished : List (Session Request)} {steps : List (Step Request)} {n : RunCounts}
     (u : IsUnderWay m b connections given state taken finished steps n) (step : Step Request) (e : Effect State)
     (effect_is : effect m (after_steps m (after_sessions m (start_of b.state) finished) steps) step ≡ e) where
   abbrev first : Stage State
@@ -80,7 +80,7 @@ module _ {State Request : Type 0} {m : Machine State Request} {b : Beginning Sta
   state_behind link =
       ap (λ (at : Stage State). at.state) (stage-sessions m (start_of b.state) finished (under_way (steps ++ step ∷ []) link)) ∙ state_grown
 
-  counts_grown : (link : LinkEnd) → counted_effect n e step ≡ counts_of m b.state (finished ++ under_way (steps ++ step ∷ []) link ∷ [])
+  counts_grown : (link : LinkEnd) → counted_effect n e step ≡ counts_of_run m b.state (finished ++ under_way (steps ++ step ∷ []) link ∷ [])
   counts_grown link =
       let scripts_before = scripts-push m (start_of b.state) finished (under_way steps Whole) in
       let scripts_after = scripts-push m (start_of b.state) finished (under_way (steps ++ step ∷ []) link) in
@@ -89,7 +89,7 @@ module _ {State Request : Type 0} {m : Machine State Request} {b : Beginning Sta
       counts-same _ _
       (omega (
         arith,
-        ap (λ (c : Counts). c.answers) u.counts,
+        ap (λ (c : RunCounts). c.answers) u.counts,
         ap all_answers scripts_before,
         ap all_answers scripts_after,
         before_sum,
@@ -97,11 +97,11 @@ module _ {State Request : Type 0} {m : Machine State Request} {b : Beginning Sta
         answers_grown,
         u.answers,
       ))
-      (ap (λ (c : Counts). c.changes + length e.changes) u.counts
+      (ap (λ (c : RunCounts). c.changes + length e.changes) u.counts
       ∙ sym (ap (λ (t : Trace State). length t.changes) (trace_grown link) ∙ length-append before.changes e.changes))
       (omega (
         arith,
-        ap (λ (c : Counts). c.skipped) u.counts,
+        ap (λ (c : RunCounts). c.skipped) u.counts,
         all_skips-push finished (under_way steps Whole),
         all_skips-push finished (under_way (steps ++ step ∷ []) link),
         skips-push steps step,
@@ -111,7 +111,7 @@ module _ {State Request : Type 0} {m : Machine State Request} {b : Beginning Sta
   pub ends_with_step : (d : Device) (link : LinkEnd) (c : Connection) (rest : List ℕ) → IsStep m taken state step → answers_in e.pieces ≤ 1
       → All m.good e.changes → d.link.connections ≡ b.before ++ (connections ++ c ∷ []) → c.heard ≡ texts_of (steps ++ step ∷ []) ++ rest
       → RestIs m taken (step ∷ []) link rest → IsTold (stops_in_answer (step ∷ [])) link c.told (pieces_of m first (steps ++ step ∷ []))
-      → c.failed ≡ has_failed link → EndIs m (step ∷ []) link c.ended → Reached m b (with_effect e before) false (stops_writing (step ∷ [])) d
+      → c.failed ≡ has_link_failed link → EndIs m (step ∷ []) link c.ended → Reached m b (with_effect e before) false (stops_writing (step ∷ [])) d
       → HasServed m b d (given ++ e.moments) (finished ++ under_way (steps ++ step ∷ []) link ∷ []) (counted_effect n e step)
   ends_with_step d link c rest is answers good are heard rest_is told failed ended reached =
       let like = end_like-push m steps step u.stay in
@@ -135,7 +135,7 @@ module _ {State Request : Type 0} {m : Machine State Request} {b : Beginning Sta
   -- It leaves the connection stay.
   pub goes_with_step : (d : Device) (rest : List ℕ) → IsStep m taken state step → is_last m step ≡ false → taken + 1 < most_answers
       → answers_in e.pieces ≡ 1 → All m.good e.changes → d.link.connections ≡ b.before ++ (connections
-      ++ connection_with (texts_of (steps ++ step ∷ []) ++ rest) (bytes_of (pieces_of m first (steps ++ step ∷ []))) ∷ [])
+      ++ connection_with (texts_of (steps ++ step ∷ []) ++ rest) (bytes_of_pieces (pieces_of m first (steps ++ step ∷ []))) ∷ [])
       → Reached m b (with_effect e before) true false d
       → Going m b d (given ++ e.moments) (record { state = last_or state e.changes; unread = rest; taken = taken + 1 }) finished (steps ++ step ∷ [])
       (counted_effect n e step)

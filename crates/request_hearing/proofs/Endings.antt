@@ -9,11 +9,11 @@ use Rattle.disk_trait.specs.Device.{Connection, Device}
 use Rattle.site_edge.specs.Links.{Sends, change_last}
 use Rattle.run_history.specs.Machine.{Machine}
 use Rattle.run_history.specs.Steps.{Cut, Effect, Interim, Piece, Step, interim_pieces, is_there, piece_bytes}
-use Rattle.run_history.specs.Sessions.{Hearing, IsTold, IsUnfinished, LinkEnd, Saying, Session, Whole, after_sessions, answers_in, bytes_of, has_failed, pieces_of, texts_of}
+use Rattle.run_history.specs.Sessions.{Hearing, IsTold, IsUnfinished, LinkEnd, Saying, Session, Whole, after_sessions, answers_in, bytes_of_pieces, has_link_failed, pieces_of, texts_of}
 use Rattle.run_history.specs.Traces.{Trace, start_of, trace_of, with_effect}
 use Rattle.run_history.specs.Runs.{Beginning, Reached}
 use Rattle.run_history.specs.Laws.{under_way}
-use Rattle.run_history.specs.Serving.{Counts, Going, HasServed, Held, connection_with}
+use Rattle.run_history.specs.Serving.{RunCounts, Going, HasServed, Held, connection_with}
 use Rattle.run_history.proofs.Growth.{trace-same}
 use Rattle.run_history.proofs.Invariant.{parts_suffice}
 use Rattle.run_history.proofs.Going.{after_end, counts-same, ends_heard, last_changed}
@@ -37,7 +37,7 @@ pub effect-interim : {State : Type 0} (said : Bool) (moments : List ℕ) (t : Tr
 effect-interim true moments t = trace-same t.first _ _ _ _ refl (append-nil t.changes)
 effect-interim false moments t = trace-same t.first _ _ _ _ (change_last-none t.scripts) (append-nil t.changes)
 
-pub bytes-interim : (said : Bool) → bytes_of (interim_pieces (interim_where said)) ≡ interim_bytes said
+pub bytes-interim : (said : Bool) → bytes_of_pieces (interim_pieces (interim_where said)) ≡ interim_bytes said
 bytes-interim true = append-nil interim_text
 bytes-interim false = refl
 
@@ -45,7 +45,7 @@ pub answers-interim : (said : Bool) → answers_in (interim_pieces (interim_wher
 answers-interim true = refl
 answers-interim false = refl
 
-pub failed_is : (link : LinkEnd) → (not (not (has_failed link)) || false) ≡ has_failed link
+pub failed_is : (link : LinkEnd) → (not (not (has_link_failed link)) || false) ≡ has_link_failed link
 failed_is Whole = refl
 failed_is Hearing = refl
 failed_is Saying = refl
@@ -60,12 +60,12 @@ interim_there false is none = false≢true is
 
 -- what was told of the interim response behind the pieces before it
 told_with : (link : LinkEnd) (said : Bool) (sent : List ℕ) (pieces : List Piece) → Sends (saying_held_on link) (interim_bytes said) sent
-    → (link ≡ Saying → said ≡ true) → IsTold false link (bytes_of pieces ++ sent) (pieces ++ interim_pieces (interim_where said))
+    → (link ≡ Saying → said ≡ true) → IsTold false link (bytes_of_pieces pieces ++ sent) (pieces ++ interim_pieces (interim_where said))
 told_with Whole said sent pieces sends ok =
-    ap (λ s. bytes_of pieces ++ s) (sends.whole refl ∙ sym (bytes-interim said))
+    ap (λ s. bytes_of_pieces pieces ++ s) (sends.whole refl ∙ sym (bytes-interim said))
     ∙ sym (flat_map-append piece_bytes pieces (interim_pieces (interim_where said)))
 told_with Hearing said sent pieces sends ok =
-    ap (λ s. bytes_of pieces ++ s) (sends.whole refl ∙ sym (bytes-interim said))
+    ap (λ s. bytes_of_pieces pieces ++ s) (sends.whole refl ∙ sym (bytes-interim said))
     ∙ sym (flat_map-append piece_bytes pieces (interim_pieces (interim_where said)))
 told_with Saying true sent pieces sends ok = record {
   front = pieces;
@@ -83,7 +83,7 @@ both_none (x ∷ xs) ys is = absurd cc
 
 -- a connection that heard and was told nothing more
 ended_as : (link : LinkEnd) (ended : Bool) (heard told bytes sent : List ℕ) → bytes ≡ [] → sent ≡ []
-    → after_hearing bytes sent ended (not (not (has_failed link))) (connection_with heard told) ≡ after_end link ended (connection_with heard told)
+    → after_hearing bytes sent ended (not (not (has_link_failed link))) (connection_with heard told) ≡ after_end link ended (connection_with heard told)
 ended_as link ended heard told bytes sent none silent =
     rw (none, silent, append-nil heard, append-nil told, or_nothing ended, failed_is link) refl
 
@@ -95,14 +95,14 @@ abbrev pub cut_effect : {State : Type 0} → Bool → Option ℕ → Effect Stat
 cut_effect said moment = record { pieces = interim_pieces (interim_where said); changes = []; moments = option_to_list moment }
 
 -- it counts nothing
-pub counts-cut : (State Request : Type 0) (n : Counts) (said : Bool) (moment : Option ℕ) (text : List ℕ)
+pub counts-cut : (State Request : Type 0) (n : RunCounts) (said : Bool) (moment : Option ℕ) (text : List ℕ)
     → counted_effect {State = State} {Request = Request} n (cut_effect said moment) (Cut text (interim_where said) moment) ≡ n
 counts-cut State Request n said moment text =
     counts-same _ _ (omega (arith, answers-interim said)) (plus_nothing n.changes) (plus_nothing n.skipped)
 
 -- and the state stays
 pub cut_state : {State Request : Type 0} {m : Machine State Request} {b : Beginning State} {connections : List Connection} {given : List ℕ} {state : State}
-    {taken : ℕ} {finished : List (Session Request)} {steps : List (Step Request)} {n : Counts}
+    {taken : ℕ} {finished : List (Session Request)} {steps : List (Step Request)} {n : RunCounts}
     → IsUnderWay m b connections given state taken finished steps n → (said : Bool) (text : List ℕ) (moment : Option ℕ) (link : LinkEnd)
     → (after_sessions m (start_of b.state) (finished ++ under_way (steps ++ Cut text (interim_where said) moment ∷ []) link ∷ [])).state ≡ state
 cut_state u said text moment link = state_behind u (Cut text (interim_where said) moment) (cut_effect said moment) refl link
@@ -110,21 +110,21 @@ cut_state u said text moment link = state_behind u (Cut text (interim_where said
 -- A connection under way heard these bytes and was told the interim response at most; then its peer's end came, or a call of its link
 -- failed.
 module _ {State Request : Type 0} (m : Machine State Request) (b : Beginning State) (old new : Device) (given : List ℕ) (held : Held State)
-    (finished : List (Session Request)) (steps : List (Step Request)) (n : Counts) (bytes : List ℕ) (said ended : Bool) (link : LinkEnd)
+    (finished : List (Session Request)) (steps : List (Step Request)) (n : RunCounts) (bytes : List ℕ) (said ended : Bool) (link : LinkEnd)
     (g : Going m b old given held finished steps n)
-    (h : HearsAndSays bytes said (saying_held_on link) (not (has_failed link)) ended old new)
+    (h : HearsAndSays bytes said (saying_held_on link) (not (has_link_failed link)) ended old new)
     (tells : old.tells ≡ true) (at_end : link ≡ Whole → ended ≡ true) where
   -- Nothing of what it heard was unread: it ends behind a whole request.
   pub ends_behind_request : held.unread ++ bytes ≡ [] → said ≡ false → link ≢ Saying → HasServed m b new given (finished ++ under_way steps link ∷ []) n
   ends_behind_request none silent not_saying =
-      let quiet = says_nothing bytes (saying_held_on link) (not (has_failed link)) ended old new (rw silent at h) in
+      let quiet = says_nothing bytes (saying_held_on link) (not (has_link_failed link)) ended old new (rw silent at h) in
       let told = h.connections tells in
       let sent : told.0 ≡ [] = sends_none (saying_held_on link) told.0 (rw silent at told.1) in
       let (unread, heard) = both_none held.unread bytes none in
-      let heard_as = after_hearing bytes told.0 ended (not (not (has_failed link))) in
-      let now = connection_with (texts_of steps ++ held.unread) (bytes_of (pieces_of m (after_sessions m (start_of b.state) finished) steps)) in
+      let heard_as = after_hearing bytes told.0 ended (not (not (has_link_failed link))) in
+      let now = connection_with (texts_of steps ++ held.unread) (bytes_of_pieces (pieces_of m (after_sessions m (start_of b.state) finished) steps)) in
       let same : heard_as now ≡ after_end link ended now =
-      ended_as link ended (texts_of steps ++ held.unread) (bytes_of (pieces_of m (after_sessions m (start_of b.state) finished) steps)) bytes told.0
+      ended_as link ended (texts_of steps ++ held.unread) (bytes_of_pieces (pieces_of m (after_sessions m (start_of b.state) finished) steps)) bytes told.0
       heard sent in
       ends_heard m b old new given held finished steps n link ended g quiet
       (last_changed heard_as b.before g.connections _ new.link.connections old.link.connections g.connections_are told.2
@@ -149,14 +149,14 @@ module _ {State Request : Type 0} (m : Machine State Request) (b : Beginning Sta
         subst (HasServed m b new (given ++ option_to_list moment) (finished ++ under_way (steps ++ step ∷ []) link ∷ []))
         (counts-cut State Request n said moment text)
         (ends_with_step u step (cut_effect said moment) refl new link _ rest (some, cuts) (omega (arith, answers-interim said)) (All-nil m.good)
-        (last_changed (after_hearing bytes told.0 ended (not (not (has_failed link)))) b.before g.connections _ _ _ g.connections_are told.2)
+        (last_changed (after_hearing bytes told.0 ended (not (not (has_link_failed link)))) b.before g.connections _ _ _ g.connections_are told.2)
         (append_assoc (texts_of steps) held.unread bytes ∙ ap (λ x. texts_of steps ++ x) text_is ∙ sym (append_assoc (texts_of steps) text rest)
         ∙ ap (λ x. x ++ rest) (sym (texts_grown u step (cut_effect said moment) refl)))
         (unfinished, λ is. interim_there said (saying is))
-        (subst (IsTold false link (bytes_of so_far ++ told.0)) (sym (pieces_grown u step (cut_effect said moment) refl))
+        (subst (IsTold false link (bytes_of_pieces so_far ++ told.0)) (sym (pieces_grown u step (cut_effect said moment) refl))
         (told_with link said told.0 so_far told.1 saying))
         (failed_is link)
         (λ is. or_nothing ended ∙ at_end is)
         (subst (λ t. Reached m b t false false new) (sym (effect-interim said (option_to_list moment) before))
         (parts_suffice State Request m b _ (saying_held_on link) false new
-        (reached_heard m b before false bytes said (saying_held_on link) (not (has_failed link)) ended old new g.reached h))))
+        (reached_heard m b before false bytes said (saying_held_on link) (not (has_link_failed link)) ended old new g.reached h))))

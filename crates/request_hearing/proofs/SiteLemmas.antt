@@ -8,7 +8,7 @@ use Rattle.std.proofs.lemmas.List.{append-nil, append_assoc, take-append-le}
 use Rattle.disk_trait.specs.Device.{Connection, Device, Left}
 use Rattle.disk_trait.specs.Calls.{Unchanged}
 use Rattle.disk_trait.proofs.Theorems.{counted_twice, elapses_twice, elapses_weaker, no_time, same_device_twice}
-use Rattle.site_edge.specs.Links.{Heard, LinkCall, SamePeers, Said, Sends, Tells, after_hear, change_last}
+use Rattle.site_edge.specs.Links.{SiteHeard, LinkCall, SamePeers, Said, Sends, Tells, after_hear, change_last}
 use Rattle.tams_machine.specs.Requests.{interim_text}
 use Rattle.request_hearing.specs.Hearing.{HearsAndSays, after_hearing, interim_bytes}
 use Rattle.request_hearing.specs.Turning.{heard_bytes, heard_end}
@@ -198,7 +198,7 @@ heard_so (Ok (suc n)) out c =
 heard_so (Err e) out c = rw (append-nil c.heard, append-nil c.told) refl
 
 pub hears_once : {E : Type 0} (r : Result ℕ E) (out : List ℕ) (old new : Device)
-    → LinkCall Unchanged Unchanged (is_ok r) old new → Heard r out old new
+    → LinkCall Unchanged Unchanged (is_ok r) old new → SiteHeard r out old new
     → HearsAndSays (heard_bytes r out) false true (is_ok r) (heard_end r) old new
 hears_once r out old new call heard = record {
   call = record {

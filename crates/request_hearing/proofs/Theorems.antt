@@ -22,8 +22,8 @@ use Rattle.run_history.specs.Traces.{Trace}
 use Rattle.run_history.specs.Runs.{Beginning, Reached}
 use Rattle.run_history.proofs.Invariant.{parts_suffice, quiet_calls, said_pieces}
 use Rattle.tams_machine.specs.Machine.{tams_machine}
-use Rattle.tams_machine.specs.Requests.{Heads, IsCut, IsRefused, IsWhole, Spells, interim_text, media, other, waiting, within}
-use Rattle.request_hearing.specs.Hearing.{HearsAndSays, IsGiven, IsOpened, interim_where, with_interim}
+use Rattle.tams_machine.specs.Requests.{Heads, IsCut, IsRefused, IsWholeRequest, SpellsRequest, interim_text, media, other, waiting, within}
+use Rattle.request_hearing.specs.Hearing.{HearsAndSays, GivesRequest, OpensMedia, interim_where, with_interim}
 use Rattle.request_hearing.specs.Laws.{MediaIsOpened, MediaUnsaidIsCut, RefusalsAreSteps, UnsaidIsCut, WaitingIsCut, WaitingIsUnfinished, media_request}
 use Rattle.request_hearing.proofs.SiteLemmas.{hears_twice, tells_none}
 
@@ -75,7 +75,7 @@ pub may_first : MayTurn new_feed
 may_first = may_open stages.Open new_feed refl refl (λ fault failed. cc) refl
 
 -- behind a request that doesn't end the connection
-pub may_given : (taken : ℕ) (all : List ℕ) (said : Bool) (new : Fed) (shown : Head) → IsGiven taken all said new shown → shown.ends ≡ false → MayTurn new
+pub may_given : (taken : ℕ) (all : List ℕ) (said : Bool) (new : Fed) (shown : Head) → GivesRequest taken all said new shown → shown.ends ≡ false → MayTurn new
 may_given taken all said new shown g goes =
     may_open stages.Open new g.behind.stage_is refl (λ fault failed. cc) (g.behind.ended_is ∙ goes)
 
@@ -109,13 +109,13 @@ refused_front text rest all is waits got n found inside =
     let same = next_unique all more (whole got n) waits (rw is (stays_decided text rest got n found inside)) in
     cc
 
-none_refused : (base text rest all : List ℕ) → all ≡ text ++ rest → IsNext all more → (r : Rattle.run_history.specs.Machine.Refusal)
+none_refused : (base text rest all : List ℕ) → all ≡ text ++ rest → IsNext all more → (r : Rattle.run_history.specs.Machine.WireRefusal)
     → IsRefused base text r → ⊥
 none_refused base text rest all is waits r refuses =
     let same = next_unique all more (refused refuses.fault) waits (rw is (next_stays text rest (refused refuses.fault) refuses.next tt)) in
     cc
 
-none_whole : (text rest all : List ℕ) → all ≡ text ++ rest → IsNext all more → (head : RequestHead) (body : List ℕ) → IsWhole text head body → ⊥
+none_whole : (text rest all : List ℕ) → all ≡ text ++ rest → IsNext all more → (head : RequestHead) (body : List ℕ) → IsWholeRequest text head body → ⊥
 none_whole text rest all is waits head body (media n next size body_is) =
     refused_front text rest all is waits (opened head (length body)) n next (omega (arith, size))
 none_whole text rest all is waits head body (other next) =
@@ -137,7 +137,7 @@ opened_same head head_too size size_too n n_too same = (cc, cc)
 
 -- in front of one that isn't whole stands no whole request
 short_whole : (text : List ℕ) (head : RequestHead) (size n : ℕ) → IsNext text (whole (opened head size) n) → length text < n + size
-    → (front rest : List ℕ) → text ≡ front ++ rest → (first : RequestHead) (body : List ℕ) → IsWhole front first body → ⊥
+    → (front rest : List ℕ) → text ≡ front ++ rest → (first : RequestHead) (body : List ℕ) → IsWholeRequest front first body → ⊥
 short_whole text head size n found short front rest is first body (media k next long body_is) =
     let same = next_unique text (whole (opened head size) n) (whole (opened first (length body)) k) found
     (rw is (stays_decided front rest (opened first (length body)) k next (omega (arith, long)))) in
@@ -155,7 +155,7 @@ short_refused text head size n found front rest is fault next =
     let same = next_unique text (whole (opened head size) n) (refused fault) found (rw is (next_stays front rest (refused fault) next tt)) in
     absurd cc
 
-module _ (taken : ℕ) (all : List ℕ) (said : Bool) (new : Fed) (shown : Head) (o : IsOpened taken all said new shown) (part : List ℕ) where
+module _ (taken : ℕ) (all : List ℕ) (said : Bool) (new : Fed) (shown : Head) (o : OpensMedia taken all said new shown) (part : List ℕ) where
   next_with : IsNext (o.text ++ part) (whole (opened o.head shown.length) (length o.text))
   next_with = stays_decided o.text part (opened o.head shown.length) (length o.text) o.next (omega arith)
 
@@ -167,7 +167,7 @@ module _ (taken : ℕ) (all : List ℕ) (said : Bool) (new : Fed) (shown : Head)
       drop-seam (x ∷ xs) = drop-seam xs
 
   -- its body is whole
-  media_spells : length part ≡ shown.length → Spells taken (o.text ++ part) (media_request o.head shown.ends part)
+  media_spells : length part ≡ shown.length → SpellsRequest taken (o.text ++ part) (media_request o.head shown.ends part)
   media_spells size = record {
     is_whole = media (length o.text)
         (subst (λ n. IsNext (o.text ++ part) (whole (opened o.head n) (length o.text))) (sym size) next_with)

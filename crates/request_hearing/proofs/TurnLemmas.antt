@@ -16,15 +16,15 @@ use Rattle.http_wire.specs.declared.framing.WireFault.{WireFault}
 use Rattle.http_wire.specs.declared.stage.Head.{Head}
 use Rattle.http_wire.specs.declared.stage.Stage.{Stage}
 use Rattle.http_wire.specs.declared.stage.Stage.TheVariants as stages
-use Rattle.http_wire.specs.declared.stage.Step.{Step}
-use Rattle.http_wire.specs.declared.stage.Step.TheVariants as steps
+use Rattle.http_wire.specs.declared.stage.FeedStep.{FeedStep}
+use Rattle.http_wire.specs.declared.stage.FeedStep.TheVariants as steps
 use Rattle.http_wire.proofs.Alone.{HasHead, due_head, due_later, given_head, heads_wait, media_opens, opened_head, stands_alone}
 use Rattle.http_wire.proofs.Interims.{same_head}
 use Rattle.http_wire.proofs.Room.{head_has_room, waits_with_room}
 use Rattle.media_rows.specs.declared.refusal.Refusal.{Refusal}
 use Rattle.tams_machine.specs.Requests.{HadInterim, IsCut, ends_behind, interim_of, interim_text, other, waiting, within}
-use Rattle.request_hearing.specs.Hearing.{ComesTo, HearsAndSays, HearsRequest, IsGiven, IsOpened, IsRefusedAt, IsUnsaid, IsWaiting, interim_where}
-use Rattle.request_hearing.specs.Turning.{Follows, GoesOn, HasHeard, HearsBytes, IsDueBy, TurnsTo, end_of, turn_ended, turn_held, turn_said, unsaid_of}
+use Rattle.request_hearing.specs.Hearing.{IsHeardAs, HearsAndSays, HearsRequest, GivesRequest, OpensMedia, IsRefusedByWire, IsUnsaid, IsWaiting, interim_where}
+use Rattle.request_hearing.specs.Turning.{FollowsTurn, HearingGoesOn, HasHeard, HearsBytes, IsDueBy, TurnsTo, end_of, turn_ended, turn_held, turn_said, unsaid_of}
 use Rattle.request_hearing.specs.declared.heard.Heard.{Heard}
 use Rattle.request_hearing.specs.declared.heard.Heard.TheVariants as heards
 use Rattle.request_hearing.specs.declared.heard.Turn.{Turn}
@@ -33,14 +33,14 @@ use Rattle.request_hearing.proofs.SiteLemmas.{hears_nothing, hears_twice, says_t
 
 -- ---- the feed's answers
 
-turn_by : (stage : Stage) (old new : Fed) (step : Step) → ((fault : WireFault) → stage ≢ stages.Failed fault) → feeds.AnswersBy stage old step new
+turn_by : (stage : Stage) (old new : Fed) (step : FeedStep) → ((fault : WireFault) → stage ≢ stages.Failed fault) → feeds.AnswersBy stage old step new
     → Turns old step new
 turn_by stages.Open old new step unrefused answers = answers
 turn_by (stages.Media left) old new step unrefused answers = answers
 turn_by (stages.Failed fault) old new step unrefused answers = absurd (unrefused fault refl)
 
 -- where nothing was refused the feed takes a turn
-pub steps_turn : (old new : Fed) (step : Step) → MayTurn old → StepsTo old step new → Turns old step new
+pub steps_turn : (old new : Fed) (step : FeedStep) → MayTurn old → StepsTo old step new → Turns old step new
 steps_turn old new step may answers = turn_by old.stage old new step may.unrefused answers
 
 -- ---- interims
@@ -56,7 +56,7 @@ due_is bytes head media due has tells =
     due_by due (wants_interim head) (λ so_is. due_head bytes head media has (tells.0 so_is)) (λ wants. tells.1 (head, has.at, has.stands, wants))
 
 -- a step tells whether it is due
-pub due_step : (old new : Fed) (step : Step) (due : Bool) → Turns old step new → IsDueBy new step due → IsTrue due ↔ IsInterimDue old.unread
+pub due_step : (old new : Fed) (step : FeedStep) (due : Bool) → Turns old step new → IsDueBy new step due → IsTrue due ↔ IsInterimDue old.unread
 due_step old new steps.More due waits by = rw waits.leaves.unread at by
 due_step old new (steps.Refused refusal) due refuses by = rw refuses.2.leaves.unread at by
 due_step old new (steps.Whole shown) due gives by =
@@ -113,7 +113,7 @@ none_long (x ∷ bytes) is = absurd (omega (arith, is))
 module _ (old new : Fed) (due : Bool) (before now : Device) (waits : IsWaiting old.unread due old) where
   -- more was heard
   pub turns_on : MayTurn old → (count : ℕ) → count ≢ 0 → HearsBytes count old new before now
-      → Follows false due old.requests old.unread new before now (Waits due)
+      → FollowsTurn false due old.requests old.unread new before now (Waits due)
   turns_on may zero some h = absurd (some refl)
   turns_on may (suc count) some h = record {
     bytes = h.bytes;
@@ -122,7 +122,7 @@ module _ (old new : Fed) (due : Bool) (before now : Device) (waits : IsWaiting o
       refl,
       omega (arith, h.size),
       omega (arith, h.size, h.few, length-append old.unread h.bytes),
-      subst (GoesOn old.requests (old.unread ++ h.bytes) due) (sym h.feed) (record {
+      subst (HearingGoesOn old.requests (old.unread ++ h.bytes) due) (sym h.feed) (record {
         unread = refl;
         requests = refl;
         may = record { handed_on = may.handed_on; unrefused = may.unrefused; goes_on = may.goes_on };
@@ -140,20 +140,20 @@ module _ (old new : Fed) (due : Bool) (before now : Device) (waits : IsWaiting o
   }
 
   ended_by : (bytes all : List ℕ) → old.unread ++ bytes ≡ all → IsWaiting (old.unread ++ bytes) due new → HearsAndSays bytes false true true true before now
-      → Follows false due old.requests old.unread new before now (Done (end_of all))
+      → FollowsTurn false due old.requests old.unread new before now (Done (end_of all))
   ended_by bytes [] is waits_still leaves = record { bytes = bytes; leaves = leaves; comes = (is, waits_still) }
   ended_by bytes (x ∷ all) is waits_still leaves =
       record { bytes = bytes; leaves = leaves; comes = (λ none. absurd (let same : x ∷ all ≡ [] = sym is ∙ none in cc), waits_still) }
 
   -- the peer's bytes ended
-  pub turns_end : HearsBytes 0 old new before now → Follows false due old.requests old.unread new before now (Done (end_of new.unread))
+  pub turns_end : HearsBytes 0 old new before now → FollowsTurn false due old.requests old.unread new before now (Done (end_of new.unread))
   turns_end h =
       let is : new.unread ≡ old.unread ++ h.bytes = ap (λ (f : Fed). f.unread) h.feed in
       ended_by h.bytes new.unread (sym is) (still h.bytes (none_long h.bytes h.size) is) h.leaves
 
   -- the hearing failed
   pub turns_unheard : new ≡ old → HearsAndSays [] false true false false before now
-      → Follows false due old.requests old.unread new before now (Done heards.Unheard)
+      → FollowsTurn false due old.requests old.unread new before now (Done heards.Unheard)
   turns_unheard same leaves = record {
     bytes = [];
     leaves = leaves;
@@ -169,7 +169,7 @@ module _ (old new : Fed) (due : Bool) (tells : IsTrue due ↔ IsInterimDue old.u
   split : (n : ℕ) → new.unread ≡ drop n old.unread → old.unread ++ [] ≡ take n old.unread ++ new.unread
   split n is = append-nil old.unread ∙ sym (take-append-drop n old.unread) ∙ ap (λ l. take n old.unread ++ l) (sym is)
 
-  pub comes_whole : (shown : Head) → GivesWhole old new shown → IsGiven old.requests (old.unread ++ []) due new shown
+  pub comes_whole : (shown : Head) → GivesWhole old new shown → GivesRequest old.requests (old.unread ++ []) due new shown
   comes_whole shown g =
       let size : length (take g.n old.unread) ≡ g.n = length-take-le g.n old.unread g.inside in
       let ends : shown.ends ≡ ends_behind old.requests g.head = g.tells.ends ∙ last_number old.requests g.head in
@@ -186,7 +186,7 @@ module _ (old new : Fed) (due : Bool) (tells : IsTrue due ↔ IsInterimDue old.u
         behind = record { stage_is = g.leaves.stage_is; requests_are = g.leaves.requests_are; ended_is = g.leaves.ended_is };
       }
 
-  pub comes_media : (shown : Head) → GivesHead old new shown → IsOpened old.requests (old.unread ++ []) due new shown
+  pub comes_media : (shown : Head) → GivesHead old new shown → OpensMedia old.requests (old.unread ++ []) due new shown
   comes_media shown g =
       let size : length (take g.n old.unread) ≡ g.n = length-take-le g.n old.unread g.inside in
       record {
@@ -202,7 +202,7 @@ module _ (old new : Fed) (due : Bool) (tells : IsTrue due ↔ IsInterimDue old.u
       }
 
   pub comes_refused : (refusal : Refusal) → Turns old (steps.Refused refusal) new
-      → IsRefusedAt (old.unread ++ []) due new refusal
+      → IsRefusedByWire (old.unread ++ []) due new refusal
   comes_refused refusal (fault, is, r) = record {
     fault = fault;
     refusal_is = is;
@@ -255,8 +255,8 @@ unsaid_by true bytes head n next found stands wants media none =
     let (size, is) = media_opens bytes next head n found stands wants media in
     absurd (none size is)
 
-pub comes_unsaid : (old new : Fed) (step : Step) → Turns old step new → IsInterimDue old.unread
-    → ComesTo old.requests (old.unread ++ []) true new (unsaid_of step)
+pub comes_unsaid : (old new : Fed) (step : FeedStep) → Turns old step new → IsInterimDue old.unread
+    → IsHeardAs old.requests (old.unread ++ []) true new (unsaid_of step)
 comes_unsaid old new steps.More waits (head, n, stands, wants) =
     unsaid_by (is_media head.method head.target) old.unread head n more waits.next stands wants refl (λ size e. cc)
 comes_unsaid old new (steps.Refused refusal) (fault, is, r) (head, n, stands, wants) =
@@ -272,8 +272,8 @@ and_first : (a b : Bool) → a && b ≡ true → a ≡ true
 and_first true b e = refl
 and_first false b e = absurd (false≢true e)
 
-follows_unsaid : (old new : Fed) (step : Step) (says : Bool) (before now : Device) → Turns old step new → IsInterimDue old.unread
-    → HearsAndSays [] says false false false before now → Follows says true old.requests old.unread new before now (Done (unsaid_of step))
+follows_unsaid : (old new : Fed) (step : FeedStep) (says : Bool) (before now : Device) → Turns old step new → IsInterimDue old.unread
+    → HearsAndSays [] says false false false before now → FollowsTurn says true old.requests old.unread new before now (Done (unsaid_of step))
 follows_unsaid old new steps.More says before now turns is_due leaves =
     record { bytes = []; leaves = leaves; comes = comes_unsaid old new steps.More turns is_due }
 follows_unsaid old new (steps.Refused refusal) says before now turns is_due leaves =
@@ -305,23 +305,23 @@ module _ (old mid new : Fed) (said due : Bool) (before between after : Device) (
   turned_refused refusal refuses leaves =
       record { due = due; stays = stays; follows = record { bytes = []; leaves = leaves; comes = comes_refused old mid due tells refusal refuses } }
 
-  pub turned_unsaid : (step : Step) → Turns old step mid → (due && not said) ≡ true → HearsAndSays [] (due && not said) false false false before between
+  pub turned_unsaid : (step : FeedStep) → Turns old step mid → (due && not said) ≡ true → HearsAndSays [] (due && not said) false false false before between
       → TurnsTo said old.requests old.unread mid before between (Done (unsaid_of step))
   turned_unsaid step turns asked leaves =
       let so_is : due ≡ true = and_first due (not said) asked in
       record {
         due = due;
         stays = stays;
-        follows = subst (λ d. Follows (due && not said) d old.requests old.unread mid before between (Done (unsaid_of step))) (sym so_is)
+        follows = subst (λ d. FollowsTurn (due && not said) d old.requests old.unread mid before between (Done (unsaid_of step))) (sym so_is)
             (follows_unsaid old mid step (due && not said) before between turns (tells.0 so_is) leaves);
       }
 
   pub turned_more : (turn : Turn) → Turns old steps.More mid → HearsAndSays [] (due && not said) true true false before between
-      → Follows false due mid.requests mid.unread new between after turn → TurnsTo said old.requests old.unread new before after turn
+      → FollowsTurn false due mid.requests mid.unread new between after turn → TurnsTo said old.requests old.unread new before after turn
   turned_more turn waits says more_heard =
-      let here : Follows false due old.requests old.unread new between after turn =
-      subst (λ n. Follows false due n old.unread new between after turn) waits.leaves.requests_are
-      (subst (λ u. Follows false due mid.requests u new between after turn) waits.leaves.unread more_heard) in
+      let here : FollowsTurn false due old.requests old.unread new between after turn =
+      subst (λ n. FollowsTurn false due n old.unread new between after turn) waits.leaves.requests_are
+      (subst (λ u. FollowsTurn false due mid.requests u new between after turn) waits.leaves.unread more_heard) in
       record {
         due = due;
         stays = stays;
@@ -373,8 +373,8 @@ module _ (first now new : Fed) (before between after : Device) (said : Bool) (tu
       record {
         bytes = h.bytes ++ t.follows.bytes;
         leaves = rw same (leaves_by (Waits later) t);
-        goes = rw same (subst (λ n. GoesOn n (first.unread ++ (h.bytes ++ t.follows.bytes)) t.due new) h.goes.requests
-            (subst (λ u. GoesOn now.requests u t.due new) (all_bytes t.follows.bytes) goes));
+        goes = rw same (subst (λ n. HearingGoesOn n (first.unread ++ (h.bytes ++ t.follows.bytes)) t.due new) h.goes.requests
+            (subst (λ u. HearingGoesOn now.requests u t.due new) (all_bytes t.follows.bytes) goes));
         moved = omega (arith, h.moved, some, longer);
         few = omega (arith, few, ap length (all_bytes t.follows.bytes), length-append first.unread (h.bytes ++ t.follows.bytes));
       }
@@ -384,6 +384,6 @@ module _ (first now new : Fed) (before between after : Device) (said : Bool) (tu
     bytes = h.bytes ++ t.follows.bytes;
     said = t.due;
     leaves = leaves_by (Done result) t;
-    comes = subst (λ n. ComesTo n (first.unread ++ (h.bytes ++ t.follows.bytes)) t.due new result) h.goes.requests
-        (subst (λ u. ComesTo now.requests u t.due new result) (all_bytes t.follows.bytes) t.follows.comes);
+    comes = subst (λ n. IsHeardAs n (first.unread ++ (h.bytes ++ t.follows.bytes)) t.due new result) h.goes.requests
+        (subst (λ u. IsHeardAs now.requests u t.due new result) (all_bytes t.follows.bytes) t.follows.comes);
   }

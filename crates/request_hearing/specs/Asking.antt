@@ -6,18 +6,18 @@ use Rattle.disk_trait.specs.Device.{Connection, Device}
 use Rattle.site_edge.specs.Links.{Sends, after_say, change_last}
 use Rattle.run_history.specs.Machine.{Machine}
 use Rattle.run_history.specs.Steps.{IsStep, Reply, Stage, Step, effect, interim_pieces, is_last, step_text}
-use Rattle.run_history.specs.Sessions.{AreServed, AreSteps, Session, Whole, after_sessions, after_steps, all_moments, answers_in, bytes_of, most_answers, pieces_of, skips_by, stops_in_answer, texts_of}
+use Rattle.run_history.specs.Sessions.{AreServed, AreSteps, Session, Whole, after_sessions, after_steps, all_moments, answers_in, bytes_of_pieces, most_answers, pieces_of, skips_by, stops_in_answer, texts_of}
 use Rattle.run_history.specs.Traces.{Trace, start_of, states_of, trace_of, with_piece}
 use Rattle.run_history.specs.Runs.{Beginning, Reached, stops_writing}
 use Rattle.run_history.specs.Laws.{under_way}
-use Rattle.run_history.specs.Serving.{Counts, Held, connection_with, counts_of, run_stops}
+use Rattle.run_history.specs.Serving.{RunCounts, Held, connection_with, counts_of_run, run_stops}
 use Rattle.request_hearing.specs.Hearing.{interim_bytes, interim_where, with_interim}
 
 -- What is known of a connection under way behind these others, apart from the device and from what
 -- it heard: they were served, and it had these steps, none of which ended it.
 pub record IsUnderWay {State Request : Type 0} (m : Machine State Request) (b : Beginning State)
     (connections : List Connection) (given : List ℕ) (state : State) (taken : ℕ)
-    (finished : List (Session Request)) (steps : List (Step Request)) (n : Counts) : Type 0 where
+    (finished : List (Session Request)) (steps : List (Step Request)) (n : RunCounts) : Type 0 where
   pub served : AreServed m (start_of b.state) connections finished
   pub unstopped : run_stops finished ≡ false
   pub given_is : given
@@ -29,7 +29,7 @@ pub record IsUnderWay {State Request : Type 0} (m : Machine State Request) (b : 
       ≡ length steps
   pub few : length steps < most_answers
   pub state_is : state ≡ (after_steps m (after_sessions m (start_of b.state) finished) steps).state
-  pub counts : n ≡ counts_of m b.state (finished ++ under_way steps Whole ∷ [])
+  pub counts : n ≡ counts_of_run m b.state (finished ++ under_way steps Whole ∷ [])
   pub good : All m.good (states_of (trace_of m b.state (finished ++ under_way steps Whole ∷ [])))
 
 -- the trace of a run whose last connection had these steps, and then the interim response where it
@@ -43,18 +43,18 @@ asked_trace m b said finished steps =
 -- are unread, and its interim response was said where `said` is true.
 pub record Open {State Request : Type 0} (m : Machine State Request) (b : Beginning State)
     (d : Device) (given : List ℕ) (held : Held State) (said : Bool)
-    (finished : List (Session Request)) (steps : List (Step Request)) (n : Counts) : Type 0 where
+    (finished : List (Session Request)) (steps : List (Step Request)) (n : RunCounts) : Type 0 where
   pub connections : List Connection
   pub so_far : IsUnderWay m b connections given held.state held.taken finished steps n
   pub connections_are : d.link.connections ≡ b.before ++ (connections
       ++ connection_with (texts_of steps ++ held.unread)
-      (bytes_of (pieces_of m (after_sessions m (start_of b.state) finished) steps)
+      (bytes_of_pieces (pieces_of m (after_sessions m (start_of b.state) finished) steps)
       ++ interim_bytes said) ∷ [])
 
 -- The same, and nothing was changed for it so far.
 pub record Asking {State Request : Type 0} (m : Machine State Request) (b : Beginning State)
     (d : Device) (given : List ℕ) (held : Held State) (said : Bool)
-    (finished : List (Session Request)) (steps : List (Step Request)) (n : Counts) : Type 0 where
+    (finished : List (Session Request)) (steps : List (Step Request)) (n : RunCounts) : Type 0 where
   pub begun : Open m b d given held said finished steps n
   pub reached : Reached m b (asked_trace m b said finished steps) true false d
 
@@ -75,7 +75,8 @@ abbrev pub answered_trace : {State : Type 0} → List State → List ℕ → ℕ
 answered_trace states bytes made later t = with_states later (replied_trace states bytes made t)
 
 -- the counts with a step that gives an answer and makes these changes
-abbrev pub counted_more : {State Request : Type 0} → Counts → List State → Step Request → Counts
+abbrev pub counted_more : {State Request : Type 0} → RunCounts → List State → Step Request
+    → RunCounts
 counted_more n states step = record {
   answers = n.answers + 1;
   changes = n.changes + length states;
@@ -86,9 +87,9 @@ counted_more n states step = record {
 -- was said, of which `whole` says all of it was, and then the changes of the turn behind it were
 -- made. A saying failed where `linked` is false; the disk failed while the record of the last
 -- change was being written where `writing` is true.
-pub record IsAnswered {State Request : Type 0} (m : Machine State Request) (b : Beginning State)
+pub record IsAnswerStep {State Request : Type 0} (m : Machine State Request) (b : Beginning State)
     (old new : Device) (given : List ℕ) (held : Held State) (said : Bool)
-    (finished : List (Session Request)) (steps : List (Step Request)) (n : Counts)
+    (finished : List (Session Request)) (steps : List (Step Request)) (n : RunCounts)
     (step : Step Request) (bytes : List ℕ) (made : ℕ) (states later : List State)
     (moments rest : List ℕ) (whole linked writing : Bool) : Type 0 where
   pub begun : Open m b old given held said finished steps n

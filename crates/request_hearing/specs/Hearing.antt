@@ -16,7 +16,7 @@ use Rattle.http_wire.specs.declared.stage.Stage.TheVariants as stages
 use Rattle.media_rows.specs.declared.refusal.Refusal.{Refusal}
 use Rattle.run_history.specs.Steps.{Interim}
 use Rattle.run_history.specs.Traces.{Trace, with_piece}
-use Rattle.tams_machine.specs.Requests.{HadInterim, IsCut, Spells, TamsRequest, ends_behind, interim_text}
+use Rattle.tams_machine.specs.Requests.{HadInterim, IsCut, SpellsRequest, TamsRequest, ends_behind, interim_text}
 use Rattle.request_hearing.specs.declared.heard.Heard.{Heard}
 use Rattle.request_hearing.specs.declared.heard.Heard.TheVariants.{Whole, Media, Refused, Ended, Cut, Unheard, Unsaid, MediaUnsaid}
 use Rattle.request_hearing.specs.declared.heard.Body.{Body}
@@ -95,27 +95,27 @@ has_ended Unsaid = false
 has_ended MediaUnsaid = false
 
 -- how a feed stands behind a request that was given, which so many came before
-pub record IsBehind (taken : ℕ) (stage : Stage) (shown : Head) (new : Fed) : Type 0 where
+pub record StandsBehind (taken : ℕ) (stage : Stage) (shown : Head) (new : Fed) : Type 0 where
   pub stage_is : new.stage ≡ stage
   pub requests_are : new.requests ≡ taken + 1
   pub ended_is : new.ended ≡ shown.ends
 
 -- A request came whole that is no media PUT. Its text stands in front of what is unread now.
-pub record IsGiven (taken : ℕ) (all : List ℕ) (said : Bool) (new : Fed) (shown : Head) : Type 0
+pub record GivesRequest (taken : ℕ) (all : List ℕ) (said : Bool) (new : Fed) (shown : Head) : Type 0
   where
     pub text : List ℕ
     pub request : TamsRequest
     pub text_is : all ≡ text ++ new.unread
-    pub spells : Spells taken text request
+    pub spells : SpellsRequest taken text request
     pub other : is_media request.head.method request.head.target ≡ false
     pub interim : said ≡ wants_interim request.head
     pub ends : shown.ends ≡ request.ends
     pub tells : TellsHead new request.head (taken + 1) shown
     pub tells_body : TellsBody new request.body shown
-    pub behind : IsBehind taken stages.Open shown new
+    pub behind : StandsBehind taken stages.Open shown new
 
 -- The head of a media PUT came whole.
-pub record IsOpened (taken : ℕ) (all : List ℕ) (said : Bool) (new : Fed) (shown : Head) : Type 0
+pub record OpensMedia (taken : ℕ) (all : List ℕ) (said : Bool) (new : Fed) (shown : Head) : Type 0
   where
     pub text : List ℕ
     pub head : RequestHead
@@ -124,11 +124,12 @@ pub record IsOpened (taken : ℕ) (all : List ℕ) (said : Bool) (new : Fed) (sh
     pub interim : said ≡ wants_interim head
     pub ends : shown.ends ≡ ends_behind taken head
     pub tells : TellsHead new head (taken + 1) shown
-    pub behind : IsBehind taken (stages.Media shown.length) shown new
+    pub behind : StandsBehind taken (stages.Media shown.length) shown new
     pub room : length new.last < feed_room
 
 -- The wire refuses what stands there.
-pub record IsRefusedAt (all : List ℕ) (said : Bool) (new : Fed) (refusal : Refusal) : Type 0 where
+pub record IsRefusedByWire (all : List ℕ) (said : Bool) (new : Fed)
+    (refusal : Refusal) : Type 0 where
   pub fault : WireFault
   pub refusal_is : refusal ≡ wire_refusal fault
   pub next : IsNext all (refused fault)
@@ -153,15 +154,15 @@ pub record IsUnsaid (all : List ℕ) (said takes : Bool) : Type 0 where
 
 -- what stands in front of all bytes that were heard and not given, behind so many requests, by what
 -- came of hearing them
-abbrev pub ComesTo : ℕ → List ℕ → Bool → Fed → Heard → Type 0
-ComesTo taken all said new (Whole shown) = IsGiven taken all said new shown
-ComesTo taken all said new (Media shown) = IsOpened taken all said new shown
-ComesTo taken all said new (Refused refusal) = IsRefusedAt all said new refusal
-ComesTo taken all said new Ended = (all ≡ []) × IsWaiting all said new
-ComesTo taken all said new Cut = (all ≢ []) × IsWaiting all said new
-ComesTo taken all said new Unheard = IsWaiting all said new
-ComesTo taken all said new Unsaid = IsUnsaid all said false
-ComesTo taken all said new MediaUnsaid = IsUnsaid all said true
+abbrev pub IsHeardAs : ℕ → List ℕ → Bool → Fed → Heard → Type 0
+IsHeardAs taken all said new (Whole shown) = GivesRequest taken all said new shown
+IsHeardAs taken all said new (Media shown) = OpensMedia taken all said new shown
+IsHeardAs taken all said new (Refused refusal) = IsRefusedByWire all said new refusal
+IsHeardAs taken all said new Ended = (all ≡ []) × IsWaiting all said new
+IsHeardAs taken all said new Cut = (all ≢ []) × IsWaiting all said new
+IsHeardAs taken all said new Unheard = IsWaiting all said new
+IsHeardAs taken all said new Unsaid = IsUnsaid all said false
+IsHeardAs taken all said new MediaUnsaid = IsUnsaid all said true
 
 -- What hearing a request comes to, from one state of the feed and the site to another.
 pub record HearsRequest (old new : Fed) (before now : Device) (result : Heard) : Type 0 where
@@ -169,7 +170,7 @@ pub record HearsRequest (old new : Fed) (before now : Device) (result : Heard) :
   pub said : Bool
   pub leaves : HearsAndSays bytes said (saying_held result) (link_held result) (has_ended result)
       before now
-  pub comes : ComesTo old.requests (old.unread ++ bytes) said new result
+  pub comes : IsHeardAs old.requests (old.unread ++ bytes) said new result
 
 -- ---- the body of a media PUT
 

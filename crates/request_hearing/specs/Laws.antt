@@ -11,13 +11,13 @@ use Rattle.store_states.specs.States.{StoreState}
 use Rattle.run_history.specs.Sessions.{IsUnfinished}
 use Rattle.run_history.specs.Steps.{Cut, IsStep, Refused}
 use Rattle.tams_machine.specs.Machine.{tams_machine}
-use Rattle.tams_machine.specs.Requests.{Heads, IsCut, Spells, TamsRequest, interim_text, wire_response}
-use Rattle.request_hearing.specs.Hearing.{IsOpened, IsRefusedAt, IsUnsaid, IsWaiting, interim_where}
+use Rattle.tams_machine.specs.Requests.{Heads, IsCut, SpellsRequest, TamsRequest, interim_text, wire_response}
+use Rattle.request_hearing.specs.Hearing.{OpensMedia, IsRefusedByWire, IsUnsaid, IsWaiting, interim_where}
 
 -- what the wire refuses
 abbrev pub RefusalsAreSteps : Type 0
 RefusalsAreSteps = (base : List ℕ) (n : ℕ) (s : StoreState) (all : List ℕ) (said : Bool) (new : Fed)
-    (refusal : Refusal) (r : IsRefusedAt all said new refusal)
+    (refusal : Refusal) (r : IsRefusedByWire all said new refusal)
     → IsStep (tams_machine base) n s
     (Refused all (record { interim = interim_where said; response = wire_response base r.fault }))
 
@@ -53,7 +53,7 @@ media_request head ends body = record { head = head; body = body; ends = ends }
 pub record OpenedAs (taken : ℕ) (said : Bool) (text : List ℕ) (head : RequestHead) (shown : Head)
     (part : List ℕ) : Type 0 where
   pub whole : length part ≡ shown.length
-      → Spells taken (text ++ part) (media_request head shown.ends part)
+      → SpellsRequest taken (text ++ part) (media_request head shown.ends part)
   pub begun : length part < shown.length
       → Heads taken (text ++ part) (media_request head shown.ends part)
   pub cut : length part < shown.length
@@ -63,5 +63,5 @@ pub record OpenedAs (taken : ℕ) (said : Bool) (text : List ℕ) (head : Reques
 
 abbrev pub MediaIsOpened : Type 0
 MediaIsOpened = (taken : ℕ) (all : List ℕ) (said : Bool) (new : Fed) (shown : Head)
-    (o : IsOpened taken all said new shown) (part : List ℕ)
+    (o : OpensMedia taken all said new shown) (part : List ℕ)
     → OpenedAs taken said o.text o.head shown part

@@ -3,9 +3,9 @@ use Rattle.std.specs.Prelude.{◌≡◌, ◌<◌, ◌≤◌, ◌+◌, ℕ, Bool,
 use Rattle.disk_trait.specs.Device.{Device}
 use Rattle.http_wire.specs.Agreeing.{MayTurn}
 use Rattle.http_wire.specs.Feeds.{Fed, IsInterimDue, feed_room, heard, kept_count}
-use Rattle.http_wire.specs.declared.stage.Step.{Step}
-use Rattle.http_wire.specs.declared.stage.Step.TheVariants as steps
-use Rattle.request_hearing.specs.Hearing.{ComesTo, HearsAndSays, has_ended, link_held, saying_held}
+use Rattle.http_wire.specs.declared.stage.FeedStep.{FeedStep}
+use Rattle.http_wire.specs.declared.stage.FeedStep.TheVariants as steps
+use Rattle.request_hearing.specs.Hearing.{IsHeardAs, HearsAndSays, has_ended, link_held, saying_held}
 use Rattle.request_hearing.specs.declared.heard.Heard.{Heard}
 use Rattle.request_hearing.specs.declared.heard.Heard.TheVariants.{Cut, Ended, MediaUnsaid, Unsaid}
 use Rattle.request_hearing.specs.declared.heard.Turn.{Turn}
@@ -40,14 +40,14 @@ HearsMore (Err e) old new before now =
 -- ---- a turn
 
 -- whether an interim response is due to the request of which a feed gave this step
-abbrev pub IsDueBy : Fed → Step → Bool → Type 0
+abbrev pub IsDueBy : Fed → FeedStep → Bool → Type 0
 IsDueBy fed steps.More due = IsTrue due ↔ IsInterimDue fed.unread
 IsDueBy fed (steps.Head shown) due = due ≡ shown.wants_interim
 IsDueBy fed (steps.Whole shown) due = due ≡ shown.wants_interim
 IsDueBy fed (steps.Refused refusal) due = IsTrue due ↔ IsInterimDue fed.unread
 
 -- what a step comes to where saying the interim response failed
-abbrev pub unsaid_of : Step → Heard
+abbrev pub unsaid_of : FeedStep → Heard
 unsaid_of steps.More = Unsaid
 unsaid_of (steps.Head shown) = MediaUnsaid
 unsaid_of (steps.Whole shown) = Unsaid
@@ -55,7 +55,7 @@ unsaid_of (steps.Refused refusal) = Unsaid
 
 -- Hearing goes on: all these bytes are unread, behind so many requests, and the interim response
 -- was said only where it is due.
-pub record GoesOn (taken : ℕ) (all : List ℕ) (said : Bool) (new : Fed) : Type 0 where
+pub record HearingGoesOn (taken : ℕ) (all : List ℕ) (said : Bool) (new : Fed) : Type 0 where
   pub unread : new.unread ≡ all
   pub requests : new.requests ≡ taken
   pub may : MayTurn new
@@ -80,13 +80,13 @@ turn_ended (Done heard) = has_ended heard
 abbrev pub TurnComesTo : ℕ → List ℕ → List ℕ → Bool → Fed → Turn → Type 0
 TurnComesTo taken unread bytes said new (Waits later) =
     (later ≡ said) × (0 < length bytes) × (length (unread ++ bytes) ≤ feed_room)
-    × GoesOn taken (unread ++ bytes) said new
+    × HearingGoesOn taken (unread ++ bytes) said new
 TurnComesTo taken unread bytes said new (Done result) =
-    ComesTo taken (unread ++ bytes) said new result
+    IsHeardAs taken (unread ++ bytes) said new result
 
 -- What follows behind so many requests, with these bytes unread, up to the end of a turn. The
 -- interim response is said in it where `says` is true, and `said` is whether it was by then.
-pub record Follows (says said : Bool) (taken : ℕ) (unread : List ℕ) (new : Fed)
+pub record FollowsTurn (says said : Bool) (taken : ℕ) (unread : List ℕ) (new : Fed)
     (before now : Device) (turn : Turn) : Type 0 where
   pub bytes : List ℕ
   pub leaves : HearsAndSays bytes says (turn_said turn) (turn_held turn) (turn_ended turn)
@@ -98,7 +98,7 @@ pub record TurnsTo (said : Bool) (taken : ℕ) (unread : List ℕ) (new : Fed) (
     (turn : Turn) : Type 0 where
   pub due : Bool
   pub stays : said ≡ true → due ≡ true
-  pub follows : Follows (due && not said) due taken unread new before now turn
+  pub follows : FollowsTurn (due && not said) due taken unread new before now turn
 
 -- how the peer's bytes ended, by what is unread of them
 abbrev pub end_of : List ℕ → Heard
@@ -112,6 +112,6 @@ pub record HasHeard (first now : Fed) (before after : Device) (said : Bool) (tur
   where
     pub bytes : List ℕ
     pub leaves : HearsAndSays bytes said true true false before after
-    pub goes : GoesOn first.requests (first.unread ++ bytes) said now
+    pub goes : HearingGoesOn first.requests (first.unread ++ bytes) said now
     pub moved : turns ≤ length bytes
     pub few : length bytes ≤ feed_room

@@ -3,12 +3,12 @@ ghost use Rattle.std.specs.Prelude.{◌≡◌, ◌<◌, ◌≤◌, ◌↔◌, []
 ghost use Rattle.http_wire.specs.Agreeing.{MayTurn};
 ghost use Rattle.http_wire.specs.Feeds.{IsInterimDue, IsPlace, Turns, feed_room, kept_count, left_of, new_feed, span_bytes};
 ghost use Rattle.request_hearing.specs.Hearing.{HearsAndSays, HearsBody, HearsRequest, IsWaiting};
-ghost use Rattle.request_hearing.specs.Turning.{Follows, HearsMore, IsDueBy, TurnsTo, end_of, heard_bytes, heard_end, unsaid_of};
+ghost use Rattle.request_hearing.specs.Turning.{FollowsTurn, HearsMore, IsDueBy, TurnsTo, end_of, heard_bytes, heard_end, unsaid_of};
 
 use crate::heard::{Body, Heard, Turn};
 use crate::interim::{is_missing, say_interim};
 use disk_trait::Memory;
-use http_wire::{Feed, Span, Step};
+use http_wire::{Feed, FeedSpan, FeedStep};
 use site_edge::{LinkFailed, Site};
 use std::alloc::Global;
 use std::marker::Model;
@@ -52,7 +52,7 @@ impl Hearing {
     }
 
     /// The bytes at a place of the last head.
-    pub fn bytes(&self, span: Span) -> &[u8]
+    pub fn bytes(&self, span: FeedSpan) -> &[u8]
         requires { IsPlace self.now span }
         ensures { result.now ≡ span_bytes self.now span }
     {
@@ -124,7 +124,7 @@ impl Hearing {
     }
 
     /// What the feed gives next, and whether an interim response is due to what stands there.
-    fn next_step(&mut self) -> (Step, bool)
+    fn next_step(&mut self) -> (FeedStep, bool)
         requires may { MayTurn self.old }
         ensures step { Turns self.old result.0 self.new }
         ensures due { IsTrue result.1 ↔ IsInterimDue self.old.unread }
@@ -141,7 +141,7 @@ impl Hearing {
         requires may { MayTurn self.old }
         requires room { kept_count self.old < feed_room }
         requires under_way { (X.device site.old).link.under_way ≡ true }
-        ensures { Follows false due self.old.requests self.old.unread self.new
+        ensures { FollowsTurn false due self.old.requests self.old.unread self.new
             (X.device site.old) (X.device site.new) result }
     {
         match self.hear(site) {
@@ -175,36 +175,36 @@ impl Hearing {
         match say_interim(site, is_missing(due, said)) {
             Err(LinkFailed) => Turn::Done(unsaid(&step)),
             Ok(()) => match step {
-                Step::More => self.hear_more(site, due),
-                Step::Head(head) => Turn::Done(Heard::Media(head)),
-                Step::Whole(head) => Turn::Done(Heard::Whole(head)),
-                Step::Refused(refusal) => Turn::Done(Heard::Refused(refusal)),
+                FeedStep::More => self.hear_more(site, due),
+                FeedStep::Head(head) => Turn::Done(Heard::Media(head)),
+                FeedStep::Whole(head) => Turn::Done(Heard::Whole(head)),
+                FeedStep::Refused(refusal) => Turn::Done(Heard::Refused(refusal)),
             },
         }
     }
 }
 
 /// Whether an interim response is due to the request of which a feed gave this step.
-fn is_due(feed: &Feed, step: &Step) -> bool
+fn is_due(feed: &Feed, step: &FeedStep) -> bool
     ensures { IsDueBy feed.now step.now result }
 {
     match step {
-        Step::More => feed.interim_due(),
-        Step::Head(head) => head.wants_interim,
-        Step::Whole(head) => head.wants_interim,
-        Step::Refused(_) => feed.interim_due(),
+        FeedStep::More => feed.interim_due(),
+        FeedStep::Head(head) => head.wants_interim,
+        FeedStep::Whole(head) => head.wants_interim,
+        FeedStep::Refused(_) => feed.interim_due(),
     }
 }
 
 /// What a step comes to where saying the interim response failed.
-fn unsaid(step: &Step) -> Heard
+fn unsaid(step: &FeedStep) -> Heard
     ensures { result ≡ unsaid_of step.now }
 {
     match step {
-        Step::Head(_) => Heard::MediaUnsaid,
-        Step::More => Heard::Unsaid,
-        Step::Whole(_) => Heard::Unsaid,
-        Step::Refused(_) => Heard::Unsaid,
+        FeedStep::Head(_) => Heard::MediaUnsaid,
+        FeedStep::More => Heard::Unsaid,
+        FeedStep::Whole(_) => Heard::Unsaid,
+        FeedStep::Refused(_) => Heard::Unsaid,
     }
 }
 

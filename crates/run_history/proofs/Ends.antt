@@ -4,7 +4,7 @@ use Rattle.std.proofs.lemmas.Bool.{false≢true}
 use Rattle.std.specs.List.{AllByRecursion}
 use Rattle.disk_trait.specs.Device.{Connection}
 use Rattle.run_history.specs.Machine.{Machine}
-use Rattle.run_history.specs.Steps.{Answered, Cut, IsStep, Piece, Refused, Stage, Starved, Step, Stopped, after_step, is_last}
+use Rattle.run_history.specs.Steps.{Answered, Cut, IsStep, Piece, Refused, Stage, Starved, Step, Stopped, stage_after, is_last}
 use Rattle.run_history.specs.Sessions.{AreServed, AreSteps, EndIs, IsServed, LinkEnd, RestIs, Session, Whole, after_sessions, after_steps, answers_in, skips_by, skips_in, stops, stops_in_answer}
 use Rattle.run_history.specs.Runs.{run_stops_writing, stops_writing}
 use Rattle.run_history.specs.Serving.{all_answers, all_skips, is_cut, run_stops, starves}
@@ -28,7 +28,7 @@ steps-push m n k at [] step are stay count is =
 steps-push m n k at (x ∷ steps) step are stay count is = (
   are.0,
   λ e. absurd (false≢true (sym stay.0 ∙ e)),
-  steps-push m (suc n) k (after_step m at x) steps step are.2 stay.1 (omega (arith, count)) is,
+  steps-push m (suc n) k (stage_after m at x) steps step are.2 stay.1 (omega (arith, count)) is,
 )
 
 -- what stands behind steps, by the last of them

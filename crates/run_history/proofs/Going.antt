@@ -9,24 +9,24 @@ use Rattle.site_edge.specs.Links.{AddsConnection, change_last, fresh}
 use Rattle.site_edge.proofs.Theorems.{change_last_push}
 use Rattle.run_history.specs.Machine.{Machine}
 use Rattle.run_history.specs.Steps.{Answered, Cut, Piece, Refused, Stage, Starved, Step, Stopped}
-use Rattle.run_history.specs.Sessions.{AreServed, Hearing, IsServed, IsTold, IsUnfinished, LinkEnd, Saying, Session, Whole, after_sessions, after_steps, all_changes, all_moments, answers_in, bytes_of, changes_of, has_failed, pieces_of, stops, texts_of}
+use Rattle.run_history.specs.Sessions.{AreServed, Hearing, IsServed, IsTold, IsUnfinished, LinkEnd, Saying, Session, Whole, after_sessions, after_steps, all_changes, all_moments, answers_in, bytes_of_pieces, changes_of, has_link_failed, pieces_of, stops, texts_of}
 use Rattle.run_history.specs.Traces.{Trace, start_of, states_of, trace_of, with_connection, with_effect}
 use Rattle.run_history.specs.Runs.{Beginning, Ran, Reached, run_stops_writing, stops_writing}
 use Rattle.run_history.specs.Laws.{under_way}
-use Rattle.run_history.specs.Serving.{Counts, Going, HasServed, Held, all_answers, all_skips, counts_of, connection_with, run_stops}
+use Rattle.run_history.specs.Serving.{RunCounts, Going, HasServed, Held, all_answers, all_skips, counts_of_run, connection_with, run_stops}
 use Rattle.run_history.proofs.Growth.{all_changes-push, all_moments-push, pieces-push, scripts-push, stages_count, steps_grow, trace-opened, trace-same, traces_grow}
 use Rattle.run_history.proofs.Invariant.{parts_suffice, peers_come, quiet_calls, runs_begin}
 use Rattle.run_history.proofs.Ends.{or_left, or_right, all_answers-push, all_skips-push, end-heard, end-push, end_like-push, open-going, rest-none, rest-push, served-push, skips-push, steps-push, writing-push}
 
 -- ---- counts and traces
 
-pub counts-same : (x y : Counts) → x.answers ≡ y.answers → x.changes ≡ y.changes → x.skipped ≡ y.skipped → x ≡ y
+pub counts-same : (x y : RunCounts) → x.answers ≡ y.answers → x.changes ≡ y.changes → x.skipped ≡ y.skipped → x ≡ y
 counts-same x y a c s = rw (a, c, s) refl
 
 -- a connection counts as its steps do, whatever ended it
 counts-link : {State Request : Type 0} (m : Machine State Request) (from : State) (finished : List (Session Request)) (steps : List (Step Request))
     (link link_after : LinkEnd)
-    → counts_of m from (finished ++ under_way steps link ∷ []) ≡ counts_of m from (finished ++ under_way steps link_after ∷ [])
+    → counts_of_run m from (finished ++ under_way steps link ∷ []) ≡ counts_of_run m from (finished ++ under_way steps link_after ∷ [])
 counts-link m from finished steps link link_after =
     counts-same _ _
     (ap all_answers (scripts-push m (start_of from) finished (under_way steps link) ∙ sym (scripts-push m (start_of from) finished
@@ -93,7 +93,7 @@ unwritten (s ∷ t ∷ sessions) e = unwritten (t ∷ sessions) (or_right (stops
 -- ---- a connection begins
 
 pub goes_first : {State Request : Type 0} (m : Machine State Request) (b : Beginning State) (old new : Device) (given : List ℕ)
-    (sessions : List (Session Request)) (n : Counts) → HasServed m b old given sessions n → run_stops sessions ≡ false
+    (sessions : List (Session Request)) (n : RunCounts) → HasServed m b old given sessions n → run_stops sessions ≡ false
     → Elapses AddsConnection AddsConnection old new → new.link.connections ≡ old.link.connections ++ fresh ∷ []
     → Going m b new given (record { state = (after_sessions m (start_of b.state) sessions).state; unread = []; taken = 0 }) sessions [] n
 goes_first {State} {Request} m b old new given sessions n h run time connections =
@@ -131,10 +131,10 @@ goes_first {State} {Request} m b old new given sessions n h run time connections
 
 -- the connections with one more, which has ended
 pub ends_with : {State Request : Type 0} (m : Machine State Request) (b : Beginning State) (d : Device) (given : List ℕ)
-    (finished : List (Session Request)) (session : Session Request) (n : Counts) (connections : List Connection) (c : Connection)
+    (finished : List (Session Request)) (session : Session Request) (n : RunCounts) (connections : List Connection) (c : Connection)
     → d.link.connections ≡ b.before ++ (connections ++ c ∷ []) → AreServed m (start_of b.state) connections finished → run_stops finished ≡ false
     → IsServed m (after_sessions m (start_of b.state) finished) c session → given ≡ b.given ++ all_moments m (start_of b.state) (finished ++ session ∷ [])
-    → n ≡ counts_of m b.state (finished ++ session ∷ []) → Reached m b (trace_of m b.state (finished ++ session ∷ [])) false (stops_writing session.steps) d
+    → n ≡ counts_of_run m b.state (finished ++ session ∷ []) → Reached m b (trace_of m b.state (finished ++ session ∷ [])) false (stops_writing session.steps) d
     → All m.good (states_of (trace_of m b.state (finished ++ session ∷ []))) → HasServed m b d given (finished ++ session ∷ []) n
 ends_with m b d given finished session n connections c are served run is given_is counts reached good = record {
   connections = connections ++ c ∷ [];
@@ -158,7 +158,7 @@ last_changed f before connections c now then then_is now_is =
 
 -- more bytes
 pub goes_heard : {State Request : Type 0} (m : Machine State Request) (b : Beginning State) (old new : Device) (given : List ℕ) (held : Held State)
-    (finished : List (Session Request)) (steps : List (Step Request)) (n : Counts) (bytes : List ℕ) → Going m b old given held finished steps n
+    (finished : List (Session Request)) (steps : List (Step Request)) (n : RunCounts) (bytes : List ℕ) → Going m b old given held finished steps n
     → Elapses Unchanged Unchanged old new → new.link.connections ≡ change_last (λ c. record c { heard = c.heard ++ bytes }) old.link.connections
     → Going m b new given (record held { unread = held.unread ++ bytes }) finished steps n
 goes_heard {State} {Request} m b old new given held finished steps n bytes g time connections = record {
@@ -166,7 +166,7 @@ goes_heard {State} {Request} m b old new given held finished steps n bytes g tim
   connections_are =
       last_changed (λ c. record c { heard = c.heard ++ bytes }) b.before g.connections _ _ _ g.connections_are connections
       ∙ ap (λ heard. b.before ++ (g.connections
-      ++ connection_with heard (bytes_of (pieces_of m (after_sessions m (start_of b.state) finished) steps)) ∷ []))
+      ++ connection_with heard (bytes_of_pieces (pieces_of m (after_sessions m (start_of b.state) finished) steps)) ∷ []))
       (append_assoc (texts_of steps) held.unread bytes);
   served = g.served;
   unstopped = g.unstopped;
@@ -184,16 +184,16 @@ goes_heard {State} {Request} m b old new given held finished steps n bytes g tim
 
 -- a connection that heard its peer's end, or on which hearing failed
 abbrev pub after_end : LinkEnd → Bool → Connection → Connection
-after_end link ended c = record c { ended = ended; failed = has_failed link }
+after_end link ended c = record c { ended = ended; failed = has_link_failed link }
 
-told-whole : (link : LinkEnd) (pieces : List Piece) → link ≢ Saying → IsTold false link (bytes_of pieces) pieces
+told-whole : (link : LinkEnd) (pieces : List Piece) → link ≢ Saying → IsTold false link (bytes_of_pieces pieces) pieces
 told-whole Whole pieces not_saying = refl
 told-whole Hearing pieces not_saying = refl
 told-whole Saying pieces not_saying = absurd (not_saying refl)
 
 -- the end of a connection of which no byte is unread
 pub ends_heard : {State Request : Type 0} (m : Machine State Request) (b : Beginning State) (old new : Device) (given : List ℕ) (held : Held State)
-    (finished : List (Session Request)) (steps : List (Step Request)) (n : Counts) (link : LinkEnd) (ended : Bool)
+    (finished : List (Session Request)) (steps : List (Step Request)) (n : RunCounts) (link : LinkEnd) (ended : Bool)
     → Going m b old given held finished steps n → Elapses Unchanged Unchanged old new
     → new.link.connections ≡ change_last (after_end link ended) old.link.connections → held.unread ≡ [] → link ≢ Saying → (link ≡ Whole → ended ≡ true)
     → HasServed m b new given (finished ++ under_way steps link ∷ []) n
@@ -211,7 +211,7 @@ ends_heard {State} {Request} m b old new given held finished steps n link ended 
       few = omega (arith, g.few, g.answers);
       heard = ap (λ u. texts_of steps ++ u) none;
       rest_is = rest-none m 0 steps link g.stay;
-      told = subst (λ s. IsTold s link (bytes_of pieces) pieces) (sym going.in_answer) (told-whole link pieces not_saying);
+      told = subst (λ s. IsTold s link (bytes_of_pieces pieces) pieces) (sym going.in_answer) (told-whole link pieces not_saying);
       failed = refl;
       ended = end-heard m steps link ended whole;
     })
@@ -236,7 +236,7 @@ cut_silently text = Cut text None None
 
 -- the end of a connection within a request that had nothing yet
 pub ends_cut : {State Request : Type 0} (m : Machine State Request) (b : Beginning State) (old new : Device) (given : List ℕ) (held : Held State)
-    (finished : List (Session Request)) (steps : List (Step Request)) (n : Counts) (link : LinkEnd) (ended : Bool)
+    (finished : List (Session Request)) (steps : List (Step Request)) (n : RunCounts) (link : LinkEnd) (ended : Bool)
     → Going m b old given held finished steps n → Elapses Unchanged Unchanged old new
     → new.link.connections ≡ change_last (after_end link ended) old.link.connections → held.unread ≢ [] → link ≢ Saying → (link ≡ Whole → ended ≡ true)
     → m.cuts held.unread (record { interim = None; takes_moment = false }) → IsUnfinished m held.taken held.unread
@@ -249,8 +249,8 @@ ends_cut {State} {Request} m b old new given held finished steps n link ended g 
     let traces = more.grown ∙ with_nothing (trace_of m b.state (finished ++ under_way steps Whole ∷ [])) in
     let pieces : pieces_of m at (steps ++ step ∷ []) ≡ pieces_of m at steps = pieces-push m at steps step ∙ append-nil (pieces_of m at steps) in
     let quiet = quiet_calls State Request m b _ true false old new g.reached time in
-    let told : IsTold false link (bytes_of (pieces_of m at steps)) (pieces_of m at (steps ++ step ∷ [])) =
-    subst (IsTold false link (bytes_of (pieces_of m at steps))) (sym pieces) (told-whole link (pieces_of m at steps) not_saying) in
+    let told : IsTold false link (bytes_of_pieces (pieces_of m at steps)) (pieces_of m at (steps ++ step ∷ [])) =
+    subst (IsTold false link (bytes_of_pieces (pieces_of m at steps))) (sym pieces) (told-whole link (pieces_of m at steps) not_saying) in
     ends_with m b new given finished (under_way (steps ++ step ∷ []) link) n g.connections _
     (last_changed (after_end link ended) b.before g.connections _ _ _ g.connections_are connections)
     g.served g.unstopped
@@ -260,7 +260,7 @@ ends_cut {State} {Request} m b old new given held finished steps n link ended g 
       few = omega (arith, g.few, g.answers, ap answers_in pieces);
       heard = sym (append-nil _ ∙ (steps_grow State Request m at steps step).texts);
       rest_is = rest-push m 0 held.taken steps step link [] (omega (arith, g.taken)) ((λ _. (refl, unfinished)), (λ saying. absurd (not_saying saying)));
-      told = subst (λ s. IsTold s link (bytes_of (pieces_of m at steps)) (pieces_of m at (steps ++ step ∷ []))) (sym like.in_answer) told;
+      told = subst (λ s. IsTold s link (bytes_of_pieces (pieces_of m at steps)) (pieces_of m at (steps ++ step ∷ []))) (sym like.in_answer) told;
       failed = refl;
       ended = end-push m steps step link ended whole;
     })
@@ -281,7 +281,7 @@ ends_cut {State} {Request} m b old new given held finished steps n link ended g 
 
 -- a call that changes nothing of what a crash leaves, nor of the connections
 pub served_quiet : {State Request : Type 0} (m : Machine State Request) (b : Beginning State) (old new : Device) (given : List ℕ)
-    (sessions : List (Session Request)) (n : Counts) → HasServed m b old given sessions n → Elapses Unchanged Unchanged old new
+    (sessions : List (Session Request)) (n : RunCounts) → HasServed m b old given sessions n → Elapses Unchanged Unchanged old new
     → new.link.connections ≡ old.link.connections → HasServed m b new given sessions n
 served_quiet {State} {Request} m b old new given sessions n h time same = record {
   connections = h.connections;
@@ -309,7 +309,7 @@ served_none {State} {Request} m b d sound honest tells connections moment stands
 
 -- What was served is a run that has ended.
 pub has_run : {State Request : Type 0} (m : Machine State Request) (b : Beginning State) (d : Device) (given : List ℕ) (sessions : List (Session Request))
-    (n : Counts) → HasServed m b d given sessions n → IsDevice d → d.honest ≡ true → d.shows ≡ true → d.tells ≡ true → Ran m b sessions d given
+    (n : RunCounts) → HasServed m b d given sessions n → IsDevice d → d.honest ≡ true → d.shows ≡ true → d.tells ≡ true → Ran m b sessions d given
 has_run m b d given sessions n h sound honest shows tells = record {
   connections = h.connections;
   connections_are = h.connections_are;

@@ -5,7 +5,7 @@ use Rattle.std.proofs.lemmas.Grind.{flat_map-append}
 use Rattle.site_edge.specs.Links.{change_last}
 use Rattle.site_edge.proofs.Theorems.{change_last_push}
 use Rattle.run_history.specs.Machine.{Machine}
-use Rattle.run_history.specs.Steps.{Piece, Stage, Step, after_step, effect, last_or, step_text}
+use Rattle.run_history.specs.Steps.{Piece, Stage, Step, stage_after, effect, last_or, step_text}
 use Rattle.run_history.specs.Sessions.{LinkEnd, Session, after_sessions, after_steps, all_changes, all_moments, changes_of, moments_of, pieces_of, scripts_of, texts_of}
 use Rattle.run_history.specs.Traces.{Trace, start_of, trace_of, with_connection}
 use Rattle.run_history.specs.Laws.{StagesCount, StepsGrow, TracesGrow, under_way}
@@ -16,27 +16,27 @@ pub pieces-push : {State Request : Type 0} (m : Machine State Request) (at : Sta
     → pieces_of m at (steps ++ step ∷ []) ≡ pieces_of m at steps ++ (effect m (after_steps m at steps) step).pieces
 pieces-push m at [] step = append-nil (effect m at step).pieces
 pieces-push m at (x ∷ steps) step =
-    ap (λ l. (effect m at x).pieces ++ l) (pieces-push m (after_step m at x) steps step)
-    ∙ sym (append_assoc (effect m at x).pieces (pieces_of m (after_step m at x) steps) (effect m (after_steps m at (x ∷ steps)) step).pieces)
+    ap (λ l. (effect m at x).pieces ++ l) (pieces-push m (stage_after m at x) steps step)
+    ∙ sym (append_assoc (effect m at x).pieces (pieces_of m (stage_after m at x) steps) (effect m (after_steps m at (x ∷ steps)) step).pieces)
 
 pub changes-push : {State Request : Type 0} (m : Machine State Request) (at : Stage State) (steps : List (Step Request)) (step : Step Request)
     → changes_of m at (steps ++ step ∷ []) ≡ changes_of m at steps ++ (effect m (after_steps m at steps) step).changes
 changes-push m at [] step = append-nil (effect m at step).changes
 changes-push m at (x ∷ steps) step =
-    ap (λ l. (effect m at x).changes ++ l) (changes-push m (after_step m at x) steps step)
-    ∙ sym (append_assoc (effect m at x).changes (changes_of m (after_step m at x) steps) (effect m (after_steps m at (x ∷ steps)) step).changes)
+    ap (λ l. (effect m at x).changes ++ l) (changes-push m (stage_after m at x) steps step)
+    ∙ sym (append_assoc (effect m at x).changes (changes_of m (stage_after m at x) steps) (effect m (after_steps m at (x ∷ steps)) step).changes)
 
 pub moments-push : {State Request : Type 0} (m : Machine State Request) (at : Stage State) (steps : List (Step Request)) (step : Step Request)
     → moments_of m at (steps ++ step ∷ []) ≡ moments_of m at steps ++ (effect m (after_steps m at steps) step).moments
 moments-push m at [] step = append-nil (effect m at step).moments
 moments-push m at (x ∷ steps) step =
-    ap (λ l. (effect m at x).moments ++ l) (moments-push m (after_step m at x) steps step)
-    ∙ sym (append_assoc (effect m at x).moments (moments_of m (after_step m at x) steps) (effect m (after_steps m at (x ∷ steps)) step).moments)
+    ap (λ l. (effect m at x).moments ++ l) (moments-push m (stage_after m at x) steps step)
+    ∙ sym (append_assoc (effect m at x).moments (moments_of m (stage_after m at x) steps) (effect m (after_steps m at (x ∷ steps)) step).moments)
 
 pub stage-push : {State Request : Type 0} (m : Machine State Request) (at : Stage State) (steps : List (Step Request)) (step : Step Request)
-    → after_steps m at (steps ++ step ∷ []) ≡ after_step m (after_steps m at steps) step
+    → after_steps m at (steps ++ step ∷ []) ≡ stage_after m (after_steps m at steps) step
 stage-push m at [] step = refl
-stage-push m at (x ∷ steps) step = stage-push m (after_step m at x) steps step
+stage-push m at (x ∷ steps) step = stage-push m (stage_after m at x) steps step
 
 pub steps_grow : StepsGrow
 steps_grow State Request m at steps step = record {
@@ -56,9 +56,9 @@ last_or-append s (x ∷ xs) ys = last_or-append x xs ys
 pub stages_count : StagesCount
 stages_count State Request m at [] = (omega arith, refl)
 stages_count State Request m at (x ∷ steps) =
-    let rest = stages_count State Request m (after_step m at x) steps in
+    let rest = stages_count State Request m (stage_after m at x) steps in
     let here = (effect m at x).changes in
-    let later = changes_of m (after_step m at x) steps in
+    let later = changes_of m (stage_after m at x) steps in
     (omega (arith, rest.0, length-append here later), rest.1 ∙ last_or-append at.state here later)
 
 -- ---- connections

@@ -10,8 +10,8 @@ use Rattle.site_edge.specs.Saying.{ArePrefixes, IsToldToLast}
 use Rattle.site_edge.proofs.Theorems.{change_last_push, part_length, prefixes_push, prefixes_told, push_length, told_whole}
 use Rattle.run_history.specs.Machine.{Machine}
 use Rattle.run_history.specs.Steps.{Piece, last_or, piece_bytes}
-use Rattle.run_history.specs.Sessions.{bytes_of}
-use Rattle.run_history.specs.Traces.{CountAtMost, Trace, state_after, state_now, trace_of, with_change, with_connection, with_piece}
+use Rattle.run_history.specs.Sessions.{bytes_of_pieces}
+use Rattle.run_history.specs.Traces.{CountAtMost, Trace, state_after, state_now, trace_of, then_change, with_connection, with_piece}
 use Rattle.run_history.specs.Runs.{AllRight, Beginning, IsNow, IsRight, Reached, StandsNow, sure_changes, told_first}
 use Rattle.run_history.specs.Laws.{DurableChanges, PartsSuffice, PeersCome, QuietCalls, RunsBegin, SaidPieces, TornChanges, Wrote, Writes}
 use Rattle.run_history.proofs.Pieces.{begun-most, bytes-connection, bytes-piece, count-connection, count-more, count-piece}
@@ -26,13 +26,13 @@ last_or-push : {State : Type 0} (s x : State) (xs : List State) → last_or s (x
 last_or-push s x [] = refl
 last_or-push s x (y ∷ ys) = last_or-push y x ys
 
-state_now-change : {State : Type 0} (t : Trace State) (s : State) → state_now (with_change s t) ≡ s
+state_now-change : {State : Type 0} (t : Trace State) (s : State) → state_now (then_change s t) ≡ s
 state_now-change t s = last_or-push t.first s t.changes
 
-state_before-change : {State : Type 0} (t : Trace State) (s : State) → state_after (length (with_change s t).changes - 1) (with_change s t) ≡ state_now t
+state_before-change : {State : Type 0} (t : Trace State) (s : State) → state_after (length (then_change s t).changes - 1) (then_change s t) ≡ state_now t
 state_before-change t s =
     let count : length (t.changes ++ s ∷ []) - 1 ≡ length t.changes = omega (arith, length-append t.changes (s ∷ [])) in
-    ap (λ n. state_after n (with_change s t)) count
+    ap (λ n. state_after n (then_change s t)) count
     ∙ state_after-change t s (length t.changes) (omega arith)
     ∙ state_now-after t
 
@@ -48,7 +48,8 @@ stands-count m image t true (inr before) = (length t.changes - 1, omega arith, o
 
 -- what a crash leaves now is right
 right-now : {State Request : Type 0} (m : Machine State Request) (b : Beginning State) (t : Trace State) (writing : Bool) (told : List (List ℕ)) (p : Left)
-    → CountAtMost (sure_changes t writing) t.scripts → p.told ≡ told_first b ++ told → ArePrefixes told (map bytes_of t.scripts) → StandsNow m p.image t writing
+    → CountAtMost (sure_changes t writing) t.scripts → p.told ≡ told_first b ++ told → ArePrefixes told (map bytes_of_pieces t.scripts)
+    → StandsNow m p.image t writing
     → IsRight m b t p
 right-now m b t writing told p counts told_is prefixes stands =
     let at = stands-count m p.image t writing stands in
@@ -109,7 +110,7 @@ quiet_calls State Request m b t whole writing old new r time = record {
 
 -- what is told stays, and the image stands for a state of a longer trace
 now-change : {State Request : Type 0} (m : Machine State Request) (b : Beginning State) (t : Trace State) (s : State) (whole writing : Bool) (q p : Left)
-    → IsNow m b t whole false q → p.told ≡ q.told → StandsNow m p.image (with_change s t) writing → IsNow m b (with_change s t) whole writing p
+    → IsNow m b t whole false q → p.told ≡ q.told → StandsNow m p.image (then_change s t) writing → IsNow m b (then_change s t) whole writing p
 now-change m b t s whole writing q p n told stands = record {
   told = n.told;
   told_is = told ∙ n.told_is;
@@ -122,15 +123,15 @@ now-change m b t s whole writing q p n told stands = record {
 -- while a record is being written, each crash leaves what is right with its change
 right-change : {State Request : Type 0} (m : Machine State Request) (b : Beginning State) (t : Trace State) (s : State) (whole : Bool) (ended : Left → Left
     → Type 0)
-    (old new : Device) → Reached m b t whole false old → Elapses (Writes m t s) ended old new → AllRight m b (with_change s t) new
+    (old new : Device) → Reached m b t whole false old → Elapses (Writes m t s) ended old new → AllRight m b (then_change s t) new
 right-change {State} {Request} m b t s whole ended old new r time =
     let longer = length-append t.changes (s ∷ []) in
-    let counts = count-more t.scripts (length t.changes) (sure_changes (with_change s t) true) (omega (arith, longer)) r.counts in
-    calls_add_up State Request m b (with_change s t) (Writes m t s) ended old new
-    (all_grown m b t (with_change s t) old (λ p right. (right_grows State Request m b t p right).change s) r.right) time
+    let counts = count-more t.scripts (length t.changes) (sure_changes (then_change s t) true) (omega (arith, longer)) r.counts in
+    calls_add_up State Request m b (then_change s t) (Writes m t s) ended old new
+    (all_grown m b t (then_change s t) old (λ p right. (right_grows State Request m b t p right).change s) r.right) time
     (λ q p could writes.
     let n = r.now q could in
-    right-now m b (with_change s t) true n.told p counts (writes.told ∙ n.told_is) n.prefixes writes.image)
+    right-now m b (then_change s t) true n.told p counts (writes.told ∙ n.told_is) n.prefixes writes.image)
 
 pub durable_changes : DurableChanges
 durable_changes State Request m b t s whole old new r time = record {
@@ -181,7 +182,7 @@ now-piece m b t piece ok writing q p n tells =
     let last = n.all refl in
     let sent = tells.told.0 in
     let sends = tells.told.1 in
-    let said = map bytes_of t.scripts in
+    let said = map bytes_of_pieces t.scripts in
     let part : Sends false (piece_bytes piece) sent = record { prefix = sends.prefix; whole = λ e. absurd (false≢true e) } in
     record {
       told = change_last (λ x. x ++ sent) n.told;
@@ -192,7 +193,7 @@ now-piece m b t piece ok writing q p n tells =
       same_length = part_length n.told said (piece_bytes piece) sent last ∙ ap length (sym (bytes-piece t.scripts piece));
       all = λ e.
           let whole : sent ≡ piece_bytes piece = sends.whole e in
-          subst (λ b. IsToldToLast (change_last (λ x. x ++ b) n.told) (map bytes_of (with_piece piece t).scripts)) (sym whole)
+          subst (λ b. IsToldToLast (change_last (λ x. x ++ b) n.told) (map bytes_of_pieces (with_piece piece t).scripts)) (sym whole)
           (subst (IsToldToLast (change_last (λ x. x ++ piece_bytes piece) n.told)) (sym (bytes-piece t.scripts piece))
           (told_whole n.told said (piece_bytes piece) last));
       stands = stands-piece m p.image t piece writing (subst (λ i. StandsNow m i t writing) (sym tells.image) n.stands);
@@ -228,7 +229,7 @@ sure-connection t true = refl
 now-connection : {State Request : Type 0} (m : Machine State Request) (b : Beginning State) (t : Trace State) (whole writing : Bool) (q p : Left)
     → IsNow m b t whole writing q → AddsConnection q p → IsNow m b (with_connection t) true writing p
 now-connection m b t whole writing q p n adds =
-    let said = map bytes_of t.scripts in
+    let said = map bytes_of_pieces t.scripts in
     let more = bytes-connection t.scripts in
     record {
       told = n.told ++ [] ∷ [];

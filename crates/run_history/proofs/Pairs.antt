@@ -6,19 +6,19 @@ use Rattle.site_edge.specs.Saying.{ArePrefixes}
 use Rattle.site_edge.proofs.Theorems.{prefixes_longer, prefixes_more}
 use Rattle.run_history.specs.Machine.{Machine}
 use Rattle.run_history.specs.Steps.{Piece, last_or, piece_bytes}
-use Rattle.run_history.specs.Sessions.{bytes_of}
-use Rattle.run_history.specs.Traces.{IsLeft, Trace, state_after, with_change, with_connection, with_piece}
+use Rattle.run_history.specs.Sessions.{bytes_of_pieces}
+use Rattle.run_history.specs.Traces.{IsLeft, Trace, state_after, then_change, with_connection, with_piece}
 use Rattle.run_history.specs.Runs.{AllRight, Beginning, IsRight}
 use Rattle.run_history.specs.Laws.{CallsAddUp, RightGrows}
 use Rattle.run_history.proofs.Pieces.{begun-connection, begun-piece, bytes-connection, bytes-piece}
 
 -- the states that were there stay where they are
 pub state_after-change : {State : Type 0} (t : Trace State) (s : State) (n : ℕ) → n ≤ length t.changes
-    → state_after n (with_change s t) ≡ state_after n t
+    → state_after n (then_change s t) ≡ state_after n t
 state_after-change t s n le = ap (last_or t.first) (take-append-le n t.changes (s ∷ []) le)
 
 left_change : (State Request : Type 0) (m : Machine State Request) (t : Trace State) (s : State) (told : List (List ℕ)) (image : List ℕ)
-    → IsLeft m t told image → IsLeft m (with_change s t) told image
+    → IsLeft m t told image → IsLeft m (then_change s t) told image
 left_change State Request m t s told image l = record {
   count = l.count;
   within = omega (arith, l.within, length-append t.changes (s ∷ []));
@@ -36,7 +36,7 @@ left_piece State Request m t p told image l =
       within = l.within;
       stands = l.stands;
       acknowledged = omega (arith, same, l.acknowledged);
-      prefixes = subst (ArePrefixes told) (sym (bytes-piece t.scripts p)) (prefixes_longer told (map bytes_of t.scripts) (piece_bytes p) l.prefixes);
+      prefixes = subst (ArePrefixes told) (sym (bytes-piece t.scripts p)) (prefixes_longer told (map bytes_of_pieces t.scripts) (piece_bytes p) l.prefixes);
     }
 
 left_connection : (State Request : Type 0) (m : Machine State Request) (t : Trace State) (told : List (List ℕ)) (image : List ℕ)
@@ -48,7 +48,7 @@ left_connection State Request m t told image l =
       within = l.within;
       stands = l.stands;
       acknowledged = omega (arith, same, l.acknowledged);
-      prefixes = subst (ArePrefixes told) (sym (bytes-connection t.scripts)) (prefixes_more told (map bytes_of t.scripts) [] l.prefixes);
+      prefixes = subst (ArePrefixes told) (sym (bytes-connection t.scripts)) (prefixes_more told (map bytes_of_pieces t.scripts) [] l.prefixes);
     }
 
 pub right_grows : RightGrows

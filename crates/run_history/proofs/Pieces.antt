@@ -6,23 +6,23 @@ use Rattle.std.proofs.lemmas.Grind.{flat_map-append}
 use Rattle.site_edge.specs.Links.{change_last}
 use Rattle.site_edge.specs.Saying.{ArePrefixes, IsPrefix, said_also}
 use Rattle.run_history.specs.Steps.{Piece, Interim, Reply, piece_bytes}
-use Rattle.run_history.specs.Sessions.{bytes_of}
+use Rattle.run_history.specs.Sessions.{bytes_of_pieces}
 use Rattle.run_history.specs.Traces.{CountAtMost, begun, begun_in, counted_by}
-use Rattle.run_history.specs.Laws.{BegunIsGreatest, HasBegun}
+use Rattle.run_history.specs.Laws.{BegunIsGreatest, ReplyHasBegun}
 
-pub bytes-push : (pieces : List Piece) (p : Piece) → bytes_of (pieces ++ p ∷ []) ≡ bytes_of pieces ++ piece_bytes p
+pub bytes-push : (pieces : List Piece) (p : Piece) → bytes_of_pieces (pieces ++ p ∷ []) ≡ bytes_of_pieces pieces ++ piece_bytes p
 bytes-push pieces p =
-    flat_map-append piece_bytes pieces (p ∷ []) ∙ ap (λ b. bytes_of pieces ++ b) (append-nil (piece_bytes p))
+    flat_map-append piece_bytes pieces (p ∷ []) ∙ ap (λ b. bytes_of_pieces pieces ++ b) (append-nil (piece_bytes p))
 
 -- a piece more of the last script is so many bytes more
-pub bytes-piece : (scripts : List (List Piece)) (p : Piece) → map bytes_of (change_last (λ s. s ++ p ∷ []) scripts) ≡ said_also (piece_bytes p)
-    (map bytes_of scripts)
+pub bytes-piece : (scripts : List (List Piece)) (p : Piece) → map bytes_of_pieces (change_last (λ s. s ++ p ∷ []) scripts) ≡ said_also (piece_bytes p)
+    (map bytes_of_pieces scripts)
 bytes-piece [] p = refl
 bytes-piece (s ∷ []) p = ap (λ b. b ∷ []) (bytes-push s p)
-bytes-piece (s ∷ r ∷ scripts) p = ap (λ b. bytes_of s ∷ b) (bytes-piece (r ∷ scripts) p)
+bytes-piece (s ∷ r ∷ scripts) p = ap (λ b. bytes_of_pieces s ∷ b) (bytes-piece (r ∷ scripts) p)
 
-pub bytes-connection : (scripts : List (List Piece)) → map bytes_of (scripts ++ [] ∷ []) ≡ map bytes_of scripts ++ [] ∷ []
-bytes-connection scripts = map-append bytes_of scripts ([] ∷ [])
+pub bytes-connection : (scripts : List (List Piece)) → map bytes_of_pieces (scripts ++ [] ∷ []) ≡ map bytes_of_pieces scripts ++ [] ∷ []
+bytes-connection scripts = map-append bytes_of_pieces scripts ([] ∷ [])
 
 -- a prefix is no longer than its text
 pub prefix-length : (front text : List ℕ) → IsPrefix front text → length front ≤ length text
@@ -33,22 +33,22 @@ prefix-length front text is =
 -- ---- what had begun
 
 -- a piece behind all bytes that were told begins nothing
-begun_in-push : (script : List Piece) (p : Piece) (n : ℕ) → n ≤ length (bytes_of script) → begun_in (script ++ p ∷ []) n ≡ begun_in script n
+begun_in-push : (script : List Piece) (p : Piece) (n : ℕ) → n ≤ length (bytes_of_pieces script) → begun_in (script ++ p ∷ []) n ≡ begun_in script n
 begun_in-push [] (Interim bytes) zero le = refl
 begun_in-push [] (Reply bytes made) zero le = refl
 begun_in-push [] p (suc n) le = absurd (omega (arith, le))
 begun_in-push (Interim bytes ∷ script) p n le =
-    begun_in-push script p (n - length bytes) (omega (arith, le, length-append bytes (bytes_of script)))
+    begun_in-push script p (n - length bytes) (omega (arith, le, length-append bytes (bytes_of_pieces script)))
 begun_in-push (Reply bytes made ∷ script) p zero le = refl
 begun_in-push (Reply bytes made ∷ script) p (suc n) le =
-    ap (max made) (begun_in-push script p (suc n - length bytes) (omega (arith, le, length-append bytes (bytes_of script))))
+    ap (max made) (begun_in-push script p (suc n - length bytes) (omega (arith, le, length-append bytes (bytes_of_pieces script))))
 
-pub begun-piece : (scripts : List (List Piece)) (p : Piece) (told : List (List ℕ)) → ArePrefixes told (map bytes_of scripts)
+pub begun-piece : (scripts : List (List Piece)) (p : Piece) (told : List (List ℕ)) → ArePrefixes told (map bytes_of_pieces scripts)
     → begun (change_last (λ s. s ++ p ∷ []) scripts) told ≡ begun scripts told
 begun-piece [] p told are = refl
 begun-piece (s ∷ []) p [] are = refl
 begun-piece (s ∷ []) p (t ∷ told) are =
-    ap (λ n. max n (begun [] told)) (begun_in-push s p (length t) (prefix-length t (bytes_of s) are.0))
+    ap (λ n. max n (begun [] told)) (begun_in-push s p (length t) (prefix-length t (bytes_of_pieces s) are.0))
 begun-piece (s ∷ r ∷ scripts) p [] are = refl
 begun-piece (s ∷ r ∷ scripts) p (t ∷ told) are =
     ap (max (begun_in s (length t))) (begun-piece (r ∷ scripts) p told are.1)
@@ -121,9 +121,9 @@ unfolding is_interim
 interim-reply a b made e = true≢false (ap is_interim e)
 
 -- an answer behind one piece more
-has_later : (p : Piece) (script : List Piece) (told made : ℕ) → HasBegun script (told - length (piece_bytes p)) made → HasBegun (p ∷ script) told made
+has_later : (p : Piece) (script : List Piece) (told made : ℕ) → ReplyHasBegun script (told - length (piece_bytes p)) made → ReplyHasBegun (p ∷ script) told made
 has_later p script told made h =
-    let longer = length-append (piece_bytes p) (bytes_of h.front) in
+    let longer = length-append (piece_bytes p) (bytes_of_pieces h.front) in
     record {
       front = p ∷ h.front;
       bytes = h.bytes;
@@ -139,7 +139,7 @@ unfolding head_or tail_of
 split-script p script [] rear bytes made is = inl (refl, ap (head_or p) is)
 split-script p script (q ∷ later) rear bytes made is = inr (later, ap (λ x. x ∷ later) (sym (ap (head_or p) is)), ap tail_of is)
 
-greatest-bounds : (script : List Piece) (told n : ℕ) → begun_in script told ≤ n → (made : ℕ) → HasBegun script told made → made ≤ n
+greatest-bounds : (script : List Piece) (told n : ℕ) → begun_in script told ≤ n → (made : ℕ) → ReplyHasBegun script told made → made ≤ n
 greatest-bounds [] told n le made h = absurd (omega (arith, ap length h.script_is, length-append h.front (Reply h.bytes made ∷ h.rear)))
 greatest-bounds (Interim bytes ∷ script) told n le made h = elim (split-script (Interim bytes) script h.front h.rear h.bytes made h.script_is) [
   | inl first ↦ absurd (interim-reply bytes h.bytes made first.1)
@@ -153,8 +153,8 @@ greatest-bounds (Interim bytes ∷ script) told n le made h = elim (split-script
         reached = omega (
           arith,
           h.reached,
-          ap (λ f. length (bytes_of f)) later.1,
-          length-append bytes (bytes_of later.0),
+          ap (λ f. length (bytes_of_pieces f)) later.1,
+          length-append bytes (bytes_of_pieces later.0),
         );
       })
 ]
@@ -171,13 +171,13 @@ greatest-bounds (Reply bytes counted ∷ script) (suc k) n le made h = elim (spl
         reached = omega (
           arith,
           h.reached,
-          ap (λ f. length (bytes_of f)) later.1,
-          length-append bytes (bytes_of later.0),
+          ap (λ f. length (bytes_of_pieces f)) later.1,
+          length-append bytes (bytes_of_pieces later.0),
         );
       })
 ]
 
-greatest-reached : (script : List Piece) (told n : ℕ) → ((made : ℕ) → HasBegun script told made → made ≤ n) → begun_in script told ≤ n
+greatest-reached : (script : List Piece) (told n : ℕ) → ((made : ℕ) → ReplyHasBegun script told made → made ≤ n) → begun_in script told ≤ n
 greatest-reached [] told n all = omega arith
 greatest-reached (Interim bytes ∷ script) told n all =
     greatest-reached script (told - length bytes) n (λ made h. all made (has_later (Interim bytes) script told made h))

@@ -4,9 +4,9 @@ use Rattle.disk_trait.specs.Device.{Device, IsDevice, Left, may_leave}
 use Rattle.disk_trait.specs.Calls.{Elapses, Unchanged}
 use Rattle.site_edge.specs.Links.{AddsConnection, Tells}
 use Rattle.run_history.specs.Machine.{Machine}
-use Rattle.run_history.specs.Steps.{Piece, Reply, Stage, Step, after_step, effect, last_or, piece_bytes, step_text}
-use Rattle.run_history.specs.Sessions.{Session, LinkEnd, after_sessions, after_steps, all_moments, bytes_of, changes_of, moments_of, pieces_of, texts_of}
-use Rattle.run_history.specs.Traces.{Trace, begun_in, counted_by, start_of, trace_of, with_change, with_connection, with_effect, with_piece}
+use Rattle.run_history.specs.Steps.{Piece, Reply, Stage, Step, stage_after, effect, last_or, piece_bytes, step_text}
+use Rattle.run_history.specs.Sessions.{Session, LinkEnd, after_sessions, after_steps, all_moments, bytes_of_pieces, changes_of, moments_of, pieces_of, texts_of}
+use Rattle.run_history.specs.Traces.{Trace, begun_in, counted_by, start_of, trace_of, then_change, with_connection, with_effect, with_piece}
 use Rattle.run_history.specs.Runs.{AllRight, Beginning, IsRight, Reached, StandsNow, sure_changes}
 
 -- ---- how pairs stay right
@@ -14,7 +14,7 @@ use Rattle.run_history.specs.Runs.{AllRight, Beginning, IsRight, Reached, Stands
 -- What a crash left stays right while the trace grows.
 pub record StaysRight {State Request : Type 0} (m : Machine State Request) (b : Beginning State)
     (t : Trace State) (p : Left) : Type 0 where
-  pub change : (s : State) → IsRight m b (with_change s t) p
+  pub change : (s : State) → IsRight m b (then_change s t) p
   pub piece : (piece : Piece) → IsRight m b (with_piece piece t) p
   pub connection : IsRight m b (with_connection t) p
 
@@ -57,7 +57,7 @@ QuietCalls = (State Request : Type 0) (m : Machine State Request) (b : Beginning
 pub record Writes {State Request : Type 0} (m : Machine State Request) (t : Trace State)
     (s : State) (q p : Left) : Type 0 where
   pub told : p.told ≡ q.told
-  pub image : StandsNow m p.image (with_change s t) true
+  pub image : StandsNow m p.image (then_change s t) true
 
 -- a record that was written whole
 pub record Wrote {State Request : Type 0} (m : Machine State Request) (s : State)
@@ -70,14 +70,14 @@ abbrev pub DurableChanges : Type 1
 DurableChanges = (State Request : Type 0) (m : Machine State Request) (b : Beginning State)
     (t : Trace State) (s : State) (whole : Bool) (old new : Device)
     → Reached m b t whole false old → Elapses (Writes m t s) (Wrote m s) old new
-    → Reached m b (with_change s t) whole false new
+    → Reached m b (then_change s t) whole false new
 
 -- The disk failed while the record of a change was being written: either state may stand.
 abbrev pub TornChanges : Type 1
 TornChanges = (State Request : Type 0) (m : Machine State Request) (b : Beginning State)
     (t : Trace State) (s : State) (whole : Bool) (old new : Device)
     → Reached m b t whole false old → Elapses (Writes m t s) (Writes m t s) old new
-    → Reached m b (with_change s t) whole true new
+    → Reached m b (then_change s t) whole true new
 
 -- Bytes were said: a piece more, or a prefix of it where the call failed. The piece counts no
 -- change that may not stand.
@@ -107,7 +107,7 @@ pub record StepMore {State Request : Type 0} (m : Machine State Request) (at : S
       ≡ changes_of m at steps ++ (effect m (after_steps m at steps) step).changes
   pub moments : moments_of m at (steps ++ step ∷ [])
       ≡ moments_of m at steps ++ (effect m (after_steps m at steps) step).moments
-  pub stage : after_steps m at (steps ++ step ∷ []) ≡ after_step m (after_steps m at steps) step
+  pub stage : after_steps m at (steps ++ step ∷ []) ≡ stage_after m (after_steps m at steps) step
   pub texts : texts_of (steps ++ step ∷ []) ≡ texts_of steps ++ step_text step
 
 abbrev pub StepsGrow : Type 1
@@ -148,15 +148,15 @@ TracesGrow = (State Request : Type 0) (m : Machine State Request) (from : State)
 -- ---- what had begun
 
 -- an answer of which a byte is among so many bytes told, and the changes that it counts
-pub record HasBegun (script : List Piece) (told made : ℕ) : Type 0 where
+pub record ReplyHasBegun (script : List Piece) (told made : ℕ) : Type 0 where
   pub front : List Piece
   pub bytes : List ℕ
   pub rear : List Piece
   pub script_is : script ≡ front ++ Reply bytes made ∷ rear
-  pub reached : length (bytes_of front) + 1 ≤ told
+  pub reached : length (bytes_of_pieces front) + 1 ≤ told
 
 -- The number of what had begun is at most another exactly where each answer that had begun counts
 -- at most so many changes.
 abbrev pub BegunIsGreatest : Type 0
 BegunIsGreatest = (script : List Piece) (told n : ℕ) →
-    (begun_in script told ≤ n) ↔ ((made : ℕ) → HasBegun script told made → made ≤ n)
+    (begun_in script told ≤ n) ↔ ((made : ℕ) → ReplyHasBegun script told made → made ≤ n)

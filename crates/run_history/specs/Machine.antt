@@ -4,13 +4,13 @@ use Rattle.std.specs.Prelude.{ℕ, Bool, List, Option}
 
 -- what a request is answered: the bytes of the reply, and the state after its change where there is
 -- one
-pub record Reply (State : Type 0) : Type 0 where
+pub record MachineReply (State : Type 0) : Type 0 where
   pub bytes : List ℕ
   pub change : Option State
 
 -- what the wire answers to bytes that are no request: the interim that was due before, where the
 -- head was whole, and the response
-pub record Refusal : Type 0 where
+pub record WireRefusal : Type 0 where
   pub interim : Option (List ℕ)
   pub response : List ℕ
 
@@ -44,10 +44,10 @@ pub data Failure : Type 0 where
 pub record Machine (State Request : Type 0) : Type 1 where
   pub spells : ℕ → List ℕ → Request → Type 0
   pub heads : ℕ → List ℕ → Request → Type 0
-  pub refuses : List ℕ → Refusal → Type 0
+  pub refuses : List ℕ → WireRefusal → Type 0
   pub cuts : List ℕ → Cutting → Type 0
   pub interim : Request → Option (List ℕ)
-  pub answer : Request → ℕ → State → Reply State
+  pub answer : Request → ℕ → State → MachineReply State
   pub no_memory : Request → List ℕ
   pub disk_fault : Request → List ℕ
   pub may_fail : Failure → Type 0

@@ -4,7 +4,7 @@ use Rattle.disk_trait.specs.Device.{Device, Left, Connection, may_leave}
 use Rattle.site_edge.specs.Saying.{ArePrefixes, IsToldToLast}
 use Rattle.run_history.specs.Machine.{Machine, BeforeAnswer, InAnswer, InTurn}
 use Rattle.run_history.specs.Steps.{Step, Stopped}
-use Rattle.run_history.specs.Sessions.{Session, AreServed, all_moments, bytes_of}
+use Rattle.run_history.specs.Sessions.{Session, AreServed, all_moments, bytes_of_pieces}
 use Rattle.run_history.specs.Traces.{Trace, IsLeft, CountAtMost, start_of, state_after, state_now, states_of, trace_of}
 
 -- where a run began: the state for which the file stood, the connections and the moments before it,
@@ -52,9 +52,9 @@ pub record IsNow {State Request : Type 0} (m : Machine State Request) (b : Begin
     (t : Trace State) (whole writing : Bool) (p : Left) : Type 0 where
   pub told : List (List ℕ)
   pub told_is : p.told ≡ told_first b ++ told
-  pub prefixes : ArePrefixes told (map bytes_of t.scripts)
-  pub same_length : length told ≡ length (map bytes_of t.scripts)
-  pub all : whole ≡ true → IsToldToLast told (map bytes_of t.scripts)
+  pub prefixes : ArePrefixes told (map bytes_of_pieces t.scripts)
+  pub same_length : length told ≡ length (map bytes_of_pieces t.scripts)
+  pub all : whole ≡ true → IsToldToLast told (map bytes_of_pieces t.scripts)
   pub stands : StandsNow m p.image t writing
 
 -- The invariant of a run: what each crash now may leave, and that each crash since the beginning

@@ -5,7 +5,7 @@ use Rattle.std.specs.List.{AllByRecursion}
 use Rattle.disk_trait.specs.Device.{Connection, Device}
 use Rattle.run_history.specs.Machine.{Machine}
 use Rattle.run_history.specs.Steps.{Piece, Step, Answered, Refused, Starved, Stopped, Cut, is_last}
-use Rattle.run_history.specs.Sessions.{AreServed, AreSteps, Session, Whole, after_sessions, after_steps, all_changes, all_moments, answers_in, bytes_of, most_answers, pieces_of, scripts_of, skips_in, stops, texts_of}
+use Rattle.run_history.specs.Sessions.{AreServed, AreSteps, Session, Whole, after_sessions, after_steps, all_changes, all_moments, answers_in, bytes_of_pieces, most_answers, pieces_of, scripts_of, skips_in, stops, texts_of}
 use Rattle.run_history.specs.Traces.{start_of, states_of, trace_of}
 use Rattle.run_history.specs.Runs.{Beginning, Reached, run_stops_writing}
 use Rattle.run_history.specs.Laws.{under_way}
@@ -13,7 +13,7 @@ use Rattle.run_history.specs.Laws.{under_way}
 -- ---- what connections count
 
 -- how many answers a run gave, how many changes it made, and how many turns it skipped
-pub record Counts : Type 0 where
+pub record RunCounts : Type 0 where
   pub answers : ℕ
   pub changes : ℕ
   pub skipped : ℕ
@@ -29,9 +29,9 @@ all_skips [] = 0
 all_skips (session ∷ later) = skips_in session.steps + all_skips later
 
 -- the numbers of connections, from a state
-abbrev pub counts_of : {State Request : Type 0} → Machine State Request → State
-    → List (Session Request) → Counts
-counts_of m from sessions = record {
+abbrev pub counts_of_run : {State Request : Type 0} → Machine State Request → State
+    → List (Session Request) → RunCounts
+counts_of_run m from sessions = record {
   answers = all_answers (scripts_of m (start_of from) sessions);
   changes = length (all_changes m (start_of from) sessions);
   skipped = all_skips sessions;
@@ -66,12 +66,12 @@ run_stops (session ∷ later) = stops session.steps || run_stops later
 
 -- Connections were served one after another, and this is what they heard, were told and left.
 pub record HasServed {State Request : Type 0} (m : Machine State Request) (b : Beginning State)
-    (d : Device) (given : List ℕ) (sessions : List (Session Request)) (n : Counts) : Type 0 where
+    (d : Device) (given : List ℕ) (sessions : List (Session Request)) (n : RunCounts) : Type 0 where
   pub connections : List Connection
   pub connections_are : d.link.connections ≡ b.before ++ connections
   pub served : AreServed m (start_of b.state) connections sessions
   pub given_is : given ≡ b.given ++ all_moments m (start_of b.state) sessions
-  pub counts : n ≡ counts_of m b.state sessions
+  pub counts : n ≡ counts_of_run m b.state sessions
   pub reached : Reached m b (trace_of m b.state sessions) false (run_stops_writing sessions) d
   pub good : All m.good (states_of (trace_of m b.state sessions))
 
@@ -91,11 +91,11 @@ connection_with heard told =
 -- byte that was heard is of one of them or unread.
 pub record Going {State Request : Type 0} (m : Machine State Request) (b : Beginning State)
     (d : Device) (given : List ℕ) (held : Held State) (finished : List (Session Request))
-    (steps : List (Step Request)) (n : Counts) : Type 0 where
+    (steps : List (Step Request)) (n : RunCounts) : Type 0 where
   pub connections : List Connection
   pub connections_are : d.link.connections ≡ b.before ++ (connections
       ++ connection_with (texts_of steps ++ held.unread)
-      (bytes_of (pieces_of m (after_sessions m (start_of b.state) finished) steps)) ∷ [])
+      (bytes_of_pieces (pieces_of m (after_sessions m (start_of b.state) finished) steps)) ∷ [])
   pub served : AreServed m (start_of b.state) connections finished
   pub unstopped : run_stops finished ≡ false
   pub given_is : given
@@ -108,7 +108,7 @@ pub record Going {State Request : Type 0} (m : Machine State Request) (b : Begin
   pub few : length steps < most_answers
   pub state :
       held.state ≡ (after_steps m (after_sessions m (start_of b.state) finished) steps).state
-  pub counts : n ≡ counts_of m b.state (finished ++ under_way steps Whole ∷ [])
+  pub counts : n ≡ counts_of_run m b.state (finished ++ under_way steps Whole ∷ [])
   pub reached : Reached m b (trace_of m b.state (finished ++ under_way steps Whole ∷ [])) true
       false d
   pub good : All m.good (states_of (trace_of m b.state (finished ++ under_way steps Whole ∷ [])))

@@ -4,8 +4,8 @@ use Rattle.std.specs.Prelude.{◌≡◌, ◌≢◌, ◌≤◌, ◌+◌, ℕ, suc
 use Rattle.std.specs.List.{flat_map}
 use Rattle.disk_trait.specs.Device.{Connection}
 use Rattle.site_edge.specs.Saying.{IsPrefix}
-use Rattle.run_history.specs.Machine.{Machine, Refusal, InAnswer}
-use Rattle.run_history.specs.Steps.{Step, Answered, Refused, Starved, Stopped, Cut, Made, Skipped, Piece, Interim, Reply, Stage, effect, after_step, piece_bytes, step_text, is_last, IsStep}
+use Rattle.run_history.specs.Machine.{Machine, WireRefusal, InAnswer}
+use Rattle.run_history.specs.Steps.{Step, Answered, Refused, Starved, Stopped, Cut, Made, Skipped, Piece, Interim, Reply, Stage, effect, stage_after, piece_bytes, step_text, is_last, IsStep}
 
 -- ---- the steps of one connection, from a stage of the run
 
@@ -14,31 +14,31 @@ abbrev pub pieces_of : {State Request : Type 0} → Machine State Request → St
     → List (Step Request) → List Piece
 pieces_of m at [] = []
 pieces_of m at (step ∷ steps) =
-    (effect m at step).pieces ++ pieces_of m (after_step m at step) steps
+    (effect m at step).pieces ++ pieces_of m (stage_after m at step) steps
 
 -- their changes, each as the state after it
 abbrev pub changes_of : {State Request : Type 0} → Machine State Request → Stage State
     → List (Step Request) → List State
 changes_of m at [] = []
 changes_of m at (step ∷ steps) =
-    (effect m at step).changes ++ changes_of m (after_step m at step) steps
+    (effect m at step).changes ++ changes_of m (stage_after m at step) steps
 
 -- the moments that they took
 abbrev pub moments_of : {State Request : Type 0} → Machine State Request → Stage State
     → List (Step Request) → List ℕ
 moments_of m at [] = []
 moments_of m at (step ∷ steps) =
-    (effect m at step).moments ++ moments_of m (after_step m at step) steps
+    (effect m at step).moments ++ moments_of m (stage_after m at step) steps
 
 -- the stage after them
 abbrev pub after_steps : {State Request : Type 0} → Machine State Request → Stage State
     → List (Step Request) → Stage State
 after_steps m at [] = at
-after_steps m at (step ∷ steps) = after_steps m (after_step m at step) steps
+after_steps m at (step ∷ steps) = after_steps m (stage_after m at step) steps
 
 -- the bytes of pieces in a row
-abbrev pub bytes_of : List Piece → List ℕ
-bytes_of = flat_map piece_bytes
+abbrev pub bytes_of_pieces : List Piece → List ℕ
+bytes_of_pieces = flat_map piece_bytes
 
 -- the bytes that steps took of what was heard
 abbrev pub texts_of : {Request : Type 0} → List (Step Request) → List ℕ
@@ -92,13 +92,14 @@ abbrev pub AreSteps : {State Request : Type 0} → Machine State Request → ℕ
 AreSteps m n at [] = Unit {0}
 AreSteps m n at (step ∷ steps) =
     IsStep m n at.state step × (is_last m step ≡ true → steps ≡ [])
-    × AreSteps m (suc n) (after_step m at step) steps
+    × AreSteps m (suc n) (stage_after m at step) steps
 
 -- No whole request stands in front of these bytes, and nothing that the wire refuses.
 pub record IsUnfinished {State Request : Type 0} (m : Machine State Request) (n : ℕ)
     (text : List ℕ) : Type 0 where
   pub request : (front rest : List ℕ) (r : Request) → text ≡ front ++ rest → ¬ (m.spells n front r)
-  pub refusal : (front rest : List ℕ) (r : Refusal) → text ≡ front ++ rest → ¬ (m.refuses front r)
+  pub refusal : (front rest : List ℕ) (r : WireRefusal) → text ≡ front ++ rest
+      → ¬ (m.refuses front r)
 
 -- What was heard behind the steps of a connection, the first of which stands behind n requests. An
 -- answer that ends the connection, or that couldn't be said, leaves the rest unread. Otherwise
@@ -122,7 +123,7 @@ pub record IsToldPart (told : List ℕ) (pieces : List Piece) : Type 0 where
   pub last : Piece
   pub part : List ℕ
   pub pieces_are : pieces ≡ front ++ last ∷ []
-  pub told_is : told ≡ bytes_of front ++ part
+  pub told_is : told ≡ bytes_of_pieces front ++ part
   pub prefix : IsPrefix part (piece_bytes last)
 
 -- whether the last of these steps is an answer within which the disk failed
@@ -140,16 +141,16 @@ stops (step ∷ steps) = stops steps
 -- What a connection was told of its pieces: all of them, or, where a saying failed or the disk
 -- within an answer, all but a part of the last.
 abbrev pub IsTold : Bool → LinkEnd → List ℕ → List Piece → Type 0
-IsTold false Whole told pieces = told ≡ bytes_of pieces
-IsTold false Hearing told pieces = told ≡ bytes_of pieces
+IsTold false Whole told pieces = told ≡ bytes_of_pieces pieces
+IsTold false Hearing told pieces = told ≡ bytes_of_pieces pieces
 IsTold false Saying told pieces = IsToldPart told pieces
 IsTold true link told pieces = IsToldPart told pieces
 
 -- whether a call of the link failed
-abbrev pub has_failed : LinkEnd → Bool
-has_failed Whole = false
-has_failed Hearing = true
-has_failed Saying = true
+abbrev pub has_link_failed : LinkEnd → Bool
+has_link_failed Whole = false
+has_link_failed Hearing = true
+has_link_failed Saying = true
 
 -- Where nothing ended a connection and no call of its link failed, it was heard to its peer's end.
 abbrev pub EndIs : {State Request : Type 0} → Machine State Request → List (Step Request) → LinkEnd
@@ -173,7 +174,7 @@ pub record IsServed {State Request : Type 0} (m : Machine State Request) (at : S
   pub rest_is : RestIs m 0 session.steps session.link rest
   pub told : IsTold (stops_in_answer session.steps) session.link c.told
       (pieces_of m at session.steps)
-  pub failed : c.failed ≡ has_failed session.link
+  pub failed : c.failed ≡ has_link_failed session.link
   pub ended : EndIs m session.steps session.link c.ended
 
 -- ---- connections one after another

@@ -1,9 +1,9 @@
 -- The steps of a connection, and what each tells and changes.
 use Rattle.std.specs.Prelude.{◌≡◌, ◌≢◌, ◌+◌, ◌⊎◌, ℕ, Bool, true, false, List, [], ◌∷◌, ◌++◌, length, Option, Some, None, option_to_list, option_map, unwrap_or, if◌then◌else◌}
-use Rattle.run_history.specs.Machine.{Machine, Refusal, Failure, BeforeAnswer, InAnswer, InTurn}
+use Rattle.run_history.specs.Machine.{Machine, WireRefusal, Failure, BeforeAnswer, InAnswer, InTurn}
 
 -- a request that was taken: its bytes, what they spell, and the moment that it took
-pub record Ask (Request : Type 0) : Type 0 where
+pub record TakenRequest (Request : Type 0) : Type 0 where
   pub text : List ℕ
   pub request : Request
   pub moment : ℕ
@@ -21,10 +21,10 @@ pub data Turned : Type 0 where
 -- `Cut`: the input or the link ended within a request, which had its interim at most, and perhaps a
 -- moment.
 pub data Step (Request : Type 0) : Type 0 where
-  Answered : (ask : Ask Request) (turned : Turned) → Step Request
-  Refused : (text : List ℕ) (refusal : Refusal) → Step Request
-  Starved : (ask : Ask Request) → Step Request
-  Stopped : (ask : Ask Request) (failure : Failure) → Step Request
+  Answered : (ask : TakenRequest Request) (turned : Turned) → Step Request
+  Refused : (text : List ℕ) (refusal : WireRefusal) → Step Request
+  Starved : (ask : TakenRequest Request) → Step Request
+  Stopped : (ask : TakenRequest Request) (failure : Failure) → Step Request
   Cut : (text : List ℕ) (interim : Option (List ℕ)) (moment : Option ℕ) → Step Request
 
 -- What a connection is told: an interim, or a reply with the number of the run's changes up to it,
@@ -68,7 +68,8 @@ is_made Made = true
 is_made Skipped = false
 
 -- A request that was answered, and the change of the turn behind it where it was made.
-abbrev pub answered : {State Request : Type 0} → Machine State Request → Stage State → Ask Request
+abbrev pub answered : {State Request : Type 0} → Machine State Request → Stage State
+    → TakenRequest Request
     → Bool → Effect State
 answered m at ask turned =
     let reply = m.answer ask.request ask.moment at.state in
@@ -82,15 +83,16 @@ answered m at ask turned =
 
 -- A request in which the disk failed. Before an answer it has the one that says so, which counts no
 -- change that was being written.
-abbrev pub stopped : {State Request : Type 0} → Machine State Request → Stage State → Ask Request
+abbrev pub effect_of_stop : {State Request : Type 0} → Machine State Request → Stage State
+    → TakenRequest Request
     → Failure → Effect State
-stopped m at ask (BeforeAnswer writing) = record {
+effect_of_stop m at ask (BeforeAnswer writing) = record {
   pieces = told_pieces (m.interim ask.request) (m.disk_fault ask.request) at.made;
   changes = where_done writing (m.answer ask.request ask.moment at.state).change;
   moments = ask.moment ∷ [];
 }
-stopped m at ask InAnswer = answered m at ask false
-stopped m at ask (InTurn writing) = answered m at ask writing
+effect_of_stop m at ask InAnswer = answered m at ask false
+effect_of_stop m at ask (InTurn writing) = answered m at ask writing
 
 -- The effect of a step. This is the one place where the kinds of steps are told apart: all else is
 -- put together from effects.
@@ -107,7 +109,7 @@ effect m at (Starved ask) = record {
   changes = [];
   moments = ask.moment ∷ [];
 }
-effect m at (Stopped ask failure) = stopped m at ask failure
+effect m at (Stopped ask failure) = effect_of_stop m at ask failure
 effect m at (Cut text interim moment) = record {
   pieces = interim_pieces interim;
   changes = [];
@@ -133,9 +135,9 @@ with_changes at changes =
     record { made = at.made + length changes; state = last_or at.state changes }
 
 -- the stage after a step
-abbrev pub after_step : {State Request : Type 0} → Machine State Request → Stage State
+abbrev pub stage_after : {State Request : Type 0} → Machine State Request → Stage State
     → Step Request → Stage State
-after_step m at step = with_changes at (effect m at step).changes
+stage_after m at step = with_changes at (effect m at step).changes
 
 -- whether a step is the last of its connection
 abbrev pub is_last : {State Request : Type 0} → Machine State Request → Step Request → Bool
@@ -146,17 +148,20 @@ is_last m (Stopped ask failure) = true
 is_last m (Cut text interim moment) = true
 
 -- A request was whole, or its head was, where it takes its moment at its head.
-abbrev pub IsTaken : {State Request : Type 0} → Machine State Request → ℕ → Ask Request → Type 0
+abbrev pub IsTaken : {State Request : Type 0} → Machine State Request → ℕ → TakenRequest Request
+    → Type 0
 IsTaken m n ask = m.spells n ask.text ask.request ⊎ m.heads n ask.text ask.request
 
 -- the state after a request's own change
-abbrev pub after_answer : {State Request : Type 0} → Machine State Request → State → Ask Request
+abbrev pub after_answer : {State Request : Type 0} → Machine State Request → State
+    → TakenRequest Request
     → State
 after_answer m s ask = unwrap_or (m.answer ask.request ask.moment s).change s
 
 -- A request comes to this place. A record is written only of a change that there is, and only of a
 -- request that was whole.
-abbrev pub ComesTo : {State Request : Type 0} → Machine State Request → ℕ → State → Ask Request
+abbrev pub ComesTo : {State Request : Type 0} → Machine State Request → ℕ → State
+    → TakenRequest Request
     → Failure → Type 0
 ComesTo m n s ask (BeforeAnswer true) =
     m.spells n ask.text ask.request × ((m.answer ask.request ask.moment s).change ≢ None)
@@ -168,12 +173,13 @@ ComesTo m n s ask (InTurn false) =
     m.spells n ask.text ask.request × (m.due ask.moment (after_answer m s ask) ≡ true)
 
 -- The disk can fail in a request at a place to which it comes, and at which the machine calls it.
-abbrev pub CanFail : {State Request : Type 0} → Machine State Request → ℕ → State → Ask Request
+abbrev pub CanFail : {State Request : Type 0} → Machine State Request → ℕ → State
+    → TakenRequest Request
     → Failure → Type 0
 CanFail m n s ask failure = m.may_fail failure × ComesTo m n s ask failure
 
 -- only a turn that has something to do is skipped
-abbrev pub CanTurn : {State Request : Type 0} → Machine State Request → State → Ask Request
+abbrev pub CanTurn : {State Request : Type 0} → Machine State Request → State → TakenRequest Request
     → Turned → Type 0
 CanTurn m s ask Made = Unit {0}
 CanTurn m s ask Skipped = m.due ask.moment (after_answer m s ask) ≡ true

@@ -5,7 +5,7 @@ use Rattle.site_edge.specs.Links.{change_last}
 use Rattle.site_edge.specs.Saying.{ArePrefixes}
 use Rattle.run_history.specs.Machine.{Machine}
 use Rattle.run_history.specs.Steps.{Effect, Piece, Interim, Reply, Stage, last_or}
-use Rattle.run_history.specs.Sessions.{Session, bytes_of, scripts_of, all_changes}
+use Rattle.run_history.specs.Sessions.{Session, bytes_of_pieces, scripts_of, all_changes}
 
 -- What a run comes to, without its steps: the script of each connection, the first state, and the
 -- state after each change.
@@ -62,13 +62,13 @@ pub record IsLeft {State Request : Type 0} (m : Machine State Request) (t : Trac
   pub within : count ≤ length t.changes
   pub stands : m.stands image (state_after count t)
   pub acknowledged : begun t.scripts told ≤ count
-  pub prefixes : ArePrefixes told (map bytes_of t.scripts)
+  pub prefixes : ArePrefixes told (map bytes_of_pieces t.scripts)
 
 -- ---- how a trace grows
 
 -- by a change, before its answer
-abbrev pub with_change : {State : Type 0} → State → Trace State → Trace State
-with_change s t = record t { changes = t.changes ++ s ∷ [] }
+abbrev pub then_change : {State : Type 0} → State → Trace State → Trace State
+then_change s t = record t { changes = t.changes ++ s ∷ [] }
 
 -- by a piece of the connection under way
 abbrev pub with_piece : {State : Type 0} → Piece → Trace State → Trace State

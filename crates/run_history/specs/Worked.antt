@@ -2,8 +2,8 @@
 -- what it comes to.
 use Rattle.std.specs.Prelude.{◌≡◌, ◌+◌, ◌-◌, ℕ, true, false, List, [], ◌∷◌, Option, Some, None, nat_lt, if◌then◌else◌}
 use Rattle.disk_trait.specs.Device.{Connection}
-use Rattle.run_history.specs.Machine.{Machine, Reply, BeforeAnswer, InAnswer, InTurn}
-use Rattle.run_history.specs.Steps.{Ask, CanFail, Step, Answered, Refused, Starved, Stopped, Cut, Made, Piece, Interim}
+use Rattle.run_history.specs.Machine.{Machine, MachineReply, BeforeAnswer, InAnswer, InTurn}
+use Rattle.run_history.specs.Steps.{TakenRequest, CanFail, Step, Answered, Refused, Starved, Stopped, Cut, Made, Piece, Interim}
 use Rattle.run_history.specs.Steps as steps
 use Rattle.run_history.specs.Sessions.{Hearing, IsServed, Saying, Session, Whole, all_moments, scripts_of, skips_in}
 use Rattle.run_history.specs.Runs.{StandsNow}
@@ -15,7 +15,7 @@ pub data Demand : Type 0 where
   Add : (n : ℕ) → Demand
 
 -- 100 and the number, or 101 and what was added
-abbrev pub demand_reply : Demand → ℕ → Reply ℕ
+abbrev pub demand_reply : Demand → ℕ → MachineReply ℕ
 demand_reply Show s = record { bytes = 100 ∷ s ∷ []; change = None }
 demand_reply (Add n) s = record { bytes = 101 ∷ n ∷ []; change = Some (s + n) }
 
@@ -45,7 +45,7 @@ adder = record {
 }
 
 -- a demand at a moment
-abbrev pub asks : Demand → ℕ → Ask Demand
+abbrev pub asks : Demand → ℕ → TakenRequest Demand
 asks demand moment =
     record { text = (demand_reply demand 0).bytes; request = demand; moment = moment }
 
@@ -191,7 +191,7 @@ torn_trace = trace_of adder 3 (alone (Stopped (asks (Add 3) 1) (BeforeAnswer tru
 
 -- A connection that nothing ended is heard to its peer's end. Where a record was being written, the
 -- file may stand for the state before its change or after it, and otherwise for the last one alone.
-pub record Ending : Type 0 where
+pub record WorkedEndings : Type 0 where
   pub unheard : ¬ (IsServed adder (start_of 3) open_connection record { steps = []; link = Whole })
   pub before : StandsNow adder (3 ∷ []) torn_trace true
   pub after : StandsNow adder (6 ∷ []) torn_trace true

@@ -1,6 +1,6 @@
 //! The laws that a contract can say. Those over devices are the theorems of the proofs.
 ghost use Rattle.run_history.specs.Laws.{BegunIsGreatest};
-ghost use Rattle.run_history.specs.Worked.{Ending, Failing, OtherSteps, Serving, SixSteps};
+ghost use Rattle.run_history.specs.Worked.{WorkedEndings, Failing, OtherSteps, Serving, SixSteps};
 
 /// The number of what had begun is the greatest that an answer counts of which a byte was told.
 pub fn begun_is_greatest()
@@ -29,5 +29,5 @@ pub fn failing()
 
 /// How a connection that nothing ended must end, and for which states a file may stand at the end.
 pub fn ending()
-    ensures { Ending }
+    ensures { WorkedEndings }
 {}

@@ -12,7 +12,7 @@ use Rattle.shared_tree.specs.Pairs.{IsRising, first, is_above, is_at, is_below, 
 use Rattle.shared_tree.proofs.Counted.{all_append, all_kept}
 use Rattle.shared_tree.proofs.Rising.{all_map, filter_all, filter_none}
 use Rattle.id_index.proofs.Ids.{same_key}
-use Rattle.segment_book.specs.Within.Flows.{AreOthers, IsFlow, flow_rows, rows_in, with_rows}
+use Rattle.segment_book.specs.Within.Flows.{AreOthers, IsFlow, flow_rows, rows_in, with_rows_at}
 use Rattle.segment_book.proofs.Gaining.{Gains, gains_same, gains_within}
 
 abbrev pub Flows : Type 0
@@ -58,12 +58,12 @@ gains_more x key rows flows rising g =
 
 -- the same where nothing stands for none
 pub rows_left : (key : ℤ) (rows : List SegmentRow) (flows : Flows)
-    → rows_in (with_rows key rows flows) ≡ rows_in (filter (is_below key) flows) ++ (rows ++ rows_in (filter (is_above key) flows))
+    → rows_in (with_rows_at key rows flows) ≡ rows_in (filter (is_below key) flows) ++ (rows ++ rows_in (filter (is_above key) flows))
 rows_left key [] flows = flat_map-append (λ p. p.1) (filter (is_below key) flows) (filter (is_above key) flows)
 rows_left key (row ∷ rows) flows = rows_with key (row ∷ rows) flows
 
 pub gains_less : (x : SegmentRow) (key : ℤ) (rows : List SegmentRow) (flows : Flows) → IsRising flows → Gains x rows (rows_at key flows)
-    → Gains x (rows_in (with_rows key rows flows)) (rows_in flows)
+    → Gains x (rows_in (with_rows_at key rows flows)) (rows_in flows)
 gains_less x key rows flows rising g =
     gains_same x _ _ _ _ (rows_left key rows flows) (rows_split key flows rising) (gains_within x rows (rows_at key flows) _ _ g)
 
@@ -123,7 +123,7 @@ each_with p flows each is =
     (is, all_kept IsFlow (is_above p.0) flows each)
 
 pub each_left : (key : ℤ) (rows : List SegmentRow) (flows : Flows) → AllByRecursion IsFlow flows → IsFlow (key, rows)
-    → AllByRecursion IsFlow (with_rows key rows flows)
+    → AllByRecursion IsFlow (with_rows_at key rows flows)
 each_left key [] flows each is =
     all_append IsFlow (filter (is_below key) flows) (filter (is_above key) flows) (all_kept IsFlow (is_below key) flows each)
     (all_kept IsFlow (is_above key) flows each)

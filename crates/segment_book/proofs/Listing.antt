@@ -18,7 +18,7 @@ use Rattle.segment_index.specs.Answers.{is_bounded, met, met_page, page_of}
 use Rattle.id_index.proofs.Ids.{below_key, same_key}
 use Rattle.library_laws.proofs.ListLemmas.{take-whole}
 use Rattle.library_laws.proofs.RowOrder.{by_flow}
-use Rattle.segment_book.specs.Within.Flows.{IsBook, IsFlow, joined, rows_in, segments_in}
+use Rattle.segment_book.specs.Within.Flows.{AreCountedFlows, IsFlow, rows_joined, rows_in, segments_in_flows}
 use Rattle.segment_book.proofs.FlowRows.{Flows}
 use Rattle.segment_book.proofs.Ordered.{Comparable, order_after, stays}
 use Rattle.segment_book.proofs.Serials.{each_compares, starts_follow, starts_one_way}
@@ -75,11 +75,11 @@ rises_append t [] b ea eb cross = eb
 rises_append t (x ∷ a) b ea eb cross =
     let parts = and_parts (list_all (t x) a) (rises t a) ea in
     let over = and_parts (list_all (t x) b) (list_all (λ y. list_all (t y) b) a) cross in
-    and_from (list_all (t x) (a ++ b)) (rises t (a ++ b)) (joined a parts.0) (rises_append t a b parts.1 eb over.1)
+    and_from (list_all (t x) (a ++ b)) (rises t (a ++ b)) (rows_joined a parts.0) (rises_append t a b parts.1 eb over.1)
   where
-    joined : (ys : List _) → list_all (t x) ys ≡ true → list_all (t x) (ys ++ b) ≡ true
-    joined [] e = (and_parts (list_all (t x) b) (list_all (λ y. list_all (t y) b) a) cross).0
-    joined (y ∷ ys) e = let p = and_parts (t x y) (list_all (t x) ys) e in and_from (t x y) (list_all (t x) (ys ++ b)) p.0 (joined ys p.1)
+    rows_joined : (ys : List _) → list_all (t x) ys ≡ true → list_all (t x) (ys ++ b) ≡ true
+    rows_joined [] e = (and_parts (list_all (t x) b) (list_all (λ y. list_all (t y) b) a) cross).0
+    rows_joined (y ∷ ys) e = let p = and_parts (t x y) (list_all (t x) ys) e in and_from (t x y) (list_all (t x) (ys ++ b)) p.0 (rows_joined ys p.1)
 
 module _ (key : ℤ) where
   abbrev Under : SegmentRow → Type 0
@@ -150,12 +150,12 @@ rows_rise (p ∷ flows) rising each =
     (one_flow p.0 p.1 each.0.under (starts_follow p.1 each.0.bounded each.0.starts)) (rows_rise flows rising.1 each.1)
     (cross p.0 p.1 each.0.under flows rising.0 each.1)
 
-pub listed_is : (flows : Flows) (count : ℕ) → IsRising flows → IsBook flows count
-    → in_order segment_row_before (segments_in flows) ≡ rows_in flows
+pub listed_is : (flows : Flows) (count : ℕ) → IsRising flows → AreCountedFlows flows count
+    → in_order segment_row_before (segments_in_flows flows) ≡ rows_in flows
 listed_is flows count rising book =
     order_after segment_row_before by_flow older (rows_in flows) (each_compares segment_row_before flows_compare (rows_in flows) book.others)
     ∙ stays segment_row_before by_flow (rows_in flows) (rows_rise flows rising book.each)
 
-pub joined_is : (flows : Flows) → joined (values flows) ≡ rows_in flows
+pub joined_is : (flows : Flows) → rows_joined (values flows) ≡ rows_in flows
 joined_is [] = refl
 joined_is (p ∷ flows) = ap (λ l. p.1 ++ l) (joined_is flows)

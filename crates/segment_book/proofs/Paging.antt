@@ -17,7 +17,7 @@ use Rattle.shared_tree.specs.Pairs.{IsRising, values_of}
 use Rattle.library_laws.proofs.ListLemmas.{take-whole}
 use Rattle.id_index.proofs.Pairs.{filter_swap}
 use Rattle.segment_index.specs.Answers.{is_met, met}
-use Rattle.segment_book.specs.Within.Flows.{IsBook, flow_rows, segments_in}
+use Rattle.segment_book.specs.Within.Flows.{AreCountedFlows, flow_rows, segments_in_flows}
 use Rattle.segment_book.specs.Within.Paging.{IsFront, front_len, shown_rows}
 use Rattle.segment_book.proofs.FlowRows.{Flows}
 use Rattle.segment_book.proofs.Views.{flow_kept}
@@ -126,8 +126,8 @@ filter_both p q (x ∷ xs) = by (p x) (filter_both p q xs)
     by false rest = rest
 
 -- the segments of a flow that are asked for are those of its index
-pub asked_is : (flow : ℕ) (range : Option Span) (object : Option (List ℕ)) (flows : Flows) (count : ℕ) → IsRising flows → IsBook flows count
-    → overlapping (segments_in flows) flow range object ≡ filter (names_object object) (met (flow_rows flow flows) range)
+pub asked_is : (flow : ℕ) (range : Option Span) (object : Option (List ℕ)) (flows : Flows) (count : ℕ) → IsRising flows → AreCountedFlows flows count
+    → overlapping (segments_in_flows flows) flow range object ≡ filter (names_object object) (met (flow_rows flow flows) range)
 asked_is flow range object flows count rising book =
     flow_kept (λ row. overlaps row.segment.range range && names_object object row) flow flows count rising book
     ∙ filter_both (is_met range) (names_object object) (flow_rows flow flows)

@@ -24,7 +24,7 @@ use Rattle.segment_index.specs.Answers.{begins_before, first_met, is_met, met, m
 use Rattle.library_laws.proofs.ListLemmas.{In, In-in_order, filter-In, length-in_order}
 use Rattle.library_laws.proofs.PageLemmas.{starts_in_order}
 use Rattle.segment_book.specs.Answers.{are_older, has_other_serial, is_flow_met, is_new, meeting_refusal}
-use Rattle.segment_book.specs.Within.Flows.{AreOthers, IsBook, IsFlow, IsOther, flow_rows, has_ends, rows_in, segments_in, with_rows}
+use Rattle.segment_book.specs.Within.Flows.{AreOthers, AreCountedFlows, IsFlow, IsOther, flow_rows, has_ends, rows_in, segments_in_flows, with_rows_at}
 use Rattle.segment_book.proofs.FlowRows.{Flows, at_key, each_left, each_with, flow_rows_are, gains_less, gains_more, others_kept, rows_at}
 use Rattle.segment_book.proofs.Gaining.{Gains, gains_length, gains_order, gains_others, loses_others, placed_gains, put_left_out, start_gains}
 use Rattle.segment_book.proofs.Ordered.{each_before, each_of, kept_in_order, order_after, stays}
@@ -45,24 +45,24 @@ each_differs row (other ∷ rows) e =
     let parts = and_parts (has_other_serial row other) (list_all (has_other_serial row) rows) e in
     (differs row.serial other.serial parts.0, each_differs row rows parts.1)
 
-pub is_other : (row : SegmentRow) (flows : Flows) → is_new (segments_in flows) row ≡ true → IsOther row (rows_in flows)
-is_other row flows e = each_before older (λ other. (row.serial == other.serial) ≡ false) (rows_in flows) (each_differs row (segments_in flows) e)
+pub is_other : (row : SegmentRow) (flows : Flows) → is_new (segments_in_flows flows) row ≡ true → IsOther row (rows_in flows)
+is_other row flows e = each_before older (λ other. (row.serial == other.serial) ≡ false) (rows_in flows) (each_differs row (segments_in_flows flows) e)
 
 -- ---- the segments of a flow
 
-pub flow_others : (flow : ℕ) (flows : Flows) (count : ℕ) → IsRising flows → IsBook flows count → AreOthers (flow_rows flow flows)
+pub flow_others : (flow : ℕ) (flows : Flows) (count : ℕ) → IsRising flows → AreCountedFlows flows count → AreOthers (flow_rows flow flows)
 flow_others flow flows count rising book =
     subst AreOthers (flow_rows_are flow flows rising book.each) (others_kept (λ row. row.flow == flow) (rows_in flows) book.others)
 
 -- the segments of a flow, by serial
-pub flow_by_serial : (flow : ℕ) (flows : Flows) (count : ℕ) → IsRising flows → IsBook flows count
-    → segments_of flow (segments_in flows) ≡ in_order older (flow_rows flow flows)
+pub flow_by_serial : (flow : ℕ) (flows : Flows) (count : ℕ) → IsRising flows → AreCountedFlows flows count
+    → segments_of flow (segments_in_flows flows) ≡ in_order older (flow_rows flow flows)
 flow_by_serial flow flows count rising book =
     kept_in_order older serials_in_order (λ row. row.flow == flow) (rows_in flows) ∙ ap (in_order older) (flow_rows_are flow flows rising book.each)
 
 -- and by first point, as they stand at the flow's key
-pub flow_by_start : (flow : ℕ) (flows : Flows) (count : ℕ) → IsRising flows → IsBook flows count
-    → in_order starts_before (segments_of flow (segments_in flows)) ≡ flow_rows flow flows
+pub flow_by_start : (flow : ℕ) (flows : Flows) (count : ℕ) → IsRising flows → AreCountedFlows flows count
+    → in_order starts_before (segments_of flow (segments_in_flows flows)) ≡ flow_rows flow flows
 flow_by_start flow flows count rising book =
     let rows = flow_rows flow flows in
     let is = at_key (id_key flow) flows book.each in
@@ -71,10 +71,10 @@ flow_by_start flow flows count rising book =
     ∙ stays starts_before starts_in_order rows (starts_follow rows is.bounded is.starts)
 
 -- those that pass a test, by first point
-pub flow_kept : (test : SegmentRow → Bool) (flow : ℕ) (flows : Flows) (count : ℕ) → IsRising flows → IsBook flows count
-    → in_order starts_before (filter test (segments_of flow (segments_in flows))) ≡ filter test (flow_rows flow flows)
+pub flow_kept : (test : SegmentRow → Bool) (flow : ℕ) (flows : Flows) (count : ℕ) → IsRising flows → AreCountedFlows flows count
+    → in_order starts_before (filter test (segments_of flow (segments_in_flows flows))) ≡ filter test (flow_rows flow flows)
 flow_kept test flow flows count rising book =
-    sym (kept_in_order starts_before starts_in_order test (segments_of flow (segments_in flows)))
+    sym (kept_in_order starts_before starts_in_order test (segments_of flow (segments_in_flows flows)))
     ∙ ap (filter test) (flow_by_start flow flows count rising book)
 
 same_test : {X : Type 0} (p q : X → Bool) → ((x : X) → p x ≡ q x) → (xs : List X) → filter p xs ≡ filter q xs
@@ -85,8 +85,8 @@ and_true : (b : Bool) → (b && true) ≡ b
 and_true true = refl
 and_true false = refl
 
-pub met_is : (flow : ℕ) (range : Option Span) (flows : Flows) (count : ℕ) → IsRising flows → IsBook flows count
-    → overlapping (segments_in flows) flow range None ≡ met (flow_rows flow flows) range
+pub met_is : (flow : ℕ) (range : Option Span) (flows : Flows) (count : ℕ) → IsRising flows → AreCountedFlows flows count
+    → overlapping (segments_in_flows flows) flow range None ≡ met (flow_rows flow flows) range
 met_is flow range flows count rising book =
     flow_kept (λ row. overlaps row.segment.range range && names_object None row) flow flows count rising book
     ∙ same_test (λ row. overlaps row.segment.range range && names_object None row) (is_met range) (λ row. and_true (overlaps row.segment.range range))
@@ -101,8 +101,8 @@ first_refused : (met : List SegmentRow) → overlap_refusal (slice_get met 0) �
 first_refused [] = refl
 first_refused (row ∷ more) = refl
 
-pub meeting_is : (row : SegmentRow) (flows : Flows) (count : ℕ) → IsRising flows → IsBook flows count
-    → meeting_refusal (segments_in flows) row ≡ option_map refusals.Overlap (first_met (flow_rows row.flow flows) row.segment.range)
+pub meeting_is : (row : SegmentRow) (flows : Flows) (count : ℕ) → IsRising flows → AreCountedFlows flows count
+    → meeting_refusal (segments_in_flows flows) row ≡ option_map refusals.Overlap (first_met (flow_rows row.flow flows) row.segment.range)
 meeting_is row flows count rising book =
     ap (λ l. overlap_refusal (slice_get l 0)) (met_is row.flow row.segment.range flows count rising book)
     ∙ first_refused (met (flow_rows row.flow flows) row.segment.range)
@@ -115,7 +115,8 @@ same_refusal refusal other next other_next books.Memory e is = tt
 
 -- ---- one more
 
-module _ (row : SegmentRow) (flows : Flows) (count : ℕ) (rising : IsRising flows) (book : IsBook flows count) (other : IsOther row (rows_in flows)) where
+module _ (row : SegmentRow) (flows : Flows) (count : ℕ) (rising : IsRising flows) (book : AreCountedFlows flows count)
+    (other : IsOther row (rows_in flows)) where
   abbrev pub key : ℤ
   key = id_key row.flow
 
@@ -131,7 +132,7 @@ module _ (row : SegmentRow) (flows : Flows) (count : ℕ) (rising : IsRising flo
           (all_kept (λ o. (row.serial == o.serial) ≡ false) (λ o. o.flow == row.flow) (rows_in flows) other)
 
   pub view_with : (rows : List SegmentRow) (next : Flows) → rows ≡ placed starts_before row (flow_rows row.flow flows) → next ≡ with_pair (key, rows) flows
-      → segments_in next ≡ inserted older row (segments_in flows)
+      → segments_in_flows next ≡ inserted older row (segments_in_flows flows)
   view_with rows next er en = rw (en, er) (gains_order row _ _ gains other)
 
   placed_under : AllByRecursion (λ r. id_key r.flow ≡ key) (placed starts_before row (rows_at key flows))
@@ -143,7 +144,7 @@ module _ (row : SegmentRow) (flows : Flows) (count : ℕ) (rising : IsRising flo
       (refl, all_kept P (λ y. starts_before row y) (rows_at key flows) is.under)
 
   pub book_with : (rows : List SegmentRow) (next : Flows) (more : ℕ) → rows ≡ placed starts_before row (flow_rows row.flow flows)
-      → rises begins_before rows ≡ true → list_all has_ends rows ≡ true → next ≡ with_pair (key, rows) flows → more ≡ count + 1 → IsBook next more
+      → rises begins_before rows ≡ true → list_all has_ends rows ≡ true → next ≡ with_pair (key, rows) flows → more ≡ count + 1 → AreCountedFlows next more
   book_with rows next more er starts bounded en em = rw en (record {
     each = each_with (key, rows) flows book.each
         (record { under = subst (AllByRecursion (λ r. id_key r.flow ≡ key)) (sym er) placed_under; starts = starts; bounded = bounded });
@@ -154,33 +155,34 @@ module _ (row : SegmentRow) (flows : Flows) (count : ℕ) (rising : IsRising flo
 -- ---- one less
 
 -- a segment of all stands among those of its flow
-pub flow_has : (row : SegmentRow) (flows : Flows) → IsRising flows → AllByRecursion IsFlow flows → In row (segments_in flows)
+pub flow_has : (row : SegmentRow) (flows : Flows) → IsRising flows → AllByRecursion IsFlow flows → In row (segments_in_flows flows)
     → In row (flow_rows row.flow flows)
 flow_has row flows rising each here =
     let itself : (row.flow == row.flow) ≡ true = grind (arith, nat_tests) in
     subst (In row) (flow_rows_are row.flow flows rising each)
     (filter-In (λ r. r.flow == row.flow) (rows_in flows) row (In-in_order older (rows_in flows) row here) itself)
 
-module _ (row : SegmentRow) (flows : Flows) (count : ℕ) (rising : IsRising flows) (book : IsBook flows count) (here : In row (segments_in flows)) where
+module _ (row : SegmentRow) (flows : Flows) (count : ℕ) (rising : IsRising flows) (book : AreCountedFlows flows count)
+    (here : In row (segments_in_flows flows)) where
   abbrev pub left : List SegmentRow
   left = without_start (first_point row) (flow_rows row.flow flows)
 
-  loses : Gains row (rows_in (with_rows (id_key row.flow) left flows)) (rows_in flows)
+  loses : Gains row (rows_in (with_rows_at (id_key row.flow) left flows)) (rows_in flows)
   loses =
       let is = at_key (id_key row.flow) flows book.each in
       gains_less row (id_key row.flow) left flows rising
       (start_gains row (flow_rows row.flow flows) is.starts (flow_has row flows rising book.each here))
 
-  pub view_without : (rows : List SegmentRow) (next : Flows) → rows ≡ left → next ≡ with_rows (id_key row.flow) rows flows
-      → segments_in next ≡ without_segments (row ∷ []) (segments_in flows)
+  pub view_without : (rows : List SegmentRow) (next : Flows) → rows ≡ left → next ≡ with_rows_at (id_key row.flow) rows flows
+      → segments_in_flows next ≡ without_segments (row ∷ []) (segments_in_flows flows)
   view_without rows next er en =
       let both = loses_others row _ _ loses book.others in
-      rw (en, er) (sym (put_left_out row (segments_in (with_rows (id_key row.flow) left flows))
+      rw (en, er) (sym (put_left_out row (segments_in_flows (with_rows_at (id_key row.flow) left flows))
       (each_of older (λ other. (row.serial == other.serial) ≡ false) _ both.1))
       ∙ ap (without_segments (row ∷ [])) (sym (gains_order row _ _ loses both.1)))
 
   pub book_without : (rows : List SegmentRow) (next : Flows) (fewer : ℕ) → rows ≡ left → rises begins_before rows ≡ true → list_all has_ends rows ≡ true
-      → next ≡ with_rows (id_key row.flow) rows flows → fewer ≡ count - 1 → IsBook next fewer
+      → next ≡ with_rows_at (id_key row.flow) rows flows → fewer ≡ count - 1 → AreCountedFlows next fewer
   book_without rows next fewer er starts bounded en ef =
       let is = at_key (id_key row.flow) flows book.each in
       let under = all_kept (λ r. id_key r.flow ≡ id_key row.flow) (λ r. not (int_eq (first_point r) (first_point row))) (flow_rows row.flow flows) is.under in
@@ -188,8 +190,8 @@ module _ (row : SegmentRow) (flows : Flows) (count : ℕ) (rising : IsRising flo
         each = each_left (id_key row.flow) rows flows book.each
             (record { under = subst (AllByRecursion (λ r. id_key r.flow ≡ id_key row.flow)) (sym er) under; starts = starts; bounded = bounded });
         others = rw er ((loses_others row _ _ loses book.others).0);
-        counted = counts (length (rows_in (with_rows (id_key row.flow) left flows))) (length (rows_in flows)) (gains_length row _ _ loses) book.counted
-            ∙ ap (λ l. length (rows_in (with_rows (id_key row.flow) l flows))) (sym er);
+        counted = counts (length (rows_in (with_rows_at (id_key row.flow) left flows))) (length (rows_in flows)) (gains_length row _ _ loses) book.counted
+            ∙ ap (λ l. length (rows_in (with_rows_at (id_key row.flow) l flows))) (sym er);
       })
     where
       counts : (n m : ℕ) → m ≡ n + 1 → count ≡ m → fewer ≡ n
@@ -252,13 +254,13 @@ hull_in_order : (t : SegmentRow → SegmentRow → Bool) (rows : List SegmentRow
 hull_in_order t [] = refl
 hull_in_order t (x ∷ xs) = hull_put t x (in_order t xs) ∙ ap (hull x.segment.range) (hull_in_order t xs)
 
-pub hull_is : (flow : ℕ) (flows : Flows) (count : ℕ) → IsRising flows → IsBook flows count
-    → hull_of_segments (segments_of flow (segments_in flows)) ≡ hull_of_segments (flow_rows flow flows)
+pub hull_is : (flow : ℕ) (flows : Flows) (count : ℕ) → IsRising flows → AreCountedFlows flows count
+    → hull_of_segments (segments_of flow (segments_in_flows flows)) ≡ hull_of_segments (flow_rows flow flows)
 hull_is flow flows count rising book =
     ap hull_of_segments (flow_by_serial flow flows count rising book) ∙ hull_in_order older (flow_rows flow flows)
 
 -- and so is the number of segments
-pub length_is : (flows : Flows) (count : ℕ) → IsBook flows count → count ≡ length (segments_in flows)
+pub length_is : (flows : Flows) (count : ℕ) → AreCountedFlows flows count → count ≡ length (segments_in_flows flows)
 length_is flows count book = book.counted ∙ sym (length-in_order older (rows_in flows))
 
 -- ---- a segment above all others
@@ -284,8 +286,8 @@ put_behind row (other ∷ rows) e =
 
 -- ---- the number of a flow's segments, and whether a range meets one
 
-pub flow_length : (flow : ℕ) (flows : Flows) (count : ℕ) → IsRising flows → IsBook flows count
-    → length (segments_of flow (segments_in flows)) ≡ length (flow_rows flow flows)
+pub flow_length : (flow : ℕ) (flows : Flows) (count : ℕ) → IsRising flows → AreCountedFlows flows count
+    → length (segments_of flow (segments_in_flows flows)) ≡ length (flow_rows flow flows)
 flow_length flow flows count rising book =
     ap length (flow_by_serial flow flows count rising book) ∙ length-in_order older (flow_rows flow flows)
 
@@ -308,8 +310,8 @@ any_in_order : (t : SegmentRow → SegmentRow → Bool) (test : SegmentRow → B
 any_in_order t test [] = refl
 any_in_order t test (x ∷ xs) = any_put t test x (in_order t xs) ∙ ap (λ b. test x || b) (any_in_order t test xs)
 
-pub flow_met_is : (flow : ℕ) (range : Option Span) (flows : Flows) (count : ℕ) → IsRising flows → IsBook flows count
-    → is_flow_met (segments_in flows) flow range ≡ list_any (is_met range) (flow_rows flow flows)
+pub flow_met_is : (flow : ℕ) (range : Option Span) (flows : Flows) (count : ℕ) → IsRising flows → AreCountedFlows flows count
+    → is_flow_met (segments_in_flows flows) flow range ≡ list_any (is_met range) (flow_rows flow flows)
 flow_met_is flow range flows count rising book =
     ap (list_any (is_met range)) (flow_by_serial flow flows count rising book) ∙ any_in_order older (is_met range) (flow_rows flow flows)
 

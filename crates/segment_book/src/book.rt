@@ -10,7 +10,7 @@ ghost use Rattle.media_rows.specs.declared.refusal.Refusal.TheVariants.{Overlap}
 ghost use Rattle.shared_tree.specs.Pairs.{values_of};
 ghost use Rattle.segment_index.specs.Answers.{first_met, met_page, page_of};
 ghost use Rattle.segment_book.specs.Answers.{are_older, is_flow_met, is_new, meeting_refusal};
-ghost use Rattle.segment_book.specs.Within.Flows.{IsFaultOf, flow_rows, with_rows};
+ghost use Rattle.segment_book.specs.Within.Flows.{IsIndexFault, flow_rows, with_rows_at};
 
 use crate::pages::{rows_past, shown};
 use disk_trait::Memory;
@@ -37,13 +37,13 @@ pub struct SegmentBook {
 impl Model for SegmentBook {
     ghost use Rattle.std.specs.Prelude.{List};
     ghost use Rattle.media_rows.specs.declared.segment.SegmentRow.{SegmentRow};
-    ghost use Rattle.segment_book.specs.Within.Flows.{IsBook, segments_in};
+    ghost use Rattle.segment_book.specs.Within.Flows.{AreCountedFlows, segments_in_flows};
 
     ghost Value = { List SegmentRow };
 
-    ghost view = { λ b. segments_in b.flows };
+    ghost view = { λ b. segments_in_flows b.flows };
 
-    ghost invariant = { λ b. IsBook b.flows b.count };
+    ghost invariant = { λ b. AreCountedFlows b.flows b.count };
 }
 
 impl SegmentBook {
@@ -199,7 +199,7 @@ fn with_index(
     flow: u128,
     index: SegmentIndex,
 ) -> Result<Version<SegmentIndex>, Memory>
-    ensures { IfOk result (λ next. next ≡ with_rows (id_key flow) index flows.now) }
+    ensures { IfOk result (λ next. next ≡ with_rows_at (id_key flow) index flows.now) }
 {
     if index.len() == 0 {
         without_row(alloc, flows, flow)
@@ -275,7 +275,7 @@ fn added<L: Ledger>(
 
 /// The fault of an index as one of a book.
 fn book_fault(fault: &AddFault) -> BookFault
-    ensures { IsFaultOf fault.now result }
+    ensures { IsIndexFault fault.now result }
 {
     match fault {
         AddFault::Overlap(range) => BookFault::Refused(Refusal::Overlap(*range)),

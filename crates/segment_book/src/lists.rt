@@ -4,7 +4,7 @@ ghost use Rattle.media_rows.specs.Lists.{in_order};
 ghost use Rattle.media_rows.specs.Segments.{segments_of, starts_before};
 ghost use Rattle.media_rows.specs.Snapshot.{segment_row_before};
 ghost use Rattle.shared_tree.specs.Pairs.{values_of};
-ghost use Rattle.segment_book.specs.Within.Flows.{joined};
+ghost use Rattle.segment_book.specs.Within.Flows.{rows_joined};
 
 use crate::SegmentBook;
 use crate::pages::few;
@@ -48,7 +48,7 @@ fn append_flows(
     flows: &[&SegmentIndex],
     list: &mut SegmentList,
 ) -> Result<(), Memory>
-    ensures { OnOk result (list.new ≡ list.old ++ joined (values_of flows.now)) }
+    ensures { OnOk result (list.new ≡ list.old ++ rows_joined (values_of flows.now)) }
 {
     for index in flows {
         append_rows::<Brand>(alloc, *index, list, Blank::new(1))?;

@@ -4,7 +4,7 @@ ghost use Rattle.media_rows.specs.Lists.{items_past, last_key};
 ghost use Rattle.media_rows.specs.Segments.{first_point, names_object};
 ghost use Rattle.shared_tree.specs.Pairs.{values_of};
 ghost use Rattle.segment_index.specs.Answers.{met};
-ghost use Rattle.segment_book.specs.Within.Paging.{IsFront, front_len, key_behind, shown_rows};
+ghost use Rattle.segment_book.specs.Within.Paging.{IsFront, front_len, last_point_behind, shown_rows};
 
 use crate::book::first_point;
 use disk_trait::{Duplicate, Memory, Text};
@@ -121,7 +121,7 @@ fn first_rows<'a, 'b>(rows: &'b [&'a SegmentRow], limit: u64) -> &'b [&'a Segmen
 
 /// The first point of the last of the first so many segments, where there are more.
 fn key_behind(rows: &[&SegmentRow], limit: u64) -> Option<i128>
-    ensures { result ≡ key_behind limit (values_of rows.now) }
+    ensures { result ≡ last_point_behind limit (values_of rows.now) }
 {
     if limit < rows.len() as u64 {
         last_start(first_rows(rows, limit))

@@ -11,16 +11,16 @@ use Rattle.shared_tree.proofs.Counted.{all_kept, each_passes}
 use Rattle.shared_tree.proofs.Rising.{all_map, filter_none}
 use Rattle.segment_index.specs.Answers.{is_met}
 use Rattle.segment_index.specs.Within.Keyed.{IsKeyed, IsApart, last_point, reaches}
-use Rattle.segment_index.specs.Within.Walks.{IsInner, StartsPage, StartsReverse, begins, ends, start_of}
+use Rattle.segment_index.specs.Within.Walks.{IsInner, StartsPage, StartsReverse, begins, ends, walk_start}
 use Rattle.segment_index.proofs.PageWalks.{all_two, met_begins, met_ends}
 use Rattle.segment_index.proofs.Reach.{Pair, last_all}
 
 -- the start by the last one up to the point
-pub start_there : (point : ℤ) (p : Pair) (o : Option Pair) → Some p ≡ o → reaches point p ≡ true → p.0 ≡ start_of point o
-start_there point p o e h = subst (λ x. p.0 ≡ start_of point x) e (rw h refl)
+pub start_there : (point : ℤ) (p : Pair) (o : Option Pair) → Some p ≡ o → reaches point p ≡ true → p.0 ≡ walk_start point o
+start_there point p o e h = subst (λ x. p.0 ≡ walk_start point x) e (rw h refl)
 
-pub start_here : (point : ℤ) (p : Pair) (o : Option Pair) → Some p ≡ o → reaches point p ≡ false → point ≡ start_of point o
-start_here point p o e h = subst (λ x. point ≡ start_of point x) e (rw h refl)
+pub start_here : (point : ℤ) (p : Pair) (o : Option Pair) → Some p ≡ o → reaches point p ≡ false → point ≡ walk_start point o
+start_here point p o e h = subst (λ x. point ≡ walk_start point x) e (rw h refl)
 
 -- segments that begin behind a point and a start reach that point
 all_later : (start point : ℤ) (qs : List Pair) → start ≤ℤ point → AllByRecursion IsKeyed qs → AllByRecursion (λ q. point <ℤ q.0) qs
@@ -45,7 +45,7 @@ none_kept test (p ∷ ps) e = by (test p) refl e (none_kept test ps)
 
 -- the start by the last of these is where those that reach the point begin
 abbrev Starts : ℤ → List Pair → List Pair → Type 0
-Starts point early ps = AllByRecursion (λ p. is_from (start_of point (last early)) p ≡ reaches point p) ps
+Starts point early ps = AllByRecursion (λ p. is_from (walk_start point (last early)) p ≡ reaches point p) ps
 
 pub starts_are : (point : ℤ) (ps : List Pair) → AllByRecursion IsKeyed ps → IsApart ps → IsRising ps → Starts point (filter (is_up_to point) ps) ps
 starts_are point [] keyed apart rising = tt
@@ -64,7 +64,7 @@ starts_are point (p ∷ rest) keyed apart rising = by (int_le p.0 point) refl (s
 
     -- the start is behind p, which ends before the point
     ended : (u : Pair) (us : List Pair) → last_point p.1 <ℤ u.0 → int_le u.0 point ≡ true → AllByRecursion (λ q. p.0 <ℤ q.0) (u ∷ us)
-        → is_from (start_of point (last (u ∷ us))) p ≡ reaches point p
+        → is_from (walk_start point (last (u ∷ us))) p ≡ reaches point p
     ended u us from until late = each (last (u ∷ us)) refl
       where
         not_from : (start : ℤ) → p.0 <ℤ start → is_from start p ≡ reaches point p
@@ -75,7 +75,7 @@ starts_are point (p ∷ rest) keyed apart rising = by (int_le p.0 point) refl (s
             agree true t es et = absurd (grind (arith, ints))
             agree false true es et = absurd (grind (arith, ints))
 
-        each : (o : Option Pair) → last (u ∷ us) ≡ o → is_from (start_of point o) p ≡ reaches point p
+        each : (o : Option Pair) → last (u ∷ us) ≡ o → is_from (walk_start point o) p ≡ reaches point p
         each None e = not_from point (let l = late.0 in grind (arith, ints))
         each (Some x) e = by_reach (reaches point x)
           where

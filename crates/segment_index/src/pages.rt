@@ -5,7 +5,7 @@ ghost use Rattle.media_rows.specs.Lists.{is_past};
 ghost use Rattle.shared_tree.specs.Pairs.{digits, is_up_to, last, values, values_of, walk_of};
 ghost use Rattle.segment_index.specs.Answers.{is_met, met_page, page_of};
 ghost use Rattle.segment_index.specs.Within.Keyed.{IsIndex};
-ghost use Rattle.segment_index.specs.Within.Walks.{StartsPage, IsInner, StartsReverse, start_of};
+ghost use Rattle.segment_index.specs.Within.Walks.{StartsPage, IsInner, StartsReverse, walk_start};
 
 use crate::points::{is_by, last_point};
 use media_rows::{SegmentRow, range_overlaps};
@@ -36,7 +36,7 @@ fn point_before(after: &Option<i128>) -> i128
 /// The point from which on all segments reach a point: the first point of the last one that begins up to it,
 /// where that reaches it.
 fn first_reaching<L: Ledger>(rows: &Version<SegmentRow>, point: &i128, steps: &mut Steps<L>) -> i128
-    ensures start { result ≡ start_of point.now (last (filter (is_up_to point.now) rows.now)) }
+    ensures start { result ≡ walk_start point.now (last (filter (is_up_to point.now) rows.now)) }
     ensures cost { steps.new ≤ steps.old + 2 * digits (length rows.now) }
 {
     let Some((start, kept)) = rows.at_or_before(*point, steps) else {

@@ -4,7 +4,7 @@ use Rattle.std.specs.Prelude.{slice_get}
 use Rattle.disk_trait.specs.Device.{Connection}
 use Rattle.site_edge.specs.Links.{change_last, after_hear}
 use Rattle.site_edge.specs.MemorySite.{rest_of_last}
-use Rattle.site_edge.specs.Lines.{rest_of, Talk, with_connection, heard_more}
+use Rattle.site_edge.specs.Lines.{rest_of, Talk, with_changed_connection, heard_more}
 
 -- a write at the last place
 pub set_last : {A : Type 0} (f : A → A) (xs : List A) (n : ℕ) (x y : A) → n + 1 ≡ length xs → x ≡ get_or xs n x → y ≡ f x → set xs n y ≡ change_last f xs
@@ -33,8 +33,8 @@ change_last-change_last f g h (x ∷ y ∷ z ∷ xs) same = ap (λ ys. x ∷ ys)
 
 -- the connections, once the last of them heard a piece, was told bytes or failed
 pub connection_changed : (f h : Connection → Connection) (talks : List Talk) → ((c : Connection) → f c ≡ h c)
-    → map (λ talk. talk.connection) (change_last (with_connection f) talks) ≡ change_last h (map (λ talk. talk.connection) talks)
-connection_changed f h talks same = map-change_last (λ talk. talk.connection) (with_connection f) h talks (λ talk. same talk.connection)
+    → map (λ talk. talk.connection) (change_last (with_changed_connection f) talks) ≡ change_last h (map (λ talk. talk.connection) talks)
+connection_changed f h talks same = map-change_last (λ talk. talk.connection) (with_changed_connection f) h talks (λ talk. same talk.connection)
 
 pub heard_more-is : (E : Type 0) (count : ℕ) (out : List ℕ) (c : Connection) → heard_more count out c ≡ after_hear {E = E} (Ok count) out c
 heard_more-is E zero out c = refl
@@ -42,7 +42,7 @@ heard_more-is E (suc n) out c = refl
 
 -- what the connections were told, once the last of them changed
 pub told_changed : (f : Connection → Connection) (h : List ℕ → List ℕ) (talks : List Talk) → ((c : Connection) → (f c).told ≡ h c.told)
-    → map (λ c. c.told) (map (λ talk. talk.connection) (change_last (with_connection f) talks)) ≡ change_last h
+    → map (λ c. c.told) (map (λ talk. talk.connection) (change_last (with_changed_connection f) talks)) ≡ change_last h
     (map (λ c. c.told) (map (λ talk. talk.connection) talks))
 told_changed f h talks same =
     ap (map (λ c. c.told)) (connection_changed f f talks (λ c. refl)) ∙ map-change_last (λ c. c.told) f h (map (λ talk. talk.connection) talks) same
@@ -54,7 +54,8 @@ change_last_same f (x ∷ y ∷ xs) same = ap (λ ys. x ∷ ys) (change_last_sam
 
 -- a change that tells nothing
 pub told_kept : (f : Connection → Connection) (talks : List Talk) → ((c : Connection) → (f c).told ≡ c.told)
-    → map (λ c. c.told) (map (λ talk. talk.connection) (change_last (with_connection f) talks)) ≡ map (λ c. c.told) (map (λ talk. talk.connection) talks)
+    → map (λ c. c.told) (map (λ talk. talk.connection) (change_last (with_changed_connection f) talks)) ≡ map (λ c. c.told)
+    (map (λ talk. talk.connection) talks)
 told_kept f talks same = told_changed f (λ t. t) talks same ∙ change_last_same (λ t. t) _ (λ t. refl)
 
 pub told-heard_more : (count : ℕ) (out : List ℕ) (c : Connection) → (heard_more count out c).told ≡ c.told
@@ -70,9 +71,9 @@ connection_at f (t ∷ talks) (suc n) talk within at = connection_at f talks n t
 
 -- the peers send what they sent before, whatever became of the last connection
 pub peers_kept : (f : Connection → Connection) (talks : List Talk)
-    → map (λ talk. talk.sends) (change_last (with_connection f) talks) ≡ map (λ talk. talk.sends) talks
+    → map (λ talk. talk.sends) (change_last (with_changed_connection f) talks) ≡ map (λ talk. talk.sends) talks
 peers_kept f talks =
-    map-change_last (λ talk. talk.sends) (with_connection f) (λ sends. sends) talks (λ talk. refl) ∙ change_last_same (λ sends. sends) _ (λ sends. refl)
+    map-change_last (λ talk. talk.sends) (with_changed_connection f) (λ sends. sends) talks (λ talk. refl) ∙ change_last_same (λ sends. sends) _ (λ sends. refl)
 
 -- the last peer, by its place
 pub rest_of_last_at : (talks : List Talk) (n : ℕ) (talk : Talk) → n + 1 ≡ length talks → talk ≡ get_or talks n talk → rest_of_last talks ≡ rest_of talk

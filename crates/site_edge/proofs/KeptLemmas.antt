@@ -3,11 +3,11 @@ use Rattle.std.proofs.Common.{◌≡◌, ◌<◌, ◌≤◌, ◌++◌, ◌∷◌
 use Rattle.std.proofs.lemmas.List.Elements.{All-push}
 use Rattle.disk_trait.specs.Device.{Connection}
 use Rattle.site_edge.specs.Links.{change_last}
-use Rattle.site_edge.specs.Lines.{Talk, with_connection}
+use Rattle.site_edge.specs.Lines.{Talk, with_changed_connection}
 use Rattle.site_edge.specs.declared.tally.Tally.{Tally}
 use Rattle.site_edge.specs.declared.span.Span.{Span}
 use Rattle.site_edge.specs.declared.span.Added.{Added}
-use Rattle.site_edge.specs.MemorySite.{SiteState, IsKept, add_to, told_after, told_of, disk_calls}
+use Rattle.site_edge.specs.MemorySite.{SiteState, IsKeptBySite, add_to, told_after, told_of, disk_calls}
 use Rattle.site_edge.proofs.ConnectionLemmas.{length-change_last, told_kept}
 
 told_after-push : (spans : List Span) (span : Span) (told : List (List ℕ)) → told_after (spans ++ span ∷ []) told ≡ add_to (told_after spans told) span.adds
@@ -16,7 +16,7 @@ told_after-push (first ∷ spans) span told = told_after-push spans span (add_to
 
 -- a call that changed the last connection, but not what it was told
 pub kept_changed : (change : Connection → Connection) (site : SiteState) (tally : Tally) (talks : List Talk) → ((c : Connection) → (change c).told ≡ c.told)
-    → talks ≡ change_last (with_connection change) site.talks → IsKept site → IsKept (record site { tally = tally; talks = talks })
+    → talks ≡ change_last (with_changed_connection change) site.talks → IsKeptBySite site → IsKeptBySite (record site { tally = tally; talks = talks })
 kept_changed change site tally talks same is kept = record {
   piece = kept.piece;
   under_way = λ way. rw (is, length-change_last) (kept.under_way way);
@@ -26,9 +26,9 @@ kept_changed change site tally talks same is kept = record {
 }
 
 -- a call that ended a span
-pub kept_ended : (adds : Added) (old new : SiteState) → IsKept old → new.piece ≡ old.piece → 0 < length new.talks → disk_calls new ≡ disk_calls old
+pub kept_ended : (adds : Added) (old new : SiteState) → IsKeptBySite old → new.piece ≡ old.piece → 0 < length new.talks → disk_calls new ≡ disk_calls old
     → new.since ≡ disk_calls old → new.spans ≡ old.spans ++ record { from = old.since; to = disk_calls old; adds = adds } ∷ []
-    → told_of new ≡ add_to (told_of old) adds → IsKept new
+    → told_of new ≡ add_to (told_of old) adds → IsKeptBySite new
 kept_ended adds old new kept piece some calls since spans told =
     let last : Span = record { from = old.since; to = disk_calls old; adds = adds } in
     record {

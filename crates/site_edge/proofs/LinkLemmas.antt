@@ -6,12 +6,12 @@ use Rattle.std.proofs.lemmas.List.{append-nil, append_assoc, map-append, take-ap
 use Rattle.disk_trait.specs.Device.{Connection, Left}
 use Rattle.disk_trait.specs.Calls.{IsCounted, Elapses, Unchanged}
 use Rattle.disk_trait.specs.History.{kept_bytes}
-use Rattle.site_edge.specs.Links.{LinkCall, Sends, Tells, AddsConnection, Begins, NextPeer, Heard, Said, change_last, fresh, after_hear, after_say}
-use Rattle.site_edge.specs.Lines.{Talk, with_connection, marked, told_more}
+use Rattle.site_edge.specs.Links.{LinkCall, Sends, Tells, AddsConnection, Begins, NextPeer, SiteHeard, Said, change_last, fresh, after_hear, after_say}
+use Rattle.site_edge.specs.Lines.{Talk, with_changed_connection, with_passed, told_more}
 use Rattle.site_edge.specs.Tallies.{CountsCall}
 use Rattle.site_edge.specs.declared.tally.Tally.{Tally}
 use Rattle.site_edge.specs.declared.span.Added.TheVariants.{Peer, Bytes}
-use Rattle.site_edge.specs.MemorySite.{peers_of, sent_by, SiteState, SiteCalled, IsKept, after_next, next_of, after_tell, is_one_left, told_of, connections_of, site_device}
+use Rattle.site_edge.specs.MemorySite.{peers_of, sent_by, SiteState, SiteCalled, IsKeptBySite, after_next, next_of, after_tell, is_one_left, told_of, connections_of, site_device}
 use Rattle.site_edge.proofs.ConnectionLemmas.{peers_kept, change_last-change_last, change_last_same, connection_changed, told_changed, told_kept}
 use Rattle.site_edge.proofs.MomentLemmas.{EndsBy, SameLeft, ended_time, quiet_time, same_time, with_span}
 
@@ -29,7 +29,8 @@ link_call so_far ended ok old new disk counted time = record {
 
 -- a call that told nothing
 pub silent_call : (ok : Bool) (change : Connection → Connection) (site : SiteState) (tally : Tally) (talks : List Talk)
-    → ((c : Connection) → (change c).told ≡ c.told) → talks ≡ change_last (with_connection change) site.talks → IsCounted ok site.tally.faults tally.faults
+    → ((c : Connection) → (change c).told ≡ c.told) → talks ≡ change_last (with_changed_connection change) site.talks
+    → IsCounted ok site.tally.faults tally.faults
     → LinkCall Unchanged Unchanged ok (site_device site) (site_device (record site { tally = tally; talks = talks }))
 silent_call ok change site tally talks same is counted =
     let new = record site { tally = tally; talks = talks } in
@@ -44,7 +45,8 @@ silent_call ok change site tally talks same is counted =
     link_call Unchanged Unchanged ok site new refl counted (quiet_time Unchanged site new (λ p. refl) left)
 
 -- the connections after such a call
-pub changed_to : (f h : Connection → Connection) (before talks : List Talk) → ((c : Connection) → f c ≡ h c) → talks ≡ change_last (with_connection f) before
+pub changed_to : (f h : Connection → Connection) (before talks : List Talk) → ((c : Connection) → f c ≡ h c) → talks ≡ change_last
+    (with_changed_connection f) before
     → map (λ talk. talk.connection) talks ≡ change_last h (map (λ talk. talk.connection) before)
 changed_to f h before talks same is = ap (map (λ talk. talk.connection)) is ∙ connection_changed f h before same
 
@@ -56,12 +58,12 @@ or_true : (b : Bool) → (b || true) ≡ true
 or_true true = refl
 or_true false = refl
 
-pub failed_mark : (E : Type 0) (e : E) (out : List ℕ) (c : Connection) → marked false c ≡ after_hear {E = E} (Err e) out c
+pub failed_mark : (E : Type 0) (e : E) (out : List ℕ) (c : Connection) → with_passed false c ≡ after_hear {E = E} (Err e) out c
 failed_mark E e out c = ap (λ failed. record c { failed = failed }) (or_true c.failed)
 
 pub heard_clause : (E : Type 0) (result : Result ℕ E) (out : List ℕ) (site : SiteState) (tally : Tally) (talks : List Talk)
     → tally.peer_faults ≡ site.tally.peer_faults → map (λ talk. talk.connection) talks ≡ change_last (after_hear result out) (connections_of site)
-    → Heard result out (site_device site) (site_device (record site { tally = tally; talks = talks }))
+    → SiteHeard result out (site_device site) (site_device (record site { tally = tally; talks = talks }))
 heard_clause E result out site tally talks peer_faults connections = record {
   peers = record { peer_faults = peer_faults; closed = refl };
   under_way = refl;
@@ -83,23 +85,24 @@ sends_part ok bytes sent part all some = record {
   whole = λ wrong. cc;
 }
 
--- the last connection, once it was told bytes and marked
+-- the last connection, once it was told bytes and with_passed
 said_changed : (passes : Bool) (sent : List ℕ) (before talks : List Talk)
-    → talks ≡ change_last (with_connection (marked passes)) (change_last (with_connection (told_more sent)) before)
-    → talks ≡ change_last (with_connection (after_say passes sent)) before
+    → talks ≡ change_last (with_changed_connection (with_passed passes)) (change_last (with_changed_connection (told_more sent)) before)
+    → talks ≡ change_last (with_changed_connection (after_say passes sent)) before
 said_changed passes sent before talks is =
-    is ∙ change_last-change_last (with_connection (marked passes)) (with_connection (told_more sent)) (with_connection (after_say passes sent)) before
+    is ∙ change_last-change_last (with_changed_connection (with_passed passes)) (with_changed_connection (told_more sent))
+      (with_changed_connection (after_say passes sent)) before
     (λ talk. refl)
 
 -- what was told, once the last connection was told bytes
-said_told : (passes : Bool) (sent : List ℕ) (before talks : List Talk) → talks ≡ change_last (with_connection (after_say passes sent)) before
+said_told : (passes : Bool) (sent : List ℕ) (before talks : List Talk) → talks ≡ change_last (with_changed_connection (after_say passes sent)) before
     → map (λ c. c.told) (map (λ talk. talk.connection) talks) ≡ change_last (λ t. t ++ sent) (map (λ c. c.told) (map (λ talk. talk.connection) before))
 said_told passes sent before talks is =
     ap (λ ts. map (λ c. c.told) (map (λ talk. talk.connection) ts)) is ∙ told_changed (after_say passes sent) (λ t. t ++ sent) before (λ c. refl)
 
 -- a `say` that was noted
-noted_say : (passes : Bool) (bytes sent : List ℕ) (site : SiteState) (tally : Tally) (talks : List Talk) → IsKept site → Sends passes bytes sent
-    → talks ≡ change_last (with_connection (after_say passes sent)) site.talks
+noted_say : (passes : Bool) (bytes sent : List ℕ) (site : SiteState) (tally : Tally) (talks : List Talk) → IsKeptBySite site → Sends passes bytes sent
+    → talks ≡ change_last (with_changed_connection (after_say passes sent)) site.talks
     → Elapses (Tells false bytes) (Tells passes bytes) (site_device site) (site_device (record (after_tell sent site) { tally = tally; talks = talks }))
 noted_say passes bytes sent site tally talks kept sends is =
     let told = said_told passes sent site.talks talks is in
@@ -116,42 +119,46 @@ noted_say passes bytes sent site tally talks kept sends is =
 tells_none : (bytes : List ℕ) (p : Left) → Tells false bytes p p
 tells_none bytes p = record { image = refl; told = ([], sends_none bytes, sym (change_last_same (λ t. t ++ []) p.told append-nil)) }
 
-pub say_call : (noted passes : Bool) (bytes : List ℕ) (site mid : SiteState) (tally : Tally) (talks : List Talk) → IsKept site
-    → mid ≡ (if noted then after_tell (kept_bytes passes bytes) site else site) → talks ≡ change_last (with_connection (marked (noted && passes))) mid.talks
+pub say_call : (noted passes : Bool) (bytes : List ℕ) (site mid : SiteState) (tally : Tally) (talks : List Talk) → IsKeptBySite site
+    → mid ≡ (if noted then after_tell (kept_bytes passes bytes) site else site) → talks ≡ change_last
+    (with_changed_connection (with_passed (noted && passes))) mid.talks
     → IsCounted (noted && passes) mid.tally.faults tally.faults
     → LinkCall (Tells false bytes) (Tells (noted && passes) bytes) (noted && passes) (site_device site)
     (site_device (record mid { tally = tally; talks = talks }))
 say_call true passes bytes site mid tally talks kept mid_is is counted =
     let sent = kept_bytes passes bytes in
-    let changed = said_changed passes sent site.talks talks (is ∙ ap (λ m. change_last (with_connection (marked passes)) m.talks) mid_is) in
+    let changed = said_changed passes sent site.talks talks (is ∙ ap (λ m. change_last (with_changed_connection (with_passed passes)) m.talks) mid_is) in
     rw mid_is (link_call _ _ passes site (record (after_tell sent site) { tally = tally; talks = talks }) refl (rw mid_is at counted)
     (noted_say passes bytes sent site tally talks kept (sends_kept passes bytes) changed))
 say_call false passes bytes site mid tally talks kept mid_is is counted =
     let new = record site { tally = tally; talks = talks } in
-    let marks : talks ≡ change_last (with_connection (marked false)) site.talks = is ∙ ap (λ m. change_last (with_connection (marked false)) m.talks) mid_is in
+    let marks : talks ≡ change_last (with_changed_connection (with_passed false)) site.talks = is
+      ∙ ap (λ m. change_last (with_changed_connection (with_passed false)) m.talks) mid_is in
     let left : SameLeft site new =
     record {
       past = refl;
       spans = refl;
       since = refl;
-      told = ap (λ ts. map (λ c. c.told) (map (λ talk. talk.connection) ts)) marks ∙ told_kept (marked false)
+      told = ap (λ ts. map (λ c. c.told) (map (λ talk. talk.connection) ts)) marks ∙ told_kept (with_passed false)
           site.talks (λ c. refl);
     } in
     rw mid_is (link_call _ _ false site new refl (rw mid_is at counted) (quiet_time (Tells false bytes) site new (tells_none bytes) left))
 
 pub said_clause : (noted passes : Bool) (bytes : List ℕ) (site mid : SiteState) (tally : Tally) (talks : List Talk)
-    → mid ≡ (if noted then after_tell (kept_bytes passes bytes) site else site) → talks ≡ change_last (with_connection (marked (noted && passes))) mid.talks
+    → mid ≡ (if noted then after_tell (kept_bytes passes bytes) site else site) → talks ≡ change_last
+    (with_changed_connection (with_passed (noted && passes))) mid.talks
     → tally.peer_faults ≡ mid.tally.peer_faults → Said (noted && passes) bytes (site_device site) (site_device (record mid { tally = tally; talks = talks }))
 said_clause true passes bytes site mid tally talks mid_is is peer_faults =
     let sent = kept_bytes passes bytes in
-    let changed = said_changed passes sent site.talks talks (is ∙ ap (λ m. change_last (with_connection (marked passes)) m.talks) mid_is) in
+    let changed = said_changed passes sent site.talks talks (is ∙ ap (λ m. change_last (with_changed_connection (with_passed passes)) m.talks) mid_is) in
     rw mid_is (record {
       peers = record { peer_faults = rw mid_is at peer_faults; closed = refl };
       under_way = refl;
       connections = λ _. (sent, sends_kept passes bytes, changed_to (after_say passes sent) (after_say passes sent) site.talks talks (λ c. refl) changed);
     })
 said_clause false passes bytes site mid tally talks mid_is is peer_faults =
-    let marks : talks ≡ change_last (with_connection (marked false)) site.talks = is ∙ ap (λ m. change_last (with_connection (marked false)) m.talks) mid_is in
+    let marks : talks ≡ change_last (with_changed_connection (with_passed false)) site.talks = is
+      ∙ ap (λ m. change_last (with_changed_connection (with_passed false)) m.talks) mid_is in
     rw mid_is (record {
       peers = record { peer_faults = rw mid_is at peer_faults; closed = refl };
       under_way = refl;
@@ -159,7 +166,7 @@ said_clause false passes bytes site mid tally talks mid_is is peer_faults =
           λ _. (
             [],
             sends_none bytes,
-            changed_to (marked false) (after_say false []) site.talks talks
+            changed_to (with_passed false) (after_say false []) site.talks talks
                 (λ c. ap (λ t. record c { told = t; failed = c.failed || true }) (sym (append-nil c.told))) marks,
           );
     })
@@ -184,7 +191,7 @@ passed_came true (Some came) left is passed = is
 passed_came false (Some came) left is passed = cc
 
 -- a connection that begins adds to what was told, and nothing is told within the call
-begun_time : (E : Type 0) (sends : List ℕ) (later : List (List ℕ)) (site : SiteState) (tally : Tally) → IsKept site
+begun_time : (E : Type 0) (sends : List ℕ) (later : List (List ℕ)) (site : SiteState) (tally : Tally) → IsKeptBySite site
     → Elapses AddsConnection AddsConnection (site_device site) (site_device (record (next_of (sends ∷ later) site) { tally = tally }))
 begun_time E sends later site tally kept =
     let talk : Talk = record { sends = sends; connection = fresh } in
@@ -197,7 +204,7 @@ begun_time E sends later site tally kept =
     same_time AddsConnection AddsConnection site (with_span Peer site talks) (record (next_of (sends ∷ later) site) { tally = tally })
     (record { past = refl; spans = refl; since = refl; told = refl }) (ended_time AddsConnection AddsConnection Peer site talks kept steps adds)
 
-pub next_call : (E : Type 0) (waiting : List (List ℕ)) (site : SiteState) (tally : Tally) → IsKept site → IsCounted true site.tally.faults tally.faults
+pub next_call : (E : Type 0) (waiting : List (List ℕ)) (site : SiteState) (tally : Tally) → IsKeptBySite site → IsCounted true site.tally.faults tally.faults
     → LinkCall (Begins {E = E} (Ok (is_one_left waiting))) (Begins {E = E} (Ok (is_one_left waiting))) true (site_device site)
     (site_device (record (next_of waiting site) { tally = tally }))
 next_call E [] site tally kept counted =
@@ -255,7 +262,7 @@ same_peers : (waiting : List (List ℕ)) (site : SiteState) → site.waiting ≡
 same_peers [] site is = refl
 same_peers (sends ∷ later) site is = rw is (simp (map-append, append_assoc))
 
-came_at : (E : Type 0) (site : SiteState) (tally : Tally) → IsKept site → CountsCall site.tally tally true
+came_at : (E : Type 0) (site : SiteState) (tally : Tally) → IsKeptBySite site → CountsCall site.tally tally true
     → IsCounted true site.tally.peer_faults tally.peer_faults
     → WaitsForPeer {E = E} (Ok (is_one_left site.waiting)) site (record (after_next site) { tally = tally })
 came_at E site tally kept counts peers = record {
@@ -265,7 +272,7 @@ came_at E site tally kept counts peers = record {
   fails = record { counts = counts; disk = same_disk site.waiting site; piece = same_piece site.waiting site; peers = same_peers site.waiting site refl };
 }
 
-pub peer_came : (E : Type 0) (passes : Bool) (came : Option Bool) (old mid : SiteState) (tally : Tally) → IsKept old
+pub peer_came : (E : Type 0) (passes : Bool) (came : Option Bool) (old mid : SiteState) (tally : Tally) → IsKeptBySite old
     → MatchOption came (mid ≡ old) (λ _. mid ≡ (if passes then after_next old else old)) → IfSome came (λ b. b ≡ (passes && is_one_left old.waiting))
     → (is_some came && passes) ≡ true → CountsCall mid.tally tally true → IsCounted true mid.tally.peer_faults tally.peer_faults
     → WaitsForPeer {E = E} (Ok (unwrap_or came false)) old (record mid { tally = tally })
@@ -276,7 +283,7 @@ peer_came E passes came old mid tally kept next is_left passed counts peers =
 
 -- what a call on the last connection leaves that isn't seen in the device
 pub changed_fails : (ok : Bool) (change : Connection → Connection) (site : SiteState) (tally : Tally) (talks : List Talk)
-    → talks ≡ change_last (with_connection change) site.talks → CountsCall site.tally tally ok
+    → talks ≡ change_last (with_changed_connection change) site.talks → CountsCall site.tally tally ok
     → SiteCalled site (record site { tally = tally; talks = talks }) ok
 changed_fails ok change site tally talks is counts = record {
   counts = counts;
@@ -286,11 +293,12 @@ changed_fails ok change site tally talks is counts = record {
 }
 
 pub said_fails : (noted passes : Bool) (bytes : List ℕ) (site mid : SiteState) (tally : Tally) (talks : List Talk)
-    → mid ≡ (if noted then after_tell (kept_bytes passes bytes) site else site) → talks ≡ change_last (with_connection (marked (noted && passes))) mid.talks
+    → mid ≡ (if noted then after_tell (kept_bytes passes bytes) site else site) → talks ≡ change_last
+    (with_changed_connection (with_passed (noted && passes))) mid.talks
     → CountsCall mid.tally tally (noted && passes) → SiteCalled site (record mid { tally = tally; talks = talks }) (noted && passes)
 said_fails true passes bytes site mid tally talks mid_is is counts =
     let changed =
-    said_changed passes (kept_bytes passes bytes) site.talks talks (is ∙ ap (λ m. change_last (with_connection (marked passes)) m.talks) mid_is) in
+    said_changed passes (kept_bytes passes bytes) site.talks talks (is ∙ ap (λ m. change_last (with_changed_connection (with_passed passes)) m.talks) mid_is) in
     rw mid_is (record {
       counts = rw mid_is at counts;
       disk = refl;
@@ -298,7 +306,8 @@ said_fails true passes bytes site mid tally talks mid_is is counts =
       peers = ap (λ sends. sends ++ site.waiting) (ap (map (λ talk. talk.sends)) changed ∙ peers_kept (after_say passes (kept_bytes passes bytes)) site.talks);
     })
 said_fails false passes bytes site mid tally talks mid_is is counts =
-    rw mid_is (changed_fails false (marked false) site tally talks (is ∙ ap (λ m. change_last (with_connection (marked false)) m.talks) mid_is)
+    rw mid_is (changed_fails false (with_passed false) site tally talks
+      (is ∙ ap (λ m. change_last (with_changed_connection (with_passed false)) m.talks) mid_is)
     (rw mid_is at counts))
 
 -- what was sent, by whether the call took a number
@@ -307,20 +316,22 @@ sent_if true n m bytes is = rw is (grind (arith, nat_tests))
 sent_if false n m bytes is = rw is (grind (arith, nat_tests))
 
 pub said_sent : (noted passes : Bool) (bytes : List ℕ) (site mid : SiteState) (tally : Tally) (talks : List Talk)
-    → mid ≡ (if noted then after_tell (kept_bytes passes bytes) site else site) → talks ≡ change_last (with_connection (marked (noted && passes))) mid.talks
+    → mid ≡ (if noted then after_tell (kept_bytes passes bytes) site else site) → talks ≡ change_last
+    (with_changed_connection (with_passed (noted && passes))) mid.talks
     → tally.made ≡ (if noted then mid.tally.made + 1 else mid.tally.made)
     → told_of (record mid { tally = tally; talks = talks }) ≡ change_last (λ t. t ++ sent_by site (record mid { tally = tally; talks = talks })
     (noted && passes) bytes) (told_of site)
 said_sent true passes bytes site mid tally talks mid_is is number =
     let changed =
-    said_changed passes (kept_bytes passes bytes) site.talks talks (is ∙ ap (λ m. change_last (with_connection (marked passes)) m.talks) mid_is) in
+    said_changed passes (kept_bytes passes bytes) site.talks talks (is ∙ ap (λ m. change_last (with_changed_connection (with_passed passes)) m.talks) mid_is) in
     let sent : kept_bytes passes bytes ≡ (if tally.made == site.tally.made then [] else kept_bytes passes bytes) =
     sent_if true site.tally.made tally.made (kept_bytes passes bytes) (rw mid_is at number) in
     said_told passes (kept_bytes passes bytes) site.talks talks changed ∙ ap (λ bytes. change_last (λ t. t ++ bytes) (told_of site)) sent
 said_sent false passes bytes site mid tally talks mid_is is number =
-    let marks : talks ≡ change_last (with_connection (marked false)) site.talks = is ∙ ap (λ m. change_last (with_connection (marked false)) m.talks) mid_is in
+    let marks : talks ≡ change_last (with_changed_connection (with_passed false)) site.talks = is
+      ∙ ap (λ m. change_last (with_changed_connection (with_passed false)) m.talks) mid_is in
     let sent : [] ≡ (if tally.made == site.tally.made then [] else kept_bytes false bytes) =
     sent_if false site.tally.made tally.made (kept_bytes false bytes) (rw mid_is at number) in
     ap (λ ts. map (λ c. c.told) (map (λ talk. talk.connection) ts)) marks ∙
-    (told_kept (marked false) site.talks (λ c. refl) ∙ (sym (change_last_same (λ t. t ++ []) (told_of site) append-nil) ∙ ap
+    (told_kept (with_passed false) site.talks (λ c. refl) ∙ (sym (change_last_same (λ t. t ++ []) (told_of site) append-nil) ∙ ap
     (λ bytes. change_last (λ t. t ++ bytes) (told_of site)) sent))

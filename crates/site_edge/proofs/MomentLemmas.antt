@@ -3,7 +3,7 @@ use Rattle.std.proofs.Common.{◌≡◌, ◌<◌, ◌≤◌, ◌+◌, ◌++◌, 
 use Rattle.std.proofs.lemmas.Bool.{cases_lt}
 use Rattle.std.proofs.lemmas.List.{length_push, take_all, take-append-le, get_or_append_left, get_or_at}
 use Rattle.disk_trait.specs.Device.{Left}
-use Rattle.disk_trait.specs.Calls.{Request, Follows, Elapses, Unchanged, TornWrite, DiskCall, LeavesOnly}
+use Rattle.disk_trait.specs.Calls.{DiskRequest, Follows, Elapses, Unchanged, TornWrite, DiskCall, LeavesOnly}
 use Rattle.disk_trait.specs.History.{call_of, Past, with_call}
 use Rattle.disk_trait.specs.MemoryDisk.{DiskState, DiskCalled, LeavesAt, LeavesSince, memory_device}
 use Rattle.disk_trait.specs.MemoryDiskLaws.{leaves_at_more}
@@ -11,7 +11,7 @@ use Rattle.disk_trait.specs.declared.history.Call.{Call}
 use Rattle.site_edge.specs.declared.span.Span.{Span}
 use Rattle.site_edge.specs.declared.span.Added.{Added}
 use Rattle.site_edge.specs.Lines.{Talk}
-use Rattle.site_edge.specs.MemorySite.{SiteState, SiteLeaves, LeavesIn, IsKept, SoFar, now, earlier, ending, told_after, told_of, disk_calls, end_span, site_device}
+use Rattle.site_edge.specs.MemorySite.{SiteState, SiteLeaves, LeavesIn, IsKeptBySite, SoFar, now, earlier, ending, told_after, told_of, disk_calls, end_span, site_device}
 
 -- a site of which nothing changed that a crash may leave
 pub record SameLeft (old new : SiteState) : Type 0 where
@@ -77,7 +77,7 @@ pub record LeavesTold (step : Left → Left → Type 0) : Type 0 where
       → step (record { image = old; told = u }) (record { image = new; told = u })
 
 -- an image at the last moment follows from one before the call, with what was told
-follows_now : (step : Left → Left → Type 0) (call : Call) (site : SiteState) (p : Left) → LeavesTold step → IsKept site
+follows_now : (step : Left → Left → Type 0) (call : Call) (site : SiteState) (p : Left) → LeavesTold step → IsKeptBySite site
     → ((q : Left) → LeavesSince (with_call call site.disk.past) (length site.disk.past.calls + 1) q
     → Follows step (LeavesSince site.disk.past (length site.disk.past.calls)) q)
     → LeavesAt (with_call call site.disk.past) (length site.disk.past.calls + 1) p.image → p.told ≡ told_of site
@@ -111,7 +111,7 @@ follows_now step call site p told_stays kept inner leaves told =
     )
 
 -- what a crash may leave after a disk call, at the last moment or before
-split_now : (step : Left → Left → Type 0) (call : Call) (site : SiteState) (t : ℕ) (p : Left) → LeavesTold step → IsKept site
+split_now : (step : Left → Left → Type 0) (call : Call) (site : SiteState) (t : ℕ) (p : Left) → LeavesTold step → IsKeptBySite site
     → ((q : Left) → LeavesSince (with_call call site.disk.past) (length site.disk.past.calls + 1) q
     → Follows step (LeavesSince site.disk.past (length site.disk.past.calls)) q)
     → SiteLeaves (with_past (with_call call site.disk.past) site) t p
@@ -146,7 +146,7 @@ split_now step call site t p told_stays kept inner (ending n span within at left
     inl (ending n span within at (before_call call site.disk.past _ _ _ t p.image left before_it) so_far, omega (arith, left.later, before_it, within))
 
 -- nothing is lost by a disk call
-keeps_past : (call : Call) (site : SiteState) (t : ℕ) (p : Left) → IsKept site → SiteLeaves site t p
+keeps_past : (call : Call) (site : SiteState) (t : ℕ) (p : Left) → IsKeptBySite site → SiteLeaves site t p
     → SiteLeaves (with_past (with_call call site.disk.past) site) t p
 keeps_past call site t p kept (now left told) =
     let after = after_call call site.disk.past _ _ _ t p.image left in
@@ -162,7 +162,7 @@ keeps_past call site t p kept (earlier n span within at left told) = earlier n s
 keeps_past call site t p kept (ending n span within at left so_far) = ending n span within at (after_call call site.disk.past _ _ _ t p.image left) so_far
 
 -- time over a disk call that was noted
-noted_time : (step : Left → Left → Type 0) (call : Call) (site : SiteState) → LeavesTold step → IsKept site
+noted_time : (step : Left → Left → Type 0) (call : Call) (site : SiteState) → LeavesTold step → IsKeptBySite site
     → ((q : Left) → LeavesSince (with_call call site.disk.past) (length site.disk.past.calls + 1) q
     → Follows step (LeavesSince site.disk.past (length site.disk.past.calls)) q)
     → Elapses step step (site_device site) (site_device (with_past (with_call call site.disk.past) site))
@@ -176,7 +176,7 @@ noted_time step call site told_stays kept inner =
     }
 
 -- the same, where the disk is given with its counts
-noted_disk_time : (step : Left → Left → Type 0) (site : SiteState) (disk : DiskState) (call : Call) → LeavesTold step → IsKept site
+noted_disk_time : (step : Left → Left → Type 0) (site : SiteState) (disk : DiskState) (call : Call) → LeavesTold step → IsKeptBySite site
     → Elapses step step (memory_device site.disk) (memory_device disk) → disk.past ≡ with_call call site.disk.past
     → Elapses step step (site_device site) (site_device (record site { disk = disk }))
 noted_disk_time step site disk call told_stays kept inner is =
@@ -193,7 +193,7 @@ noted_disk_time step site disk call told_stays kept inner is =
     }
 
 -- time over any disk call
-disk_time : (asked : Request) (step : Left → Left → Type 0) (ok : Bool) (site : SiteState) (disk : DiskState) → LeavesTold step → IsKept site
+disk_time : (asked : DiskRequest) (step : Left → Left → Type 0) (ok : Bool) (site : SiteState) (disk : DiskState) → LeavesTold step → IsKeptBySite site
     → DiskCall step ok (memory_device site.disk) (memory_device disk) → DiskCalled asked site.disk disk ok
     → Elapses step step (site_device site) (site_device (record site { disk = disk }))
 disk_time asked step ok site disk told_stays kept made called =
@@ -203,7 +203,7 @@ disk_time asked step ok site disk told_stays kept made called =
       | inr noted ↦ noted_disk_time step site disk (call_of asked ok) told_stays kept made.time noted
     ]
 
-pub disk_call : (asked : Request) (step : Left → Left → Type 0) (ok : Bool) (site : SiteState) (disk : DiskState) → LeavesTold step → IsKept site
+pub disk_call : (asked : DiskRequest) (step : Left → Left → Type 0) (ok : Bool) (site : SiteState) (disk : DiskState) → LeavesTold step → IsKeptBySite site
     → DiskCall step ok (memory_device site.disk) (memory_device disk) → DiskCalled asked site.disk disk ok
     → DiskCall step ok (site_device site) (site_device (record site { disk = disk }))
 disk_call asked step ok site disk told_stays kept made called = record {
@@ -265,7 +265,7 @@ spans_before : (site : SiteState) (last : Span) (n : ℕ) → n ≤ length site.
 spans_before site last n within = ap (λ spans. told_after spans []) (take-append-le n site.spans (last ∷ []) within)
 
 -- what was told before the last span
-told_before_last : (site : SiteState) (last : Span) → IsKept site → told_after (take (length site.spans) (site.spans ++ last ∷ [])) [] ≡ told_of site
+told_before_last : (site : SiteState) (last : Span) → IsKeptBySite site → told_after (take (length site.spans) (site.spans ++ last ∷ [])) [] ≡ told_of site
 told_before_last site last kept =
     spans_before site last (length site.spans) (omega arith) ∙ (ap (λ spans. told_after spans []) (take_all (length site.spans) site.spans (omega arith)) ∙
     kept.told)
@@ -275,7 +275,7 @@ abbrev pub with_span : Added → SiteState → List Talk → SiteState
 with_span adds site talks = record (end_span adds site) { talks = talks }
 
 -- nothing is lost where a span ends
-keeps_ended : (adds : Added) (site : SiteState) (talks : List Talk) (t : ℕ) (p : Left) → IsKept site → SiteLeaves site t p
+keeps_ended : (adds : Added) (site : SiteState) (talks : List Talk) (t : ℕ) (p : Left) → IsKeptBySite site → SiteLeaves site t p
     → SiteLeaves (with_span adds site talks) t p
 keeps_ended adds site talks t p kept (now left told) =
     let last = ended_by adds site in
@@ -320,7 +320,8 @@ pub record EndsBy (step : Left → Left → Type 0) (adds : Added) (site : SiteS
   pub part : (image : List ℕ) (told : List (List ℕ)) → SoFar adds (told_of site) told
       → step (record { image = image; told = told_of site }) (record { image = image; told = told })
 
-split_ended : (step : Left → Left → Type 0) (adds : Added) (site : SiteState) (talks : List Talk) (t : ℕ) (p : Left) → IsKept site → EndsBy step adds site talks
+split_ended : (step : Left → Left → Type 0) (adds : Added) (site : SiteState) (talks : List Talk) (t : ℕ) (p : Left) → IsKeptBySite site
+    → EndsBy step adds site talks
     → SiteLeaves (with_span adds site talks) t p → SiteLeaves site t p ⊎ Follows step (SiteLeaves site (disk_calls site + length site.spans)) p
 split_ended step adds site talks t p kept steps (now left told) =
     let at_last : LeavesAt site.disk.past (disk_calls site) p.image =
@@ -377,7 +378,7 @@ ends_now step adds site talks p whole (ending n span within at left so_far) =
     absurd (omega (arith, within, left.within, left.later, length_push site.spans (ended_by adds site)))
 
 -- time over a link call that ends a span
-pub ended_time : (so_far ended : Left → Left → Type 0) (adds : Added) (site : SiteState) (talks : List Talk) → IsKept site → EndsBy so_far adds site talks
+pub ended_time : (so_far ended : Left → Left → Type 0) (adds : Added) (site : SiteState) (talks : List Talk) → IsKeptBySite site → EndsBy so_far adds site talks
     → ((image : List ℕ) → ended (record { image = image; told = told_of site }) (record { image = image; told = told_of (with_span adds site talks) }))
     → Elapses so_far ended (site_device site) (site_device (with_span adds site talks))
 ended_time so_far ended adds site talks kept steps whole = record {

@@ -12,12 +12,12 @@ abbrev pub rest_of : Talk → List ℕ
 rest_of talk = drop (length talk.connection.heard) talk.sends
 
 -- the peer with another connection
-abbrev pub with_connection : (Connection → Connection) → Talk → Talk
-with_connection change talk = record talk { connection = change talk.connection }
+abbrev pub with_changed_connection : (Connection → Connection) → Talk → Talk
+with_changed_connection change talk = record talk { connection = change talk.connection }
 
 -- a connection after a call on it that passed or failed
-abbrev pub marked : Bool → Connection → Connection
-marked passed connection = record connection { failed = connection.failed || not passed }
+abbrev pub with_passed : Bool → Connection → Connection
+with_passed passed connection = record connection { failed = connection.failed || not passed }
 
 -- a connection that was told these bytes more
 abbrev pub told_more : List ℕ → Connection → Connection

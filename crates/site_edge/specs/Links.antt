@@ -84,7 +84,8 @@ after_hear (Ok (suc n)) out c = record c { heard = c.heard ++ take (suc n) out }
 after_hear (Err _) out c = record c { failed = true }
 
 -- the site after a `hear`
-pub record Heard {E : Type 0} (result : Result ℕ E) (out : List ℕ) (old new : Device) : Type 0 where
+pub record SiteHeard {E : Type 0} (result : Result ℕ E) (out : List ℕ)
+    (old new : Device) : Type 0 where
   pub peers : SamePeers old new
   pub under_way : new.link.under_way ≡ old.link.under_way
   pub connections : old.tells ≡ true

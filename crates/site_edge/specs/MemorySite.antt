@@ -1,11 +1,11 @@
 -- What a site in memory means. Its disk calls and its said bytes have one order of moments.
 use Rattle.std.specs.Prelude.{if◌then◌else◌, ◌==◌, ◌≡◌, ◌<◌, ◌≤◌, ◌+◌, min, ℕ, Bool, true, false, List, [], ◌∷◌, ◌++◌, length, map, take, slice_index_or, All}
 use Rattle.disk_trait.specs.Device.{Device, Link, Connection, Left}
-use Rattle.disk_trait.specs.Calls.{Request}
+use Rattle.disk_trait.specs.Calls.{DiskRequest}
 use Rattle.disk_trait.specs.History.{Past, kept_bytes}
 use Rattle.disk_trait.specs.MemoryDisk.{DiskState, DiskCalled, LeavesAt, memory_device}
 use Rattle.site_edge.specs.Links.{Sends, change_last, fresh}
-use Rattle.site_edge.specs.Lines.{Talk, rest_of, with_connection, told_more}
+use Rattle.site_edge.specs.Lines.{Talk, rest_of, with_changed_connection, told_more}
 use Rattle.site_edge.specs.Tallies.{CountsCall}
 use Rattle.site_edge.specs.declared.tally.Tally.{Tally}
 use Rattle.site_edge.specs.declared.span.Span.{Span}
@@ -152,12 +152,12 @@ after_next site = next_of site.waiting site
 -- the site once it told the last connection these bytes
 abbrev pub after_tell : List ℕ → SiteState → SiteState
 after_tell sent site = record (end_span (Bytes sent) site) {
-  talks = change_last (with_connection (told_more sent)) site.talks;
+  talks = change_last (with_changed_connection (told_more sent)) site.talks;
 }
 
 -- What a site in memory keeps: a connection that is under way has begun, spans end in the past, and
 -- what was told is what the spans added.
-pub record IsKept (site : SiteState) : Type 0 where
+pub record IsKeptBySite (site : SiteState) : Type 0 where
   pub piece : 0 < site.piece
   pub under_way : site.under_way ≡ true → 0 < length site.talks
   pub since : site.since ≤ disk_calls site
@@ -165,7 +165,7 @@ pub record IsKept (site : SiteState) : Type 0 where
   pub told : told_after site.spans [] ≡ told_of site
 
 -- what a disk call that asked for this leaves of a site in memory
-pub record SiteDiskCalled (asked : Request) (old new : SiteState) (ok : Bool) : Type 0 where
+pub record SiteDiskCalled (asked : DiskRequest) (old new : SiteState) (ok : Bool) : Type 0 where
   pub disk : DiskCalled asked old.disk new.disk ok
   pub rest : new ≡ record old { disk = new.disk }
 

@@ -1,7 +1,7 @@
 //! One peer of a site in memory.
 ghost use Rattle.std.specs.Prelude.{◌≡◌, ◌<◌, ◌≤◌, ◌↔◌, [], length, take, OnErr, OnOk};
 ghost use Rattle.site_edge.specs.Links.{fresh};
-ghost use Rattle.site_edge.specs.Lines.{heard_more, marked, rest_of, told_more, with_connection};
+ghost use Rattle.site_edge.specs.Lines.{heard_more, with_passed, rest_of, told_more, with_changed_connection};
 
 use disk_trait::{Memory, Text};
 use std::alloc::Global;
@@ -76,7 +76,7 @@ impl Line {
         ensures piece { result ≤ piece }
         ensures end { (result ≡ 0) ↔ (rest_of self.old ≡ []) }
         ensures bytes { take result out.new ≡ take result (rest_of self.old) }
-        ensures heard { self.new ≡ with_connection (heard_more result out.new) self.old }
+        ensures heard { self.new ≡ with_changed_connection (heard_more result out.new) self.old }
     {
         let rest = self.sends.bytes().split_at(self.heard).1;
         let count = rest.len().min(piece).min(out.len());
@@ -91,7 +91,7 @@ impl Line {
 
     /// Marks the connection as one on which a call failed, unless it passed.
     pub(crate) fn mark(&mut self, passed: bool)
-        ensures { self.new ≡ with_connection (marked passed) self.old }
+        ensures { self.new ≡ with_changed_connection (with_passed passed) self.old }
     {
         if !passed {
             self.failed = true;
@@ -100,7 +100,7 @@ impl Line {
 
     /// Tells the peer these bytes.
     pub(crate) fn tell(&mut self, bytes: &[u8]) -> Result<(), Memory>
-        ensures ok { OnOk result (self.new ≡ with_connection (told_more bytes.now) self.old) }
+        ensures ok { OnOk result (self.new ≡ with_changed_connection (told_more bytes.now) self.old) }
         ensures err { OnErr result (self.new ≡ self.old) }
     {
         self.told.append(bytes)

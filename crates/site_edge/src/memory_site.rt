@@ -4,8 +4,8 @@ ghost use Rattle.disk_trait.specs.Device.{told_by};
 ghost use Rattle.disk_trait.specs.Calls.{IsCounted, LeavesOnly, Unchanged};
 ghost use Rattle.disk_trait.specs.History.{kept_bytes, seen_of};
 ghost use Rattle.disk_trait.specs.MemoryDisk.{memory_device};
-ghost use Rattle.site_edge.specs.Links.{LinkCall, Begins, Tells, Heard, Said, NextPeer, Closed, change_last};
-ghost use Rattle.site_edge.specs.Lines.{heard_more, marked, told_more, with_connection};
+ghost use Rattle.site_edge.specs.Links.{LinkCall, Begins, Tells, SiteHeard, Said, NextPeer, Closed, change_last};
+ghost use Rattle.site_edge.specs.Lines.{heard_more, with_passed, told_more, with_changed_connection};
 ghost use Rattle.site_edge.specs.MemorySite.{SiteCalled, after_close, after_next, after_tell, connections_of, is_one_left, fresh_site, rest_of_last, sent_by, site_device, told_also, told_of};
 
 use crate::line::Line;
@@ -32,7 +32,7 @@ pub struct MemorySite {
 }
 
 impl Model for MemorySite {
-    ghost use Rattle.site_edge.specs.MemorySite.{IsKept, SiteState};
+    ghost use Rattle.site_edge.specs.MemorySite.{IsKeptBySite, SiteState};
 
     ghost Value = { SiteState };
 
@@ -48,7 +48,7 @@ impl Model for MemorySite {
       since = s.since;
     } };
 
-    ghost invariant = { λ s. IsKept (record {
+    ghost invariant = { λ s. IsKeptBySite (record {
       disk = s.disk;
       tally = s.tally;
       talks = s.lines.items;
@@ -268,7 +268,7 @@ impl Site for MemorySite {
         ensures within { IfOk result (λ count. count ≤ length out.old) }
         ensures call { LinkCall Unchanged Unchanged (is_ok result)
             (site_device self.old) (site_device self.new) }
-        ensures heard { Heard result out.new (site_device self.old) (site_device self.new) }
+        ensures heard { SiteHeard result out.new (site_device self.old) (site_device self.new) }
         ensures fails { SiteCalled self.old self.new (is_ok result) }
 
         // The next bytes of the peer, at most a piece of them; 0 exactly at their end.
@@ -331,7 +331,7 @@ fn sent_of(bytes: &[u8], passes: bool) -> &[u8]
 /// Marks the last connection, unless the call on it passed.
 fn mark_last(lines: &mut Vec<Line>, passed: bool)
     requires { 0 < length lines.old.items }
-    ensures { lines.new.items ≡ change_last (with_connection (marked passed)) lines.old.items }
+    ensures { lines.new.items ≡ change_last (with_changed_connection (with_passed passed)) lines.old.items }
 {
     let last = lines.len() - 1;
     lines[last].mark(passed);
@@ -346,7 +346,7 @@ fn hear_last(lines: &mut Vec<Line>, out: &mut [u8], piece: usize) -> usize
     ensures end { (result ≡ 0) ↔ (rest_of_last lines.old.items ≡ []) }
     ensures bytes { take result out.new ≡ take result (rest_of_last lines.old.items) }
     ensures heard { lines.new.items
-        ≡ change_last (with_connection (heard_more result out.new)) lines.old.items }
+        ≡ change_last (with_changed_connection (heard_more result out.new)) lines.old.items }
 {
     let last = lines.len() - 1;
     lines[last].hear(out, piece)
@@ -355,7 +355,7 @@ fn hear_last(lines: &mut Vec<Line>, out: &mut [u8], piece: usize) -> usize
 fn tell_last(lines: &mut Vec<Line>, bytes: &[u8]) -> Result<(), Memory>
     requires { 0 < length lines.old.items }
     ensures ok { OnOk result (lines.new.items
-        ≡ change_last (with_connection (told_more bytes.now)) lines.old.items) }
+        ≡ change_last (with_changed_connection (told_more bytes.now)) lines.old.items) }
     ensures err { OnErr result (lines.new.items ≡ lines.old.items) }
 {
     let last = lines.len() - 1;

@@ -1,7 +1,7 @@
 //! A device together with the links to its peers.
 ghost use Rattle.std.specs.Prelude.{◌≡◌, ◌≤◌, ◌<◌, Bool, true, false, length, is_ok, IfOk};
 ghost use Rattle.disk_trait.specs.Calls.{IsCounted, Unchanged};
-ghost use Rattle.site_edge.specs.Links.{LinkCall, Begins, Tells, Heard, Said, NextPeer, Closed};
+ghost use Rattle.site_edge.specs.Links.{LinkCall, Begins, Tells, SiteHeard, Said, NextPeer, Closed};
 
 use crate::LinkFailed;
 use disk_trait::Disk;
@@ -31,7 +31,7 @@ pub trait Site: Disk {
         ensures within { IfOk result (λ count. count ≤ length out.old) }
         ensures call { LinkCall Unchanged Unchanged (is_ok result)
             (Self.device self.old) (Self.device self.new) }
-        ensures heard { Heard result out.new (Self.device self.old) (Self.device self.new) }
+        ensures heard { SiteHeard result out.new (Self.device self.old) (Self.device self.new) }
         ensures fails { link_fails self.old self.new (is_ok result) };
 
     /// Tells the peer all of these bytes, or a prefix of them where it fails.

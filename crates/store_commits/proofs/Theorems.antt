@@ -72,7 +72,8 @@ pub advances_carry : (ok : Bool) (before : StoreState) (next : StoreView) (held 
 advances_carry ok before next held old new halves made =
     let t = kept_state next held in
     record {
-      moments = elapses_weaker (Moves before t) (MoveEnds ok before t) (Replaces t.half before.archive t.archive) (ReplaceEnds ok t.half before.archive t.archive)
+      moments = elapses_weaker (Moves before t) (MoveEnds ok before t) (Replaces t.half before.archive t.archive)
+        (ReplaceEnds ok t.half before.archive t.archive)
           old new made.moments
           (λ q p could now. move_replaces t.half before t halves refl q p now)
           (λ q p could left now. move_end_replaces ok t.half before t halves refl q p now);
@@ -107,7 +108,8 @@ nothing_carries ok kept held d agrees = quiet_carries ok kept held d d (no_time 
 
 -- at each moment of such a call a crash leaves that archive
 pub archive_stays : (ok : Bool) (kept : StoreView) (held : List (List ℕ)) (old new : Device) → Carries ok (kept_state kept held).archive kept held old new
-    → Elapses (Replaced (kept_state kept held).half (kept_state kept held).archive) (Replaced (kept_state kept held).half (kept_state kept held).archive) old new
+    → Elapses (Replaced (kept_state kept held).half (kept_state kept held).archive)
+    (Replaced (kept_state kept held).half (kept_state kept held).archive) old new
 archive_stays ok kept held old new carries =
     let s = kept_state kept held in
     elapses_weaker (Replaces s.half s.archive s.archive) (ReplaceEnds ok s.half s.archive s.archive) (Replaced s.half s.archive) (Replaced s.half s.archive)
@@ -127,7 +129,8 @@ module _ (kept : StoreView) (held : List (List ℕ)) (next : StoreView) (next_he
   abbrev half : ℕ
   half = 4096 * next.journal.half
 
-  carried : (ok : Bool) (old new : Device) → Carries ok archive kept held old new → Elapses (Replaces half archive archive) (ReplaceEnds ok half archive archive) old new
+  carried : (ok : Bool) (old new : Device) → Carries ok archive kept held old new → Elapses (Replaces half archive archive)
+    (ReplaceEnds ok half archive archive) old new
   carried ok old new first =
       subst (λ (h : ℕ). Elapses (Replaces (4096 * h) archive archive) (ReplaceEnds ok (4096 * h) archive archive) old new) (sym halves) first.moments
 
@@ -150,7 +153,8 @@ module _ (kept : StoreView) (held : List (List ℕ)) (next : StoreView) (next_he
   -- where a call before a change fails, the change has failed
   pub carries_nothing : (ok : Bool) (old new : Device) → Carries ok archive kept held old new → Carries false archive next next_held old new
   carries_nothing ok old new first = record {
-    moments = elapses_weaker (Replaces half archive archive) (ReplaceEnds ok half archive archive) (Replaces half archive after) (Replaces half archive after) old new
+    moments = elapses_weaker (Replaces half archive archive) (ReplaceEnds ok half archive archive) (Replaces half archive after)
+      (Replaces half archive after) old new
         (carried ok old new first)
         (λ q p could now. stays_first half archive after q p now)
         (λ q p could left now. stays_first half archive after q p (end_replaces ok half archive archive q p now));

@@ -11,7 +11,7 @@ use Rattle.store_states.specs.Kept.{AgreesWith, HoldsEach, StoreView, kept_after
 use Rattle.store_states.specs.States.{media_start}
 use Rattle.store_writes.specs.Writes.{Advances}
 use Rattle.store_commits.specs.Carrying.{Carries, journal_for, kept_written}
-use Rattle.store_commits.specs.Within.{kept_before}
+use Rattle.store_commits.specs.Within.{kept_with_rows}
 use Rattle.store_commits.proofs.Theorems.{advances_carry, carries_nothing, carries_on, nothing_carries, quiet_carries}
 
 -- ---- the journal behind the rows
@@ -24,13 +24,13 @@ half_for p (Some rows) = refl
 
 -- no rows, and no call
 pub no_rows : (kept : StoreView) (held : List (List ℕ)) (d : Device) → AgreesWith d kept held
-    → Carries true (kept_state kept held).archive (kept_before kept None) held d d
+    → Carries true (kept_state kept held).archive (kept_with_rows kept None) held d d
 no_rows kept held d agrees = nothing_carries true kept held d agrees
 
 -- the rows of the library that is kept
 pub some_rows : (ok : Bool) (kept : StoreView) (held : List (List ℕ)) (text : List ℕ) (old new : Device)
     → Advances ok (kept_state kept held) (kept_checked kept (length text)) held old new
-    → Carries ok (kept_state kept held).archive (kept_before kept (Some text)) held old new
+    → Carries ok (kept_state kept held).archive (kept_with_rows kept (Some text)) held old new
 some_rows ok kept held text old new made = advances_carry ok (kept_state kept held) (kept_checked kept (length text)) held old new refl made
 
 -- ---- the record behind them
@@ -40,17 +40,17 @@ module _ (kept : StoreView) (held : List (List ℕ)) (rows : Option (List ℕ)) 
   last = kept_written kept rows next frame
 
   -- the rows were written, and the record then, or not
-  pub written : (ok : Bool) (old mid new : Device) → Carries true (kept_state kept held).archive (kept_before kept rows) held old mid
-      → Advances ok (kept_state (kept_before kept rows) held) (kept_after (kept_before kept rows) next (length frame)) next_held mid new
+  pub written : (ok : Bool) (old mid new : Device) → Carries true (kept_state kept held).archive (kept_with_rows kept rows) held old mid
+      → Advances ok (kept_state (kept_with_rows kept rows) held) (kept_after (kept_with_rows kept rows) next (length frame)) next_held mid new
       → Carries ok (kept_state kept held).archive last next_held old new
   written ok old mid new first then =
-      carries_on (kept_before kept rows) held last next_held refl ok old mid new first
-      (advances_carry ok (kept_state (kept_before kept rows) held) last next_held mid new refl then)
+      carries_on (kept_with_rows kept rows) held last next_held refl ok old mid new first
+      (advances_carry ok (kept_state (kept_with_rows kept rows) held) last next_held mid new refl then)
 
   -- the rows weren't written
-  pub rows_failed : (old new : Device) → Carries false (kept_state kept held).archive (kept_before kept rows) held old new
+  pub rows_failed : (old new : Device) → Carries false (kept_state kept held).archive (kept_with_rows kept rows) held old new
       → Carries false (kept_state kept held).archive last next_held old new
-  rows_failed old new first = carries_nothing (kept_before kept rows) held last next_held refl false old new first
+  rows_failed old new first = carries_nothing (kept_with_rows kept rows) held last next_held refl false old new first
 
   -- a sync, and then the rows and the record
   pub synced : (ok : Bool) (old mid new : Device) → Elapses Unchanged Unchanged old mid → AgreesWith old kept held

@@ -9,7 +9,7 @@ ghost use Rattle.store_states.specs.Fitting.{FitsJournal};
 ghost use Rattle.store_states.specs.Kept.{AgreesWith, HoldsEach, StoreView, kept_state};
 ghost use Rattle.store_states.specs.States.{StepOf, held_in, media_start};
 ghost use Rattle.store_commits.specs.Carrying.{AreRowsOf, Carries, journal_for, kept_written, rows_bytes, rows_calls, written_bytes};
-ghost use Rattle.store_commits.specs.Within.{kept_before};
+ghost use Rattle.store_commits.specs.Within.{kept_with_rows};
 
 use disk_trait::{Disk, Failed, Text};
 use media_journal::{BLOCK, Frame, Journal};
@@ -111,7 +111,7 @@ fn write_rows<D: Disk>(
         → (kept : StoreView) → (held : List (List ℕ))
         → AgreesWith (D.device disk.old) kept held → kept.journal ≡ journal.old
         → AreRowsOf (option_copied rows.entry) kept.library
-        → Carries (is_ok result) (kept_state kept held).archive (kept_before kept (option_copied rows.entry)) held
+        → Carries (is_ok result) (kept_state kept held).archive (kept_with_rows kept (option_copied rows.entry)) held
         (D.device disk.old) (D.device disk.new) }
     ensures bytes { (D.device disk.old).honest ≡ true → (D.device disk.old).shows ≡ true
         → (kept : StoreView) → (held : List (List ℕ))

@@ -30,9 +30,9 @@ counts_of library = record {
 -- ---- prepared
 
 -- a change, if there is one, would bring the next serial past its limit
-abbrev pub is_past : Library → Option Change → Bool
-is_past library None = false
-is_past library (Some change) = passes_serials change library
+abbrev pub would_pass_serials : Library → Option Change → Bool
+would_pass_serials library None = false
+would_pass_serials library (Some change) = passes_serials change library
 
 -- the library after a change, if there is one
 abbrev pub library_after : Library → Option Change → Library
@@ -43,11 +43,11 @@ library_after library (Some change) = after change library
 abbrev pub prepared_by : Library → Outcome → Prepared
 prepared_by library outcome = record {
   core =
-      if is_past library outcome.change
+      if would_pass_serials library outcome.change
       then library else library_after library outcome.change;
   change = outcome.change;
   reply = outcome.reply;
-  past = is_past library outcome.change;
+  past = would_pass_serials library outcome.change;
 }
 
 -- nothing is prepared of an outcome whose reply is a refusal

@@ -36,8 +36,8 @@ made_by library outcome =
     record { reply = outcome.reply; step = option_map (step_by library) outcome.change }
 
 -- a changing command makes this of a library that doesn't refuse it
-abbrev pub Makes : Library → Command → ℕ → Result Made BookFault → Type 0
-Makes library command moment result =
+abbrev pub MakesAnswer : Library → Command → ℕ → Result Made BookFault → Type 0
+MakesAnswer library command moment result =
     IsChange (refusal_of library command)
     (made_by library (changing_answer None (accepted library command moment))) result
 

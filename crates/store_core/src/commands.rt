@@ -7,7 +7,7 @@ ghost use Rattle.media_rows.specs.Moments.{is_moment};
 ghost use Rattle.media_rows.specs.Refusals.{IsChange};
 ghost use Rattle.media_rows.specs.Sound.{are_posts_good, is_good_command};
 ghost use Rattle.core_parts.specs.Conditions.{IsReady};
-ghost use Rattle.store_core.specs.Within.{Makes, made_by};
+ghost use Rattle.store_core.specs.Within.{MakesAnswer, made_by};
 
 use crate::made::{Made, created_unless};
 use core_parts::{Cut, Parts, good_is_ready};
@@ -30,7 +30,7 @@ pub(crate) fn put_flow(
     now: u64,
 ) -> Result<Made, BookFault>
     requires ready { IsReady parts.now }
-    ensures { Makes parts.now (commands.PutFlow body.now) now result }
+    ensures { MakesAnswer parts.now (commands.PutFlow body.now) now result }
 {
     let there = parts.registry().catalog().flow(body.id).is_some();
     match parts.put_flow(alloc, body, now) {
@@ -55,7 +55,7 @@ pub(crate) fn set_flow(
     now: u64,
 ) -> Result<Made, BookFault>
     requires ready { IsReady parts.now }
-    ensures { Makes parts.now (commands.SetFlow flow part.now) now result }
+    ensures { MakesAnswer parts.now (commands.SetFlow flow part.now) now result }
 {
     match parts.set_flow(alloc, flow, part, now) {
         Ok(next) => {
@@ -83,7 +83,7 @@ pub(crate) fn set_source(
     now: u64,
 ) -> Result<Made, BookFault>
     requires ready { IsReady parts.now }
-    ensures { Makes parts.now (commands.SetSource source part.now) now result }
+    ensures { MakesAnswer parts.now (commands.SetSource source part.now) now result }
 {
     match parts.set_source(alloc, source, part, now) {
         Ok(next) => {
@@ -110,7 +110,7 @@ pub(crate) fn drop_flow(
     now: u64,
 ) -> Result<Made, BookFault>
     requires ready { IsReady parts.now }
-    ensures { Makes parts.now (commands.DropFlow flow) now result }
+    ensures { MakesAnswer parts.now (commands.DropFlow flow) now result }
 {
     if parts.media().flow_len(flow) > STEP_SIZE {
         return ask_delete(alloc, parts, flow, &TimeRange::eternity(), true, now);
@@ -130,7 +130,7 @@ pub(crate) fn allocate(
     now: u64,
 ) -> Result<Made, BookFault>
     requires ready { IsReady parts.now }
-    ensures { Makes parts.now (commands.Allocate flow want.now) now result }
+    ensures { MakesAnswer parts.now (commands.Allocate flow want.now) now result }
 {
     let ids = parts.wanted_ids(alloc, want)?;
     match parts.allocate_wanted(alloc, flow, want, ids.items(), now) {
@@ -161,7 +161,7 @@ pub(crate) fn keep(
     requires good { Good parts.now }
     requires place { IsTrue (is_good_command parts.now (commands.Keep object.now extent.start extent.length)) }
     requires moment { IsTrue (is_moment now) }
-    ensures { Makes parts.now (commands.Keep object.now extent.start extent.length) now result }
+    ensures { MakesAnswer parts.now (commands.Keep object.now extent.start extent.length) now result }
 {
     good_is_ready();
     answers_apply();
@@ -190,7 +190,7 @@ pub(crate) fn add_segments(
 ) -> Result<Made, BookFault>
     requires ready { IsReady parts.now }
     requires bounded { IsTrue (are_posts_good posts.now) }
-    ensures { Makes parts.now (commands.AddSegments flow posts.now) now result }
+    ensures { MakesAnswer parts.now (commands.AddSegments flow posts.now) now result }
 {
     match parts.add(alloc, flow, posts.items(), now) {
         Ok(next) => {
@@ -218,7 +218,7 @@ pub(crate) fn cut_segments(
     now: u64,
 ) -> Result<Made, BookFault>
     requires ready { IsReady parts.now }
-    ensures { Makes parts.now (commands.CutSegments flow range.now) now result }
+    ensures { MakesAnswer parts.now (commands.CutSegments flow range.now) now result }
 {
     match parts.cut(alloc, flow, range, now) {
         Ok(Cut::Nothing) => Ok(Made::unchanged(Reply::Done)),
@@ -280,7 +280,7 @@ pub(crate) fn put_hook(
     now: u64,
 ) -> Result<Made, BookFault>
     requires ready { IsReady parts.now }
-    ensures { Makes parts.now (commands.PutHook hook.now) now result }
+    ensures { MakesAnswer parts.now (commands.PutHook hook.now) now result }
 {
     let there = parts
         .registry()
@@ -304,7 +304,7 @@ pub(crate) fn drop_hook(
     now: u64,
 ) -> Result<Made, BookFault>
     requires ready { IsReady parts.now }
-    ensures { Makes parts.now (commands.DropHook url.now) now result }
+    ensures { MakesAnswer parts.now (commands.DropHook url.now) now result }
 {
     if parts.registry().outbox().find_hook(alloc, url)?.is_none() {
         return Ok(Made::unchanged(Reply::Done));

@@ -6,7 +6,7 @@ ghost use Rattle.media_rows.specs.Moments.{is_moment};
 ghost use Rattle.media_rows.specs.Sound.{is_good_command};
 ghost use Rattle.media_rows.specs.Views.{asked};
 ghost use Rattle.store_core.specs.Prepared.{AppliesTo, IsGiven, prepared_of};
-ghost use Rattle.store_core.specs.Within.{Makes, prepared_step};
+ghost use Rattle.store_core.specs.Within.{MakesAnswer, prepared_step};
 
 use crate::Core;
 use crate::commands::{
@@ -84,7 +84,7 @@ fn made(alloc: Global, parts: &Parts, command: &Command, now: u64) -> Result<Mad
     requires changing { asked parts.now command.now ≡ None }
     requires good { IsTrue (is_good_command parts.now command.now) }
     requires moment { IsTrue (is_moment now) }
-    ensures { Makes parts.now command.now now result }
+    ensures { MakesAnswer parts.now command.now now result }
 {
     good_is_ready();
     match command {

@@ -15,7 +15,7 @@ use Rattle.store_states.proofs.Folding.{fold_push, one_step}
 use Rattle.store_opening.specs.declared.fault.OpenFault.{OpenFault}
 use Rattle.store_opening.specs.declared.fault.OpenFault.TheVariants.{Damaged, Memory}
 use Rattle.store_opening.specs.Opening.{IsNoStep, IsRefusedAt}
-use Rattle.store_opening.specs.Within.{OnDamaged}
+use Rattle.store_opening.specs.Within.{AtDamage}
 
 -- ---- one record
 
@@ -48,8 +48,8 @@ split_at rs i r within is =
 
 -- the first record that makes nothing is the refused one
 pub fold_refused : (rs : List Record) (i : ℕ) (r : Record) (first from : Library) (fault : OpenFault) → i < length rs → r ≡ get_or rs i r
-    → Folds (take i rs) first from → OnDamaged {X = Library} (Err fault) (λ at. IsNoStep r.payload from)
-    → OnDamaged {X = Library} (Err fault) (λ at. at ≡ r.offset) → OnDamaged {X = Library} (Err fault) (IsRefusedAt rs first)
+    → Folds (take i rs) first from → AtDamage {X = Library} (Err fault) (λ at. IsNoStep r.payload from)
+    → AtDamage {X = Library} (Err fault) (λ at. at ≡ r.offset) → AtDamage {X = Library} (Err fault) (IsRefusedAt rs first)
 fold_refused rs i r first from (Damaged at) within is folds none place = record {
   front = take i rs;
   refused = r;

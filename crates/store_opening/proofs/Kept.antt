@@ -6,21 +6,21 @@ use Rattle.store_states.specs.Kept.{AgreesWith, StoreView}
 use Rattle.store_states.specs.States.{held_in, media_start}
 use Rattle.store_states.proofs.Agreeing.{image_stands}
 use Rattle.store_opening.specs.Laws.{KeptStands}
-use Rattle.store_opening.specs.Opening.{IsKept, kept_bytes}
+use Rattle.store_opening.specs.Opening.{IsKept, bytes_in_image}
 
 -- the header's half is the journal's
 bytes_are : (image : List ℕ) (kept : StoreView) (is : IsKept image kept)
-    → held_in image (media_start is.header.half) kept.library.objects ≡ kept_bytes image kept
+    → held_in image (media_start is.header.half) kept.library.objects ≡ bytes_in_image image kept
 bytes_are image kept is =
     ap (λ (half : ℕ). held_in image (media_start half) kept.library.objects) (sym is.gives.half.half_blocks)
 
 pub kept_stands : KeptStands
 kept_stands image kept is =
-    image_stands kept (kept_bytes image kept) is.header is.text is.records is.makes image is.gives (bytes_are image kept is)
+    image_stands kept (bytes_in_image image kept) is.header is.text is.records is.makes image is.gives (bytes_are image kept is)
 
 -- where the image is the only one that a crash now may leave, what is kept of it agrees with the device
 pub kept_agrees : (image : List ℕ) (d : Device) (kept : StoreView) → LeavesOnly image d → IsKept image kept
-    → AgreesWith d kept (kept_bytes image kept)
+    → AgreesWith d kept (bytes_in_image image kept)
 kept_agrees image d kept settled is = record {
   header = is.header;
   text = is.text;

@@ -12,7 +12,7 @@ use Rattle.store_states.specs.States.{Folds, IsSnapshot, blocks_before}
 use Rattle.store_opening.specs.declared.fault.OpenFault.{OpenFault}
 use Rattle.store_opening.specs.declared.fault.OpenFault.TheVariants.{Damaged, Memory}
 use Rattle.store_opening.specs.Opening.{IsKept, IsRefusedAt, InJournal, InRow, InRows, InRecord, InTorn, StoreAnswer, StoreDamagedAt}
-use Rattle.store_opening.specs.Within.{HasWrongRows, OnDamaged, PartAnswer, as_journal_fault}
+use Rattle.store_opening.specs.Within.{RowsMakeNoLibrary, AtDamage, PartAnswer, opening_fault}
 use Rattle.store_opening.proofs.Halves.{opened_half, opened_torn, opened_whole, rows_within}
 use Rattle.store_opening.proofs.Texts.{row_within, text_of_none}
 
@@ -25,7 +25,7 @@ journal_fault image journal.Memory fault = tt
 
 -- a fault in what was opened
 pub part_fault : (image : List ℕ) (o : Opened) (fault : OpenFault) → IsOpened image o → PartAnswer image (Err fault)
-    → StoreAnswer image (Err (as_journal_fault fault))
+    → StoreAnswer image (Err (opening_fault fault))
 part_fault image o (Damaged at) is damage = (is.store, damage)
 part_fault image o Memory is damage = tt
 
@@ -33,7 +33,7 @@ part_fault image o Memory is damage = tt
 
 -- a row is damaged
 pub damaged_row : (image : List ℕ) (o : Opened) (row at : ℕ) → IsOpened image o → IsDamagedAt o.rows row
-    → (o.rows_at + row < 2 ^ 63 → at ≡ o.rows_at + row) → HasWrongRows image at
+    → (o.rows_at + row < 2 ^ 63 → at ≡ o.rows_at + row) → RowsMakeNoLibrary image at
 damaged_row image o row at is damaged place = inl record {
   header = header_of o;
   text = o.rows;
@@ -46,7 +46,7 @@ damaged_row image o row at is damaged place = inl record {
 
 -- the rows are others
 pub other_rows : (image : List ℕ) (o : Opened) (blocks : ℕ) (rows : List Row) (at : ℕ) → IsOpened image o → blocks ≡ o.blocks - blocks_before o.half
-    → SpellsRows o.rows rows → are_rows_of_good o.id blocks rows ≡ false → (8 ≤ o.rows_at → at + 8 ≡ o.rows_at) → HasWrongRows image at
+    → SpellsRows o.rows rows → are_rows_of_good o.id blocks rows ≡ false → (8 ≤ o.rows_at → at + 8 ≡ o.rows_at) → RowsMakeNoLibrary image at
 other_rows image o blocks rows at is count spells wrong place = inr record {
   header = header_of o;
   text = o.rows;
@@ -58,14 +58,14 @@ other_rows image o blocks rows at is count spells wrong place = inr record {
   place = omega (arith, place (omega (arith, is.rows_at)), is.rows_at);
 }
 
-pub rows_fault : (image : List ℕ) (fault : OpenFault) → OnDamaged {X = Library} (Err fault) (HasWrongRows image) → PartAnswer image (Err fault)
+pub rows_fault : (image : List ℕ) (fault : OpenFault) → AtDamage {X = Library} (Err fault) (RowsMakeNoLibrary image) → PartAnswer image (Err fault)
 rows_fault image (Damaged at) wrong = elim wrong [ inl row ↦ InRow row | inr rows ↦ InRows rows ]
 rows_fault image Memory wrong = tt
 
 -- ---- records
 
 pub records_fault : (image : List ℕ) (o : Opened) (first : Library) (fault : OpenFault) → IsOpened image o → IsSnapshot (header_of o) o.rows first
-    → OnDamaged {X = Library} (Err fault) (IsRefusedAt o.found first) → PartAnswer image (Err fault)
+    → AtDamage {X = Library} (Err fault) (IsRefusedAt o.found first) → PartAnswer image (Err fault)
 records_fault image o first (Damaged at) is snapshot refused = InRecord record {
   header = header_of o;
   text = o.rows;

@@ -3,7 +3,7 @@ use Rattle.std.specs.Prelude.{◌≡◌, ℕ, List}
 use Rattle.media_journal.specs.Opening.{IsStore}
 use Rattle.store_states.specs.Kept.{StoreView, kept_state}
 use Rattle.store_states.specs.States.{StandsFor, StoreState}
-use Rattle.store_opening.specs.Opening.{IsKept, StoreDamagedAt, kept_bytes}
+use Rattle.store_opening.specs.Opening.{IsKept, StoreDamagedAt, bytes_in_image}
 
 -- an image that is damaged stands for no state
 abbrev pub DamagedStandsForNone : Type 0
@@ -20,4 +20,4 @@ IsOneDamage =
 abbrev pub KeptStands : Type 0
 KeptStands =
     (image : List ℕ) (kept : StoreView)
-    → IsKept image kept → StandsFor image (kept_state kept (kept_bytes image kept))
+    → IsKept image kept → StandsFor image (kept_state kept (bytes_in_image image kept))

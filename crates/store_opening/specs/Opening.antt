@@ -25,16 +25,16 @@ pub record IsKept (image : List ℕ) (kept : StoreView) : Type 0 where
   pub makes : Makes header text records kept.library
 
 -- what a store keeps that was opened
-abbrev pub kept_of : OpenedStore → StoreView
-kept_of store = record { library = store.core; journal = store.journal }
+abbrev pub view_of_opened : OpenedStore → StoreView
+view_of_opened store = record { library = store.core; journal = store.journal }
 
 -- the library has the media blocks of its file: all but those before them
 abbrev pub HasItsBlocks : OpenedStore → Type 0
 HasItsBlocks store = store.core.blocks ≡ store.journal.blocks - blocks_before store.journal.half
 
 -- the bytes in the image of the objects of what is kept
-abbrev pub kept_bytes : List ℕ → StoreView → List (List ℕ)
-kept_bytes image kept = held_in image (media_start kept.journal.half) kept.library.objects
+abbrev pub bytes_in_image : List ℕ → StoreView → List (List ℕ)
+bytes_in_image image kept = held_in image (media_start kept.journal.half) kept.library.objects
 
 -- ---- where an image is damaged
 
@@ -115,7 +115,7 @@ pub data StoreDamagedAt (image : List ℕ) (at : ℕ) : Type 0 where
 -- What opening answers over an image: the library and the journal that it has, `NotStore` where it
 -- is no store, and `Damaged` with the offset at which it is damaged.
 abbrev pub StoreAnswer : List ℕ → Result OpenedStore JournalFault → Type 0
-StoreAnswer image (Ok store) = IsKept image (kept_of store)
+StoreAnswer image (Ok store) = IsKept image (view_of_opened store)
 StoreAnswer image (Err NotStore) = ¬ (IsStore image)
 StoreAnswer image (Err (Damaged at)) = IsStore image × StoreDamagedAt image at
 StoreAnswer image (Err Disk) = Unit {0}

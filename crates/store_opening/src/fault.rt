@@ -14,7 +14,7 @@ pub(crate) enum OpenFault {
 }
 
 impl From<OpenFault> for JournalFault {
-    ghost use Rattle.store_opening.specs.Within.{as_journal_fault};
+    ghost use Rattle.store_opening.specs.Within.{opening_fault};
 
     ghost from_gives = { λ fault e. e ≡ as_journal_fault fault };
 

@@ -2,7 +2,7 @@
 ghost use Rattle.std.specs.Prelude.{◌≤◌, ◌+◌, ◌*◌, ℕ, List, IfOk};
 ghost use Rattle.media_journal.specs.Opening.{IsOpened, header_of};
 ghost use Rattle.store_states.specs.States.{IsSnapshot};
-ghost use Rattle.store_opening.specs.Within.{HasWrongRows, OnDamaged};
+ghost use Rattle.store_opening.specs.Within.{RowsMakeNoLibrary, AtDamage};
 
 use crate::fault::OpenFault;
 use media_journal::Opened;
@@ -16,7 +16,7 @@ pub(crate) fn library_of_rows(alloc: Global, opened: &Opened) -> Result<Core, Op
     requires { 2 * opened.now.half + 3 ≤ opened.now.blocks }
     ensures ok { IfOk result (IsSnapshot (header_of opened.now) opened.now.rows) }
     ensures damaged { (image : List ℕ) → IsOpened image opened.now
-        → OnDamaged result (HasWrongRows image) }
+        → AtDamage result (RowsMakeNoLibrary image) }
 {
     let rows = match read_rows(alloc, opened.rows.bytes()) {
         Ok(rows) => rows,

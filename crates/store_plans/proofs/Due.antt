@@ -14,7 +14,7 @@ use Rattle.store_core.specs.declared.prepare.Prepared.{Prepared}
 use Rattle.store_core.specs.Prepared.{AppliesTo, prepared_by, turned}
 use Rattle.store_plans.specs.declared.outcome.Planned.{Planned}
 use Rattle.store_plans.specs.Plans.{HasNoRoom, IsStepPlan}
-use Rattle.store_plans.specs.Within.{IsFitted, IsPreparedFor, is_delete_step, outcome_of}
+use Rattle.store_plans.specs.Within.{IsFitted, IsPreparedFor, is_delete_step, prepared_outcome}
 use Rattle.store_plans.proofs.Fitted.{fits_plan, made_for, outcome_is}
 
 -- ---- what was prepared of a turn
@@ -71,7 +71,7 @@ kind_of library moment change e =
 -- ---- its plan
 
 -- a change that doesn't fit
-pub no_room_due : (journal : State) (due : Option Change) (p : Prepared) → IsDue journal.library due p → IsFitted journal (outcome_of p) None
+pub no_room_due : (journal : State) (due : Option Change) (p : Prepared) → IsDue journal.library due p → IsFitted journal (prepared_outcome p) None
     → HasNoRoom journal due
 no_room_due journal due p is full = record {
   change = is.change;
@@ -80,7 +80,7 @@ no_room_due journal due p is full = record {
 }
 
 step_by : (journal : State) (due : Option Change) (p : Prepared) (planned : Planned) → (is : IsDue journal.library due p)
-    → IsFitted journal (outcome_of p) (Some planned) → IsStepPlan journal due is.change planned
+    → IsFitted journal (prepared_outcome p) (Some planned) → IsStepPlan journal due is.change planned
 step_by journal due p planned is plan =
     let fits : IsFitted journal (changed Done is.change) (Some planned) =
     subst (λ (o : Outcome). IsFitted journal o (Some planned)) (outcome_is journal.library (changed Done is.change) p is.made) plan in
@@ -94,7 +94,7 @@ prepared_kind library moment p is =
 
 -- a delete step, and a sweep
 pub delete_plan : (journal : State) (moment : ℕ) (p : Prepared) (planned : Planned) → turned journal.library moment ≡ Some p
-    → is_delete_step p.change ≡ true → IsFitted journal (outcome_of p) (Some planned)
+    → is_delete_step p.change ≡ true → IsFitted journal (prepared_outcome p) (Some planned)
     → IsStepPlan journal (turn journal.library moment) (changes.DeleteStep moment) planned
 delete_plan journal moment p planned e deletes plan =
     let is = due_of journal.library moment p e in
@@ -103,7 +103,7 @@ delete_plan journal moment p planned e deletes plan =
     subst (λ (c : Change). IsStepPlan journal (turn journal.library moment) c planned) kind (step_by journal (turn journal.library moment) p planned is plan)
 
 pub sweep_plan : (journal : State) (moment : ℕ) (p : Prepared) (planned : Planned) → turned journal.library moment ≡ Some p
-    → is_delete_step p.change ≡ false → IsFitted journal (outcome_of p) (Some planned)
+    → is_delete_step p.change ≡ false → IsFitted journal (prepared_outcome p) (Some planned)
     → IsStepPlan journal (turn journal.library moment) (changes.SweepStep moment) planned
 sweep_plan journal moment p planned e sweeps plan =
     let is = due_of journal.library moment p e in

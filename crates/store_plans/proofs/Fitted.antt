@@ -10,11 +10,11 @@ use Rattle.media_rows.specs.Answer.{Outcome, unchanged}
 use Rattle.media_rows.specs.Library.{Library}
 use Rattle.change_codec.specs.Fitting.{State}
 use Rattle.store_core.specs.declared.prepare.Prepared.{Prepared}
-use Rattle.store_core.specs.Prepared.{AppliesTo, is_past, prepared_by, prepared_of, unless_refused}
+use Rattle.store_core.specs.Prepared.{AppliesTo, would_pass_serials, prepared_by, prepared_of, unless_refused}
 use Rattle.store_states.specs.Fitting.{fitted_by}
 use Rattle.store_plans.specs.declared.outcome.Planned.{Planned}
 use Rattle.store_plans.specs.Plans.{IsPlanOf, IsPlanned}
-use Rattle.store_plans.specs.Within.{IsFitted, IsPreparedFor, fits_if, outcome_of, still}
+use Rattle.store_plans.specs.Within.{IsFitted, IsPreparedFor, fits_if, prepared_outcome, still}
 use Rattle.store_plans.proofs.Answered.{still_plan}
 
 -- ---- what was prepared
@@ -36,7 +36,7 @@ same_core library reply (Some change) e = absurd (cc)
 -- what is known of what an outcome makes
 pub made_for : (library : Library) (outcome : Outcome) (p : Prepared) → prepared_by library outcome ≡ p → AppliesTo library p → IsPreparedFor library p
 made_for library outcome p is applies = record {
-  past = subst (λ (q : Prepared). q.past ≡ is_past library q.change) is refl;
+  past = subst (λ (q : Prepared). q.past ≡ would_pass_serials library q.change) is refl;
   same = subst (λ (q : Prepared). q.change ≡ None → q.core ≡ library) is (same_core library outcome.reply outcome.change);
   applies = applies;
 }
@@ -46,8 +46,8 @@ pub prepared_is : (library : Library) (outcome : Outcome) (p : Prepared) → pre
 prepared_is library outcome p e = passed outcome.reply (prepared_by library outcome) p e
 
 -- and it is that outcome's
-pub outcome_is : (library : Library) (outcome : Outcome) (p : Prepared) → prepared_by library outcome ≡ p → outcome_of p ≡ outcome
-outcome_is library outcome p is = sym (ap outcome_of is)
+pub outcome_is : (library : Library) (outcome : Outcome) (p : Prepared) → prepared_by library outcome ≡ p → prepared_outcome p ≡ outcome
+outcome_is library outcome p is = sym (ap prepared_outcome is)
 
 -- ---- the answer in the journal
 
@@ -67,14 +67,14 @@ fits_plan journal outcome planned is =
 
 -- so what was prepared of an outcome is planned as that outcome
 pub prepared_plan : (journal : State) (outcome : Outcome) (p : Prepared) (planned : Planned) → prepared_of journal.library outcome ≡ Ok p
-    → IsFitted journal (outcome_of p) (Some planned) → IsPlanOf journal outcome planned
+    → IsFitted journal (prepared_outcome p) (Some planned) → IsPlanOf journal outcome planned
 prepared_plan journal outcome p planned e plan =
     fits_plan journal outcome planned
     (subst (λ (o : Outcome). IsFitted journal o (Some planned)) (outcome_is journal.library outcome p (prepared_is journal.library outcome p e)) plan)
 
 -- and where its change doesn't fit, the refusal is its plan
 pub prepared_full : (journal : State) (outcome : Outcome) (p : Prepared) (planned : Planned) → prepared_of journal.library outcome ≡ Ok p
-    → IsFitted journal (outcome_of p) None → planned ≡ still journal.library (replies.Refused JournalFull) → IsPlanOf journal outcome planned
+    → IsFitted journal (prepared_outcome p) None → planned ≡ still journal.library (replies.Refused JournalFull) → IsPlanOf journal outcome planned
 prepared_full journal outcome p planned e full is =
     let none : fits_if journal outcome.change ≡ false =
     subst (λ (o : Outcome). IsFitted journal o None) (outcome_is journal.library outcome p (prepared_is journal.library outcome p e)) full in

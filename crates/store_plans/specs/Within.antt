@@ -15,7 +15,7 @@ use Rattle.change_codec.specs.Codec.{SpellsChange}
 use Rattle.change_codec.specs.Fitting.{State, fits, fits_behind_rows, fits_room, snapshot_size}
 use Rattle.media_journal.specs.Journal.{Position}
 use Rattle.store_core.specs.declared.prepare.Prepared.{Prepared}
-use Rattle.store_core.specs.Prepared.{AppliesTo, is_past}
+use Rattle.store_core.specs.Prepared.{AppliesTo, would_pass_serials}
 use Rattle.store_states.specs.States.{IsTextOf}
 use Rattle.store_plans.specs.declared.outcome.Planned.{Planned}
 use Rattle.store_plans.specs.declared.outcome.Written.{Written}
@@ -49,7 +49,7 @@ abbrev pub has_room_behind : State → ℕ → Bool
 has_room_behind journal size = nat_le (snapshot_size journal.library + size + 14) journal.half
 
 -- the record of a payload behind the rows of the library
-pub record IsBehind (journal : State) (payload : List ℕ) (recorded : Recorded) : Type 0 where
+pub record IsRecordBehind (journal : State) (payload : List ℕ) (recorded : Recorded) : Type 0 where
   pub place : IsTrue (has_room_behind journal (length payload))
   pub frame : recorded.frame ≡ payload
   pub text : List ℕ
@@ -60,17 +60,17 @@ pub record IsBehind (journal : State) (payload : List ℕ) (recorded : Recorded)
 -- there is none exactly where a half has no room for both
 abbrev pub IsBehindRows : State → List ℕ → Option Recorded → Type 0
 IsBehindRows journal payload None = IsFalse (has_room_behind journal (length payload))
-IsBehindRows journal payload (Some recorded) = IsBehind journal payload recorded
+IsBehindRows journal payload (Some recorded) = IsRecordBehind journal payload recorded
 
 -- ---- the plan of what was prepared
 
 -- the outcome of which something was prepared
-abbrev pub outcome_of : Prepared → Outcome
-outcome_of prepared = record { reply = prepared.reply; change = prepared.change }
+abbrev pub prepared_outcome : Prepared → Outcome
+prepared_outcome prepared = record { reply = prepared.reply; change = prepared.change }
 
 -- what is known of what was prepared of a library
 pub record IsPreparedFor (library : Library) (prepared : Prepared) : Type 0 where
-  pub past : prepared.past ≡ is_past library prepared.change
+  pub past : prepared.past ≡ would_pass_serials library prepared.change
   pub same : prepared.change ≡ None → prepared.core ≡ library
   pub applies : AppliesTo library prepared
 
@@ -103,9 +103,9 @@ abbrev pub still : Library → Reply → Planned
 still library reply = record { next = library; frame = None; rows = None; reply = reply }
 
 -- the plan of a command that asks, which leaves the library as it is
-abbrev pub IsShown : Option (Result View Refusal) → Library → Planned → Type 0
-IsShown None library planned = ⊥
-IsShown (Some shown) library planned = planned ≡ still library (shown_reply shown)
+abbrev pub IsAskedPlan : Option (Result View Refusal) → Library → Planned → Type 0
+IsAskedPlan None library planned = ⊥
+IsAskedPlan (Some shown) library planned = planned ≡ still library (shown_reply shown)
 
 -- ---- turns and puts
 

@@ -5,7 +5,7 @@ ghost use Rattle.media_rows.specs.Moments.{is_moment};
 ghost use Rattle.media_rows.specs.Sound.{is_good_command};
 ghost use Rattle.media_rows.specs.Views.{asked, is_asking};
 ghost use Rattle.store_plans.specs.Plans.{IsPlanOf, PlanFits, journal_in};
-ghost use Rattle.store_plans.specs.Within.{IsShown};
+ghost use Rattle.store_plans.specs.Within.{IsAskedPlan};
 
 use crate::outcome::{Planned, fitted, unchanged};
 use disk_trait::Memory;
@@ -44,7 +44,7 @@ pub fn plan(
 /// The plan of a command that asks: what it shows, or its refusal.
 fn plan_query(alloc: Global, library: &Core, command: &Command) -> Result<Planned, Memory>
     requires asking { IsTrue (is_asking command.now) }
-    ensures { IfOk result (IsShown (asked library.now command.now) library.now) }
+    ensures { IfOk result (IsAskedPlan (asked library.now command.now) library.now) }
 {
     match library.query(alloc, command) {
         Ok(reply) => Ok(unchanged(library, reply)?),

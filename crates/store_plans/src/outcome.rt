@@ -1,7 +1,7 @@
 //! The plan of an outcome that was prepared.
 ghost use Rattle.std.specs.Prelude.{◌≡◌, IfOk, IfSome, option_map};
 ghost use Rattle.store_plans.specs.Plans.{PlanFits, journal_in};
-ghost use Rattle.store_plans.specs.Within.{IsFitted, IsPreparedFor, WrittenFits, outcome_of, plan_with, still};
+ghost use Rattle.store_plans.specs.Within.{IsFitted, IsPreparedFor, WrittenFits, prepared_outcome, plan_with, still};
 
 use crate::room::{Recorded, record_of};
 use disk_trait::{Memory, Text};
@@ -48,7 +48,7 @@ pub(crate) fn fitted(
     prepared: Prepared,
 ) -> Result<Option<Planned>, Memory>
     requires { IsPreparedFor library.now prepared }
-    ensures plan { IfOk result (IsFitted (journal_in library.now journal.now) (outcome_of prepared)) }
+    ensures plan { IfOk result (IsFitted (journal_in library.now journal.now) (prepared_outcome prepared)) }
     ensures fits { IfOk result (λ planned. IfSome planned (PlanFits journal.now)) }
 {
     match written_of(alloc, library, journal, &prepared)? {
@@ -66,7 +66,7 @@ fn written_of(
 ) -> Result<Option<Written>, Memory>
     requires { IsPreparedFor library.now prepared.now }
     ensures plan { IfOk result (λ written. IsFitted (journal_in library.now journal.now)
-        (outcome_of prepared.now) (option_map (plan_with prepared.now) written)) }
+        (prepared_outcome prepared.now) (option_map (plan_with prepared.now) written)) }
     ensures fits { IfOk result (λ written. IfSome written (WrittenFits journal.now)) }
 {
     let Some(change) = &prepared.change else {

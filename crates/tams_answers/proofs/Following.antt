@@ -9,16 +9,16 @@ use Rattle.media_rows.specs.declared.object.ObjectState.{ObjectState}
 use Rattle.media_rows.specs.declared.object.ObjectState.TheVariants.{Allocated, Stored}
 use Rattle.media_rows.specs.declared.refusal.Refusal.{Refusal}
 use Rattle.media_rows.specs.declared.reply.Reply.{Reply}
-use Rattle.media_rows.specs.Answer.{media_of, media_reply}
+use Rattle.media_rows.specs.Answer.{media_answer, media_reply}
 use Rattle.media_rows.specs.Media.{Archive}
 use Rattle.media_rows.specs.Objects.{bytes_of, object_of}
 use Rattle.store_states.specs.States.{StoreState, held_in, state_bytes}
 use Rattle.media_store.specs.Stores.{extent_in, extent_of}
 use Rattle.tams_http.specs.declared.ask.Ask.{Ask}
 use Rattle.tams_http.specs.declared.ask.Ask.TheVariants.{GetMedia, PutMedia, Run}
-use Rattle.tams_machine.specs.Answers.{asked_by, object_bytes, outcome_by}
+use Rattle.tams_machine.specs.Answers.{asked_in, object_bytes, outcome_by}
 use Rattle.tams_machine.specs.Requests.{is_head_only}
-use Rattle.tams_answers.specs.Answers.{MediaFollows, media_by, media_bytes}
+use Rattle.tams_answers.specs.Answers.{MediaFollows, media_by, following_bytes}
 
 -- the bytes of an object in an image, if it is kept
 abbrev row_bytes : List ℕ → ℕ → Option ObjectRow → List ℕ
@@ -40,18 +40,18 @@ found_bytes image area object (row ∷ rows) =
 
 by_state : (archive : Archive) (object : List ℕ) (image : List ℕ) (area : ℕ) (state : ObjectState)
     → bytes_of object archive.library.objects archive.held ≡ state_bytes image area state
-    → object_bytes archive (Ok (GetMedia object)) (media_of state) ≡ media_bytes area (extent_in state) image
+    → object_bytes archive (Ok (GetMedia object)) (media_answer state) ≡ following_bytes area (extent_in state) image
 by_state archive object image area Allocated e = refl
 by_state archive object image area (Stored start size) e = e
 
 by_row : (archive : Archive) (object : List ℕ) (image : List ℕ) (area : ℕ) (row : Option ObjectRow)
     → bytes_of object archive.library.objects archive.held ≡ row_bytes image area row
-    → object_bytes archive (Ok (GetMedia object)) (media_reply row) ≡ media_bytes area (extent_of row) image
+    → object_bytes archive (Ok (GetMedia object)) (media_reply row) ≡ following_bytes area (extent_of row) image
 by_row archive object image area None e = refl
 by_row archive object image area (Some row) e = by_state archive object image area row.state e
 
-unless_head : (head_only : Bool) (bytes : List ℕ) (extent : Option Extent) (area : ℕ) (image : List ℕ) → bytes ≡ media_bytes area extent image
-    → body_unless head_only bytes ≡ media_bytes area (if head_only then None else extent) image
+unless_head : (head_only : Bool) (bytes : List ℕ) (extent : Option Extent) (area : ℕ) (image : List ℕ) → bytes ≡ following_bytes area extent image
+    → body_unless head_only bytes ≡ following_bytes area (if head_only then None else extent) image
 unless_head true bytes extent area image e = refl
 unless_head false bytes extent area image e = e
 
@@ -61,7 +61,7 @@ no_body false = refl
 
 follows : (s : StoreState) (body : List ℕ) (moment : ℕ) (head_only : Bool) (reply : Reply) (area : ℕ) (image : List ℕ) (asked : Result Ask Refusal)
     → held_in image area s.archive.library.objects ≡ s.archive.held → reply ≡ (outcome_by s body moment asked).reply
-    → body_unless head_only (object_bytes s.archive asked reply) ≡ media_bytes area (media_by s.archive.library head_only asked) image
+    → body_unless head_only (object_bytes s.archive asked reply) ≡ following_bytes area (media_by s.archive.library head_only asked) image
 follows s body moment head_only reply area image (Err why) held is = no_body head_only
 follows s body moment head_only reply area image (Ok (Run command)) held is = no_body head_only
 follows s body moment head_only reply area image (Ok (PutMedia object)) held is = no_body head_only
@@ -74,5 +74,5 @@ follows s body moment head_only reply area image (Ok (GetMedia object)) held is 
 
 pub media_follows : MediaFollows
 media_follows base s r moment answer area image answers held =
-    follows s r.body moment (is_head_only (method_kind r.head.method)) answer.planned.reply area image (asked_by s r) held answers.planned.reply
-    ∙ ap (λ (extent : Option Extent). media_bytes area extent image) (sym answers.media)
+    follows s r.body moment (is_head_only (method_kind r.head.method)) answer.planned.reply area image (asked_in s r) held answers.planned.reply
+    ∙ ap (λ (extent : Option Extent). following_bytes area extent image) (sym answers.media)

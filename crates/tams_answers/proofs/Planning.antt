@@ -10,7 +10,7 @@ use Rattle.media_rows.specs.declared.object.ObjectRow.{ObjectRow}
 use Rattle.media_rows.specs.declared.object.ObjectState.{ObjectState}
 use Rattle.media_rows.specs.declared.object.ObjectState.TheVariants.{Allocated, Stored}
 use Rattle.media_rows.specs.declared.reply.Reply.{Reply}
-use Rattle.media_rows.specs.Answer.{answer, media_of, media_reply, unchanged}
+use Rattle.media_rows.specs.Answer.{answer, media_answer, media_reply, unchanged}
 use Rattle.media_rows.specs.Good.{Good}
 use Rattle.media_rows.specs.Library.{Library}
 use Rattle.media_rows.specs.Moments.{is_moment}
@@ -53,7 +53,7 @@ command_planned kept command moment head_only planned answers fits good at fine 
 
 -- ---- the bytes of an object
 
-replied_by : (state : ObjectState) → reply_at (extent_in state) ≡ media_of state
+replied_by : (state : ObjectState) → reply_at (extent_in state) ≡ media_answer state
 replied_by Allocated = refl
 replied_by (Stored start size) = refl
 

@@ -17,18 +17,18 @@ use Rattle.tams_http.specs.Answered.{response_to}
 use Rattle.tams_http.specs.declared.ask.Ask.{Ask}
 use Rattle.tams_http.specs.declared.ask.Ask.TheVariants.{GetMedia}
 use Rattle.tams_machine.specs.Requests.{TamsRequest, context_of, is_head_only}
-use Rattle.tams_machine.specs.Answers.{asked_by, journal_of, object_bytes, outcome_of}
+use Rattle.tams_machine.specs.Answers.{asked_in, journal_of_state, object_bytes, outcome_of}
 use Rattle.tams_answers.specs.declared.answers.Answer.{Answer}
 
 -- the parts of a request by which it is answered
-pub record Sent : Type 0 where
+pub record SentRequest : Type 0 where
   pub method : MethodKind
   pub target : List ℕ
   pub body : List ℕ
   pub ends : Bool
 
 -- the machine's request has these parts
-pub record IsSent (sent : Sent) (r : TamsRequest) : Type 0 where
+pub record IsSent (sent : SentRequest) (r : TamsRequest) : Type 0 where
   pub method : method_kind r.head.method ≡ sent.method
   pub target : r.head.target ≡ sent.target
   pub body : r.body ≡ sent.body
@@ -43,26 +43,26 @@ media_by library head_only asked = None
 
 -- The plan of a request's answer in a state, at a moment: the machine's outcome, which brings no
 -- bytes of an object, with its response.
-pub record Answers (base : List ℕ) (s : StoreState) (r : TamsRequest) (moment : ℕ)
+pub record AnswersRequest (base : List ℕ) (s : StoreState) (r : TamsRequest) (moment : ℕ)
     (answer : Answer) : Type 0 where
-  pub planned : IsPlanned (journal_of s) (outcome_of s r moment) answer.planned
+  pub planned : IsPlanned (journal_of_state s) (outcome_of s r moment) answer.planned
   pub bare : IsFalse (stores (outcome_of s r moment).change)
   pub response : answer.response
       ≡ response_to (context_of s.archive.library.id base r) answer.planned.reply
   pub media : answer.media
-      ≡ media_by s.archive.library (is_head_only (method_kind r.head.method)) (asked_by s r)
+      ≡ media_by s.archive.library (is_head_only (method_kind r.head.method)) (asked_in s r)
 
 -- the bytes in an image that follow a response, where the media blocks begin here
-abbrev pub media_bytes : ℕ → Option Extent → List ℕ → List ℕ
-media_bytes area None image = []
-media_bytes area (Some extent) image = extent_bytes area extent image
+abbrev pub following_bytes : ℕ → Option Extent → List ℕ → List ℕ
+following_bytes area None image = []
+following_bytes area (Some extent) image = extent_bytes area extent image
 
 -- Those of an image with the bytes of the state's objects are what the machine's answer has behind
 -- its response.
 abbrev pub MediaFollows : Type 0
 MediaFollows = (base : List ℕ) (s : StoreState) (r : TamsRequest) (moment : ℕ) (answer : Answer)
-    (area : ℕ) (image : List ℕ) → Answers base s r moment answer
+    (area : ℕ) (image : List ℕ) → AnswersRequest base s r moment answer
     → held_in image area s.archive.library.objects ≡ s.archive.held
     → body_unless (is_head_only (method_kind r.head.method))
-    (object_bytes s.archive (asked_by s r) answer.planned.reply)
-    ≡ media_bytes area answer.media image
+    (object_bytes s.archive (asked_in s r) answer.planned.reply)
+    ≡ following_bytes area answer.media image

@@ -11,7 +11,7 @@ use Rattle.store_states.specs.Kept.{StoreView, kept_state}
 use Rattle.tams_http.specs.Answered.{response_to}
 use Rattle.tams_http.specs.declared.ask.Ask.TheVariants.{PutMedia}
 use Rattle.tams_machine.specs.Requests.{TamsRequest, context_of}
-use Rattle.tams_machine.specs.Answers.{asked_by}
+use Rattle.tams_machine.specs.Answers.{asked_in}
 use Rattle.tams_answers.specs.declared.media.Responses.{Responses}
 
 -- the head of a media PUT, by what it is answered
@@ -37,7 +37,7 @@ response_by responses reply = responses.reply
 pub record IsMediaRefused (base : List ℕ) (store : ℕ) (r : TamsRequest) (kept : StoreView)
     (response : List ℕ) : Type 0 where
   pub why : Refusal
-  pub asked : (held : List (List ℕ)) → asked_by (kept_state kept held) r ≡ Err why
+  pub asked : (held : List (List ℕ)) → asked_in (kept_state kept held) r ≡ Err why
   pub response_is : response ≡ response_to (context_of store base r) (Refused why)
 
 -- It asks for a put of an object's bytes, which has begun, and there is the response to each reply
@@ -45,7 +45,7 @@ pub record IsMediaRefused (base : List ℕ) (store : ℕ) (r : TamsRequest) (kep
 pub record IsMediaBegun (base : List ℕ) (store : ℕ) (r : TamsRequest) (moment : ℕ)
     (kept : StoreView) (put : PutSeen) (responses : Responses) : Type 0 where
   pub object : List ℕ
-  pub asked : (held : List (List ℕ)) → asked_by (kept_state kept held) r ≡ Ok (PutMedia object)
+  pub asked : (held : List (List ℕ)) → asked_in (kept_state kept held) r ≡ Ok (PutMedia object)
   pub begun : HasBegun kept object (length r.body) moment put
   pub response_is : (same : Bool)
       → response_by responses (put_reply (record put { same = same }) put.plan)

@@ -8,7 +8,7 @@ ghost use Rattle.media_store.specs.Pieces.{IsExtent};
 ghost use Rattle.tams_http.specs.Asked.{ask_of};
 ghost use Rattle.tams_http.specs.declared.ask.Ask.TheVariants.{PutMedia};
 ghost use Rattle.tams_machine.specs.Requests.{TamsRequest};
-ghost use Rattle.tams_answers.specs.Answers.{Answers, IsSent};
+ghost use Rattle.tams_answers.specs.Answers.{AnswersRequest, IsSent};
 
 use crate::plans::{Made, is_head_only, plan_asked};
 use disk_trait::{Memory, Text};
@@ -62,7 +62,7 @@ pub fn plan_answer(
           target = request.now.target.now;
           body = request.now.body.now;
           ends = request.now.ends;
-        }) r → Answers base.now (kept_state store.now.kept held) r now answer) }
+        }) r → AnswersRequest base.now (kept_state store.now.kept held) r now answer) }
     ensures ready { IfOk result (λ answer. CanCommit store.now.kept answer.planned) }
     ensures media { IfOk result (λ answer. IfSome answer.media (IsExtent store.now.kept.library)) }
 {

@@ -25,14 +25,14 @@ use Rattle.media_rows.specs.Media.{answer_to}
 use Rattle.media_rows.specs.Moments.{is_moment}
 use Rattle.run_history.specs.Machine.{Failure, BeforeAnswer, InAnswer, InTurn}
 use Rattle.run_history.specs.Sessions.{Session, after_steps, all_changes, all_moments, changes_of, moments_of}
-use Rattle.run_history.specs.Steps.{Answered, Ask, Cut, Refused, Stage, Starved, Step, Stopped, after_step, answered, effect, is_made, last_or, stopped}
+use Rattle.run_history.specs.Steps.{Answered, TakenRequest, Cut, Refused, Stage, Starved, Step, Stopped, stage_after, answered, effect, is_made, last_or, effect_of_stop}
 use Rattle.run_history.proofs.Growth.{stages_count}
 use Rattle.run_history.specs.Traces.{start_of, states_of, trace_of}
 use Rattle.store_states.specs.Fitting.{fitted_by}
 use Rattle.store_states.specs.States.{StoreState}
 use Rattle.tams_http.specs.declared.ask.Ask as asked
 use Rattle.tams_http.specs.declared.ask.Ask.TheVariants.{GetMedia, PutMedia, Run}
-use Rattle.tams_machine.specs.Answers.{answer_in, asked_by, journal_of, outcome_by, question_of, state_after, turn_in, turned_by}
+use Rattle.tams_machine.specs.Answers.{answer_in, asked_in, journal_of_state, outcome_by, question_of, state_with_change, turn_in, turned_by}
 use Rattle.tams_machine.specs.Laws.{RequestsSendBytes, is_sent}
 use Rattle.tams_machine.specs.Machine.{tams_machine}
 use Rattle.tams_machine.specs.Requests.{TamsRequest}
@@ -44,17 +44,17 @@ use Rattle.tams_histories.proofs.Following.{follows_change}
 
 -- a change of this state, by the bytes that came for it, is allowed where the state is good and the change fits
 abbrev Fine : StoreState → Change → Type 0
-Fine s change = IsGoodArchive s.archive → journals.fits (journal_of s) change ≡ true → is_allowed s.archive.library change ≡ true
+Fine s change = IsGoodArchive s.archive → journals.fits (journal_of_state s) change ≡ true → is_allowed s.archive.library change ≡ true
 
-fine_link : (s : StoreState) (change : Change) (came : List ℕ) → Fine s change → journals.fits (journal_of s) change ≡ true
-    → Link s (state_after s change came)
+fine_link : (s : StoreState) (change : Change) (came : List ℕ) → Fine s change → journals.fits (journal_of_state s) change ≡ true
+    → Link s (state_with_change s change came)
 fine_link s change came fine fits good = follows_change s.archive change came good (fine good fits)
 
 -- what fits the journal doesn't end the serials
-within : (s : StoreState) (change : Change) → journals.fits (journal_of s) change ≡ true → passes_serials change s.archive.library ≡ false
+within : (s : StoreState) (change : Change) → journals.fits (journal_of_state s) change ≡ true → passes_serials change s.archive.library ≡ false
 within s change fits =
     let low = (and_parts (nat_le (after change s.archive.library).next_serial last_serial)
-    (journals.fits_room (journal_of s) change || journals.fits_behind_rows (journal_of s) change) fits).0 in
+    (journals.fits_room (journal_of_state s) change || journals.fits_behind_rows (journal_of_state s) change) fits).0 in
     grind (arith, nat_tests, low)
 
 applies_fine : (s : StoreState) (change : Change) → (IsGoodArchive s.archive → AppliesWithin s.archive.library change) → Fine s change
@@ -62,14 +62,14 @@ applies_fine s change applies good fits = (applied_is_sound s.archive.library ch
 
 -- ---- answers
 
-if_fits : (s : StoreState) (came : List ℕ) (reply : Reply) (change : Change) (fit : Bool) → journals.fits (journal_of s) change ≡ fit → Fine s change
-    → IfSome (option_map (λ c. state_after s c came)
+if_fits : (s : StoreState) (came : List ℕ) (reply : Reply) (change : Change) (fit : Bool) → journals.fits (journal_of_state s) change ≡ fit → Fine s change
+    → IfSome (option_map (λ c. state_with_change s c came)
     (if fit then record { reply = reply; change = Some change } else unchanged (replies.Refused JournalFull)).change) (Link s)
 if_fits s came reply change true is fine = fine_link s change came fine is
 if_fits s came reply change false is fine = tt
 
 fitted_links : (s : StoreState) (came : List ℕ) (reply : Reply) (change : Option Change) → IfSome change (Fine s)
-    → IfSome (option_map (λ c. state_after s c came) (fitted_by (journal_of s) (record { reply = reply; change = change }) change).change) (Link s)
+    → IfSome (option_map (λ c. state_with_change s c came) (fitted_by (journal_of_state s) (record { reply = reply; change = change }) change).change) (Link s)
 fitted_links s came reply None fine = tt
 fitted_links s came reply (Some change) fine = if_fits s came reply change _ refl fine
 
@@ -110,8 +110,8 @@ no_place library (commands.Request serial) sent = tt
 
 -- ---- turns
 
-turn_if : (s : StoreState) (change : Change) (fit : Bool) → journals.fits (journal_of s) change ≡ fit → Fine s change
-    → IfSome (if fit then Some (state_after s change []) else None) (Link s)
+turn_if : (s : StoreState) (change : Change) (fit : Bool) → journals.fits (journal_of_state s) change ≡ fit → Fine s change
+    → IfSome (if fit then Some (state_with_change s change []) else None) (Link s)
 turn_if s change true is fine = fine_link s change [] fine is
 turn_if s change false is fine = tt
 
@@ -124,7 +124,7 @@ turned_links s (Some change) applies = turn_if s change _ refl (applies_fine s c
 
 module _ (sends : RequestsSendBytes) (allowed : AnswersAreAllowed) (turns : TurnsApply) where
   asked_links : (s : StoreState) (body : List ℕ) (moment : ℕ) → is_moment moment ≡ true → (asked : Result asked.Ask Refusal)
-      → IfOk asked (λ ask. IsTrue (is_sent ask)) → IfSome (option_map (λ c. state_after s c body) (outcome_by s body moment asked).change) (Link s)
+      → IfOk asked (λ ask. IsTrue (is_sent ask)) → IfSome (option_map (λ c. state_with_change s c body) (outcome_by s body moment asked).change) (Link s)
   asked_links s body moment at (Err refusal) sent = tt
   asked_links s body moment at (Ok (Run command)) sent =
       let outcome = answer_to s.archive (question_of (Run command) body) moment in
@@ -139,7 +139,7 @@ module _ (sends : RequestsSendBytes) (allowed : AnswersAreAllowed) (turns : Turn
   answer_links : (base : List ℕ) (r : TamsRequest) (moment : ℕ) (s : StoreState) → is_moment moment ≡ true
       → IfSome (answer_in base r moment s).change (Link s)
   answer_links base r moment s at =
-      asked_links s r.body moment at (asked_by s r) (sends s.archive.library.id (method_kind r.head.method) r.head.target r.body)
+      asked_links s r.body moment at (asked_in s r) (sends s.archive.library.id (method_kind r.head.method) r.head.target r.body)
 
   turn_links : (moment : ℕ) (s : StoreState) → is_moment moment ≡ true → IfSome (turn_in moment s) (Link s)
   turn_links moment s at = turned_links s (turn s.archive.library moment) (λ good. turns s.archive.library moment good.good at)
@@ -148,16 +148,16 @@ module _ (sends : RequestsSendBytes) (allowed : AnswersAreAllowed) (turns : Turn
     abbrev IsTime : ℕ → Type 0
     IsTime moment = is_moment moment ≡ true
 
-    answered_chain : (at : Stage StoreState) (ask : Ask TamsRequest) (made : Bool) → is_moment ask.moment ≡ true
+    answered_chain : (at : Stage StoreState) (ask : TakenRequest TamsRequest) (made : Bool) → is_moment ask.moment ≡ true
         → Chain at.state (answered (tams_machine base) at ask made).changes
     answered_chain at ask made time =
         let change = (answer_in base ask.request ask.moment at.state).change in
         chain_both at.state change (turn_in ask.moment (unwrap_or change at.state)) made
         (answer_links base ask.request ask.moment at.state time) (turn_links ask.moment (unwrap_or change at.state) time)
 
-    stopped_chain : (at : Stage StoreState) (ask : Ask TamsRequest) (failure : Failure)
-        → AllByRecursion IsTime (stopped (tams_machine base) at ask failure).moments
-        → Chain at.state (stopped (tams_machine base) at ask failure).changes
+    stopped_chain : (at : Stage StoreState) (ask : TakenRequest TamsRequest) (failure : Failure)
+        → AllByRecursion IsTime (effect_of_stop (tams_machine base) at ask failure).moments
+        → Chain at.state (effect_of_stop (tams_machine base) at ask failure).changes
     stopped_chain at ask (BeforeAnswer writing) times =
         chain_done at.state (answer_in base ask.request ask.moment at.state).change writing (answer_links base ask.request ask.moment at.state times.0)
     stopped_chain at ask InAnswer times = answered_chain at ask false times.0
@@ -177,7 +177,7 @@ module _ (sends : RequestsSendBytes) (allowed : AnswersAreAllowed) (turns : Turn
     steps_chain at (step ∷ steps) times =
         let parts = all_parts IsTime (effect (tams_machine base) at step).moments _ times in
         chain_append at.state (effect (tams_machine base) at step).changes _ (step_chain at step parts.0)
-        (steps_chain (after_step (tams_machine base) at step) steps parts.1)
+        (steps_chain (stage_after (tams_machine base) at step) steps parts.1)
 
     sessions_chain : (at : Stage StoreState) (sessions : List (Session TamsRequest)) → AllByRecursion IsTime (all_moments (tams_machine base) at sessions)
         → Chain at.state (all_changes (tams_machine base) at sessions)

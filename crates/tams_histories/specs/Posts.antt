@@ -9,17 +9,17 @@ use Rattle.media_rows.specs.Answer.{refusal_of}
 use Rattle.store_states.specs.States.{StoreState}
 use Rattle.tams_http.specs.Answered.{response_to}
 use Rattle.tams_http.specs.declared.ask.Ask.TheVariants.{Run}
-use Rattle.tams_machine.specs.Answers.{answer_in, asked_by, journal_of, state_after}
+use Rattle.tams_machine.specs.Answers.{answer_in, asked_in, journal_of_state, state_with_change}
 use Rattle.tams_machine.specs.Requests.{TamsRequest, context_of}
 
 -- Where a request asks for a post of segments that the library doesn't refuse, and whose change
 -- fits the journal, the answer is that they were created, and the state after it has them.
 abbrev pub PostsSucceed : Type 0
 PostsSucceed = (base : List ℕ) (r : TamsRequest) (moment : ℕ) (s : StoreState) (flow : ℕ)
-    (posts : List Segment) → asked_by s r ≡ Ok (Run (commands.AddSegments flow posts))
+    (posts : List Segment) → asked_in s r ≡ Ok (Run (commands.AddSegments flow posts))
     → refusal_of s.archive.library (commands.AddSegments flow posts) ≡ None
-    → IsTrue (fits (journal_of s) (changes.AddSegments moment flow posts))
+    → IsTrue (fits (journal_of_state s) (changes.AddSegments moment flow posts))
     → answer_in base r moment s ≡ record {
       bytes = response_to (context_of s.archive.library.id base r) Created;
-      change = Some (state_after s (changes.AddSegments moment flow posts) r.body);
+      change = Some (state_with_change s (changes.AddSegments moment flow posts) r.body);
     }

@@ -6,7 +6,7 @@ use Rattle.http_wire.specs.Heads.{whole}
 use Rattle.http_wire.specs.Requests.{Got, IsNext, given, opened}
 use Rattle.http_wire.proofs.Hearings.{next_unique, stays_decided}
 use Rattle.tams_machine.specs.Laws.{RequestsAreOne}
-use Rattle.tams_machine.specs.Requests.{IsWhole, ends_behind, media, other}
+use Rattle.tams_machine.specs.Requests.{IsWholeRequest, ends_behind, media, other}
 
 -- what stands at the front is what stands there of longer bytes too
 front_of_all : (text behind all : List ℕ) (got : Got) (n : ℕ) → IsNext text (whole got n) → n ≤ length text → text ++ behind ≡ all
@@ -19,7 +19,7 @@ same_front text later behind after is same =
     sym (take-append_seam later after) ∙ ap (λ n. take n (later ++ after)) same ∙ ap (take (length text)) (sym is) ∙ take-append_seam text behind
 
 same_request : (text later behind after : List ℕ) → text ++ behind ≡ later ++ after → (head head_later : RequestHead) (body body_later : List ℕ)
-    → IsWhole text head body → IsWhole later head_later body_later → (later ≡ text) × (head_later ≡ head) × (body_later ≡ body)
+    → IsWholeRequest text head body → IsWholeRequest later head_later body_later → (later ≡ text) × (head_later ≡ head) × (body_later ≡ body)
 same_request text later behind after is head head_later body body_later (media n next size is_body) (media m next_later size_later is_body_later) =
     let one : whole (opened head (length body)) n ≡ whole (opened head_later (length body_later)) m =
     next_unique (text ++ behind) _ _ (front_of_all text behind (text ++ behind) _ n next omega (arith, size) refl)

@@ -32,7 +32,7 @@ use Rattle.store_states.specs.Fitting.{fitted_by}
 use Rattle.store_states.specs.States.{StoreState}
 use Rattle.tams_http.specs.declared.ask.Ask.{Ask}
 use Rattle.tams_http.specs.declared.ask.Ask.TheVariants.{GetMedia, PutMedia, Run}
-use Rattle.tams_machine.specs.Answers.{journal_of, outcome_by, question_of, state_after, turned_by}
+use Rattle.tams_machine.specs.Answers.{journal_of_state, outcome_by, question_of, state_with_change, turned_by}
 use Rattle.tams_machine.specs.Laws.{KeepsBytes, is_sent}
 
 -- ---- one change
@@ -43,15 +43,15 @@ pub record Kept (s next : StoreState) : Type 0 where
   pub bytes : KeepsBytes s next
 
 -- what fits the journal doesn't end the serials
-within : (s : StoreState) (change : Change) → journals.fits (journal_of s) change ≡ true → passes_serials change s.archive.library ≡ false
+within : (s : StoreState) (change : Change) → journals.fits (journal_of_state s) change ≡ true → passes_serials change s.archive.library ≡ false
 within s change fit =
     let low = (and_parts (nat_le (after change s.archive.library).next_serial last_serial)
-    (journals.fits_room (journal_of s) change || journals.fits_behind_rows (journal_of s) change) fit).0 in
+    (journals.fits_room (journal_of_state s) change || journals.fits_behind_rows (journal_of_state s) change) fit).0 in
     grind (arith, nat_tests, low)
 
 -- a change that applies and fits keeps a good state
 kept : (s : StoreState) (change : Change) (came : List ℕ) → IsGoodArchive s.archive → AppliesWithin s.archive.library change
-    → journals.fits (journal_of s) change ≡ true → fits_bytes change came ≡ true → Kept s (state_after s change came)
+    → journals.fits (journal_of_state s) change ≡ true → fits_bytes change came ≡ true → Kept s (state_with_change s change came)
 kept s change came good applies fit size =
     let was : WasSound s.archive.library change (after change s.archive.library) =
     applied_is_sound s.archive.library change _ (applies (within s change fit)) in
@@ -139,17 +139,17 @@ questions_take s (GetMedia object) body moment good at sent = tt
 
 -- the change of an outcome leaves what is kept
 abbrev Leaves : StoreState → List ℕ → Outcome → Type 0
-Leaves s came outcome = IfSome outcome.change (λ change. Kept s (state_after s change came))
+Leaves s came outcome = IfSome outcome.change (λ change. Kept s (state_with_change s change came))
 
 if_fits : (s : StoreState) (came : List ℕ) (reply : Reply) (change : Change) (fit : Bool) → IsGoodArchive s.archive
-    → AppliesWithin s.archive.library change → fits_bytes change came ≡ true → journals.fits (journal_of s) change ≡ fit
+    → AppliesWithin s.archive.library change → fits_bytes change came ≡ true → journals.fits (journal_of_state s) change ≡ fit
     → Leaves s came (if fit then record { reply = reply; change = Some change } else unchanged (replies.Refused JournalFull))
 if_fits s came reply change true good applies size is = kept s change came good applies is size
 if_fits s came reply change false good applies size is = tt
 
 fitted_leaves : (s : StoreState) (came : List ℕ) (reply : Reply) (change : Option Change) → IsGoodArchive s.archive
     → IfSome change (AppliesWithin s.archive.library) → IfSome change (λ c. fits_bytes c came ≡ true)
-    → Leaves s came (fitted_by (journal_of s) (record { reply = reply; change = change }) change)
+    → Leaves s came (fitted_by (journal_of_state s) (record { reply = reply; change = change }) change)
 fitted_leaves s came reply None good applies size = tt
 fitted_leaves s came reply (Some change) good applies size = if_fits s came reply change _ good applies size refl
 
@@ -163,8 +163,8 @@ asked_keeps s body moment (Ok ask) good at fine sent =
     (questions_take s ask body moment good at sent)
 
 -- what holds of the state after each change holds of the next state
-pub next_is : (P : StoreState → Type 0) (s : StoreState) (came : List ℕ) (change : Option Change) → IfSome change (λ c. P (state_after s c came))
-    → IfSome (option_map (λ c. state_after s c came) change) P
+pub next_is : (P : StoreState → Type 0) (s : StoreState) (came : List ℕ) (change : Option Change) → IfSome change (λ c. P (state_with_change s c came))
+    → IfSome (option_map (λ c. state_with_change s c came) change) P
 next_is P s came None h = tt
 next_is P s came (Some change) h = h
 
@@ -183,8 +183,8 @@ steps_take false true moment = refl
 steps_take false false moment = tt
 
 turn_if : (s : StoreState) (change : Change) (fit : Bool) → IsGoodArchive s.archive → AppliesWithin s.archive.library change
-    → fits_bytes change [] ≡ true → journals.fits (journal_of s) change ≡ fit
-    → IfSome (if fit then Some (state_after s change []) else None) (Kept s)
+    → fits_bytes change [] ≡ true → journals.fits (journal_of_state s) change ≡ fit
+    → IfSome (if fit then Some (state_with_change s change []) else None) (Kept s)
 turn_if s change true good applies size is = kept s change [] good applies is size
 turn_if s change false good applies size is = tt
 

@@ -24,14 +24,14 @@ use Rattle.tams_machine.specs.Requests.{TamsRequest, context_of, is_head_only}
 -- ---- states
 
 -- the library and the journal of a state, without the bytes of objects
-abbrev pub journal_of : StoreState → journals.State
-journal_of s = record { library = s.archive.library; room = s.room; half = s.half }
+abbrev pub journal_of_state : StoreState → journals.State
+journal_of_state s = record { library = s.archive.library; room = s.room; half = s.half }
 
 -- the state after a change that fits; for the storing of an object these bytes came
-abbrev pub state_after : StoreState → Change → List ℕ → StoreState
-state_after s change came = record {
+abbrev pub state_with_change : StoreState → Change → List ℕ → StoreState
+state_with_change s change came = record {
   archive = archive_after change came s.archive;
-  room = (journals.with_record (journal_of s) change).room;
+  room = (journals.with_record (journal_of_state s) change).room;
   half = s.half;
 }
 
@@ -47,15 +47,15 @@ question_of (GetMedia object) body = gets object
 abbrev pub outcome_by : StoreState → List ℕ → ℕ → Result Ask Refusal → Outcome
 outcome_by s body moment (Err refusal) = unchanged (replies.Refused refusal)
 outcome_by s body moment (Ok ask) =
-    fitted (journal_of s) (answer_to s.archive (question_of ask body) moment)
+    fitted (journal_of_state s) (answer_to s.archive (question_of ask body) moment)
 
 -- what a request asks for
-abbrev pub asked_by : StoreState → TamsRequest → Result Ask Refusal
-asked_by s r = ask_of s.archive.library.id (method_kind r.head.method) r.head.target r.body
+abbrev pub asked_in : StoreState → TamsRequest → Result Ask Refusal
+asked_in s r = ask_of s.archive.library.id (method_kind r.head.method) r.head.target r.body
 
 -- what a request makes at a moment
 abbrev pub outcome_of : StoreState → TamsRequest → ℕ → Outcome
-outcome_of s r moment = outcome_by s r.body moment (asked_by s r)
+outcome_of s r moment = outcome_by s r.body moment (asked_in s r)
 
 -- the bytes of an object, where the reply is that they follow
 abbrev pub object_bytes : Archive → Result Ask Refusal → Reply → List ℕ
@@ -68,28 +68,28 @@ abbrev pub answer_bytes : List ℕ → StoreState → TamsRequest → Reply → 
 answer_bytes base s r reply =
     response_to (context_of s.archive.library.id base r) reply
     ++ body_unless (is_head_only (method_kind r.head.method))
-    (object_bytes s.archive (asked_by s r) reply)
+    (object_bytes s.archive (asked_in s r) reply)
 
 -- the answer to a request at a moment, and the state after its change where it has one
-abbrev pub answer_in : List ℕ → TamsRequest → ℕ → StoreState → runs.Reply StoreState
+abbrev pub answer_in : List ℕ → TamsRequest → ℕ → StoreState → runs.MachineReply StoreState
 answer_in base r moment s =
     let outcome = outcome_of s r moment in
     record {
       bytes = answer_bytes base s r outcome.reply;
-      change = option_map (λ change. state_after s change r.body) outcome.change;
+      change = option_map (λ change. state_with_change s change r.body) outcome.change;
     }
 
 -- ---- the turn
 
 -- a delete request is unfinished, or an object is due
-abbrev pub is_due : ℕ → StoreState → Bool
-is_due moment s = is_some (turn s.archive.library moment)
+abbrev pub is_turn_due : ℕ → StoreState → Bool
+is_turn_due moment s = is_some (turn s.archive.library moment)
 
 -- the state after a turn's change, where it has one that fits
 abbrev pub turned_by : StoreState → Option Change → Option StoreState
 turned_by s None = None
 turned_by s (Some change) =
-    if journals.fits (journal_of s) change then Some (state_after s change []) else None
+    if journals.fits (journal_of_state s) change then Some (state_with_change s change []) else None
 
 -- the state after a turn at a moment, where it changes something
 abbrev pub turn_in : ℕ → StoreState → Option StoreState

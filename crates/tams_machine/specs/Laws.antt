@@ -12,8 +12,8 @@ use Rattle.store_states.specs.States.{StoreState}
 use Rattle.tams_http.specs.Asked.{ask_of}
 use Rattle.tams_http.specs.declared.ask.Ask.{Ask}
 use Rattle.tams_http.specs.declared.ask.Ask.TheVariants.{Run}
-use Rattle.tams_machine.specs.Requests.{Spells, TamsRequest}
-use Rattle.tams_machine.specs.Answers.{answer_in, asked_by, question_of, turn_in}
+use Rattle.tams_machine.specs.Requests.{SpellsRequest, TamsRequest}
+use Rattle.tams_machine.specs.Answers.{answer_in, asked_in, question_of, turn_in}
 
 -- ---- what stands at the front of bytes
 
@@ -21,7 +21,7 @@ use Rattle.tams_machine.specs.Answers.{answer_in, asked_by, question_of, turn_in
 -- request, and longer ones that begin with them and are one too, are the same.
 abbrev pub RequestsAreOne : Type 0
 RequestsAreOne = (n : ℕ) (text other rest other_rest : List ℕ) (r s : TamsRequest)
-    → Spells n text r → Spells n other s → text ++ rest ≡ other ++ other_rest
+    → SpellsRequest n text r → SpellsRequest n other s → text ++ rest ≡ other ++ other_rest
     → (other ≡ text) × (s ≡ r)
 
 -- ---- what requests ask for
@@ -39,7 +39,7 @@ RequestsSendBytes = (store : ℕ) (method : MethodKind) (target body : List ℕ)
 
 -- what a request asks for is good: the commands of requests are, since their bodies were read so
 abbrev pub AsksGood : StoreState → TamsRequest → Type 0
-AsksGood s r = IfOk (asked_by s r)
+AsksGood s r = IfOk (asked_in s r)
     (λ ask. IsTrue (is_good_question s.archive.library (question_of ask r.body)))
 
 -- the state after an answer's change is good

@@ -6,8 +6,8 @@ use Rattle.store_commits.specs.Carrying.{HasArchive}
 use Rattle.store_states.specs.States.{StoreState}
 use Rattle.run_history.specs.Machine.{Machine}
 use Rattle.tams_http.specs.Constants.{failure}
-use Rattle.tams_machine.specs.Requests.{Heads, IsCut, IsRefused, Spells, TamsRequest, interim_of}
-use Rattle.tams_machine.specs.Answers.{answer_in, is_due, turn_in}
+use Rattle.tams_machine.specs.Requests.{Heads, IsCut, IsRefused, SpellsRequest, TamsRequest, interim_of}
+use Rattle.tams_machine.specs.Answers.{answer_in, is_turn_due, turn_in}
 
 -- The machine, over the base of its addresses. Its disk is called before an answer, within it and
 -- in the turn behind it. A file stands for a state by its archive, whatever room its journal has: a
@@ -15,7 +15,7 @@ use Rattle.tams_machine.specs.Answers.{answer_in, is_due, turn_in}
 -- room.
 abbrev pub tams_machine : List ℕ → Machine StoreState TamsRequest
 tams_machine base = record {
-  spells = Spells;
+  spells = SpellsRequest;
   heads = Heads;
   refuses = IsRefused base;
   cuts = IsCut;
@@ -25,7 +25,7 @@ tams_machine base = record {
   disk_fault = λ r. failure 503;
   may_fail = λ failure. Unit {0};
   ends = λ r. r.ends;
-  due = is_due;
+  due = is_turn_due;
   turn = turn_in;
   stands = λ image s. HasArchive s.half s.archive image;
   good = λ s. IsGoodArchive s.archive;

@@ -12,7 +12,7 @@ use Rattle.http_wire.specs.declared.framing.WireFault.{WireFault}
 use Rattle.http_wire.specs.declared.head.MethodKind.{MethodKind}
 use Rattle.http_wire.specs.declared.head.MethodKind.TheVariants as kinds
 use Rattle.media_rows.specs.declared.reply.Reply.TheVariants as replies
-use Rattle.run_history.specs.Machine.{Cutting, Refusal}
+use Rattle.run_history.specs.Machine.{Cutting, WireRefusal}
 use Rattle.tams_http.specs.Answered.{Context, response_to}
 
 -- A request: its head and its body, and whether the connection ends behind its answer. Of a media
@@ -25,18 +25,18 @@ pub record TamsRequest : Type 0 where
 -- ---- whole requests
 
 -- These bytes are a whole request: a media PUT, whose body stands behind its head, or another one.
-pub data IsWhole (text : List ℕ) (head : RequestHead) (body : List ℕ) : Type 0 where
+pub data IsWholeRequest (text : List ℕ) (head : RequestHead) (body : List ℕ) : Type 0 where
   media : (n : ℕ) → IsNext text (whole (opened head (length body)) n)
-      → length text ≡ n + length body → body ≡ drop n text → IsWhole text head body
-  other : IsNext text (whole (given head body) (length text)) → IsWhole text head body
+      → length text ≡ n + length body → body ≡ drop n text → IsWholeRequest text head body
+  other : IsNext text (whole (given head body) (length text)) → IsWholeRequest text head body
 
 -- a connection ends behind a request that ends it, and behind the last that it may have
 abbrev pub ends_behind : ℕ → RequestHead → Bool
 ends_behind n head = ends_connection head || (suc n == max_requests)
 
 -- Behind n requests of a connection these bytes are this request's, whole.
-pub record Spells (n : ℕ) (text : List ℕ) (r : TamsRequest) : Type 0 where
-  pub is_whole : IsWhole text r.head r.body
+pub record SpellsRequest (n : ℕ) (text : List ℕ) (r : TamsRequest) : Type 0 where
+  pub is_whole : IsWholeRequest text r.head r.body
   pub ends_is : r.ends ≡ ends_behind n r.head
 
 -- Behind n requests these are the head of a media PUT and a part of its body.
@@ -84,7 +84,7 @@ wire_response base fault = response_to
     (replies.Refused (wire_refusal fault))
 
 -- The wire refuses what stands in front of these bytes.
-pub record IsRefused (base text : List ℕ) (refusal : Refusal) : Type 0 where
+pub record IsRefused (base text : List ℕ) (refusal : WireRefusal) : Type 0 where
   pub fault : WireFault
   pub next : IsNext text (refused fault)
   pub interim : HadInterim text refusal.interim

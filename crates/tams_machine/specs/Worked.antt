@@ -16,7 +16,7 @@ use Rattle.store_states.specs.States.{StoreState}
 use Rattle.tams_http.specs.declared.ask.Ask.{Ask}
 use Rattle.tams_http.specs.declared.ask.Ask.TheVariants.{GetMedia, Run}
 use Rattle.tams_machine.specs.Requests.{ends_behind, interim_text}
-use Rattle.tams_machine.specs.Answers.{is_due, object_bytes, outcome_by, state_after, turn_in}
+use Rattle.tams_machine.specs.Answers.{is_turn_due, object_bytes, outcome_by, state_with_change, turn_in}
 
 -- a head that asks for the root and says nothing of its connection
 abbrev pub plain_head : RequestHead
@@ -68,10 +68,11 @@ pub record MachineAsWorked : Type 0 where
   pub made : outcome_by (empty_in 4096 4075) [] 0 (Ok put_ask)
       ≡ changed replies.Created (changes.PutFlow 0 fitting_flow)
   pub full : outcome_by (empty_in 1 1) [] 0 (Ok put_ask) ≡ unchanged (replies.Refused JournalFull)
-  pub room_left : (state_after (empty_in 4096 4075) (changes.PutFlow 0 fitting_flow) []).room ≡ 4012
+  pub room_left : (state_with_change (empty_in 4096 4075) (changes.PutFlow 0 fitting_flow) []).room
+      ≡ 4012
   pub given : object_bytes idle_archive (Ok (GetMedia (codes "a"))) (replies.Media 3)
       ≡ 7 ∷ 8 ∷ 9 ∷ []
   pub refused : object_bytes idle_archive (Err JournalFull) (replies.Refused JournalFull) ≡ []
-  pub not_due : is_due 86499 idle_state ≡ false
-  pub due : is_due 86500 idle_state ≡ true
+  pub not_due : is_turn_due 86499 idle_state ≡ false
+  pub due : is_turn_due 86500 idle_state ≡ true
   pub no_turn : turn_in 86500 (empty_in 4096 4075) ≡ None

@@ -15,25 +15,25 @@ use Rattle.media_store.specs.Stores.{StoreSeen}
 use Rattle.store_states.specs.Kept.{AgreesWith, StoreView, kept_state}
 use Rattle.store_writes.specs.Writes.{Keeps}
 use Rattle.run_history.specs.Runs.{Reached}
-use Rattle.run_history.specs.Serving.{Counts}
+use Rattle.run_history.specs.Serving.{RunCounts}
 use Rattle.run_history.specs.Sessions.{Hearing, IsUnfinished, Whole}
 use Rattle.connection_loop.specs.declared.ending.Ending.{Ending}
 use Rattle.connection_loop.specs.declared.ending.Ending.TheVariants as endings
 use Rattle.connection_loop.specs.Turns.{SiteCalls, TurnLeads}
 use Rattle.tams_machine.specs.Machine.{tams_machine}
-use Rattle.tams_machine.specs.Requests.{Heads, Spells, TamsRequest}
+use Rattle.tams_machine.specs.Requests.{Heads, SpellsRequest, TamsRequest}
 use Rattle.request_hearing.specs.Asking.{asked_trace}
-use Rattle.request_hearing.specs.Hearing.{IsOpened, interim_where}
+use Rattle.request_hearing.specs.Hearing.{OpensMedia, interim_where}
 use Rattle.request_hearing.specs.Laws.{OpenedAs, media_request}
 use Rattle.request_hearing.proofs.Asking.{asking_taken, reached_kept}
 use Rattle.request_hearing.proofs.Theorems.{media_opened, text_on}
 use Rattle.tams_answers.specs.Media.{IsMediaSent, MediaAnswers}
 use Rattle.tams_answers.specs.declared.media.Responses.{Responses}
-use Rattle.tams_service.specs.Answering.{AnswersEach, AsksAt, EndsThere, IsPutting, LeadsTo, MediaLeads, Place, PutLeads, StarveLeads, StopLeads, TakeLeads, TellsAllOf}
+use Rattle.tams_service.specs.Answering.{AnswersEach, AsksAt, EndsThere, IsPutting, LeadsTo, MediaLeads, RunPlace, PutLeads, StarveLeads, StopLeads, TakeLeads, TellsAllOf}
 use Rattle.tams_service.specs.Keeping.{KeepsState}
 use Rattle.tams_service.specs.Serving.{ServiceSeen}
 use Rattle.tams_service.specs.Sites.{SiteCounts}
-use Rattle.tams_service.specs.Taking.{HoldsIf, IsFilled, TakesBody, TakesPart, plan_of}
+use Rattle.tams_service.specs.Taking.{HoldsIf, IsFilled, TakesBody, TakesOfBody, plan_of}
 use Rattle.tams_service.specs.declared.body.Taken.TheVariants as taken
 use Rattle.tams_service.proofs.Giving.{unchanged_at}
 use Rattle.tams_service.proofs.Keeping.{keeps_so}
@@ -64,7 +64,7 @@ stopped_calls old new calls = record {
 
 -- ---- a part of a body
 
-module _ (p : Place) (old mid : Device) (n : Counts) (all text part : List ℕ) (from to : Fed) (kept : StoreView) (tells : old.tells ≡ true)
+module _ (p : RunPlace) (old mid : Device) (n : RunCounts) (all text part : List ℕ) (from to : Fed) (kept : StoreView) (tells : old.tells ≡ true)
     (asks : AsksAt p old all n) (text_is : all ≡ text ++ from.unread) (state : p.state ≡ kept_state kept p.state.archive.held)
     (keeps : Keeps kept p.state.archive.held old mid) where
   -- the run has come as far
@@ -72,7 +72,7 @@ module _ (p : Place) (old mid : Device) (n : Counts) (all text part : List ℕ) 
   reached_there = reached_kept asks (over_keeps p.base state keeps)
 
   -- It was heard, and no call of the link failed.
-  pub part_asks : TakesPart part false false from to old mid → AsksAt p mid ((text ++ part) ++ to.unread) n
+  pub part_asks : TakesOfBody part false false from to old mid → AsksAt p mid ((text ++ part) ++ to.unread) n
   part_asks takes =
       subst (λ unread. AsksAt p mid unread n) (text_on all text from.unread takes.bytes part to.unread text_is takes.text_is)
       (asking_taken asks takes.bytes (takes.connections tells) reached_there)
@@ -85,13 +85,13 @@ module _ (p : Place) (old mid : Device) (n : Counts) (all text part : List ℕ) 
         text_on all text from.unread bytes part to.unread text_is is ∙ ap (λ l. (text ++ part) ++ l) none ∙ append-nil (text ++ part)
 
     -- The peer's bytes ended behind it.
-    pub ended_cut : TakesPart part true false from to old mid → EndsThere p mid last (moment ∷ []) n endings.Cut
+    pub ended_cut : TakesOfBody part true false from to old mid → EndsThere p mid last (moment ∷ []) n endings.Cut
     ended_cut takes =
         taken_ends (KeepsState last mid) kept_so takes.bytes p.said true Whole (text ++ part) (Some moment) asks (takes.connections tells) reached_there
         (λ same. cc) (λ _. refl) (all_heard takes.bytes takes.text_is) some cuts unfinished
 
     -- A hearing failed behind it.
-    pub unheard_cut : TakesPart part false true from to old mid → EndsThere p mid last (moment ∷ []) n endings.Unlinked
+    pub unheard_cut : TakesOfBody part false true from to old mid → EndsThere p mid last (moment ∷ []) n endings.Unlinked
     unheard_cut takes =
         taken_ends (KeepsState last mid) kept_so takes.bytes p.said false Hearing (text ++ part) (Some moment) asks (takes.connections tells) reached_there
         (λ same. cc) (λ same. absurd cc) (all_heard takes.bytes takes.text_is) some cuts unfinished
@@ -103,7 +103,7 @@ some_text [] part head size n next = absurd ((opened_head [] head size n next).s
 some_text (x ∷ text) part head size n next = λ none. cc
 
 -- a media PUT by its head and all of its body
-pub media_sent : {so_far : ℕ} {all : List ℕ} {said : Bool} {fed : Fed} {shown : Head} (o : IsOpened so_far all said fed shown) (target part : List ℕ)
+pub media_sent : {so_far : ℕ} {all : List ℕ} {said : Bool} {fed : Fed} {shown : Head} (o : OpensMedia so_far all said fed shown) (target part : List ℕ)
     → target ≡ o.head.target → length part ≡ shown.length
     → IsMediaSent (record { target = target; size = shown.length; ends = shown.ends }) (media_request o.head shown.ends part)
 media_sent {so_far} {all} {said} {fed} {shown} o target part target_is size = record {
@@ -115,8 +115,8 @@ media_sent {so_far} {all} {said} {fed} {shown} o target part target_is size = re
 
 -- ---- what it leads to
 
-module _ (s : StoreSeen) (from : Fed) (shown : Head) (old : Device) (moment : ℕ) (n : Counts) (p : Place) (all : List ℕ)
-    (asks : AsksAt p old all n) (keeps : KeepsState s old p.state) (o : IsOpened p.taken all p.said from shown) where
+module _ (s : StoreSeen) (from : Fed) (shown : Head) (old : Device) (moment : ℕ) (n : RunCounts) (p : RunPlace) (all : List ℕ)
+    (asks : AsksAt p old all n) (keeps : KeepsState s old p.state) (o : OpensMedia p.taken all p.said from shown) where
   abbrev request_with : List ℕ → TamsRequest
   request_with part = media_request o.head shown.ends part
 
@@ -124,14 +124,15 @@ module _ (s : StoreSeen) (from : Fed) (shown : Head) (old : Device) (moment : �
   opened_with part = media_opened p.taken all p.said from shown o part
 
   -- It has come whole, or a part of it.
-  is_begun : (part : List ℕ) → length part ≤ shown.length → Spells p.taken (o.text ++ part) (request_with part) ⊎ Heads p.taken (o.text ++ part) (request_with part)
+  is_begun : (part : List ℕ) → length part ≤ shown.length → SpellsRequest p.taken (o.text ++ part) (request_with part) ⊎ Heads p.taken (o.text ++ part)
+    (request_with part)
   is_begun part few = elim (cases_lt (length part) shown.length) [
     | inl less ↦ inr ((opened_with part).begun less)
     | inr full ↦ inl ((opened_with part).whole (omega (arith, few, full)))
   ]
 
   -- There was no memory for it.
-  starved_so : (new : Device) (now : Counts) → StarveLeads old new n now → EndsThere p new s (moment ∷ []) now endings.Starved
+  starved_so : (new : Device) (now : RunCounts) → StarveLeads old new n now → EndsThere p new s (moment ∷ []) now endings.Starved
   starved_so new now starves =
       starves p (o.text ++ []) from.unread (request_with []) moment s
       (subst (λ unread. AsksAt p old unread n) (o.text_is ∙ ap (λ text. text ++ from.unread) (sym (append-nil o.text))) asks) keeps
@@ -145,7 +146,7 @@ module _ (s : StoreSeen) (from : Fed) (shown : Head) (old : Device) (moment : �
     keeps_there : store.spent ≡ false → KeepsState store mid p.state
     keeps_there unspent = keeps_so s store old mid p.state keeps kept_is unspent kept_there.agrees
 
-    asks_there : (part : List ℕ) → TakesPart part false false from fed old mid → AsksAt p mid ((o.text ++ part) ++ fed.unread) n
+    asks_there : (part : List ℕ) → TakesOfBody part false false from fed old mid → AsksAt p mid ((o.text ++ part) ++ fed.unread) n
     asks_there part takes = part_asks p old mid n all o.text part from fed s.kept tells.tells asks o.text_is keeps.state kept_there takes
 
     -- Its peer's bytes ended within it.
@@ -167,7 +168,7 @@ module _ (s : StoreSeen) (from : Fed) (shown : Head) (old : Device) (moment : �
         (keeps_there unspent) body.takes
 
     -- The disk failed within it.
-    failed_so : (new : Device) (now : Counts) → TakesBody s.kept shown.length from fed put old mid taken.Failed → StopLeads mid new n now 0
+    failed_so : (new : Device) (now : RunCounts) → TakesBody s.kept shown.length from fed put old mid taken.Failed → StopLeads mid new n now 0
         → EndsThere p new store (moment ∷ []) now endings.Stopped
     failed_so new now body stops =
         let left : left_of from.stage ≡ shown.length = ap left_of o.behind.stage_is in
@@ -195,7 +196,8 @@ module _ (s : StoreSeen) (from : Fed) (shown : Head) (old : Device) (moment : �
           sized None is = tt
           sized (Some x) is = is.sized ∙ sym body.comes
 
-      whole_so : (new : Device) (now : Counts) (next : StoreSeen) (result : Option Ending) → PutLeads mid new store next n now put responses moment shown.ends result
+      whole_so : (new : Device) (now : RunCounts) (next : StoreSeen) (result : Option Ending)
+        → PutLeads mid new store next n now put responses moment shown.ends result
           → p.taken < 1000000 → LeadsTo p new next moment fed.unread now result
       whole_so new now next result leads few =
           leads p (o.text ++ body.part) fed.unread (request_with body.part) (asks_there body.part body.takes) (keeps_there unspent)
@@ -203,7 +205,8 @@ module _ (s : StoreSeen) (from : Fed) (shown : Head) (old : Device) (moment : �
 
 -- ---- by what came of taking its body
 
-module _ (old mid : Device) (s store : StoreSeen) (from fed : Fed) (shown : Head) (put begun : Option PutSeen) (responses : Responses) (moment : ℕ) (n : Counts)
+module _ (old mid : Device) (s store : StoreSeen) (from fed : Fed) (shown : Head) (put begun : Option PutSeen) (responses : Responses) (moment : ℕ)
+    (n : RunCounts)
     (tells : TellsAllOf old) (kept_is : store.kept ≡ s.kept)
     (stays : (held : List (List ℕ)) → AgreesWith old s.kept held → Keeps s.kept held old mid) where
   pub take_ended : TakesBody s.kept shown.length from fed put old mid taken.Ended → store.spent ≡ false
@@ -216,12 +219,12 @@ module _ (old mid : Device) (s store : StoreSeen) (from fed : Fed) (shown : Head
   take_unheard body unspent p all asks keeps o answers few =
       unheard_so s from shown old moment n p all asks keeps o tells mid store fed put kept_is stays body unspent
 
-  pub take_failed : (new : Device) (now : Counts) → TakesBody s.kept shown.length from fed put old mid taken.Failed → StopLeads mid new n now 0
+  pub take_failed : (new : Device) (now : RunCounts) → TakesBody s.kept shown.length from fed put old mid taken.Failed → StopLeads mid new n now 0
       → TakeLeads s store from fed shown begun responses old new moment n now (Some endings.Stopped)
   take_failed new now body stops p all asks keeps o answers few =
       failed_so s from shown old moment n p all asks keeps o tells mid store fed put kept_is stays new now body stops
 
-  pub take_whole : (new : Device) (now : Counts) (next : StoreSeen) (result : Option Ending) → TakesBody s.kept shown.length from fed put old mid taken.Whole
+  pub take_whole : (new : Device) (now : RunCounts) (next : StoreSeen) (result : Option Ending) → TakesBody s.kept shown.length from fed put old mid taken.Whole
       → store.spent ≡ false → plan_of put ≡ plan_of begun → IfSome put (IsFilled s.kept shown.length)
       → PutLeads mid new store next n now put responses moment shown.ends result
       → TakeLeads s next from fed shown begun responses old new moment n now result
@@ -232,10 +235,11 @@ module _ (old mid : Device) (s store : StoreSeen) (from fed : Fed) (shown : Head
 -- ---- by the plan of its head
 
 -- a request takes one moment
-module _ (s next : ServiceSeen) (shown : Head) (old new : Device) (begun given : List ℕ) (moment : ℕ) (n now : Counts) (given_is : given ≡ begun ++ moment ∷ [])
+module _ (s next : ServiceSeen) (shown : Head) (old new : Device) (begun given : List ℕ) (moment : ℕ) (n now : RunCounts)
+    (given_is : given ≡ begun ++ moment ∷ [])
   where
     media_leads : (result : Option Ending)
-        → ((p : Place) (all : List ℕ) → p.base ≡ s.base → AsksAt p old all n → KeepsState s.store old p.state → IsOpened p.taken all p.said s.fed shown
+        → ((p : RunPlace) (all : List ℕ) → p.base ≡ s.base → AsksAt p old all n → KeepsState s.store old p.state → OpensMedia p.taken all p.said s.fed shown
         → p.taken < 1000000 → LeadsTo p new next.store moment next.fed.unread now result)
         → MediaLeads s next shown old new begun given n now result
     media_leads result leads p all base same asks keeps o few =
@@ -256,7 +260,7 @@ module _ (s next : ServiceSeen) (shown : Head) (old new : Device) (begun given :
         (answers (media_request o.head shown.ends body) (media_sent o target body (target_is ∙ o.tells.target) long))) few)
 
 -- There was no memory for it.
-pub media_starved : (s : ServiceSeen) (shown : Head) (old new : Device) (begun given : List ℕ) (moment : ℕ) (n now : Counts) → given ≡ begun ++ moment ∷ []
+pub media_starved : (s : ServiceSeen) (shown : Head) (old new : Device) (begun given : List ℕ) (moment : ℕ) (n now : RunCounts) → given ≡ begun ++ moment ∷ []
     → StarveLeads old new n now → MediaLeads s s shown old new begun given n now (Some endings.Starved)
 media_starved s shown old new begun given moment n now given_is starves =
     media_leads s s shown old new begun given moment n now given_is (Some endings.Starved)

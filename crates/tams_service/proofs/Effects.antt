@@ -5,17 +5,17 @@ use Rattle.http_wire.specs.Framing.{wants_interim}
 use Rattle.store_states.specs.States.{StoreState}
 use Rattle.run_history.specs.Machine.{BeforeAnswer, InAnswer, InTurn}
 use Rattle.run_history.specs.Machine as runs
-use Rattle.run_history.specs.Steps.{Answered, Ask, Effect, Piece, Reply, Stage, Starved, Stopped, Turned, effect, interim_pieces, is_made, last_or, told_pieces, where_done}
+use Rattle.run_history.specs.Steps.{Answered, TakenRequest, Effect, Piece, Reply, Stage, Starved, Stopped, Turned, effect, interim_pieces, is_made, last_or, told_pieces, where_done}
 use Rattle.tams_http.specs.Constants.{failure}
 use Rattle.tams_machine.specs.Answers.{answer_in, turn_in}
 use Rattle.tams_machine.specs.Machine.{tams_machine}
 use Rattle.tams_machine.specs.Requests.{TamsRequest, interim_of, interim_text}
 use Rattle.request_hearing.specs.Hearing.{interim_where}
-use Rattle.tams_service.specs.Answering.{IsReply, Place}
+use Rattle.tams_service.specs.Answering.{IsMachineReply, RunPlace}
 use Rattle.tams_service.proofs.States.{last_of}
 
 -- a request with its text, that took a moment
-abbrev pub ask_of : List ℕ → TamsRequest → ℕ → Ask TamsRequest
+abbrev pub ask_of : List ℕ → TamsRequest → ℕ → TakenRequest TamsRequest
 ask_of text r moment = record { text = text; request = r; moment = moment }
 
 -- an effect by its parts
@@ -33,7 +33,7 @@ interim_is said r is = ap (λ (b : Bool). if b then Some interim_text else None)
 -- ---- an answer
 
 -- what an answer and a turn behind it come to
-answered_by : (s : StoreState) (moment made : ℕ) (reply : runs.Reply StoreState) (interim : Option (List ℕ)) (said turned : Bool) (bytes : List ℕ)
+answered_by : (s : StoreState) (moment made : ℕ) (reply : runs.MachineReply StoreState) (interim : Option (List ℕ)) (said turned : Bool) (bytes : List ℕ)
     (states later : List StoreState) → reply.bytes ≡ bytes → option_to_list reply.change ≡ states → interim ≡ interim_where said
     → where_done turned (turn_in moment (last_or s states)) ≡ later
     → effect_by (told_pieces interim reply.bytes (made + length (option_to_list reply.change)))
@@ -44,7 +44,7 @@ answered_by s moment made reply interim said turned bytes states later b c i t =
     ap (λ x. where_done turned (turn_in moment x)) (last_of s reply.change ∙ ap (last_or s) c) ∙ t in
     rw (b, c, i, behind) refl
 
-module _ (p : Place) (text : List ℕ) (r : TamsRequest) (moment : ℕ) (bytes : List ℕ) (states : List StoreState) (is : IsReply p r moment bytes states)
+module _ (p : RunPlace) (text : List ℕ) (r : TamsRequest) (moment : ℕ) (bytes : List ℕ) (states : List StoreState) (is : IsMachineReply p r moment bytes states)
     (interim : p.said ≡ wants_interim r.head) (later : List StoreState) where
   abbrev pub made_of : Stage StoreState → Effect StoreState
   made_of at = effect_by (replied p.said bytes (at.made + length states)) (states ++ later) (moment ∷ [])
@@ -81,14 +81,14 @@ plus_none : (n : ℕ) → n ≡ n + 0
 plus_none n = omega arith
 
 -- there was no memory
-pub starved_effect : (p : Place) (text : List ℕ) (r : TamsRequest) (moment : ℕ) → p.said ≡ wants_interim r.head → (at : Stage StoreState)
+pub starved_effect : (p : RunPlace) (text : List ℕ) (r : TamsRequest) (moment : ℕ) → p.said ≡ wants_interim r.head → (at : Stage StoreState)
     → effect (tams_machine p.base) at (Starved (ask_of text r moment)) ≡ effect_by (replied p.said (failure 500) (at.made + 0)) [] (moment ∷ [])
 starved_effect p text r moment interim at =
     ap (λ i. effect_by (told_pieces i (failure 500) at.made) [] (moment ∷ [])) (interim_is p.said r interim)
     ∙ ap (λ k. effect_by (replied p.said (failure 500) k) [] (moment ∷ [])) (plus_none at.made)
 
 -- the disk failed before the answer
-pub stopped_effect : (p : Place) (text : List ℕ) (r : TamsRequest) (moment : ℕ) (writing : Bool) (states : List StoreState)
+pub stopped_effect : (p : RunPlace) (text : List ℕ) (r : TamsRequest) (moment : ℕ) (writing : Bool) (states : List StoreState)
     → p.said ≡ wants_interim r.head → where_done writing (answer_in p.base r moment p.state).change ≡ states → (at : Stage StoreState)
     → at.state ≡ p.state
     → effect (tams_machine p.base) at (Stopped (ask_of text r moment) (BeforeAnswer writing))

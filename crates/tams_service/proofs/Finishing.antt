@@ -9,7 +9,7 @@ use Rattle.httparse.specs.Grammar.{RequestHead}
 use Rattle.media_rows.specs.declared.change.Change.{Change}
 use Rattle.media_rows.specs.Apply.{turn}
 use Rattle.media_rows.specs.Moments.{is_moment}
-use Rattle.media_store.specs.Changes.{IsNextIf, Makes, MakesIf}
+use Rattle.media_store.specs.Changes.{IsNextIf, ChangesStore, MakesIf}
 use Rattle.media_store.specs.Stores.{StoreSeen, journal_of}
 use Rattle.media_store.specs.Turns.{turn_change}
 use Rattle.store_states.specs.Kept.{AgreesWith}
@@ -18,20 +18,20 @@ use Rattle.run_history.specs.Machine.{InAnswer, InTurn}
 use Rattle.run_history.specs.Laws.{Wrote, under_way}
 use Rattle.run_history.specs.Runs.{Reached, stops_writing}
 use Rattle.run_history.specs.Traces.{Trace, state_now}
-use Rattle.run_history.specs.Serving.{Counts}
+use Rattle.run_history.specs.Serving.{RunCounts}
 use Rattle.run_history.specs.Sessions.{Saying, Whole, most_answers, stops_in_answer}
 use Rattle.run_history.specs.Steps.{Answered, IsStep, Made, Skipped, Stage, Step, Stopped, Turned, after_answer, effect, is_made, last_or, step_text, where_done}
 use Rattle.connection_loop.specs.declared.ending.Ending.TheVariants as endings
-use Rattle.connection_loop.specs.Tallies.{counted}
+use Rattle.connection_loop.specs.Tallies.{plus_answer}
 use Rattle.connection_loop.specs.Turns.{ending_of, held_with}
-use Rattle.tams_machine.specs.Answers.{answer_in, is_due, state_after, turn_in}
+use Rattle.tams_machine.specs.Answers.{answer_in, is_turn_due, state_with_change, turn_in}
 use Rattle.tams_machine.specs.Laws.{TurnsKeepGood}
 use Rattle.tams_machine.specs.Machine.{tams_machine}
 use Rattle.tams_machine.specs.Requests.{TamsRequest, ends_behind}
-use Rattle.request_hearing.specs.Asking.{IsAnswered, asked_trace, counted_more, replied_trace, with_states}
+use Rattle.request_hearing.specs.Asking.{IsAnswerStep, asked_trace, counted_more, replied_trace, with_states}
 use Rattle.request_hearing.proofs.Asking.{kept_calls, last_behind}
 use Rattle.request_hearing.proofs.AskingReached.{changed_none, changed_one, changed_torn, replied, state_now-replied, told_between}
-use Rattle.tams_service.specs.Answering.{ChangedAt, EndsThere, IsReply, IsRequest, LeadsTo, Place}
+use Rattle.tams_service.specs.Answering.{ChangedAt, EndsThere, IsMachineReply, IsRequest, LeadsTo, RunPlace}
 use Rattle.tams_service.specs.Keeping.{KeepsState}
 use Rattle.tams_service.specs.Saying.{Says}
 use Rattle.tams_service.proofs.Effects.{answered_effect, ask_of, made_of, reading_effect, turning_effect}
@@ -55,13 +55,13 @@ few_behind taken head goes few = elim (cases_lt (taken + 1) 1000000) [
     last_of true is = refl
     last_of false is = is
 
-few_more : (p : Place) (text : List ℕ) (ends : Bool) (r : TamsRequest) → IsRequest p text ends r → p.taken < 1000000 → ends ≡ false
+few_more : (p : RunPlace) (text : List ℕ) (ends : Bool) (r : TamsRequest) → IsRequest p text ends r → p.taken < 1000000 → ends ≡ false
     → p.taken + 1 < most_answers
 few_more p text ends r is few goes = few_behind p.taken r.head (sym is.spells.ends_is ∙ is.ends_is ∙ goes) few
 
-module _ (p : Place) (old mid : Device) (n : Counts) (bytes : List ℕ) (moment : ℕ) (ends : Bool) (text rest : List ℕ) (r : TamsRequest)
+module _ (p : RunPlace) (old mid : Device) (n : RunCounts) (bytes : List ℕ) (moment : ℕ) (ends : Bool) (text rest : List ℕ) (r : TamsRequest)
     (states : List StoreState) (whole linked : Bool) (tells : old.tells ≡ true) (says : Says whole linked bytes old mid)
-    (changed : ChangedAt p old (text ++ rest) n states false) (request : IsRequest p text ends r) (reply : IsReply p r moment bytes states) where
+    (changed : ChangedAt p old (text ++ rest) n states false) (request : IsRequest p text ends r) (reply : IsMachineReply p r moment bytes states) where
   -- the trace with the reply
   abbrev told_trace : Trace StoreState
   told_trace = replied_trace states bytes (length states) (asked_trace (tams_machine p.base) p.beginning p.said p.finished p.steps)
@@ -86,7 +86,7 @@ module _ (p : Place) (old mid : Device) (n : Counts) (bytes : List ℕ) (moment 
       (full : linked ≡ true → stops_in_answer (step ∷ []) ≡ false → whole ≡ true)
       (reached : Reached (tams_machine p.base) p.beginning (with_states later told_trace) whole writing new)
       (good : All is_good later) (written : stops_writing (step ∷ []) ≡ writing) where
-    answered : IsAnswered (tams_machine p.base) p.beginning old new p.given (held_with p.state (text ++ rest) p.taken) p.said p.finished p.steps n step
+    answered : IsAnswerStep (tams_machine p.base) p.beginning old new p.given (held_with p.state (text ++ rest) p.taken) p.said p.finished p.steps n step
         bytes (length states) states later (moment ∷ []) rest whole linked writing
     answered = record {
       begun = changed.begun;
@@ -103,14 +103,14 @@ module _ (p : Place) (old mid : Device) (n : Counts) (bytes : List ℕ) (moment 
   -- ---- the disk failed within the answer
 
   pub reading_stopped : (store : StoreSeen) (changes : ℕ) → whole ≡ false → linked ≡ true → length states ≡ changes
-      → EndsThere p mid store (moment ∷ []) (counted changes false n) endings.Stopped
+      → EndsThere p mid store (moment ∷ []) (plus_answer changes false n) endings.Stopped
   reading_stopped store changes part on is =
       let step = Stopped (ask_of text r moment) InAnswer in
       let a = answered mid step [] false refl (tt, request.spells) refl
       (reading_effect p text r moment bytes states reply request.interim [] refl)
       (λ _ no. absurd (false≢true (sym no))) (changed_none reached_reply) (All-nil is_good) refl in
       subst (λ k. EndsThere p mid store (moment ∷ []) k endings.Stopped)
-      (ap (λ k. counted k false n) (ap length (append-nil states) ∙ is))
+      (ap (λ k. plus_answer k false n) (ap length (append-nil states) ∙ is))
       (step_ends a (KeepsState store mid) endings.Stopped (by_link linked) tt tt (λ on. absurd (false≢true (sym on))))
     where
       by_link : (l : Bool) → endings.Stopped ≡ ending_of
@@ -127,8 +127,8 @@ module _ (p : Place) (old mid : Device) (n : Counts) (bytes : List ℕ) (moment 
         → IsStep (tams_machine p.base) p.taken p.state (Answered (ask_of text r moment) turned)
         → Reached (tams_machine p.base) p.beginning (with_states later told_trace) whole false new → All is_good later
         → KeepsState next new (last_or p.state (states ++ later))
-        → counted_more n (states ++ later) (Answered (ask_of text r moment) turned) ≡ counted (changes + k) skipped n
-        → LeadsTo p new next moment rest (counted (changes + k) skipped n) (answered_ending linked ends)
+        → counted_more n (states ++ later) (Answered (ask_of text r moment) turned) ≡ plus_answer (changes + k) skipped n
+        → LeadsTo p new next moment rest (plus_answer (changes + k) skipped n) (answered_ending linked ends)
     turned_leads turned later k skipped behind is reached good keeps counts_are =
         let step = Answered (ask_of text r moment) turned in
         let a = answered new step later false link is refl
@@ -143,14 +143,14 @@ module _ (p : Place) (old mid : Device) (n : Counts) (bytes : List ℕ) (moment 
     turn_stopped : (after : StoreState) → turn_in moment here ≡ Some after
         → turn_in moment (after_answer (tams_machine p.base) p.state (ask_of text r moment)) ≢ None
         → Reached (tams_machine p.base) p.beginning (with_states (after ∷ []) told_trace) whole true new → is_good after
-        → EndsThere p new next (moment ∷ []) (counted (changes + 1) false n) endings.Stopped
+        → EndsThere p new next (moment ∷ []) (plus_answer (changes + 1) false n) endings.Stopped
     turn_stopped after is some reached good =
         let step = Stopped (ask_of text r moment) (InTurn true) in
         let a = answered new step (after ∷ []) true link (tt, (request.spells, some)) refl
         (turning_effect p text r moment bytes states reply request.interim (after ∷ []) (ap (where_done true) is)) (λ on _. same ∙ on) reached
         (All-cons is_good after [] good (All-nil is_good)) refl in
         subst (λ k. EndsThere p new next (moment ∷ []) k endings.Stopped)
-        (ap (λ k. counted k false n) (omega (arith, length-append states (after ∷ []), counts)))
+        (ap (λ k. plus_answer k false n) (omega (arith, length-append states (after ∷ []), counts)))
         (step_ends a (KeepsState next new) endings.Stopped refl tt tt (λ on. absurd (false≢true (sym on))))
 
     -- ---- by what the store's turn made
@@ -163,51 +163,52 @@ module _ (p : Place) (old mid : Device) (n : Counts) (bytes : List ℕ) (moment 
       here_good = last_good p.state states (good_now changed.begun) changed.good
 
       -- what the turn's change comes to
-      turn_is : (change : Option Change) → due ≡ change → turn_in moment here ≡ option_map (λ c. state_after here c []) change
-      turn_is change is = sym (turn_of store mid here moment keeps) ∙ ap (option_map (λ c. state_after here c [])) is
+      turn_is : (change : Option Change) → due ≡ change → turn_in moment here ≡ option_map (λ c. state_with_change here c []) change
+      turn_is change is = sym (turn_of store mid here moment keeps) ∙ ap (option_map (λ c. state_with_change here c [])) is
 
       module _ (unspent : next.spent ≡ false) where
         pub made_by : (change : Option Change) → due ≡ change → MakesIf true change store.kept next.kept here.archive.held mid new
             → IsNextIf store.kept change next.kept
-            → LeadsTo p new next moment rest (counted (changes + length (option_to_list change)) false n) (answered_ending linked ends)
+            → LeadsTo p new next moment rest (plus_answer (changes + length (option_to_list change)) false n) (answered_ending linked ends)
         made_by None is makes same_kept =
             turned_leads Made [] 0 false (ap (where_done true) (turn_is None is)) (request.spells, tt)
             (changed_none (kept_calls (tams_machine p.base) p.beginning told_trace whole mid new reached_reply
             (subst (λ s. Elapses (Wrote (tams_machine p.base) s) (Wrote (tams_machine p.base) s) mid new) (sym state_here)
             (over_keeps p.base keeps.state makes))))
             (All-nil is_good)
-            (subst (λ l. KeepsState next new (last_or p.state l)) (sym (append-nil states)) (keeps_so store next mid new here keeps same_kept unspent makes.agrees))
-            (ap (λ k. counted k false n) (omega (arith, ap length (append-nil states), counts)))
+            (subst (λ l. KeepsState next new (last_or p.state l)) (sym (append-nil states))
+            (keeps_so store next mid new here keeps same_kept unspent makes.agrees))
+            (ap (λ k. plus_answer k false n) (omega (arith, ap length (append-nil states), counts)))
         made_by (Some change) is makes is_next =
-            let after = state_after here change [] in
+            let after = state_with_change here change [] in
             turned_leads Made (after ∷ []) 1 false (ap (where_done true) (turn_is (Some change) is)) (request.spells, tt)
             (changed_one reached_reply (over_change p.base told_trace state_here keeps.state makes))
             (All-cons is_good after [] (turn_good keep here after moment here_good at (turn_is (Some change) is)) (All-nil is_good))
             (subst (KeepsState next new) (last_behind p.state states (after ∷ []))
             (keeps_next store next mid new here change [] keeps unspent is_next (makes.agrees refl)))
-            (ap (λ k. counted k false n) (omega (arith, length-append states (after ∷ []), counts)))
+            (ap (λ k. plus_answer k false n) (omega (arith, length-append states (after ∷ []), counts)))
 
         -- There was no memory for it.
         pub skipped_by : is_some (turn store.kept.library moment) ≡ true → new ≡ mid → next.kept ≡ store.kept
-            → LeadsTo p new next moment rest (counted (changes + 0) true n) (answered_ending linked ends)
+            → LeadsTo p new next moment rest (plus_answer (changes + 0) true n) (answered_ending linked ends)
         skipped_by is_due_now stays same_kept =
             turned_leads Skipped [] 0 true refl (request.spells, due_there)
             (subst (λ d. Reached (tams_machine p.base) p.beginning (with_states [] told_trace) whole false d) (sym stays) (changed_none reached_reply))
             (All-nil is_good)
             (subst (λ l. KeepsState next new (last_or p.state l)) (sym (append-nil states))
             (keeps_so store next mid new here keeps same_kept unspent (subst (λ d. AgreesWith d store.kept here.archive.held) (sym stays) keeps.agrees)))
-            (ap (λ k. counted k true n) (omega (arith, ap length (append-nil states), counts)))
+            (ap (λ k. plus_answer k true n) (omega (arith, ap length (append-nil states), counts)))
           where
-            due_there : is_due moment (after_answer (tams_machine p.base) p.state (ask_of text r moment)) ≡ true
+            due_there : is_turn_due moment (after_answer (tams_machine p.base) p.state (ask_of text r moment)) ≡ true
             due_there =
-                ap (is_due moment) (last_of p.state (answer_in p.base r moment p.state).change ∙ ap (last_or p.state) reply.states_are)
+                ap (is_turn_due moment) (last_of p.state (answer_in p.base r moment p.state).change ∙ ap (last_or p.state) reply.states_are)
                 ∙ ap (λ (s : StoreState). is_some (turn s.archive.library moment)) keeps.state ∙ is_due_now
 
       -- The disk failed in it.
-      pub failed_by : (change : Change) → due ≡ Some change → Makes false change [] store.kept next.kept here.archive.held mid new
-          → EndsThere p new next (moment ∷ []) (counted (changes + 1) false n) endings.Stopped
+      pub failed_by : (change : Change) → due ≡ Some change → ChangesStore false change [] store.kept next.kept here.archive.held mid new
+          → EndsThere p new next (moment ∷ []) (plus_answer (changes + 1) false n) endings.Stopped
       failed_by change is makes =
-          let after = state_after here change [] in
+          let after = state_with_change here change [] in
           let turns = turn_is (Some change) is in
           turn_stopped after turns (some_there after turns) (changed_torn reached_reply (over_torn p.base told_trace state_here keeps.state makes))
           (turn_good keep here after moment here_good at turns)

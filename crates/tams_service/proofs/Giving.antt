@@ -9,7 +9,7 @@ use Rattle.media_rows.specs.declared.change.Change.{Change}
 use Rattle.media_rows.specs.declared.object.Extent.{Extent}
 use Rattle.media_rows.specs.Apply.{applied}
 use Rattle.media_rows.specs.Media.{fits_bytes}
-use Rattle.media_store.specs.Changes.{CameThere, IsNext, Makes, archive_next, kept_by, kept_with, stores}
+use Rattle.media_store.specs.Changes.{CameThere, IsAfterChange, ChangesStore, archive_next, kept_by, kept_with, stores}
 use Rattle.media_store.specs.Stores.{StoreSeen}
 use Rattle.media_store.specs.Stores as media
 use Rattle.media_store.proofs.Commands.{none_came, none_stand}
@@ -18,19 +18,19 @@ use Rattle.store_plans.specs.declared.outcome.Planned.{Planned}
 use Rattle.store_plans.specs.Plans.{MakesChange, MakesStep}
 use Rattle.store_states.specs.Kept.{AgreesWith, StoreView}
 use Rattle.store_states.specs.States.{StoreState, held_in, media_start}
-use Rattle.run_history.specs.Serving.{Counts}
+use Rattle.run_history.specs.Serving.{RunCounts}
 use Rattle.connection_loop.specs.declared.ending.Ending.{Ending}
 use Rattle.connection_loop.specs.declared.ending.Ending.TheVariants as endings
-use Rattle.tams_answers.specs.Answers.{Answers, MediaFollows, media_bytes}
+use Rattle.tams_answers.specs.Answers.{AnswersRequest, MediaFollows, following_bytes}
 use Rattle.tams_answers.specs.declared.answers.Answer.{Answer}
 use Rattle.tams_http.specs.Answered.{response_to}
-use Rattle.tams_machine.specs.Answers.{answer_in, asked_by, journal_of, object_bytes, outcome_of, state_after}
+use Rattle.tams_machine.specs.Answers.{answer_in, asked_in, journal_of_state, object_bytes, outcome_of, state_with_change}
 use Rattle.tams_machine.specs.Machine.{tams_machine}
 use Rattle.tams_machine.specs.Requests.{TamsRequest, context_of, is_head_only}
 use Rattle.request_hearing.specs.Asking.{asked_trace}
 use Rattle.request_hearing.proofs.Asking.{begun_at, state_now-open}
 use Rattle.request_hearing.proofs.AskingReached.{changed_none, changed_one, changed_torn}
-use Rattle.tams_service.specs.Answering.{AsksAt, ChangedAt, EndsThere, FinishLeads, IsRequest, LeadsTo, Place, StopLeads, changes_in}
+use Rattle.tams_service.specs.Answering.{AsksAt, ChangedAt, EndsThere, FinishLeads, IsRequest, LeadsTo, RunPlace, StopLeads, changes_in}
 use Rattle.tams_service.specs.Keeping.{KeepsState}
 use Rattle.tams_service.proofs.Good.{good_now, is_good, made_good}
 use Rattle.tams_service.proofs.Keeping.{keeps_so}
@@ -40,13 +40,13 @@ use Rattle.tams_service.proofs.States.{bare_archive, keeps_next}
 -- ---- the change of an answer
 
 -- the journal of a state that is kept is the store's
-pub journal_is : (store : StoreSeen) (d : Device) (s : StoreState) → KeepsState store d s → journal_of s ≡ media.journal_of store.kept
-journal_is store d s keeps = ap journal_of keeps.state
+pub journal_is : (store : StoreSeen) (d : Device) (s : StoreState) → KeepsState store d s → journal_of_state s ≡ media.journal_of store.kept
+journal_is store d s keeps = ap journal_of_state keeps.state
 
 -- the state after a change that brings no bytes
-bare_state : (s : StoreState) (change : Change) (came : List ℕ) → stores (Some change) ≡ false → state_after s change came ≡ state_after s change []
+bare_state : (s : StoreState) (change : Change) (came : List ℕ) → stores (Some change) ≡ false → state_with_change s change came ≡ state_with_change s change []
 bare_state s change came bare =
-    ap (λ archive. record { archive = archive; room = (state_after s change []).room; half = s.half }) (bare_archive change came s.archive bare)
+    ap (λ archive. record { archive = archive; room = (state_with_change s change []).room; half = s.half }) (bare_archive change came s.archive bare)
 
 -- a planned change applies to the state's library
 pub applied_here : (store : StoreSeen) (d : Device) (s : StoreState) → KeepsState store d s → (change : Change) (planned : Planned)
@@ -54,48 +54,49 @@ pub applied_here : (store : StoreSeen) (d : Device) (s : StoreState) → KeepsSt
 applied_here store d s keeps change planned makes = ap (λ (t : StoreState). applied change t.archive.library) keeps.state ∙ makes.made
 
 -- Nothing was changed for a request before its reply.
-pub unchanged_at : (p : Place) (d : Device) (unread : List ℕ) (n : Counts) → AsksAt p d unread n → ChangedAt p d unread n [] false
+pub unchanged_at : (p : RunPlace) (d : Device) (unread : List ℕ) (n : RunCounts) → AsksAt p d unread n → ChangedAt p d unread n [] false
 unchanged_at p d unread n asks = record { begun = asks.begun; reached = changed_none asks.reached; good = All-nil is_good }
 
-module _ (p : Place) (old new : Device) (n : Counts) (unread : List ℕ) (store : StoreSeen) (change : Change) (came : List ℕ) (kept : StoreView)
+module _ (p : RunPlace) (old new : Device) (n : RunCounts) (unread : List ℕ) (store : StoreSeen) (change : Change) (came : List ℕ) (kept : StoreView)
     (asks : AsksAt p old unread n) (keeps : KeepsState store old p.state) (link : new.link ≡ old.link)
-    (good : is_good (state_after p.state change came)) where
+    (good : is_good (state_with_change p.state change came)) where
   -- its change is durable
-  pub changed_at : Makes true change came store.kept kept p.state.archive.held old new
-      → ChangedAt p new unread n (state_after p.state change came ∷ []) false
+  pub changed_at : ChangesStore true change came store.kept kept p.state.archive.held old new
+      → ChangedAt p new unread n (state_with_change p.state change came ∷ []) false
   changed_at makes = record {
     begun = begun_at asks.begun link;
     reached = changed_one asks.reached
         (over_change p.base (asked_trace (tams_machine p.base) p.beginning p.said p.finished p.steps) (state_now-open asks.begun) keeps.state makes);
-    good = All-cons is_good (state_after p.state change came) [] good (All-nil is_good);
+    good = All-cons is_good (state_with_change p.state change came) [] good (All-nil is_good);
   }
 
   -- it may stand or not
-  pub torn_at : Makes false change came store.kept kept p.state.archive.held old new
-      → ChangedAt p new unread n (state_after p.state change came ∷ []) true
+  pub torn_at : ChangesStore false change came store.kept kept p.state.archive.held old new
+      → ChangedAt p new unread n (state_with_change p.state change came ∷ []) true
   torn_at makes = record {
     begun = begun_at asks.begun link;
     reached = changed_torn asks.reached
         (over_torn p.base (asked_trace (tams_machine p.base) p.beginning p.said p.finished p.steps) (state_now-open asks.begun) keeps.state makes);
-    good = All-cons is_good (state_after p.state change came) [] good (All-nil is_good);
+    good = All-cons is_good (state_with_change p.state change came) [] good (All-nil is_good);
   }
 
 -- ---- a plan that was written
 
 -- the bytes of a planned answer are those of the machine
-pub answer_bytes_are : MediaFollows → (p : Place) (r : TamsRequest) (moment : ℕ) (answer : Answer) (store : StoreSeen) (d : Device) (area : ℕ) (image : List ℕ)
-    → Answers p.base p.state r moment answer → held_in image area p.state.archive.library.objects ≡ p.state.archive.held
-    → (answer_in p.base r moment p.state).bytes ≡ answer.response ++ media_bytes area answer.media image
+pub answer_bytes_are : MediaFollows → (p : RunPlace) (r : TamsRequest) (moment : ℕ) (answer : Answer) (store : StoreSeen) (d : Device) (area : ℕ)
+    (image : List ℕ)
+    → AnswersRequest p.base p.state r moment answer → held_in image area p.state.archive.library.objects ≡ p.state.archive.held
+    → (answer_in p.base r moment p.state).bytes ≡ answer.response ++ following_bytes area answer.media image
 answer_bytes_are follows p r moment answer store d area image answers held =
     ap (λ reply. response_to (context_of p.state.archive.library.id p.base r) reply
-    ++ body_unless (is_head_only (method_kind r.head.method)) (object_bytes p.state.archive (asked_by p.state r) reply))
+    ++ body_unless (is_head_only (method_kind r.head.method)) (object_bytes p.state.archive (asked_in p.state r) reply))
     (sym answers.planned.reply)
     ∙ ap (λ text. text ++ body_unless (is_head_only (method_kind r.head.method))
-    (object_bytes p.state.archive (asked_by p.state r) answer.planned.reply)) (sym answers.response)
+    (object_bytes p.state.archive (asked_in p.state r) answer.planned.reply)) (sym answers.response)
     ∙ ap (λ bytes. answer.response ++ bytes) (follows p.base p.state r moment answer area image answers held)
 
-module _ (p : Place) (old mid new : Device) (n now : Counts) (text rest : List ℕ) (store : StoreSeen) (r : TamsRequest) (moment : ℕ) (answer : Answer)
-    (asks : AsksAt p old (text ++ rest) n) (keeps : KeepsState store old p.state) (answers : Answers p.base p.state r moment answer)
+module _ (p : RunPlace) (old mid new : Device) (n now : RunCounts) (text rest : List ℕ) (store : StoreSeen) (r : TamsRequest) (moment : ℕ) (answer : Answer)
+    (asks : AsksAt p old (text ++ rest) n) (keeps : KeepsState store old p.state) (answers : AnswersRequest p.base p.state r moment answer)
     (link : mid.link ≡ old.link) where
   abbrev change : Option Change
   change = (outcome_of p.state r moment).change
@@ -106,7 +107,7 @@ module _ (p : Place) (old mid new : Device) (n now : Counts) (text rest : List �
   -- ---- the disk failed
 
   module _ (makes : (c : Change) (came : List ℕ) → MakesChange (media.journal_of store.kept) c answer.planned → fits_bytes c came ≡ true
-      → CameThere old store.kept c came → Makes false c came store.kept (kept_by store.kept answer.planned) p.state.archive.held old mid)
+      → CameThere old store.kept c came → ChangesStore false c came store.kept (kept_by store.kept answer.planned) p.state.archive.held old mid)
       (some : answer.planned.frame ≢ None) (stops : StopLeads mid new n now (changes_in answer.planned.frame)) (last : StoreSeen)
       (ends : Bool) (request : IsRequest p text ends r) where
     failed_with : (c : Option Change) → change ≡ c → stores c ≡ false → MakesStep (media.journal_of store.kept) c answer.planned
@@ -119,8 +120,8 @@ module _ (p : Place) (old mid new : Device) (n now : Counts) (text rest : List �
         let good = made_good p.state.archive c [] answer.planned.next (good_now asks.begun)
         (applied_here store old p.state keeps c answer.planned step) fits in
         let changed = torn_at p old mid n (text ++ rest) store c [] (kept_by store.kept answer.planned) asks keeps link good torn in
-        stops p text rest r moment last (state_after p.state c [] ∷ []) changed
-        (request.spells, refl, ap (option_map (λ x. state_after p.state x r.body)) is ∙ ap Some same) request.interim
+        stops p text rest r moment last (state_with_change p.state c [] ∷ []) changed
+        (request.spells, refl, ap (option_map (λ x. state_with_change p.state x r.body)) is ∙ ap Some same) request.interim
         (sym (ap changes_in step.frame))
 
     pub give_failed : EndsThere p new last (moment ∷ []) now endings.Stopped
@@ -128,32 +129,34 @@ module _ (p : Place) (old mid new : Device) (n now : Counts) (text rest : List �
 
   -- ---- it was written
 
-  module _ (follows : MediaFollows) (makes : (c : Change) (came : List ℕ) → MakesChange (media.journal_of store.kept) c answer.planned → fits_bytes c came ≡ true
-      → CameThere old store.kept c came → Makes true c came store.kept (kept_by store.kept answer.planned) p.state.archive.held old mid)
+  module _ (follows : MediaFollows) (makes : (c : Change) (came : List ℕ) → MakesChange (media.journal_of store.kept) c answer.planned → fits_bytes c came
+    ≡ true
+      → CameThere old store.kept c came → ChangesStore true c came store.kept (kept_by store.kept answer.planned) p.state.archive.held old mid)
       (none : answer.planned.frame ≡ None → mid ≡ old) (next : StoreSeen) (kept : next.kept ≡ kept_by store.kept answer.planned)
       (unspent : next.spent ≡ false)
       (seen_old : held_in old.seen (media_start store.kept.journal.half) p.state.archive.library.objects ≡ p.state.archive.held)
       (media_is : answer.media ≡ None ⊎ (answer.planned.frame ≡ None))
       (last : StoreSeen) (ends : Bool) (request : IsRequest p text ends r) (few : p.taken < 1000000) (result : Option Ending)
       (finishes : FinishLeads mid new next last n now
-      (answer.response ++ media_bytes (media_start next.kept.journal.half) answer.media mid.seen) (changes_in answer.planned.frame) moment ends result) where
+      (answer.response ++ following_bytes (media_start next.kept.journal.half) answer.media mid.seen)
+      (changes_in answer.planned.frame) moment ends result) where
     -- the bytes are those that the machine answers
     bytes_are : (answer_in p.base r moment p.state).bytes
-        ≡ answer.response ++ media_bytes (media_start next.kept.journal.half) answer.media mid.seen
+        ≡ answer.response ++ following_bytes (media_start next.kept.journal.half) answer.media mid.seen
     bytes_are =
         answer_bytes_are follows p r moment answer store old (media_start store.kept.journal.half) old.seen answers seen_old
         ∙ ap (λ b. answer.response ++ b) (elim media_is [ inl bare ↦ no_media bare | inr still ↦ same_place still ])
       where
-        no_media : answer.media ≡ None → media_bytes (media_start store.kept.journal.half) answer.media old.seen
-            ≡ media_bytes (media_start next.kept.journal.half) answer.media mid.seen
+        no_media : answer.media ≡ None → following_bytes (media_start store.kept.journal.half) answer.media old.seen
+            ≡ following_bytes (media_start next.kept.journal.half) answer.media mid.seen
         no_media bare = rw bare refl
 
-        same_place : answer.planned.frame ≡ None → media_bytes (media_start store.kept.journal.half) answer.media old.seen
-            ≡ media_bytes (media_start next.kept.journal.half) answer.media mid.seen
+        same_place : answer.planned.frame ≡ None → following_bytes (media_start store.kept.journal.half) answer.media old.seen
+            ≡ following_bytes (media_start next.kept.journal.half) answer.media mid.seen
         same_place still =
-            ap (λ (k : StoreView). media_bytes (media_start k.journal.half) answer.media old.seen)
+            ap (λ (k : StoreView). following_bytes (media_start k.journal.half) answer.media old.seen)
             (sym (kept ∙ ap (kept_with store.kept answer.planned) still))
-            ∙ ap (λ (d : Device). media_bytes (media_start next.kept.journal.half) answer.media d.seen) (sym (none still))
+            ∙ ap (λ (d : Device). following_bytes (media_start next.kept.journal.half) answer.media d.seen) (sym (none still))
 
     made_with : (c : Option Change) → change ≡ c → stores c ≡ false → MakesStep (media.journal_of store.kept) c answer.planned
         → LeadsTo p new last moment rest now result
@@ -162,22 +165,22 @@ module _ (p : Place) (old mid new : Device) (n now : Counts) (text rest : List �
         (keeps_so store next old mid p.state keeps (kept ∙ ap (kept_with store.kept answer.planned) step.frame) unspent
         (subst (λ d. AgreesWith d store.kept p.state.archive.held) (sym (none step.frame)) keeps.agrees))
         request
-        (record { bytes_are = bytes_are; states_are = ap (λ o. option_to_list (option_map (λ x. state_after p.state x r.body) o)) is })
+        (record { bytes_are = bytes_are; states_are = ap (λ o. option_to_list (option_map (λ x. state_with_change p.state x r.body) o)) is })
         (sym (ap changes_in step.frame)) few
     made_with (Some c) is bare step =
         let fits = none_came c bare in
         let made = makes c [] step fits (λ left could. none_stand left.image (media_start store.kept.journal.half) c bare) in
         let same = bare_state p.state c r.body bare in
         let good = made_good p.state.archive c [] answer.planned.next (good_now asks.begun) (applied_here store old p.state keeps c answer.planned step) fits in
-        finishes p text rest r (state_after p.state c [] ∷ [])
+        finishes p text rest r (state_with_change p.state c [] ∷ [])
         (changed_at p old mid n (text ++ rest) store c [] (kept_by store.kept answer.planned) asks keeps link good made)
         (keeps_next store next old mid p.state c [] keeps unspent
-        (subst (IsNext store.kept c) (sym kept) (planned_next store.kept c answer.planned step))
+        (subst (IsAfterChange store.kept c) (sym kept) (planned_next store.kept c answer.planned step))
         (subst (λ k. AgreesWith mid k (archive_next store.kept p.state.archive.held c []).held) (sym kept) (made.agrees refl)))
         request
         (record {
           bytes_are = bytes_are;
-          states_are = ap (λ o. option_to_list (option_map (λ x. state_after p.state x r.body) o)) is ∙ ap (λ x. x ∷ []) same;
+          states_are = ap (λ o. option_to_list (option_map (λ x. state_with_change p.state x r.body) o)) is ∙ ap (λ x. x ∷ []) same;
         })
         (sym (ap changes_in step.frame)) few
 

@@ -14,7 +14,7 @@ use Rattle.media_rows.specs.Media.{Archive, archive_after, fits_bytes}
 use Rattle.media_rows.specs.Moments.{is_moment}
 use Rattle.store_states.specs.States.{StoreState}
 use Rattle.run_history.specs.Runs.{Beginning}
-use Rattle.run_history.specs.Serving.{Counts, Held}
+use Rattle.run_history.specs.Serving.{RunCounts, Held}
 use Rattle.run_history.specs.Sessions.{Session}
 use Rattle.run_history.specs.Steps.{Step, last_or}
 use Rattle.run_history.specs.Traces.{state_now}
@@ -36,7 +36,7 @@ last_good s (next ∷ states) good all = last_good next states (All-head is_good
 
 -- the state of a connection on which a request has begun
 pub good_now : {base : List ℕ} {b : Beginning StoreState} {d : Device} {given : List ℕ} {held : Held StoreState} {said : Bool}
-    {finished : List (Session TamsRequest)} {steps : List (Step TamsRequest)} {n : Counts}
+    {finished : List (Session TamsRequest)} {steps : List (Step TamsRequest)} {n : RunCounts}
     → Open (tams_machine base) b d given held said finished steps n → is_good held.state
 good_now {base} {b} {d} {given} {held} {said} {finished} {steps} {n} o = subst is_good (state_now-open o) (by_said said)
   where

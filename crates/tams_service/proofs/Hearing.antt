@@ -5,7 +5,7 @@ use Rattle.http_wire.specs.Feeds.{Fed}
 use Rattle.media_store.specs.Stores.{StoreSeen}
 use Rattle.store_states.specs.States.{StoreState}
 use Rattle.run_history.specs.Runs.{Beginning}
-use Rattle.run_history.specs.Serving.{Counts, Going}
+use Rattle.run_history.specs.Serving.{RunCounts, Going}
 use Rattle.run_history.specs.Sessions.{Hearing, Saying, Session, Whole}
 use Rattle.run_history.specs.Steps.{Step}
 use Rattle.connection_loop.specs.declared.ending.Ending.TheVariants as endings
@@ -15,7 +15,7 @@ use Rattle.tams_machine.specs.Requests.{TamsRequest}
 use Rattle.request_hearing.specs.Hearing.{HearsAndSays, IsUnsaid, IsWaiting, interim_where}
 use Rattle.request_hearing.proofs.Asking.{asking_first}
 use Rattle.request_hearing.proofs.Theorems.{heard_images, media_unsaid_step, unfinished, unsaid_step, waiting_step}
-use Rattle.tams_service.specs.Answering.{AsksAt, Place}
+use Rattle.tams_service.specs.Answering.{AsksAt, RunPlace}
 use Rattle.tams_service.specs.Keeping.{KeepsState}
 use Rattle.tams_service.specs.KeepingLaws.{keeps_images}
 use Rattle.tams_service.proofs.Stepping.{behind_ends, within_ends}
@@ -27,10 +27,10 @@ keeps_heard store s bytes said sent held ended old new keeps h =
     keeps_images store old new s keeps (record { images = heard_images bytes said sent held ended old new h })
 
 module _ (base : List ℕ) (b : Beginning StoreState) (old new : Device) (given : List ℕ) (s : StoreState) (fed : Fed) (finished : List (Session TamsRequest))
-    (steps : List (Step TamsRequest)) (n : Counts) (store : StoreSeen) (tells : old.tells ≡ true) (keeps : KeepsState store old s)
+    (steps : List (Step TamsRequest)) (n : RunCounts) (store : StoreSeen) (tells : old.tells ≡ true) (keeps : KeepsState store old s)
     (going : Going (tams_machine base) b old given (held_with s fed.unread fed.requests) finished steps n) (bytes : List ℕ) (said : Bool) where
   -- where the run stands
-  abbrev pub here : Place
+  abbrev pub here : RunPlace
   here = record {
     base = base;
     beginning = b;

@@ -11,7 +11,7 @@ use Rattle.store_states.specs.States.{held_in, media_start, state_bytes}
 use Rattle.store_plans.specs.declared.puts.PutPlan.{PutPlan}
 use Rattle.store_plans.specs.declared.puts.PutPlan.TheVariants.{Kept, Refused, Write}
 use Rattle.media_store.specs.Pieces.{IsExtent}
-use Rattle.media_store.specs.Puts.{GoesOn, IsPlanFor, PutSeen, TakesPiece, bytes_in, may_be_same}
+use Rattle.media_store.specs.Puts.{PutMovesOn, IsPlanFor, PutSeen, TakesPiece, bytes_at_extent, may_be_same}
 use Rattle.tams_service.specs.Taking.{HoldsPart}
 use Rattle.tams_service.proofs.Fronts.{same_more}
 
@@ -33,7 +33,7 @@ held_seen d kept held device honest shows tells agrees =
 -- so where what is kept agrees before and after, they are the same
 pub stored_same : (old new : Device) (kept : StoreView) (held : List (List ℕ)) → IsDevice old → IsDevice new → new.honest ≡ old.honest
     → new.shows ≡ old.shows → new.tells ≡ old.tells → old.honest ≡ true → old.shows ≡ true → old.tells ≡ true → AgreesWith old kept held
-    → AgreesWith new kept held → (extent : Extent) → IsExtent kept.library extent → bytes_in kept extent new.seen ≡ bytes_in kept extent old.seen
+    → AgreesWith new kept held → (extent : Extent) → IsExtent kept.library extent → bytes_at_extent kept extent new.seen ≡ bytes_at_extent kept extent old.seen
 stored_same old new kept held old_sound new_sound as_honest as_shows as_tells honest shows tells before after extent is =
     let area = media_start kept.journal.half in
     let both = held_seen new kept held new_sound (as_honest ∙ honest) (as_shows ∙ shows) (as_tells ∙ tells) after
@@ -58,12 +58,12 @@ holds_none kept put (Write extent planned) seen same = refl
 
 -- a piece more
 pub holds_more : (kept : StoreView) (put later : PutSeen) (plan : PutPlan) (part piece : List ℕ) (size : ℕ) (old new : Device)
-    → put.handed ≡ length part → GoesOn put later piece → IsPlanFor kept size put.same plan
-    → ((extent : Extent) → IsExtent kept.library extent → bytes_in kept extent new.seen ≡ bytes_in kept extent old.seen)
+    → put.handed ≡ length part → PutMovesOn put later piece → IsPlanFor kept size put.same plan
+    → ((extent : Extent) → IsExtent kept.library extent → bytes_at_extent kept extent new.seen ≡ bytes_at_extent kept extent old.seen)
     → HoldsPart kept put plan part old.seen → TakesPiece kept plan piece put later old new → HoldsPart kept later plan (part ++ piece) new.seen
 holds_more kept put later (Refused why) part piece size old new handed goes is stays holds takes = tt
 holds_more kept put later (Kept extent) part piece size old new handed goes is stays holds takes =
-    let bytes = bytes_in kept extent old.seen in
+    let bytes = bytes_at_extent kept extent old.seen in
     takes
     ∙ ap (λ h. put.same && bytes_eq (take (length piece) (drop h bytes)) piece) handed
     ∙ ap (λ s. s && bytes_eq (take (length piece) (drop (length part) bytes)) piece) holds
@@ -72,9 +72,9 @@ holds_more kept put later (Kept extent) part piece size old new handed goes is s
     ∙ ap (λ b. (extent.length == later.size) && bytes_eq (take (length (part ++ piece)) b) (part ++ piece)) (sym (stays extent is.stored))
 holds_more kept put later (Write extent planned) part piece size old new handed goes is stays holds takes =
     let count : length (part ++ piece) ≡ later.handed = omega (arith, length-append part piece, goes.handed, handed) in
-    ap (λ k. take k (bytes_in kept extent new.seen)) count
+    ap (λ k. take k (bytes_at_extent kept extent new.seen)) count
     ∙ takes
-    ∙ ap (λ h. take h (bytes_in kept extent old.seen) ++ piece) handed
+    ∙ ap (λ h. take h (bytes_at_extent kept extent old.seen) ++ piece) handed
     ∙ ap (λ l. l ++ piece) holds
 
 -- what a piece makes of a put hangs on what the device shows before it

@@ -6,7 +6,7 @@ use Rattle.media_rows.specs.declared.change.Change.{Change}
 use Rattle.media_rows.specs.declared.change.Change.TheVariants as changes
 use Rattle.change_codec.specs.Fitting.{State}
 use Rattle.media_store.specs.Changes.{IsNextIf, kept_by, kept_with}
-use Rattle.media_store.specs.Puts.{PutSeen, kept_behind}
+use Rattle.media_store.specs.Puts.{PutSeen, kept_after_put}
 use Rattle.media_store.specs.Stores as media
 use Rattle.media_store.proofs.Planning.{planned_next}
 use Rattle.store_plans.specs.declared.outcome.Planned.{Planned}
@@ -30,7 +30,7 @@ planned_id kept (Some change) planned step = next_id kept (Some change) (kept_by
 
 -- over a put
 pub keeps_id : (kept : StoreView) (object : List ℕ) (size moment : ℕ) (plan : PutPlan) → HasExtent (media.journal_of kept) object size moment plan
-    → (kept_behind kept plan).library.id ≡ kept.library.id
+    → (kept_after_put kept plan).library.id ≡ kept.library.id
 keeps_id kept object size moment (Refused why) has = refl
 keeps_id kept object size moment (Kept extent) has = refl
 keeps_id kept object size moment (Write extent planned) has =
@@ -43,4 +43,4 @@ id_with kept (Some put) None same is = let no : Some put.plan ≡ None = same in
 id_with kept (Some put) (Some begun) same is =
     let plans : Some put.plan ≡ Some begun.plan = same in
     let plan : put.plan ≡ begun.plan = cc in
-    subst (λ (x : PutPlan). (kept_behind kept x).library.id ≡ kept.library.id) (sym plan) is
+    subst (λ (x : PutPlan). (kept_after_put kept x).library.id ≡ kept.library.id) (sym plan) is

@@ -9,10 +9,10 @@ use Rattle.store_states.specs.Kept.{Moves, StoreView, kept_state}
 use Rattle.store_states.specs.States.{StandsFor, StoreState}
 use Rattle.store_writes.specs.Writes.{Keeps}
 use Rattle.store_commits.specs.Carrying.{HasArchive, Replaces}
-use Rattle.media_store.specs.Changes.{IsNext, Makes, archive_next}
+use Rattle.media_store.specs.Changes.{IsAfterChange, ChangesStore, archive_next}
 use Rattle.run_history.specs.Laws.{Writes, Wrote}
 use Rattle.run_history.specs.Traces.{Trace, state_now}
-use Rattle.tams_machine.specs.Answers.{state_after}
+use Rattle.tams_machine.specs.Answers.{state_with_change}
 use Rattle.tams_machine.specs.Machine.{tams_machine}
 use Rattle.request_hearing.proofs.Asking.{state_before-change, state_now-change}
 
@@ -20,13 +20,14 @@ use Rattle.request_hearing.proofs.Asking.{state_before-change, state_now-change}
 
 module _ (kept : StoreView) (held : List (List ℕ)) (s : StoreState) (is : s ≡ kept_state kept held) (change : Change) (came : List ℕ) where
   -- It has the bytes of objects that a change makes of those before it.
-  pub next_held : (archive_next kept held change came).held ≡ (state_after s change came).archive.held
-  next_held = sym (ap (λ (x : StoreState). (state_after x change came).archive.held) is)
+  pub next_held : (archive_next kept held change came).held ≡ (state_with_change s change came).archive.held
+  next_held = sym (ap (λ (x : StoreState). (state_with_change x change came).archive.held) is)
 
   -- It is the one that is kept after the change.
-  pub next_state : {next : StoreView} → IsNext kept change next → state_after s change came ≡ kept_state next (state_after s change came).archive.held
+  pub next_state : {next : StoreView} → IsAfterChange kept change next → state_with_change s change came ≡ kept_state next
+      (state_with_change s change came).archive.held
   next_state {next} n =
-      subst (λ x. state_after x change came ≡ kept_state next (state_after x change came).archive.held) (sym is) (sym (ap with_bytes n.journal))
+      subst (λ x. state_with_change x change came ≡ kept_state next (state_with_change x change came).archive.held) (sym is) (sym (ap with_bytes n.journal))
     where
       with_bytes : State → StoreState
       with_bytes journal = record {
@@ -71,23 +72,23 @@ writes base t before next now q p replaces same =
 module _ (base : List ℕ) (t : Trace StoreState) {kept next : StoreView} {held : List (List ℕ)} {s : StoreState} {change : Change} {came : List ℕ}
     {old new : Device} (now : state_now t ≡ s) (is : s ≡ kept_state kept held) where
   -- A change that was made is durable.
-  pub over_change : Makes true change came kept next held old new
-      → Elapses (Writes (tams_machine base) t (state_after s change came)) (Wrote (tams_machine base) (state_after s change came)) old new
+  pub over_change : ChangesStore true change came kept next held old new
+      → Elapses (Writes (tams_machine base) t (state_with_change s change came)) (Wrote (tams_machine base) (state_with_change s change came)) old new
   over_change makes =
       let m = tams_machine base in
       let state = kept_state kept held in
-      let after = state_after state change came in
-      subst (λ x. Elapses (Writes m t (state_after x change came)) (Wrote m (state_after x change came)) old new) (sym is)
+      let after = state_with_change state change came in
+      subst (λ x. Elapses (Writes m t (state_with_change x change came)) (Wrote m (state_with_change x change came)) old new) (sym is)
       (elapses_weaker _ _ _ _ old new makes.moments (λ q p could replaces. writes base t state after (now ∙ is) q p replaces refl)
       (λ q p could left replaced. record { told = replaced.told; image = replaced.image }))
 
   -- One in which the disk failed may stand or not.
-  pub over_torn : Makes false change came kept next held old new
-      → Elapses (Writes (tams_machine base) t (state_after s change came)) (Writes (tams_machine base) t (state_after s change came)) old new
+  pub over_torn : ChangesStore false change came kept next held old new
+      → Elapses (Writes (tams_machine base) t (state_with_change s change came)) (Writes (tams_machine base) t (state_with_change s change came)) old new
   over_torn makes =
       let m = tams_machine base in
       let state = kept_state kept held in
-      let after = state_after state change came in
-      subst (λ x. Elapses (Writes m t (state_after x change came)) (Writes m t (state_after x change came)) old new) (sym is)
+      let after = state_with_change state change came in
+      subst (λ x. Elapses (Writes m t (state_with_change x change came)) (Writes m t (state_with_change x change came)) old new) (sym is)
       (elapses_weaker _ _ _ _ old new makes.moments (λ q p could replaces. writes base t state after (now ∙ is) q p replaces refl)
       (λ q p could left replaces. writes base t state after (now ∙ is) q p replaces refl))

@@ -10,7 +10,7 @@ use Rattle.http_wire.specs.declared.stage.Stage.TheVariants.{Failed, Media, Open
 use Rattle.request_hearing.specs.Hearing.{HearsAndSays, IsBare, IsPiece, after_hearing}
 use Rattle.request_hearing.proofs.SiteLemmas.{change_last-itself, change_last-twice, sends_none}
 use Rattle.tams_service.specs.Sites.{SiteCounts}
-use Rattle.tams_service.specs.Taking.{TakesPart}
+use Rattle.tams_service.specs.Taking.{TakesOfBody}
 use Rattle.tams_service.proofs.Counting.{counts_link}
 
 -- ---- stages
@@ -53,7 +53,7 @@ counts_hearing bytes held ended old new h = counts_link held old new h.call.same
 -- ---- parts
 
 -- none at all
-pub takes_none : (fed : Fed) (d : Device) → TakesPart [] false false fed fed d d
+pub takes_none : (fed : Fed) (d : Device) → TakesOfBody [] false false fed fed d d
 takes_none fed d = record {
   bytes = [];
   text_is = append-nil fed.unread;
@@ -63,14 +63,14 @@ takes_none fed d = record {
 }
 
 -- one behind another
-module _ (part more : List ℕ) (ended failed : Bool) (a b c : Fed) (x y z : Device) (same : SameDevice x y) (one : TakesPart part false false a b x y)
-    (two : TakesPart more ended failed b c y z) where
+module _ (part more : List ℕ) (ended failed : Bool) (a b c : Fed) (x y z : Device) (same : SameDevice x y) (one : TakesOfBody part false false a b x y)
+    (two : TakesOfBody more ended failed b c y z) where
   few_both : length (part ++ more) ≤ left_of a.stage
   few_both =
       let left : left_of b.stage ≡ left_of a.stage - length part = ap (λ (f : Fed). left_of f.stage) one.feed ∙ left_less (length part) a.stage in
       omega (arith, left, one.few, two.few, length-append part more)
 
-  pub takes_twice : TakesPart (part ++ more) ended failed a c x z
+  pub takes_twice : TakesOfBody (part ++ more) ended failed a c x z
   takes_twice = record {
     bytes = one.bytes ++ two.bytes;
     text_is = sym (append_assoc a.unread one.bytes two.bytes)
@@ -95,7 +95,7 @@ module _ (part more : List ℕ) (ended failed : Bool) (a b c : Fed) (x y z : Dev
 
 -- a piece of the body was heard
 pub takes_piece : (old new : Fed) (bytes out : List ℕ) (count : ℕ) (held ended : Bool) (before now : Device) → IsPiece old bytes out count new
-    → HearsAndSays bytes false true held ended before now → TakesPart (take count out) ended (not held) old new before now
+    → HearsAndSays bytes false true held ended before now → TakesOfBody (take count out) ended (not held) old new before now
 takes_piece old new bytes out count held ended before now is h =
     let size : length (take count out) ≡ count = length-take-le count out is.within in
     record {
@@ -109,7 +109,7 @@ takes_piece old new bytes out count held ended before now is h =
 
 -- none was
 pub takes_nothing : (old new : Fed) (bytes : List ℕ) (held ended : Bool) (before now : Device) → IsBare old bytes new
-    → HearsAndSays bytes false true held ended before now → TakesPart [] ended (not held) old new before now
+    → HearsAndSays bytes false true held ended before now → TakesOfBody [] ended (not held) old new before now
 takes_nothing old new bytes held ended before now is h = record {
   bytes = bytes;
   text_is = ap (λ l. l ++ bytes) is.none ∙ is.silent ∙ sym is.none ∙ ap (λ (f : Fed). f.unread) (sym is.feed);
@@ -120,8 +120,8 @@ takes_nothing old new bytes held ended before now is h = record {
 }
 
 -- calls of the disk behind it leave what was heard
-pub takes_then : (part : List ℕ) (ended failed : Bool) (old new : Fed) (before mid now : Device) → TakesPart part ended failed old new before mid
-    → now.link ≡ mid.link → TakesPart part ended failed old new before now
+pub takes_then : (part : List ℕ) (ended failed : Bool) (old new : Fed) (before mid now : Device) → TakesOfBody part ended failed old new before mid
+    → now.link ≡ mid.link → TakesOfBody part ended failed old new before now
 takes_then part ended failed old new before mid now takes link = record {
   bytes = takes.bytes;
   text_is = takes.text_is;

@@ -12,12 +12,12 @@ use Rattle.media_store.specs.Puts.{PutSeen, may_be_same}
 use Rattle.store_states.specs.Kept.{StoreView}
 use Rattle.connection_loop.specs.declared.ending.Ending.{Ending}
 use Rattle.tams_machine.specs.Requests.{TamsRequest}
-use Rattle.request_hearing.specs.Hearing.{IsOpened}
+use Rattle.request_hearing.specs.Hearing.{OpensMedia}
 use Rattle.request_hearing.specs.Laws.{media_request}
 use Rattle.request_hearing.proofs.Theorems.{may_media}
 use Rattle.tams_answers.specs.Media.{IsMediaSent, MediaAnswers}
 use Rattle.tams_answers.specs.declared.media.Responses.{Responses}
-use Rattle.tams_service.specs.Answering.{EndKeepsId, IsWhole}
+use Rattle.tams_service.specs.Answering.{EndKeepsId, IsWholePut}
 use Rattle.tams_service.specs.Taking.{IsFilled, IsPutBegun, TakesBody}
 use Rattle.tams_service.specs.declared.body.Taken.TheVariants as taken
 use Rattle.tams_service.proofs.Bodies.{media_sent}
@@ -25,7 +25,7 @@ use Rattle.tams_service.proofs.Ids.{keeps_id}
 
 -- ---- a put that has begun
 
-module _ {so_far : ℕ} {all : List ℕ} {said : Bool} {fed : Fed} {shown : Head} (o : IsOpened so_far all said fed shown) (base target : List ℕ) (moment : ℕ)
+module _ {so_far : ℕ} {all : List ℕ} {said : Bool} {fed : Fed} {shown : Head} (o : OpensMedia so_far all said fed shown) (base target : List ℕ) (moment : ℕ)
     (kept : StoreView) (responses : Responses) (target_is : target ≡ o.head.target) where
   -- some bytes of its length
   abbrev blank : List ℕ
@@ -65,9 +65,9 @@ module _ {so_far : ℕ} {all : List ℕ} {said : Bool} {fed : Fed} {shown : Head
 -- ---- behind all bytes
 
 -- all were handed to it
-pub put_whole : (kept now : StoreView) (size : ℕ) (put : Option PutSeen) → IfSome put (IsFilled kept size) → now ≡ kept → IfSome put (IsWhole now)
+pub put_whole : (kept now : StoreView) (size : ℕ) (put : Option PutSeen) → IfSome put (IsFilled kept size) → now ≡ kept → IfSome put (IsWholePut now)
 put_whole kept now size None filled same = tt
-put_whole kept now size (Some put) filled same = subst (λ k. IsWhole k put) (sym same) (record { of_store = filled.of_store; filled = filled.filled })
+put_whole kept now size (Some put) filled same = subst (λ k. IsWholePut k put) (sym same) (record { of_store = filled.of_store; filled = filled.filled })
 
 -- The next request may be heard behind a put that doesn't end its connection.
 pub may_go_on : (old new : Fed) (size : ℕ) (ends : Bool) (put : Option PutSeen) (before now : Device) (kept : StoreView) (result : Option Ending)

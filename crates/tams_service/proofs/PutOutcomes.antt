@@ -25,10 +25,10 @@ use Rattle.store_states.specs.States.{held_in, state_bytes}
 use Rattle.store_plans.specs.declared.outcome.Planned.{Planned}
 use Rattle.store_plans.specs.Plans.{IsStoredAt, MakesStep}
 use Rattle.tams_http.specs.Answered.{response_to}
-use Rattle.tams_machine.specs.Answers.{asked_by, object_bytes, outcome_of, state_after}
+use Rattle.tams_machine.specs.Answers.{asked_in, object_bytes, outcome_of, state_with_change}
 use Rattle.tams_machine.specs.Requests.{TamsRequest, context_of, is_head_only}
 use Rattle.tams_answers.proofs.Following.{found_bytes}
-use Rattle.tams_service.specs.Answering.{IsReply, Place}
+use Rattle.tams_service.specs.Answering.{IsMachineReply, RunPlace}
 
 -- ---- the change of bytes that are stored
 
@@ -114,16 +114,16 @@ no_body true = refl
 no_body false = refl
 
 -- An outcome with its response is the machine's reply, behind which no bytes follow.
-pub reply_is : (p : Place) (r : TamsRequest) (moment : ℕ) (o : Outcome) (response : List ℕ) → outcome_of p.state r moment ≡ o
+pub reply_is : (p : RunPlace) (r : TamsRequest) (moment : ℕ) (o : Outcome) (response : List ℕ) → outcome_of p.state r moment ≡ o
     → response ≡ response_to (context_of p.state.archive.library.id p.base r) o.reply
-    → ((reply : Reply) → object_bytes p.state.archive (asked_by p.state r) reply ≡ [])
-    → IsReply p r moment (response ++ []) (option_to_list (option_map (λ c. state_after p.state c r.body) o.change))
+    → ((reply : Reply) → object_bytes p.state.archive (asked_in p.state r) reply ≡ [])
+    → IsMachineReply p r moment (response ++ []) (option_to_list (option_map (λ c. state_with_change p.state c r.body) o.change))
 reply_is p r moment o response is same none = record {
   bytes_are =
       ap (λ (x : Outcome). response_to (context_of p.state.archive.library.id p.base r) x.reply
-      ++ body_unless (is_head_only (method_kind r.head.method)) (object_bytes p.state.archive (asked_by p.state r) x.reply)) is
-      ∙ ap (λ text. text ++ body_unless (is_head_only (method_kind r.head.method)) (object_bytes p.state.archive (asked_by p.state r) o.reply)) (sym same)
+      ++ body_unless (is_head_only (method_kind r.head.method)) (object_bytes p.state.archive (asked_in p.state r) x.reply)) is
+      ∙ ap (λ text. text ++ body_unless (is_head_only (method_kind r.head.method)) (object_bytes p.state.archive (asked_in p.state r) o.reply)) (sym same)
       ∙ ap (λ bytes. response ++ body_unless (is_head_only (method_kind r.head.method)) bytes) (none o.reply)
       ∙ ap (λ bytes. response ++ bytes) (no_body (is_head_only (method_kind r.head.method)));
-  states_are = ap (λ (x : Outcome). option_to_list (option_map (λ c. state_after p.state c r.body) x.change)) is;
+  states_are = ap (λ (x : Outcome). option_to_list (option_map (λ c. state_with_change p.state c r.body) x.change)) is;
 }

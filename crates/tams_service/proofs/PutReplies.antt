@@ -17,7 +17,7 @@ use Rattle.media_rows.specs.Library.{Library}
 use Rattle.media_rows.specs.Media.{answer_to, fits_bytes, puts}
 use Rattle.media_rows.specs.Objects.{blocks_of, free_place, object_of}
 use Rattle.change_codec.specs.Fitting.{State}
-use Rattle.media_store.specs.Puts.{PutSeen, StoresAs, bytes_in, put_reply}
+use Rattle.media_store.specs.Puts.{PutSeen, StoresAs, bytes_at_extent, put_reply}
 use Rattle.media_store.specs.Stores.{StoreSeen}
 use Rattle.media_store.specs.Stores as media
 use Rattle.object_blobs.specs.Extents.{extent_start}
@@ -31,11 +31,11 @@ use Rattle.store_states.specs.States.{StoreState, held_in, media_start}
 use Rattle.tams_http.specs.Answered.{response_to}
 use Rattle.tams_http.specs.declared.ask.Ask.{Ask}
 use Rattle.tams_http.specs.declared.ask.Ask.TheVariants.{PutMedia}
-use Rattle.tams_machine.specs.Answers.{answer_in, asked_by, object_bytes, outcome_by, outcome_of, state_after}
+use Rattle.tams_machine.specs.Answers.{answer_in, asked_in, object_bytes, outcome_by, outcome_of, state_with_change}
 use Rattle.tams_machine.specs.Requests.{TamsRequest, context_of}
 use Rattle.tams_answers.specs.Media.{IsMediaBegun, IsMediaRefused, MediaAnswers, response_by}
 use Rattle.tams_answers.specs.declared.media.Responses.{Responses}
-use Rattle.tams_service.specs.Answering.{IsPutting, IsReply, Place}
+use Rattle.tams_service.specs.Answering.{IsPutting, IsMachineReply, RunPlace}
 use Rattle.tams_service.specs.Keeping.{KeepsState}
 use Rattle.tams_service.specs.Taking.{HoldsPart, plan_of}
 use Rattle.tams_service.proofs.Giving.{applied_here, journal_is}
@@ -46,9 +46,9 @@ use Rattle.tams_service.proofs.PutOutcomes.{compared, put_change, reply_is, step
 
 -- A put of an object's bytes was planned of a store as the request's, with the response to what it replies, and has all
 -- bytes of the request.
-pub record IsFull (p : Place) (r : TamsRequest) (moment : ℕ) (kept : StoreView) (put : PutSeen) (responses : Responses) (seen : List ℕ) : Type 0 where
+pub record IsFull (p : RunPlace) (r : TamsRequest) (moment : ℕ) (kept : StoreView) (put : PutSeen) (responses : Responses) (seen : List ℕ) : Type 0 where
   pub object : List ℕ
-  pub asked : (held : List (List ℕ)) → asked_by (kept_state kept held) r ≡ Ok (PutMedia object)
+  pub asked : (held : List (List ℕ)) → asked_in (kept_state kept held) r ≡ Ok (PutMedia object)
   pub plan : IsPutPlan (media.journal_of kept) object (length r.body) moment put.plan
   pub extent : HasExtent (media.journal_of kept) object (length r.body) moment put.plan
   pub response : response_by responses (put_reply put put.plan) ≡ response_to (context_of kept.library.id p.base r) (put_reply put put.plan)
@@ -61,7 +61,7 @@ same_reply put begun (Refused why) same = refl
 same_reply put begun (Kept extent) same = ap (λ b. (stored_put b).reply) same
 same_reply put begun (Write extent planned) same = refl
 
-module _ (p : Place) (r : TamsRequest) (moment : ℕ) (kept : StoreView) (put : PutSeen) (responses : Responses) (seen : List ℕ)
+module _ (p : RunPlace) (r : TamsRequest) (moment : ℕ) (kept : StoreView) (put : PutSeen) (responses : Responses) (seen : List ℕ)
     (size : put.size ≡ length r.body) (holds : HoldsPart kept put put.plan r.body seen) where
   full_of : (begun : PutSeen) → IsMediaBegun p.base kept.library.id r moment kept begun responses → put.plan ≡ begun.plan
       → IsFull p r moment kept put responses seen
@@ -84,19 +84,19 @@ module _ (p : Place) (r : TamsRequest) (moment : ℕ) (kept : StoreView) (put : 
   full_by None answers same = let no : Some put.plan ≡ None = same in absurd cc
   full_by (Some begun) answers same = full_of begun answers (let both : Some put.plan ≡ Some begun.plan = same in cc)
 
-pub full_put : (p : Place) (r : TamsRequest) (moment : ℕ) (kept : StoreView) (put : PutSeen) (responses : Responses) (seen : List ℕ)
+pub full_put : (p : RunPlace) (r : TamsRequest) (moment : ℕ) (kept : StoreView) (put : PutSeen) (responses : Responses) (seen : List ℕ)
     → IsPutting p r moment kept (Some put) responses seen → IsFull p r moment kept put responses seen
 full_put p r moment kept put responses seen is = full_by p r moment kept put responses seen is.size is.holds is.begun is.answers is.plan
 
 -- ---- the machine's reply
 
-module _ (p : Place) (r : TamsRequest) (moment : ℕ) (store : StoreSeen) (d : Device) (keeps : KeepsState store d p.state) where
+module _ (p : RunPlace) (r : TamsRequest) (moment : ℕ) (store : StoreSeen) (d : Device) (keeps : KeepsState store d p.state) where
   library_is : p.state.archive.library ≡ store.kept.library
   library_is = ap (λ (s : StoreState). s.archive.library) keeps.state
 
   -- what is asked of the state that is kept
-  asked_here : (answer : Result Ask Refusal) → ((held : List (List ℕ)) → asked_by (kept_state store.kept held) r ≡ answer) → asked_by p.state r ≡ answer
-  asked_here answer asked = ap (λ (s : StoreState). asked_by s r) keeps.state ∙ asked p.state.archive.held
+  asked_here : (answer : Result Ask Refusal) → ((held : List (List ℕ)) → asked_in (kept_state store.kept held) r ≡ answer) → asked_in p.state r ≡ answer
+  asked_here answer asked = ap (λ (s : StoreState). asked_in s r) keeps.state ∙ asked p.state.archive.held
 
   -- a response over the store is the machine's
   response_here : (response : List ℕ) (reply : Reply) → response ≡ response_to (context_of store.kept.library.id p.base r) reply
@@ -104,7 +104,7 @@ module _ (p : Place) (r : TamsRequest) (moment : ℕ) (store : StoreSeen) (d : D
   response_here response reply is = is ∙ ap (λ (l : Library). response_to (context_of l.id p.base r) reply) (sym library_is)
 
   -- It asks for nothing.
-  pub no_put_reply : (response : List ℕ) → IsMediaRefused p.base store.kept.library.id r store.kept response → IsReply p r moment (response ++ []) []
+  pub no_put_reply : (response : List ℕ) → IsMediaRefused p.base store.kept.library.id r store.kept response → IsMachineReply p r moment (response ++ []) []
   no_put_reply response refused =
       let asked = asked_here (Err refused.why) refused.asked in
       let reply = replies.Refused refused.why in
@@ -122,7 +122,7 @@ module _ (p : Place) (r : TamsRequest) (moment : ℕ) (store : StoreSeen) (d : D
     abbrev response : List ℕ
     response = response_by responses (put_reply put put.plan)
 
-    asks_put : asked_by p.state r ≡ Ok (PutMedia full.object)
+    asks_put : asked_in p.state r ≡ Ok (PutMedia full.object)
     asks_put = asked_here (Ok (PutMedia full.object)) full.asked
 
     outcome_is : outcome_of p.state r moment ≡ fitted journal answered
@@ -132,14 +132,14 @@ module _ (p : Place) (r : TamsRequest) (moment : ℕ) (store : StoreSeen) (d : D
     plans = full.plan p.state.archive r.body library_is refl
 
     put_reply_is : (o : Outcome) → outcome_of p.state r moment ≡ o → put_reply put put.plan ≡ o.reply
-        → IsReply p r moment (response ++ []) (option_to_list (option_map (λ c. state_after p.state c r.body) o.change))
+        → IsMachineReply p r moment (response ++ []) (option_to_list (option_map (λ c. state_with_change p.state c r.body) o.change))
     put_reply_is o is same =
         reply_is p r moment o response is
         (response_here response o.reply (full.response ∙ ap (response_to (context_of store.kept.library.id p.base r)) same))
         (λ any. ap (λ a. object_bytes p.state.archive a any) asks_put)
 
     -- They are refused.
-    pub refused_reply : (why : Refusal) → put.plan ≡ Refused why → IsReply p r moment (response ++ []) []
+    pub refused_reply : (why : Refusal) → put.plan ≡ Refused why → IsMachineReply p r moment (response ++ []) []
     refused_reply why is =
         put_reply_is (unchanged (replies.Refused why))
         (outcome_is ∙ subst (PlansPut journal p.state.archive full.object r.body moment) is plans) (ap (put_reply put) is)
@@ -155,17 +155,17 @@ module _ (p : Place) (r : TamsRequest) (moment : ℕ) (store : StoreSeen) (d : D
       at = subst (λ (l : Library). IsStoredAt l.objects full.object extent) (sym library_is)
           (subst (HasExtent journal full.object (length r.body) moment) is full.extent)
 
-      bytes_are : bytes ≡ bytes_in store.kept extent d.seen
+      bytes_are : bytes ≡ bytes_at_extent store.kept extent d.seen
       bytes_are = stored_bytes d.seen (media_start store.kept.journal.half) p.state.archive.library.objects p.state.archive.held full.object extent has at
 
       same_is : put.same ≡ bytes_eq bytes r.body
       same_is =
           subst (λ plan. HoldsPart store.kept put plan r.body d.seen) is full.holds
-          ∙ ap (λ n. (n == put.size) && bytes_eq (take (length r.body) (bytes_in store.kept extent d.seen)) r.body)
+          ∙ ap (λ n. (n == put.size) && bytes_eq (take (length r.body) (bytes_at_extent store.kept extent d.seen)) r.body)
           (sym (stored_length p.state.archive full.object extent good at))
           ∙ ap (λ b. (length bytes == put.size) && bytes_eq (take (length r.body) b) r.body) (sym bytes_are) ∙ compared put.size bytes r.body full.size
 
-      pub kept_reply : IsReply p r moment (response ++ []) []
+      pub kept_reply : IsMachineReply p r moment (response ++ []) []
       kept_reply =
           put_reply_is (stored_put put.same)
           (outcome_is
@@ -205,28 +205,28 @@ module _ (p : Place) (r : TamsRequest) (moment : ℕ) (store : StoreSeen) (d : D
           ∙ ap (λ n. Some (changes.Store moment full.object extent.start n)) (sym takes.sized)
 
       -- the machine's change
-      pub changes_so : (answer_in p.base r moment p.state).change ≡ Some (state_after p.state change r.body)
+      pub changes_so : (answer_in p.base r moment p.state).change ≡ Some (state_with_change p.state change r.body)
       changes_so =
-          ap (λ (o : Outcome). option_map (λ c. state_after p.state c r.body) o.change) outcome_is
-          ∙ ap (option_map (λ c. state_after p.state c r.body)) change_is
+          ap (λ (o : Outcome). option_map (λ c. state_with_change p.state c r.body) o.change) outcome_is
+          ∙ ap (option_map (λ c. state_with_change p.state c r.body)) change_is
 
-      pub write_reply : IsReply p r moment (response ++ []) (state_after p.state change r.body ∷ [])
+      pub write_reply : IsMachineReply p r moment (response ++ []) (state_with_change p.state change r.body ∷ [])
       write_reply =
-          subst (λ c. IsReply p r moment (response ++ []) (option_to_list (option_map (λ x. state_after p.state x r.body) c))) change_is
+          subst (λ c. IsMachineReply p r moment (response ++ []) (option_to_list (option_map (λ x. state_with_change p.state x r.body) c))) change_is
           (put_reply_is (fitted journal answered) outcome_is (ap (put_reply put) is ∙ plan_is.reply))
 
       -- a read gives the bytes of the request
-      pub came_is : bytes_in store.kept extent d.seen ≡ r.body
+      pub came_is : bytes_at_extent store.kept extent d.seen ≡ r.body
       came_is =
           let few = length-take_most extent.length (drop (extent_start (media_start store.kept.journal.half) extent) d.seen) in
-          sym (take_all (length r.body) (bytes_in store.kept extent d.seen) (omega (arith, takes.sized, few)))
+          sym (take_all (length r.body) (bytes_at_extent store.kept extent d.seen) (omega (arith, takes.sized, few)))
           ∙ subst (λ plan. HoldsPart store.kept put plan r.body d.seen) is full.holds
 
       fits_here : fits_bytes change r.body ≡ true
       fits_here = eq-eqb (length r.body) extent.length (sym takes.sized)
 
       -- the state behind it is good
-      pub write_good : is_good p.state → is_good (state_after p.state change r.body)
+      pub write_good : is_good p.state → is_good (state_with_change p.state change r.body)
       write_good good =
           made_good p.state.archive change r.body planned.next good (applied_here store d p.state keeps change planned takes.makes) fits_here
 

@@ -5,8 +5,8 @@ use Rattle.disk_trait.specs.Device.{Device, IsDevice}
 use Rattle.media_rows.specs.declared.change.Change.{Change}
 use Rattle.media_rows.specs.declared.change.Change.TheVariants as changes
 use Rattle.media_rows.specs.declared.object.Extent.{Extent}
-use Rattle.media_store.specs.Changes.{IsNext, Makes, archive_next, kept_by, kept_with}
-use Rattle.media_store.specs.Puts.{EndsPut, PutSeen, StoresAs, kept_behind, put_reply}
+use Rattle.media_store.specs.Changes.{IsAfterChange, ChangesStore, archive_next, kept_by, kept_with}
+use Rattle.media_store.specs.Puts.{EndsPut, PutSeen, StoresAs, kept_after_put, put_reply}
 use Rattle.media_store.specs.Stores.{StoreSeen, size_of}
 use Rattle.media_store.proofs.Planning.{planned_next}
 use Rattle.store_plans.specs.declared.outcome.Planned.{Planned}
@@ -15,16 +15,16 @@ use Rattle.store_plans.specs.declared.puts.PutPlan.TheVariants.{Refused, Kept, W
 use Rattle.store_states.specs.Kept.{AgreesWith, StoreView}
 use Rattle.store_states.specs.States.{held_in, media_start}
 use Rattle.store_writes.specs.Writes.{Keeps}
-use Rattle.run_history.specs.Serving.{Counts}
+use Rattle.run_history.specs.Serving.{RunCounts}
 use Rattle.connection_loop.specs.declared.ending.Ending.{Ending}
 use Rattle.connection_loop.specs.declared.ending.Ending.TheVariants as endings
-use Rattle.tams_machine.specs.Answers.{state_after}
+use Rattle.tams_machine.specs.Answers.{state_with_change}
 use Rattle.tams_machine.specs.Requests.{TamsRequest}
 use Rattle.request_hearing.proofs.Asking.{asking_kept}
-use Rattle.tams_answers.specs.Answers.{media_bytes}
+use Rattle.tams_answers.specs.Answers.{following_bytes}
 use Rattle.tams_answers.specs.Media.{MediaAnswers, response_by}
 use Rattle.tams_answers.specs.declared.media.Responses.{Responses}
-use Rattle.tams_service.specs.Answering.{AsksAt, ChangedAt, EndsThere, FinishLeads, IsReply, IsRequest, LeadsTo, Place, PutLeads, StopLeads, TellsAllOf, written_by}
+use Rattle.tams_service.specs.Answering.{AsksAt, ChangedAt, EndsThere, FinishLeads, IsMachineReply, IsRequest, LeadsTo, RunPlace, PutLeads, StopLeads, TellsAllOf, written_by}
 use Rattle.tams_service.specs.declared.answering.Reply.{Reply}
 use Rattle.tams_service.specs.Keeping.{KeepsState}
 use Rattle.tams_service.specs.Serving.{needs_by, needs_in}
@@ -37,7 +37,7 @@ use Rattle.tams_service.proofs.PutReplies.{IsFull, came_is, change, changes_so, 
 use Rattle.tams_service.proofs.States.{keeps_next}
 
 -- There is no put.
-pub none_leads : (old new : Device) (n now : Counts) (store next : StoreSeen) (responses : Responses) (moment : ℕ) (ends : Bool) (result : Option Ending)
+pub none_leads : (old new : Device) (n now : RunCounts) (store next : StoreSeen) (responses : Responses) (moment : ℕ) (ends : Bool) (result : Option Ending)
     → FinishLeads old new store next n now (responses.reply ++ []) 0 moment ends result
     → PutLeads old new store next n now None responses moment ends result
 none_leads old new n now store next responses moment ends result finishes p text rest r asks keeps request is few = by_begun is.begun is.answers is.plan
@@ -49,7 +49,7 @@ none_leads old new n now store next responses moment ends result finishes p text
         refl few
     by_begun (Some begun) answers same = let no : None ≡ Some begun.plan = same in absurd cc
 
-module _ (p : Place) (old mid : Device) (n : Counts) (text rest : List ℕ) (store : StoreSeen) (r : TamsRequest) (moment : ℕ) (put : PutSeen)
+module _ (p : RunPlace) (old mid : Device) (n : RunCounts) (text rest : List ℕ) (store : StoreSeen) (r : TamsRequest) (moment : ℕ) (put : PutSeen)
     (responses : Responses) (sound : IsDevice old) (all : TellsAllOf old) (asks : AsksAt p old (text ++ rest) n) (keeps : KeepsState store old p.state)
     (full : IsFull p r moment store.kept put responses old.seen) (link : mid.link ≡ old.link) where
   has : held_in old.seen (media_start store.kept.journal.half) p.state.archive.library.objects ≡ p.state.archive.held
@@ -65,11 +65,11 @@ module _ (p : Place) (old mid : Device) (n : Counts) (text rest : List ℕ) (sto
   -- the change that is made, with the bytes of the request
   makes_so : (ok : Bool) (extent : Extent) (planned : Planned) (is : put.plan ≡ Write extent planned)
       → ((c : Change) → StoresAs store.kept c put.plan → EndsPut ok put.plan c store.kept p.state.archive.held old mid)
-      → Makes ok (change p r moment store old keeps put responses full extent planned is) r.body store.kept (kept_by store.kept planned)
+      → ChangesStore ok (change p r moment store old keeps put responses full extent planned is) r.body store.kept (kept_by store.kept planned)
       p.state.archive.held old mid
   makes_so ok extent planned is makes =
       let c = change p r moment store old keeps put responses full extent planned is in
-      subst (λ came. Makes ok c came store.kept (kept_by store.kept planned) p.state.archive.held old mid)
+      subst (λ came. ChangesStore ok c came store.kept (kept_by store.kept planned) p.state.archive.held old mid)
       (came_is p r moment store old keeps put responses full extent planned is)
       (subst (λ plan. EndsPut ok plan c store.kept p.state.archive.held old mid) is
       (makes c (stores_as p r moment store old keeps put responses full extent planned is)))
@@ -77,7 +77,7 @@ module _ (p : Place) (old mid : Device) (n : Counts) (text rest : List ℕ) (sto
   -- ---- the disk failed
 
   module _ (makes : (c : Change) → StoresAs store.kept c put.plan → EndsPut false put.plan c store.kept p.state.archive.held old mid) (new : Device)
-      (now : Counts) (last : StoreSeen) (ends : Bool) (request : IsRequest p text ends r) (count : ℕ) (stops : StopLeads mid new n now count)
+      (now : RunCounts) (last : StoreSeen) (ends : Bool) (request : IsRequest p text ends r) (count : ℕ) (stops : StopLeads mid new n now count)
       (count_is : count ≡ written_by put.plan) where
     stopped_quiet : Keeps store.kept p.state.archive.held old mid → count ≡ 0 → EndsThere p new last (moment ∷ []) now endings.Stopped
     stopped_quiet kept none = stops p text rest r moment last [] (unchanged_over kept) (inl request.spells) request.interim (sym none)
@@ -95,7 +95,7 @@ module _ (p : Place) (old mid : Device) (n : Counts) (text rest : List ℕ) (sto
         (count_is ∙ ap written_by is)
     stopped_by (Write extent planned) is =
         let c = change p r moment store old keeps put responses full extent planned is in
-        stops p text rest r moment last (state_after p.state c r.body ∷ [])
+        stops p text rest r moment last (state_with_change p.state c r.body ∷ [])
         (torn_at p old mid n (text ++ rest) store c r.body (kept_by store.kept planned) asks keeps link
         (write_good p r moment store old keeps put responses full extent planned is good) (makes_so false extent planned is makes))
         (request.spells, refl, changes_so p r moment store old keeps put responses full extent planned is) request.interim
@@ -104,11 +104,11 @@ module _ (p : Place) (old mid : Device) (n : Counts) (text rest : List ℕ) (sto
   -- ---- it was ended
 
   module _ (makes : (c : Change) → StoresAs store.kept c put.plan → EndsPut true put.plan c store.kept p.state.archive.held old mid) (new : Device)
-      (now : Counts) (next last : StoreSeen) (kept_is : next.kept ≡ kept_behind store.kept put.plan) (unspent : next.spent ≡ false) (ends : Bool)
+      (now : RunCounts) (next last : StoreSeen) (kept_is : next.kept ≡ kept_after_put store.kept put.plan) (unspent : next.spent ≡ false) (ends : Bool)
       (request : IsRequest p text ends r) (count : ℕ) (count_is : count ≡ written_by put.plan) (few : p.taken < 1000000) (result : Option Ending)
       (finishes : FinishLeads mid new next last n now (response_by responses (put_reply put put.plan) ++ []) count moment ends result) where
     ended_quiet : Keeps store.kept p.state.archive.held old mid → next.kept ≡ store.kept
-        → IsReply p r moment (response_by responses (put_reply put put.plan) ++ []) [] → count ≡ 0
+        → IsMachineReply p r moment (response_by responses (put_reply put put.plan) ++ []) [] → count ≡ 0
         → LeadsTo p new last moment rest now result
     ended_quiet kept same reply none =
         finishes p text rest r [] (unchanged_over kept) (keeps_so store next old mid p.state keeps same unspent kept.agrees) request reply (sym none) few
@@ -118,29 +118,29 @@ module _ (p : Place) (old mid : Device) (n : Counts) (text rest : List ℕ) (sto
         let any = changes.DeleteStep moment in
         ended_quiet
         (subst (λ plan. EndsPut true plan any store.kept p.state.archive.held old mid) is (makes any (subst (StoresAs store.kept any) (sym is) tt)))
-        (kept_is ∙ ap (kept_behind store.kept) is) (refused_reply p r moment store old keeps put responses full why is) (count_is ∙ ap written_by is)
+        (kept_is ∙ ap (kept_after_put store.kept) is) (refused_reply p r moment store old keeps put responses full why is) (count_is ∙ ap written_by is)
     ended_by (Kept extent) is =
         let any = changes.DeleteStep moment in
         ended_quiet
         (subst (λ plan. EndsPut true plan any store.kept p.state.archive.held old mid) is (makes any (subst (StoresAs store.kept any) (sym is) tt)))
-        (kept_is ∙ ap (kept_behind store.kept) is) (kept_reply p r moment store old keeps put responses full extent is has good)
+        (kept_is ∙ ap (kept_after_put store.kept) is) (kept_reply p r moment store old keeps put responses full extent is has good)
         (count_is ∙ ap written_by is)
     ended_by (Write extent planned) is =
         let c = change p r moment store old keeps put responses full extent planned is in
         let made = makes_so true extent planned is makes in
-        let kept = kept_is ∙ ap (kept_behind store.kept) is in
-        finishes p text rest r (state_after p.state c r.body ∷ [])
+        let kept = kept_is ∙ ap (kept_after_put store.kept) is in
+        finishes p text rest r (state_with_change p.state c r.body ∷ [])
         (changed_at p old mid n (text ++ rest) store c r.body (kept_by store.kept planned) asks keeps link
         (write_good p r moment store old keeps put responses full extent planned is good) made)
         (keeps_next store next old mid p.state c r.body keeps unspent
-        (subst (IsNext store.kept c) (sym kept)
+        (subst (IsAfterChange store.kept c) (sym kept)
         (planned_next store.kept c planned (takes p r moment store old keeps put responses full extent planned is).makes))
         (subst (λ k. AgreesWith mid k (archive_next store.kept p.state.archive.held c r.body).held) (sym kept) (made.agrees refl)))
         request (write_reply p r moment store old keeps put responses full extent planned is) (sym (count_is ∙ ap written_by is)) few
 
 -- ---- what the end of a put leads to
 
-module _ (old mid new : Device) (n now : Counts) (store last : StoreSeen) (put : PutSeen) (responses : Responses) (moment : ℕ) (ends ok : Bool)
+module _ (old mid new : Device) (n now : RunCounts) (store last : StoreSeen) (put : PutSeen) (responses : Responses) (moment : ℕ) (ends ok : Bool)
     (sound : IsDevice old) (all : TellsAllOf old) (link : mid.link ≡ old.link) (count : ℕ) (count_is : count ≡ written_by put.plan)
     (makes : (held : List (List ℕ)) (c : Change) → AgreesWith old store.kept held → StoresAs store.kept c put.plan
     → EndsPut ok put.plan c store.kept held old mid) where
@@ -155,7 +155,7 @@ module _ (old mid new : Device) (n now : Counts) (store last : StoreSeen) (put :
       stops count_is put.plan refl
 
   -- It was ended, and the reply was said.
-  pub made_leads : ok ≡ true → (next : StoreSeen) → next.kept ≡ kept_behind store.kept put.plan → next.spent ≡ false → (result : Option Ending)
+  pub made_leads : ok ≡ true → (next : StoreSeen) → next.kept ≡ kept_after_put store.kept put.plan → next.spent ≡ false → (result : Option Ending)
       → FinishLeads mid new next last n now (response_by responses (put_reply put put.plan) ++ []) count moment ends result
       → PutLeads old new store last n now (Some put) responses moment ends result
   made_leads made next kept_is unspent result finishes p text rest r asks keeps request is few =
@@ -172,19 +172,19 @@ pub tells_on : (old new : Device) → SameDevice old new → TellsAllOf old → 
 tells_on old new same all = record { honest = same.honest ∙ all.honest; shows = same.shows ∙ all.shows; tells = same.tells ∙ all.tells }
 
 -- a reply with a response alone
-pub finishes_with : (old new : Device) (store next : StoreSeen) (n now : Counts) (moment : ℕ) (result : Option Ending) (reply : Reply) (response : List ℕ)
+pub finishes_with : (old new : Device) (store next : StoreSeen) (n now : RunCounts) (moment : ℕ) (result : Option Ending) (reply : Reply) (response : List ℕ)
     (area count : ℕ) (ends : Bool)
-    → FinishLeads old new store next n now (reply.response.now ++ media_bytes area reply.media old.seen) reply.changes moment reply.ends result
+    → FinishLeads old new store next n now (reply.response.now ++ following_bytes area reply.media old.seen) reply.changes moment reply.ends result
     → reply.response.now ≡ response → (reply.media ≡ None) × (reply.changes ≡ count) × (reply.ends ≡ ends)
     → FinishLeads old new store next n now (response ++ []) count moment ends result
 finishes_with old new store next n now moment result reply response area count ends leads same rest =
     subst (λ e. FinishLeads old new store next n now (response ++ []) count moment e result) rest.2
     (subst (λ k. FinishLeads old new store next n now (response ++ []) k moment reply.ends result) rest.1
-    (subst (λ m. FinishLeads old new store next n now (response ++ media_bytes area m old.seen) reply.changes moment reply.ends result) rest.0
-    (subst (λ b. FinishLeads old new store next n now (b ++ media_bytes area reply.media old.seen) reply.changes moment reply.ends result) same leads)))
+    (subst (λ m. FinishLeads old new store next n now (response ++ following_bytes area m old.seen) reply.changes moment reply.ends result) rest.0
+    (subst (λ b. FinishLeads old new store next n now (b ++ following_bytes area reply.media old.seen) reply.changes moment reply.ends result) same leads)))
 
 -- what a put leaves of the file
-size_behind : (kept : StoreView) (plan : PutPlan) → size_of (kept_behind kept plan) ≡ size_of kept
+size_behind : (kept : StoreView) (plan : PutPlan) → size_of (kept_after_put kept plan) ≡ size_of kept
 size_behind kept (Refused why) = refl
 size_behind kept (Kept extent) = refl
 size_behind kept (Write extent planned) = by_frame planned.frame planned.rows
@@ -195,7 +195,7 @@ size_behind kept (Write extent planned) = by_frame planned.frame planned.rows
     by_frame (Some payload) (Some text) = refl
 
 -- a store needs as much behind it
-pub needs_behind : (store next : StoreSeen) (plan : PutPlan) → store.spent ≡ false → next.spent ≡ false → next.kept ≡ kept_behind store.kept plan
+pub needs_behind : (store next : StoreSeen) (plan : PutPlan) → store.spent ≡ false → next.spent ≡ false → next.kept ≡ kept_after_put store.kept plan
     → needs_in next ≡ needs_in store
 needs_behind store next plan before behind kept =
     ap (λ b. needs_by b (size_of next.kept)) behind ∙ ap size_of kept ∙ size_behind store.kept plan ∙ ap (λ b. needs_by b (size_of store.kept)) (sym before)

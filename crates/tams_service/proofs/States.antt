@@ -7,13 +7,13 @@ use Rattle.media_rows.specs.Apply.{turn}
 use Rattle.media_rows.specs.Media.{Archive, archive_after}
 use Rattle.change_codec.specs.Fitting.{fits}
 use Rattle.disk_trait.specs.Device.{Device}
-use Rattle.media_store.specs.Changes.{IsNext, archive_next, stores}
+use Rattle.media_store.specs.Changes.{IsAfterChange, archive_next, stores}
 use Rattle.media_store.specs.Stores.{StoreSeen, journal_of}
 use Rattle.media_store.specs.Turns.{turn_change}
 use Rattle.store_states.specs.Kept.{AgreesWith, StoreView, kept_state}
 use Rattle.store_states.specs.States.{StoreState}
 use Rattle.run_history.specs.Steps.{last_or}
-use Rattle.tams_machine.specs.Answers.{state_after, turn_in}
+use Rattle.tams_machine.specs.Answers.{state_with_change, turn_in}
 use Rattle.tams_service.specs.Keeping.{KeepsState}
 use Rattle.tams_service.proofs.Moments.{next_held, next_state}
 
@@ -21,8 +21,8 @@ use Rattle.tams_service.proofs.Moments.{next_held, next_state}
 
 -- A store that has become what a change makes keeps the state after it.
 pub keeps_next : (store next : StoreSeen) (old new : Device) (s : StoreState) (change : Change) (came : List ℕ) → KeepsState store old s
-    → next.spent ≡ false → IsNext store.kept change next.kept
-    → AgreesWith new next.kept (archive_next store.kept s.archive.held change came).held → KeepsState next new (state_after s change came)
+    → next.spent ≡ false → IsAfterChange store.kept change next.kept
+    → AgreesWith new next.kept (archive_next store.kept s.archive.held change came).held → KeepsState next new (state_with_change s change came)
 keeps_next store next old new s change came keeps unspent is agrees = record {
   unspent = unspent;
   agrees = subst (AgreesWith new next.kept) (next_held store.kept s.archive.held s keeps.state change came) agrees;
@@ -50,22 +50,22 @@ bare_archive (changes.DropHook moment url) came archive is = refl
 
 -- the state after the change that is due, if one is that fits
 pub turned_as : (kept : StoreView) (held : List (List ℕ)) (due : Option Change)
-    → option_map (λ change. state_after (kept_state kept held) change []) (turn_change (journal_of kept) due)
+    → option_map (λ change. state_with_change (kept_state kept held) change []) (turn_change (journal_of kept) due)
     ≡ Rattle.tams_machine.specs.Answers.turned_by (kept_state kept held) due
 turned_as kept held None = refl
 turned_as kept held (Some change) = by_fit (fits (journal_of kept) change)
   where
     by_fit : (b : Bool)
-        → option_map (λ c. state_after (kept_state kept held) c []) (cond b (Some change) None)
-        ≡ cond b (Some (state_after (kept_state kept held) change [])) None
+        → option_map (λ c. state_with_change (kept_state kept held) c []) (cond b (Some change) None)
+        ≡ cond b (Some (state_with_change (kept_state kept held) change [])) None
     by_fit true = refl
     by_fit false = refl
 
 -- so it is for what a store keeps
 pub turn_of : (store : StoreSeen) (d : Device) (s : StoreState) (moment : ℕ) → KeepsState store d s
-    → option_map (λ change. state_after s change []) (turn_change (journal_of store.kept) (turn store.kept.library moment)) ≡ turn_in moment s
+    → option_map (λ change. state_with_change s change []) (turn_change (journal_of store.kept) (turn store.kept.library moment)) ≡ turn_in moment s
 turn_of store d s moment keeps =
-    subst (λ t. option_map (λ change. state_after t change []) (turn_change (journal_of store.kept) (turn store.kept.library moment)) ≡ turn_in moment t)
+    subst (λ t. option_map (λ change. state_with_change t change []) (turn_change (journal_of store.kept) (turn store.kept.library moment)) ≡ turn_in moment t)
     (sym keeps.state) (turned_as store.kept s.archive.held (turn store.kept.library moment))
 
 -- the state after a change that there may be

@@ -5,18 +5,18 @@ use Rattle.std.proofs.lemmas.Bool.{false≢true}
 use Rattle.disk_trait.specs.Device.{Device}
 use Rattle.site_edge.specs.Links.{change_last}
 use Rattle.run_history.specs.Machine.{Machine}
-use Rattle.run_history.specs.Steps.{Answered, Ask, Cut, Stage, Step, Turned, is_last, is_there, last_or}
-use Rattle.run_history.specs.Sessions.{EndIs, IsUnfinished, LinkEnd, RestIs, Saying, Session, Whole, has_failed, most_answers, stops}
+use Rattle.run_history.specs.Steps.{Answered, TakenRequest, Cut, Stage, Step, Turned, is_last, is_there, last_or}
+use Rattle.run_history.specs.Sessions.{EndIs, IsUnfinished, LinkEnd, RestIs, Saying, Session, Whole, has_link_failed, most_answers, stops}
 use Rattle.run_history.specs.Traces.{start_of}
 use Rattle.run_history.specs.Runs.{Beginning, Reached}
 use Rattle.run_history.specs.Laws.{under_way}
-use Rattle.run_history.specs.Serving.{Counts, Going, Held}
+use Rattle.run_history.specs.Serving.{RunCounts, Going, Held}
 use Rattle.run_history.proofs.Ends.{EndLike, end_like-push, open-going, stage-sessions}
 use Rattle.connection_loop.specs.declared.ending.Ending.{Ending}
 use Rattle.connection_loop.specs.declared.ending.Ending.TheVariants as endings
 use Rattle.connection_loop.specs.Turns.{EndsAs, GoesOn, TurnLeads, ending_of}
 use Rattle.request_hearing.specs.Hearing.{HearsAndSays, after_hearing, interim_where}
-use Rattle.request_hearing.specs.Asking.{Asking, IsAnswered, asked_trace, counted_more}
+use Rattle.request_hearing.specs.Asking.{Asking, IsAnswerStep, asked_trace, counted_more}
 use Rattle.request_hearing.proofs.Asking.{under_way-going}
 use Rattle.request_hearing.proofs.AskingAnswered.{answered_ends, answered_goes, answered_state}
 use Rattle.request_hearing.proofs.AskingCut.{taken_cut}
@@ -37,9 +37,9 @@ answered_ending true true = Some endings.Complete
 answered_ending true false = None
 
 module _ {State Request : Type 0} {m : Machine State Request} {b : Beginning State} {old new : Device} {given : List ℕ} {held : Held State} {said : Bool}
-    {finished : List (Session Request)} {steps : List (Step Request)} {n : Counts} {step : Step Request} {bytes : List ℕ} {made : ℕ}
+    {finished : List (Session Request)} {steps : List (Step Request)} {n : RunCounts} {step : Step Request} {bytes : List ℕ} {made : ℕ}
     {states later : List State} {moments rest : List ℕ} {whole linked writing : Bool}
-    (s : IsAnswered m b old new given held said finished steps n step bytes made states later moments rest whole linked writing)
+    (s : IsAnswerStep m b old new given held said finished steps n step bytes made states later moments rest whole linked writing)
     (keeps : State → Type 0) where
   -- The connection goes on.
   pub step_goes : whole ≡ true → linked ≡ true → is_last m step ≡ false → held.taken + 1 < most_answers → keeps (last_or held.state (states ++ later))
@@ -71,9 +71,9 @@ module _ {State Request : Type 0} {m : Machine State Request} {b : Beginning Sta
 
 -- An answer of the machine: the connection goes on, or ends where the answer ends it or couldn't be said whole.
 pub answer_leads : {State Request : Type 0} {m : Machine State Request} {b : Beginning State} {old new : Device} {given : List ℕ} {held : Held State}
-    {said : Bool} {finished : List (Session Request)} {steps : List (Step Request)} {n : Counts} {ask : Ask Request} {bytes : List ℕ}
+    {said : Bool} {finished : List (Session Request)} {steps : List (Step Request)} {n : RunCounts} {ask : TakenRequest Request} {bytes : List ℕ}
     {made : ℕ} {states later : List State} {moments rest : List ℕ} {whole : Bool} (turned : Turned) (linked last : Bool)
-    → IsAnswered m b old new given held said finished steps n (Answered ask turned) bytes made states later moments rest whole linked false
+    → IsAnswerStep m b old new given held said finished steps n (Answered ask turned) bytes made states later moments rest whole linked false
     → m.ends ask.request ≡ last → (last ≡ false → held.taken + 1 < most_answers) → (keeps : State → Type 0) → keeps (last_or held.state (states ++ later))
     → TurnLeads m b new (given ++ moments) rest (held.taken + 1) keeps finished (counted_more n (states ++ later) (Answered ask turned))
     (answered_ending linked last)
@@ -89,12 +89,12 @@ answer_leads turned false last s ends few keeps kept =
 -- ---- the end of what is heard
 
 module _ {State Request : Type 0} {m : Machine State Request} {b : Beginning State} {old new : Device} {given : List ℕ} {held : Held State}
-    {finished : List (Session Request)} {steps : List (Step Request)} {n : Counts} (keeps : State → Type 0) (kept : keeps held.state) where
+    {finished : List (Session Request)} {steps : List (Step Request)} {n : RunCounts} (keeps : State → Type 0) (kept : keeps held.state) where
   -- It came behind a whole request.
   pub behind_ends : (bytes : List ℕ) (said ended : Bool) (link : LinkEnd) → Going m b old given held finished steps n
-      → HearsAndSays bytes said (saying_held_on link) (not (has_failed link)) ended old new → old.tells ≡ true → (link ≡ Whole → ended ≡ true)
+      → HearsAndSays bytes said (saying_held_on link) (not (has_link_failed link)) ended old new → old.tells ≡ true → (link ≡ Whole → ended ≡ true)
       → held.unread ++ bytes ≡ [] → said ≡ false → link ≢ Saying
-      → EndsAs m b new given keeps finished n (if has_failed link then endings.Unlinked else endings.Complete)
+      → EndsAs m b new given keeps finished n (if has_link_failed link then endings.Unlinked else endings.Complete)
   behind_ends bytes said ended link g h tells at_end none silent not_saying = record {
     session = under_way steps link;
     served = ends_behind_request m b old new given held finished steps n bytes said ended link g h tells at_end none silent not_saying;
@@ -106,10 +106,10 @@ module _ {State Request : Type 0} {m : Machine State Request} {b : Beginning Sta
 
   -- It came within one that had its interim response at most.
   pub within_ends : (bytes : List ℕ) (said ended : Bool) (link : LinkEnd) (text rest : List ℕ) (moment : Option ℕ) → Going m b old given held finished steps n
-      → HearsAndSays bytes said (saying_held_on link) (not (has_failed link)) ended old new → old.tells ≡ true → (link ≡ Whole → ended ≡ true)
+      → HearsAndSays bytes said (saying_held_on link) (not (has_link_failed link)) ended old new → old.tells ≡ true → (link ≡ Whole → ended ≡ true)
       → held.unread ++ bytes ≡ text ++ rest → text ≢ [] → m.cuts text (record { interim = interim_where said; takes_moment = is_there moment })
       → (link ≢ Saying → (rest ≡ []) × IsUnfinished m held.taken text) → (link ≡ Saying → said ≡ true)
-      → EndsAs m b new (given ++ option_to_list moment) keeps finished n (if has_failed link then endings.Unlinked else endings.Cut)
+      → EndsAs m b new (given ++ option_to_list moment) keeps finished n (if has_link_failed link then endings.Unlinked else endings.Cut)
   within_ends bytes said ended link text rest moment g h tells at_end text_is some cuts unfinished saying = record {
     session = under_way (steps ++ Cut text (interim_where said) moment ∷ []) link;
     served = ends_within_request m b old new given held finished steps n bytes said ended link g h tells at_end text rest moment text_is some cuts unfinished
@@ -122,11 +122,11 @@ module _ {State Request : Type 0} {m : Machine State Request} {b : Beginning Sta
   -- It came within one of which more was asked for, as the body of a media PUT: behind these bytes, where the run has come as far.
   pub taken_ends : (bytes : List ℕ) (said ended : Bool) (link : LinkEnd) (text : List ℕ) (moment : Option ℕ)
       → Asking m b old given held said finished steps n
-      → new.link.connections ≡ change_last (after_hearing bytes [] ended (not (not (has_failed link)))) old.link.connections
+      → new.link.connections ≡ change_last (after_hearing bytes [] ended (not (not (has_link_failed link)))) old.link.connections
       → Reached m b (asked_trace m b said finished steps) true false new
       → link ≢ Saying → (link ≡ Whole → ended ≡ true) → held.unread ++ bytes ≡ text → text ≢ []
       → m.cuts text (record { interim = interim_where said; takes_moment = is_there moment }) → IsUnfinished m held.taken text
-      → EndsAs m b new (given ++ option_to_list moment) keeps finished n (if has_failed link then endings.Unlinked else endings.Cut)
+      → EndsAs m b new (given ++ option_to_list moment) keeps finished n (if has_link_failed link then endings.Unlinked else endings.Cut)
   taken_ends bytes said ended link text moment a heard reached not_saying at_end text_is some cuts unfinished = record {
     session = under_way (steps ++ Cut text (interim_where said) moment ∷ []) link;
     served = taken_cut a text moment bytes link ended heard reached not_saying at_end text_is some cuts unfinished;

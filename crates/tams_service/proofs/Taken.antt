@@ -12,7 +12,7 @@ use Rattle.media_store.specs.Stores.{StoreSeen}
 use Rattle.request_hearing.specs.Hearing.{HearsBody}
 use Rattle.request_hearing.specs.declared.heard.Body.TheVariants as bodies
 use Rattle.tams_service.specs.Sites.{SiteCounts}
-use Rattle.tams_service.specs.Taking.{HandsOn, HoldsIf, HoldsPart, IsPutBegun, IsFilled, TakesBody, TakesNext, TakesPart, plan_of}
+use Rattle.tams_service.specs.Taking.{HandsOn, HoldsIf, HoldsPart, IsPutBegun, IsFilled, TakesBody, TakesNext, TakesOfBody, plan_of}
 use Rattle.tams_service.specs.declared.body.Piece.TheVariants as pieces
 use Rattle.tams_service.specs.declared.body.Taken.TheVariants as taken
 use Rattle.tams_service.proofs.Counting.{counts_none, counts_twice}
@@ -31,7 +31,7 @@ pub record HasTaken (kept : StoreView) (store : StoreSeen) (size left : ℕ) (fr
   pub unspent : store.spent ≡ false
   pub kept_is : store.kept ≡ kept
   pub part : List ℕ
-  pub takes : TakesPart part false false from now first last
+  pub takes : TakesOfBody part false false from now first last
   pub sum : length part + left ≡ size
   pub counts : SiteCounts true true first last
   pub keeps : (held : List (List ℕ)) → AgreesWith first kept held → Keeps kept held first last

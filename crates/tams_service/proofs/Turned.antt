@@ -10,14 +10,14 @@ use Rattle.media_rows.specs.declared.refusal.Refusal.{Refusal}
 use Rattle.media_store.specs.Stores.{StoreSeen}
 use Rattle.store_states.specs.States.{StoreState}
 use Rattle.run_history.specs.Runs.{Beginning}
-use Rattle.run_history.specs.Serving.{Counts, Going}
+use Rattle.run_history.specs.Serving.{RunCounts, Going}
 use Rattle.run_history.specs.Sessions.{Session}
 use Rattle.run_history.specs.Steps.{Step}
 use Rattle.connection_loop.specs.declared.ending.Ending.{Ending}
 use Rattle.connection_loop.specs.Turns.{TellsAll, TurnLeads, held_with}
 use Rattle.tams_machine.specs.Machine.{tams_machine}
 use Rattle.tams_machine.specs.Requests.{TamsRequest, ends_behind}
-use Rattle.request_hearing.specs.Hearing.{HearsAndSays, IsGiven, IsOpened, IsRefusedAt}
+use Rattle.request_hearing.specs.Hearing.{HearsAndSays, GivesRequest, OpensMedia, IsRefusedByWire}
 use Rattle.tams_service.specs.Answering.{MediaLeads, RefuseLeads, TellsAllOf, WholeLeads}
 use Rattle.tams_service.specs.Keeping.{KeepsState}
 use Rattle.tams_service.specs.Serving.{ServiceSeen}
@@ -38,14 +38,14 @@ not_ended true None closes none = absurd (false≢true (closes refl))
 not_ended true (Some ending) closes none = absurd (false≢true (sym none))
 
 -- so more may come behind one that came whole
-pub few_given : (taken next : ℕ) (all : List ℕ) (said : Bool) (fed : Fed) (head : Head) (result : Option Ending) → IsGiven taken all said fed head
+pub few_given : (taken next : ℕ) (all : List ℕ) (said : Bool) (fed : Fed) (head : Head) (result : Option Ending) → GivesRequest taken all said fed head
     → taken < 1000000 → (head.ends ≡ true → IsSome result) → IsNone result → next ≡ fed.requests → next < 1000000
 few_given taken next all said fed head result g few closes none same =
     let goes : ends_behind taken g.request.head ≡ false = sym (g.ends ∙ g.spells.ends_is) ∙ not_ended head.ends result closes none in
     subst (λ n. n < 1000000) (sym (same ∙ g.behind.requests_are)) (few_behind taken g.request.head goes few)
 
 -- and behind a media PUT
-pub few_opened : (taken next : ℕ) (all : List ℕ) (said : Bool) (fed : Fed) (head : Head) (result : Option Ending) → IsOpened taken all said fed head
+pub few_opened : (taken next : ℕ) (all : List ℕ) (said : Bool) (fed : Fed) (head : Head) (result : Option Ending) → OpensMedia taken all said fed head
     → taken < 1000000 → (head.ends ≡ true → IsSome result) → IsNone result → next ≡ fed.requests → next < 1000000
 few_opened taken next all said fed head result o few closes none same =
     let goes : ends_behind taken o.head ≡ false = sym o.ends ∙ not_ended head.ends result closes none in
@@ -54,7 +54,7 @@ few_opened taken next all said fed head result o few closes none same =
 -- ---- what a turn leads to
 
 module _ (base : List ℕ) (b : Beginning StoreState) (old mid new : Device) (given given_now : List ℕ) (s : StoreState) (fed : Fed)
-    (finished : List (Session TamsRequest)) (steps : List (Step TamsRequest)) (n now : Counts) (store : StoreSeen) (tells : old.tells ≡ true)
+    (finished : List (Session TamsRequest)) (steps : List (Step TamsRequest)) (n now : RunCounts) (store : StoreSeen) (tells : old.tells ≡ true)
     (keeps : KeepsState store old s) (going : Going (tams_machine base) b old given (held_with s fed.unread fed.requests) finished steps n) (bytes : List ℕ)
     (said : Bool) (h : HearsAndSays bytes said true true false old mid) where
   -- ---- a request, by what a service is behind its hearing and behind its answer
@@ -70,7 +70,7 @@ module _ (base : List ℕ) (b : Beginning StoreState) (old mid new : Device) (gi
     kept : KeepsState service.store mid s
     kept = subst (λ k. KeepsState k mid s) (sym same_store) (keeps_heard store s bytes said true true false old mid keeps h)
 
-    pub whole_turn : IsGiven fed.requests (fed.unread ++ bytes) said service.fed head → next.fed ≡ service.fed
+    pub whole_turn : GivesRequest fed.requests (fed.unread ++ bytes) said service.fed head → next.fed ≡ service.fed
         → WholeLeads service next head mid new given given_now n now result
         → TurnLeads (tams_machine base) b new given_now next.fed.unread next.fed.requests (KeepsState next.store new) finished now result
     whole_turn g same leads =
@@ -78,7 +78,7 @@ module _ (base : List ℕ) (b : Beginning StoreState) (old mid new : Device) (gi
         (leads (here base b old mid given s fed finished steps n store tells keeps going bytes said) (fed.unread ++ bytes) same_base refl
         (asks_here base b old mid given s fed finished steps n store tells keeps going bytes said h) kept g few)
 
-    pub media_turn : IsOpened fed.requests (fed.unread ++ bytes) said service.fed head → next.fed.requests ≡ service.fed.requests
+    pub media_turn : OpensMedia fed.requests (fed.unread ++ bytes) said service.fed head → next.fed.requests ≡ service.fed.requests
         → MediaLeads service next head mid new given given_now n now result
         → TurnLeads (tams_machine base) b new given_now next.fed.unread next.fed.requests (KeepsState next.store new) finished now result
     media_turn o same leads =
@@ -88,7 +88,8 @@ module _ (base : List ℕ) (b : Beginning StoreState) (old mid new : Device) (gi
 
   -- ---- what the wire refuses
 
-  pub refused_turn : (later : Fed) (refusal : Refusal) (ending : Ending) (unread : List ℕ) (taken : ℕ) → IsRefusedAt (fed.unread ++ bytes) said later refusal
+  pub refused_turn : (later : Fed) (refusal : Refusal) (ending : Ending) (unread : List ℕ) (taken : ℕ) → IsRefusedByWire
+      (fed.unread ++ bytes) said later refusal
       → RefuseLeads base mid new store n now refusal ending
       → TurnLeads (tams_machine base) b new given unread taken (KeepsState store new) finished now (Some ending)
   refused_turn later refusal ending unread taken refused leads =

@@ -15,7 +15,7 @@ use Rattle.media_store.specs.declared.turns.TurnMade.{TurnMade}
 use Rattle.media_store.specs.declared.turns.TurnMade.TheVariants.{Deleted, NoRoom, Nothing, Swept}
 use Rattle.store_states.specs.States.{StoreState}
 use Rattle.run_history.specs.Runs.{Beginning, Reached}
-use Rattle.run_history.specs.Serving.{Counts}
+use Rattle.run_history.specs.Serving.{RunCounts}
 use Rattle.run_history.specs.Sessions.{Session}
 use Rattle.run_history.specs.Steps.{Step, last_or}
 use Rattle.connection_loop.specs.declared.ending.Ending.{Ending}
@@ -23,17 +23,17 @@ use Rattle.connection_loop.specs.declared.ending.Ending.TheVariants.{Complete, S
 use Rattle.connection_loop.specs.Turns.{EndsAs, TurnLeads, held_with}
 use Rattle.tams_machine.specs.Answers.{answer_in}
 use Rattle.tams_machine.specs.Machine.{tams_machine}
-use Rattle.tams_machine.specs.Requests.{Heads, Spells, TamsRequest, wire_response}
+use Rattle.tams_machine.specs.Requests.{Heads, SpellsRequest, TamsRequest, wire_response}
 use Rattle.request_hearing.specs.Asking.{Asking, Open, asked_trace, with_states}
-use Rattle.request_hearing.specs.Hearing.{IsGiven, IsOpened, IsRefusedAt}
+use Rattle.request_hearing.specs.Hearing.{GivesRequest, OpensMedia, IsRefusedByWire}
 use Rattle.request_hearing.specs.Laws.{media_request}
 use Rattle.http_wire.specs.declared.stage.Head.{Head}
 use Rattle.media_store.specs.Changes.{kept_by}
-use Rattle.media_store.specs.Puts.{IsPutOf, PutSeen, kept_behind, writes_by}
+use Rattle.media_store.specs.Puts.{IsPutOf, PutSeen, kept_after_put, writes_by}
 use Rattle.store_plans.specs.declared.puts.PutPlan.{PutPlan}
 use Rattle.store_plans.specs.declared.outcome.Planned.{Planned}
 use Rattle.store_states.specs.Kept.{StoreView}
-use Rattle.tams_answers.specs.Answers.{Answers}
+use Rattle.tams_answers.specs.Answers.{AnswersRequest}
 use Rattle.tams_answers.specs.Media.{MediaAnswers}
 use Rattle.tams_answers.specs.declared.media.Responses.{Responses}
 use Rattle.tams_service.specs.Taking.{HoldsIf, plan_of}
@@ -53,7 +53,7 @@ pub record TellsAllOf (d : Device) : Type 0 where
 -- Where a run stands within a connection: where it began, the moments that were given, the
 -- connections before this one, its steps and the number of its requests, the state behind them, and
 -- whether the request that has begun had its interim response.
-pub record Place : Type 0 where
+pub record RunPlace : Type 0 where
   pub base : List ℕ
   pub beginning : Beginning StoreState
   pub given : List ℕ
@@ -64,14 +64,14 @@ pub record Place : Type 0 where
   pub said : Bool
 
 -- A request has begun there, these bytes are unread, and the run counts so much.
-abbrev pub AsksAt : Place → Device → List ℕ → Counts → Type 0
+abbrev pub AsksAt : RunPlace → Device → List ℕ → RunCounts → Type 0
 AsksAt p d unread n =
     Asking (tams_machine p.base) p.beginning d p.given (held_with p.state unread p.taken) p.said
     p.finished p.steps n
 
 -- The same, and these changes of the request were made before its reply. The record of the last one
 -- may have been being written when the disk failed, where `writing` is true.
-pub record ChangedAt (p : Place) (d : Device) (unread : List ℕ) (n : Counts)
+pub record ChangedAt (p : RunPlace) (d : Device) (unread : List ℕ) (n : RunCounts)
     (states : List StoreState) (writing : Bool) : Type 0 where
   pub begun : Open (tams_machine p.base) p.beginning d p.given
       (held_with p.state unread p.taken) p.said p.finished p.steps n
@@ -84,19 +84,19 @@ pub record ChangedAt (p : Place) (d : Device) (unread : List ℕ) (n : Counts)
 
 -- the request came whole with this text: whether it had its interim response, and whether its
 -- connection ends behind it
-pub record IsRequest (p : Place) (text : List ℕ) (ends : Bool) (r : TamsRequest) : Type 0 where
-  pub spells : Spells p.taken text r
+pub record IsRequest (p : RunPlace) (text : List ℕ) (ends : Bool) (r : TamsRequest) : Type 0 where
+  pub spells : SpellsRequest p.taken text r
   pub interim : p.said ≡ wants_interim r.head
   pub ends_is : r.ends ≡ ends
 
 -- a request came, or the head of a media PUT with a part of its body
-pub record IsBegun (p : Place) (text : List ℕ) (r : TamsRequest) : Type 0 where
-  pub taken : Spells p.taken text r ⊎ Heads p.taken text r
+pub record RequestCame (p : RunPlace) (text : List ℕ) (r : TamsRequest) : Type 0 where
+  pub taken : SpellsRequest p.taken text r ⊎ Heads p.taken text r
   pub interim : p.said ≡ wants_interim r.head
 
 -- the machine's answer to a request at a moment: its bytes, and the state after its change, if it
 -- has one
-pub record IsReply (p : Place) (r : TamsRequest) (moment : ℕ) (bytes : List ℕ)
+pub record IsMachineReply (p : RunPlace) (r : TamsRequest) (moment : ℕ) (bytes : List ℕ)
     (states : List StoreState) : Type 0 where
   pub bytes_are : (answer_in p.base r moment p.state).bytes ≡ bytes
   pub states_are : option_to_list (answer_in p.base r moment p.state).change ≡ states
@@ -105,13 +105,13 @@ pub record IsReply (p : Place) (r : TamsRequest) (moment : ℕ) (bytes : List �
 
 -- The connection goes on behind a request at a moment, or has ended, and what the store keeps then
 -- is the state to which it led.
-abbrev pub LeadsTo : Place → Device → StoreSeen → ℕ → List ℕ → Counts → Option Ending → Type 0
+abbrev pub LeadsTo : RunPlace → Device → StoreSeen → ℕ → List ℕ → RunCounts → Option Ending → Type 0
 LeadsTo p d store moment rest n result =
     TurnLeads (tams_machine p.base) p.beginning d (p.given ++ moment ∷ []) rest (p.taken + 1)
     (KeepsState store d) p.finished n result
 
 -- the connection has ended, behind these moments
-abbrev pub EndsThere : Place → Device → StoreSeen → List ℕ → Counts → Ending → Type 0
+abbrev pub EndsThere : RunPlace → Device → StoreSeen → List ℕ → RunCounts → Ending → Type 0
 EndsThere p d store moments n ending =
     EndsAs (tams_machine p.base) p.beginning d (p.given ++ moments) (KeepsState store d) p.finished
     n ending
@@ -135,13 +135,14 @@ changes_in None = 0
 changes_in (Some payload) = 1
 
 -- From a request whose changes were made and whose reply has these bytes.
-abbrev pub FinishLeads : Device → Device → StoreSeen → StoreSeen → Counts → Counts → List ℕ → ℕ
+abbrev pub FinishLeads : Device → Device → StoreSeen → StoreSeen → RunCounts → RunCounts → List ℕ
+    → ℕ
     → ℕ → Bool → Option Ending → Type 0
 FinishLeads old new store next n now bytes changes moment ends result =
-    (p : Place) (text rest : List ℕ) (r : TamsRequest) (states : List StoreState)
+    (p : RunPlace) (text rest : List ℕ) (r : TamsRequest) (states : List StoreState)
     → ChangedAt p old (text ++ rest) n states false
     → KeepsState store old (last_or p.state states)
-    → IsRequest p text ends r → IsReply p r moment bytes states → length states ≡ changes
+    → IsRequest p text ends r → IsMachineReply p r moment bytes states → length states ≡ changes
     → p.taken < 1000000 → LeadsTo p new next moment rest now result
 
 -- what a plan makes of a store has the id of the store
@@ -149,16 +150,17 @@ abbrev pub PlanKeepsId : StoreView → Planned → Type 0
 PlanKeepsId kept planned = (kept_by kept planned).library.id ≡ kept.library.id
 
 -- From a request of which the answer was planned.
-abbrev pub GiveLeads : Device → Device → StoreSeen → StoreSeen → Counts → Counts → Answer → ℕ → Bool
+abbrev pub GiveLeads : Device → Device → StoreSeen → StoreSeen → RunCounts → RunCounts → Answer → ℕ
+    → Bool
     → Option Ending → Type 0
 GiveLeads old new store next n now answer moment ends result =
-    (p : Place) (text rest : List ℕ) (r : TamsRequest) → AsksAt p old (text ++ rest) n
+    (p : RunPlace) (text rest : List ℕ) (r : TamsRequest) → AsksAt p old (text ++ rest) n
     → KeepsState store old p.state → IsRequest p text ends r
-    → Answers p.base p.state r moment answer → p.taken < 1000000
+    → AnswersRequest p.base p.state r moment answer → p.taken < 1000000
     → LeadsTo p new next moment rest now result
 
 -- all of a put's bytes were handed to it
-pub record IsWhole (kept : StoreView) (put : PutSeen) : Type 0 where
+pub record IsWholePut (kept : StoreView) (put : PutSeen) : Type 0 where
   pub of_store : IsPutOf kept put
   pub filled : put.handed ≡ put.size
 
@@ -168,11 +170,11 @@ written_by plan = if writes_by plan then 1 else 0
 
 -- what is kept behind a put has the store's id
 abbrev pub EndKeepsId : StoreView → PutSeen → Type 0
-EndKeepsId kept put = (kept_behind kept put.plan).library.id ≡ kept.library.id
+EndKeepsId kept put = (kept_after_put kept put.plan).library.id ≡ kept.library.id
 
 -- What is known of a put whose bytes were all handed to it: it was planned of the store with the
 -- responses to what it may reply, and has the bytes of the request.
-pub record IsPutting (p : Place) (r : TamsRequest) (moment : ℕ) (kept : StoreView)
+pub record IsPutting (p : RunPlace) (r : TamsRequest) (moment : ℕ) (kept : StoreView)
     (put : Option PutSeen) (responses : Responses) (seen : List ℕ) : Type 0 where
   pub begun : Option PutSeen
   pub answers : MediaAnswers p.base r moment kept begun responses
@@ -181,35 +183,37 @@ pub record IsPutting (p : Place) (r : TamsRequest) (moment : ℕ) (kept : StoreV
   pub holds : HoldsIf kept put r.body seen
 
 -- From a media PUT whose bytes are all there.
-abbrev pub PutLeads : Device → Device → StoreSeen → StoreSeen → Counts → Counts → Option PutSeen
+abbrev pub PutLeads : Device → Device → StoreSeen → StoreSeen → RunCounts → RunCounts
+    → Option PutSeen
     → Responses → ℕ → Bool → Option Ending → Type 0
 PutLeads old new store next n now put responses moment ends result =
-    (p : Place) (text rest : List ℕ) (r : TamsRequest) → AsksAt p old (text ++ rest) n
+    (p : RunPlace) (text rest : List ℕ) (r : TamsRequest) → AsksAt p old (text ++ rest) n
     → KeepsState store old p.state → IsRequest p text ends r
     → IsPutting p r moment store.kept put responses old.seen → p.taken < 1000000
     → LeadsTo p new next moment rest now result
 
 -- From a request that came whole.
 abbrev pub WholeLeads : ServiceSeen → ServiceSeen → Head → Device → Device → List ℕ → List ℕ
-    → Counts → Counts → Option Ending → Type 0
+    → RunCounts → RunCounts → Option Ending → Type 0
 WholeLeads s next head old new begun given n now result =
-    (p : Place) (all : List ℕ) → p.base ≡ s.base → p.given ≡ begun → AsksAt p old all n
-    → KeepsState s.store old p.state → IsGiven p.taken all p.said s.fed head → p.taken < 1000000
+    (p : RunPlace) (all : List ℕ) → p.base ≡ s.base → p.given ≡ begun → AsksAt p old all n
+    → KeepsState s.store old p.state → GivesRequest p.taken all p.said s.fed head
+    → p.taken < 1000000
     → TurnLeads (tams_machine p.base) p.beginning new given next.fed.unread (p.taken + 1)
     (KeepsState next.store new) p.finished now result
 
 -- From a media PUT whose head came.
 abbrev pub MediaLeads : ServiceSeen → ServiceSeen → Head → Device → Device → List ℕ → List ℕ
-    → Counts → Counts → Option Ending → Type 0
+    → RunCounts → RunCounts → Option Ending → Type 0
 MediaLeads s next head old new begun given n now result =
-    (p : Place) (all : List ℕ) → p.base ≡ s.base → p.given ≡ begun → AsksAt p old all n
-    → KeepsState s.store old p.state → IsOpened p.taken all p.said s.fed head → p.taken < 1000000
+    (p : RunPlace) (all : List ℕ) → p.base ≡ s.base → p.given ≡ begun → AsksAt p old all n
+    → KeepsState s.store old p.state → OpensMedia p.taken all p.said s.fed head → p.taken < 1000000
     → TurnLeads (tams_machine p.base) p.beginning new given next.fed.unread (p.taken + 1)
     (KeepsState next.store new) p.finished now result
 
 -- A put and its responses are what the machine answers to a media PUT with this head, whatever the
 -- bytes will be.
-abbrev pub AnswersEach : Place → RequestHead → Head → ℕ → StoreView → Option PutSeen → Responses
+abbrev pub AnswersEach : RunPlace → RequestHead → Head → ℕ → StoreView → Option PutSeen → Responses
     → Type 0
 AnswersEach p head shown moment kept put responses =
     (body : List ℕ) → length body ≡ shown.length
@@ -217,25 +221,26 @@ AnswersEach p head shown moment kept put responses =
 
 -- From a media PUT that was planned by its head.
 abbrev pub TakeLeads : StoreSeen → StoreSeen → Fed → Fed → Head → Option PutSeen → Responses
-    → Device → Device → ℕ → Counts → Counts → Option Ending → Type 0
+    → Device → Device → ℕ → RunCounts → RunCounts → Option Ending → Type 0
 TakeLeads store next fed later shown put responses old new moment n now result =
-    (p : Place) (all : List ℕ) → AsksAt p old all n → KeepsState store old p.state
-    → (o : IsOpened p.taken all p.said fed shown)
+    (p : RunPlace) (all : List ℕ) → AsksAt p old all n → KeepsState store old p.state
+    → (o : OpensMedia p.taken all p.said fed shown)
     → AnswersEach p o.head shown moment store.kept put responses → p.taken < 1000000
     → LeadsTo p new next moment later.unread now result
 
 -- From a request for which there was no memory.
-abbrev pub StarveLeads : Device → Device → Counts → Counts → Type 0
+abbrev pub StarveLeads : Device → Device → RunCounts → RunCounts → Type 0
 StarveLeads old new n now =
-    (p : Place) (text rest : List ℕ) (r : TamsRequest) (moment : ℕ) (store : StoreSeen)
-    → AsksAt p old (text ++ rest) n → KeepsState store old p.state → IsBegun p text r
+    (p : RunPlace) (text rest : List ℕ) (r : TamsRequest) (moment : ℕ) (store : StoreSeen)
+    → AsksAt p old (text ++ rest) n → KeepsState store old p.state → RequestCame p text r
     → EndsThere p new store (moment ∷ []) now Starved
 
 -- where the disk failed in a request, by the change whose record was being written, if there is one
-abbrev pub FailedIn : Place → List ℕ → TamsRequest → ℕ → List StoreState → Type 0
-FailedIn p text r moment [] = Spells p.taken text r ⊎ Heads p.taken text r
+abbrev pub FailedIn : RunPlace → List ℕ → TamsRequest → ℕ → List StoreState → Type 0
+FailedIn p text r moment [] = SpellsRequest p.taken text r ⊎ Heads p.taken text r
 FailedIn p text r moment (next ∷ states) =
-    Spells p.taken text r × (states ≡ []) × ((answer_in p.base r moment p.state).change ≡ Some next)
+    SpellsRequest p.taken text r × (states ≡ []) × ((answer_in p.base r moment p.state).change
+      ≡ Some next)
 
 -- whether there is one
 abbrev pub is_writing : List StoreState → Bool
@@ -243,9 +248,9 @@ is_writing [] = false
 is_writing (next ∷ states) = true
 
 -- From a request in which the disk failed before its answer.
-abbrev pub StopLeads : Device → Device → Counts → Counts → ℕ → Type 0
+abbrev pub StopLeads : Device → Device → RunCounts → RunCounts → ℕ → Type 0
 StopLeads old new n now changes =
-    (p : Place) (text rest : List ℕ) (r : TamsRequest) (moment : ℕ) (store : StoreSeen)
+    (p : RunPlace) (text rest : List ℕ) (r : TamsRequest) (moment : ℕ) (store : StoreSeen)
     (states : List StoreState) → ChangedAt p old (text ++ rest) n states (is_writing states)
     → FailedIn p text r moment states → p.said ≡ wants_interim r.head → length states ≡ changes
     → EndsThere p new store (moment ∷ []) now Stopped
@@ -256,9 +261,10 @@ Responds base refusal response =
     (fault : WireFault) → refusal ≡ wire_refusal fault → response ≡ wire_response base fault
 
 -- From bytes that the wire refuses.
-abbrev pub RefuseLeads : List ℕ → Device → Device → StoreSeen → Counts → Counts → Refusal → Ending
+abbrev pub RefuseLeads : List ℕ → Device → Device → StoreSeen → RunCounts → RunCounts → Refusal
+    → Ending
     → Type 0
 RefuseLeads base old new store n now refusal ending =
-    (p : Place) (fed : Fed) (all : List ℕ) → p.base ≡ base → AsksAt p old all n
-    → KeepsState store old p.state → IsRefusedAt all p.said fed refusal
+    (p : RunPlace) (fed : Fed) (all : List ℕ) → p.base ≡ base → AsksAt p old all n
+    → KeepsState store old p.state → IsRefusedByWire all p.said fed refusal
     → EndsThere p new store [] now ending

@@ -20,10 +20,10 @@ is_linked Unlinked = false
 is_linked Failed = true
 
 -- no call of the disk failed
-abbrev pub is_held : Told → Bool
-is_held All = true
-is_held Unlinked = true
-is_held Failed = false
+abbrev pub is_told_unfailed : Told → Bool
+is_told_unfailed All = true
+is_told_unfailed Unlinked = true
+is_told_unfailed Failed = false
 
 -- The last connection was told these bytes, or a part of them where `whole` is false. A saying on
 -- it failed where `linked` is false.

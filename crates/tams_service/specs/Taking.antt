@@ -7,7 +7,7 @@ use Rattle.http_wire.specs.Feeds.{Fed, left_of, less_by}
 use Rattle.store_states.specs.Kept.{AgreesWith, StoreView}
 use Rattle.store_plans.specs.declared.puts.PutPlan.{PutPlan}
 use Rattle.store_plans.specs.declared.puts.PutPlan.TheVariants.{Kept, Refused, Write}
-use Rattle.media_store.specs.Puts.{GoesOn, IsPutOf, PutSeen, TakesPiece, bytes_in, may_be_same}
+use Rattle.media_store.specs.Puts.{PutMovesOn, IsPutOf, PutSeen, TakesPiece, bytes_at_extent, may_be_same}
 use Rattle.request_hearing.specs.Hearing.{after_hearing}
 use Rattle.tams_service.specs.declared.body.Piece.{Piece}
 use Rattle.tams_service.specs.declared.body.Piece.TheVariants as pieces
@@ -24,11 +24,11 @@ is_heard Unheard = false
 is_heard Failed = true
 
 -- no call of the disk failed
-abbrev pub is_stored : Taken → Bool
-is_stored Whole = true
-is_stored Ended = true
-is_stored Unheard = true
-is_stored Failed = false
+abbrev pub is_taken_unfailed : Taken → Bool
+is_taken_unfailed Whole = true
+is_taken_unfailed Ended = true
+is_taken_unfailed Unheard = true
+is_taken_unfailed Failed = false
 
 -- the end of the peer's bytes was heard
 abbrev pub has_end : Taken → Bool
@@ -41,7 +41,7 @@ has_end Failed = false
 
 -- These bytes were heard, and a part of the body was taken of them and of the unread ones. The end
 -- of the peer's bytes was heard where `ended` is true, and a hearing failed where `failed` is.
-pub record TakesPart (part : List ℕ) (ended failed : Bool) (old new : Fed)
+pub record TakesOfBody (part : List ℕ) (ended failed : Bool) (old new : Fed)
     (before now : Device) : Type 0 where
   pub bytes : List ℕ
   pub text_is : old.unread ++ bytes ≡ part ++ new.unread
@@ -76,9 +76,9 @@ abbrev pub HoldsPart : StoreView → PutSeen → PutPlan → List ℕ → List �
 HoldsPart kept put (Refused why) part seen = Unit {0}
 HoldsPart kept put (Kept extent) part seen = put.same
     ≡ ((extent.length == put.size)
-    && bytes_eq (take (length part) (bytes_in kept extent seen)) part)
+    && bytes_eq (take (length part) (bytes_at_extent kept extent seen)) part)
 HoldsPart kept put (Write extent planned) part seen =
-    take (length part) (bytes_in kept extent seen) ≡ part
+    take (length part) (bytes_at_extent kept extent seen) ≡ part
 
 -- the same of a put, where there is one
 abbrev pub HoldsIf : StoreView → Option PutSeen → List ℕ → List ℕ → Type 0
@@ -97,7 +97,7 @@ BodyIs Failed size part unread = part ≢ []
 pub record TakesBody (kept : StoreView) (size : ℕ) (old new : Fed) (put : Option PutSeen)
     (before now : Device) (result : Taken) : Type 0 where
   pub part : List ℕ
-  pub takes : TakesPart part (has_end result) (not (is_heard result)) old new before now
+  pub takes : TakesOfBody part (has_end result) (not (is_heard result)) old new before now
   pub comes : BodyIs result size part new.unread
   pub holds : result ≡ Whole → before.honest ≡ true → before.shows ≡ true → before.tells ≡ true
       → (held : List (List ℕ)) → AgreesWith before kept held → HoldsIf kept put part now.seen
@@ -130,7 +130,7 @@ pub record PutGoesOn (kept : StoreView) (piece : List ℕ) (put : PutSeen) (next
     (before now : Device) : Type 0 where
   pub later : PutSeen
   pub is : next ≡ Some later
-  pub goes : GoesOn put later piece
+  pub goes : PutMovesOn put later piece
   pub of_store : IsPutOf kept later
   pub takes : before.shows ≡ true → TakesPiece kept put.plan piece put later before now
 
@@ -152,5 +152,5 @@ PieceIs pieces.Failed kept part unread put next before now = part ≢ []
 pub record TakesNext (kept : StoreView) (old new : Fed) (put next : Option PutSeen)
     (before now : Device) (result : Piece) : Type 0 where
   pub part : List ℕ
-  pub takes : TakesPart part (piece_end result) (not (piece_heard result)) old new before now
+  pub takes : TakesOfBody part (piece_end result) (not (piece_heard result)) old new before now
   pub comes : PieceIs result kept part new.unread put next before now

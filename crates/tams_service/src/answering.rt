@@ -6,7 +6,7 @@ ghost use Rattle.media_store.specs.Stores.{size_of};
 ghost use Rattle.media_store.specs.declared.puts.TheConstants.{PIECE};
 ghost use Rattle.store_states.specs.States.{media_start};
 ghost use Rattle.connection_loop.specs.Turns.{SiteCalls};
-ghost use Rattle.tams_answers.specs.Answers.{media_bytes};
+ghost use Rattle.tams_answers.specs.Answers.{following_bytes};
 ghost use Rattle.tams_service.specs.Answering.{FinishLeads, TellsAllOf, changes_by, ending_behind};
 ghost use Rattle.tams_service.specs.Serving.{KeepsId, needs_in};
 
@@ -54,7 +54,7 @@ pub(crate) fn finish<X: Site>(
     ensures room { length room.new ≡ length room.old }
     ensures leads { TellsAllOf (X.device site.old) → FinishLeads (X.device site.old)
         (X.device site.new) store.old store.new tally.old tally.new
-        (reply.now.response.now ++ media_bytes (media_start store.old.kept.journal.half)
+        (reply.now.response.now ++ following_bytes (media_start store.old.kept.journal.half)
         reply.now.media (X.device site.old).seen) reply.now.changes now reply.now.ends result }
 {
     turns_keep();

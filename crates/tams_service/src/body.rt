@@ -10,7 +10,7 @@ ghost use Rattle.media_store.specs.Puts.{IsPutOf};
 ghost use Rattle.media_store.specs.Stores.{size_of};
 ghost use Rattle.media_store.specs.declared.puts.TheConstants.{PIECE};
 ghost use Rattle.tams_service.specs.Sites.{SiteCounts};
-ghost use Rattle.tams_service.specs.Taking.{HandsOn, IsPutBegun, IsFilled, TakesBody, TakesNext, is_heard, is_stored, piece_heard, piece_stored, plan_of};
+ghost use Rattle.tams_service.specs.Taking.{HandsOn, IsPutBegun, IsFilled, TakesBody, TakesNext, is_heard, is_taken_unfailed, piece_heard, piece_stored, plan_of};
 ghost use Rattle.tams_service.specs.declared.body.Taken.TheVariants as taken;
 
 use disk_trait::Failed;
@@ -61,7 +61,7 @@ pub(crate) fn take_body<X: Site>(
     requires last { length hearing.old.last < feed_room }
     requires put { IfSome put.old (IsPutBegun store.old.kept size) }
     requires room { length room.old ≡ PIECE }
-    ensures calls { SiteCounts (is_heard result) (is_stored result) (X.device site.old) (X.device site.new) }
+    ensures calls { SiteCounts (is_heard result) (is_taken_unfailed result) (X.device site.old) (X.device site.new) }
     ensures takes { TakesBody store.old.kept size hearing.old hearing.new put.new
         (X.device site.old) (X.device site.new) result }
     ensures filled { result ≡ taken.Whole → IfSome put.new (IsFilled store.old.kept size) }
@@ -72,7 +72,7 @@ pub(crate) fn take_body<X: Site>(
         → Keeps store.old.kept held (X.device site.old) (X.device site.new) }
 
     ensures kept { store.new.kept ≡ store.old.kept }
-    ensures spent { store.new.spent ≡ not (is_stored result) }
+    ensures spent { store.new.spent ≡ not (is_taken_unfailed result) }
     ensures room { length room.new ≡ length room.old }
 {
     let mut left = size;

@@ -5,7 +5,7 @@ ghost use Rattle.http_wire.specs.Steps.{wire_refusal};
 ghost use Rattle.http_wire.specs.declared.framing.WireFault.{WireFault};
 ghost use Rattle.media_rows.specs.declared.refusal.Refusal.{Refusal};
 ghost use Rattle.media_store.specs.Stores.{StoreSeen};
-ghost use Rattle.connection_loop.specs.Tallies.{counted};
+ghost use Rattle.connection_loop.specs.Tallies.{plus_answer};
 ghost use Rattle.connection_loop.specs.Turns.{SiteCalls};
 ghost use Rattle.connection_loop.specs.declared.ending.Ending.TheVariants.{Starved, Stopped};
 ghost use Rattle.tams_answers.specs.Wire.{AreResponses};
@@ -24,7 +24,7 @@ pub(crate) fn starve<X: Site>(site: &mut X, tally: &mut Tally) -> Ending
     requires under_way { (X.device site.old).link.under_way ≡ true }
     ensures starved { result ≡ Starved }
     ensures calls { LinkCalls (X.device site.old) (X.device site.new) }
-    ensures counted { tally.new ≡ counted 0 false tally.old }
+    ensures counted { tally.new ≡ plus_answer 0 false tally.old }
     ensures leads { TellsAllOf (X.device site.old) → StarveLeads (X.device site.old)
         (X.device site.new) tally.old tally.new }
 {
@@ -40,7 +40,7 @@ pub(crate) fn stop<X: Site>(site: &mut X, tally: &mut Tally, changes: u64) -> En
     requires under_way { (X.device site.old).link.under_way ≡ true }
     ensures stopped { result ≡ Stopped }
     ensures calls { LinkCalls (X.device site.old) (X.device site.new) }
-    ensures counted { tally.new ≡ counted changes false tally.old }
+    ensures counted { tally.new ≡ plus_answer changes false tally.old }
     ensures leads { TellsAllOf (X.device site.old) → StopLeads (X.device site.old)
         (X.device site.new) tally.old tally.new changes }
 {
@@ -60,7 +60,7 @@ pub(crate) fn refuse_wire<X: Site>(
     requires room { tally.old.answers < 2 ^ 60 }
     requires under_way { (X.device site.old).link.under_way ≡ true }
     ensures calls { SiteCalls (Some result) (X.device site.old) (X.device site.new) }
-    ensures counted { tally.new ≡ counted 0 false tally.old }
+    ensures counted { tally.new ≡ plus_answer 0 false tally.old }
     ensures leads { TellsAllOf (X.device site.old) → (base : List ℕ) (store : StoreSeen)
         → AreResponses base responses.now
         → RefuseLeads base (X.device site.old) (X.device site.new) store tally.old tally.new
@@ -74,7 +74,7 @@ fn refuse<X: Site>(site: &mut X, tally: &mut Tally, response: &[u8]) -> Ending
     requires room { tally.old.answers < 2 ^ 60 }
     requires under_way { (X.device site.old).link.under_way ≡ true }
     ensures calls { SiteCalls (Some result) (X.device site.old) (X.device site.new) }
-    ensures counted { tally.new ≡ counted 0 false tally.old }
+    ensures counted { tally.new ≡ plus_answer 0 false tally.old }
     ensures leads { TellsAllOf (X.device site.old) → (base : List ℕ) (store : StoreSeen)
         → (refusal : Refusal) → Responds base refusal response.now
         → RefuseLeads base (X.device site.old) (X.device site.new) store tally.old tally.new

@@ -7,8 +7,8 @@ ghost use Rattle.media_rows.specs.Moments.{is_moment};
 ghost use Rattle.media_store.specs.Stores.{size_of};
 ghost use Rattle.media_store.specs.declared.puts.TheConstants.{PIECE};
 ghost use Rattle.connection_loop.specs.Turns.{GivesMore, SiteCalls};
-ghost use Rattle.request_hearing.specs.Hearing.{IsOpened};
-ghost use Rattle.tams_service.specs.Answering.{EndKeepsId, IsWhole, MediaLeads, PutLeads, TakeLeads, TellsAllOf, written_by};
+ghost use Rattle.request_hearing.specs.Hearing.{OpensMedia};
+ghost use Rattle.tams_service.specs.Answering.{EndKeepsId, IsWholePut, MediaLeads, PutLeads, TakeLeads, TellsAllOf, written_by};
 ghost use Rattle.tams_service.specs.Serving.{KeepsId, needs_in};
 ghost use Rattle.tams_service.specs.Taking.{IsPutBegun};
 
@@ -37,7 +37,7 @@ impl TamsService {
     ) -> Option<Ending>
         requires unspent { IsFalse self.old.store.spent }
         requires opened { (taken : ℕ) × (all : List ℕ) × (said : Bool)
-            × IsOpened taken all said self.old.fed head }
+            × OpensMedia taken all said self.old.fed head }
         requires room { tally.old.answers < 2 ^ 60 }
         requires device { needs_in self.old.store ≤ (X.device site.old).size }
         requires under_way { (X.device site.old).link.under_way ≡ true }
@@ -156,7 +156,7 @@ fn give_put<X: Site>(
     requires unspent { IsFalse store.old.spent }
     requires device { size_of store.old.kept ≤ (X.device site.old).size }
     requires under_way { (X.device site.old).link.under_way ≡ true }
-    requires filled { IfSome put (IsWhole store.old.kept) }
+    requires filled { IfSome put (IsWholePut store.old.kept) }
     requires id { IfSome put (EndKeepsId store.old.kept) }
     requires moment { IsTrue (is_moment now) }
     requires counts { tally.old.answers < 2 ^ 60 }

@@ -6,8 +6,8 @@ ghost use Rattle.store_states.specs.Kept.{AgreesWith};
 ghost use Rattle.store_states.specs.States.{media_start};
 ghost use Rattle.media_store.specs.Pieces.{IsExtent};
 ghost use Rattle.media_store.specs.Stores.{size_of};
-ghost use Rattle.tams_answers.specs.Answers.{media_bytes};
-ghost use Rattle.tams_service.specs.Saying.{Says, is_held, is_linked, is_whole};
+ghost use Rattle.tams_answers.specs.Answers.{following_bytes};
+ghost use Rattle.tams_service.specs.Saying.{Says, is_told_unfailed, is_linked, is_whole};
 ghost use Rattle.tams_service.specs.Sites.{SiteCounts};
 
 use disk_trait::Failed;
@@ -29,7 +29,7 @@ pub(crate) enum Told {
 impl Told {
     /// Whether a read of the object's bytes failed.
     pub(crate) fn is_failed(self) -> bool
-        ensures { result ≡ not (is_held self) }
+        ensures { result ≡ not (is_told_unfailed self) }
     {
         matches!(self, Told::Failed)
     }
@@ -49,14 +49,14 @@ pub(crate) fn say_answer<X: Site>(
     requires under_way { (X.device site.old).link.under_way ≡ true }
     requires media { IfSome media (IsExtent store.old.kept.library) }
     requires room { length room.old ≡ PIECE }
-    ensures calls { SiteCounts (is_linked result) (is_held result) (X.device site.old) (X.device site.new) }
+    ensures calls { SiteCounts (is_linked result) (is_told_unfailed result) (X.device site.old) (X.device site.new) }
     ensures says { (X.device site.old).shows ≡ true → Says (is_whole result) (is_linked result)
-        (response.now ++ media_bytes (media_start store.old.kept.journal.half) media
+        (response.now ++ following_bytes (media_start store.old.kept.journal.half) media
         (X.device site.old).seen) (X.device site.old) (X.device site.new) }
     ensures keeps { (held : List (List ℕ)) → AgreesWith (X.device site.old) store.old.kept held
         → AgreesWith (X.device site.new) store.old.kept held }
     ensures kept { store.new.kept ≡ store.old.kept }
-    ensures spent { store.new.spent ≡ not (is_held result) }
+    ensures spent { store.new.spent ≡ not (is_told_unfailed result) }
     ensures room { length room.new ≡ length room.old }
 {
     match site.say(response) {
@@ -75,14 +75,14 @@ fn say_object<X: Site>(store: &mut Store, site: &mut X, extent: Extent, room: &m
     requires under_way { (X.device site.old).link.under_way ≡ true }
     requires stored { IsExtent store.old.kept.library extent }
     requires room { length room.old ≡ PIECE }
-    ensures calls { SiteCounts (is_linked result) (is_held result) (X.device site.old) (X.device site.new) }
+    ensures calls { SiteCounts (is_linked result) (is_told_unfailed result) (X.device site.old) (X.device site.new) }
     ensures says { (X.device site.old).shows ≡ true → Says (is_whole result) (is_linked result)
         (extent_bytes (media_start store.old.kept.journal.half) extent (X.device site.old).seen)
         (X.device site.old) (X.device site.new) }
     ensures keeps { (held : List (List ℕ)) → AgreesWith (X.device site.old) store.old.kept held
         → AgreesWith (X.device site.new) store.old.kept held }
     ensures kept { store.new.kept ≡ store.old.kept }
-    ensures spent { store.new.spent ≡ not (is_held result) }
+    ensures spent { store.new.spent ≡ not (is_told_unfailed result) }
     ensures room { length room.new ≡ length room.old }
 {
     let mut at = 0;
@@ -110,7 +110,7 @@ fn say_piece<X: Site>(
     requires under_way { (X.device site.old).link.under_way ≡ true }
     requires stored { IsExtent store.old.kept.library extent }
     requires inside { at + length out.old ≤ extent.length }
-    ensures calls { SiteCounts (is_linked result) (is_held result) (X.device site.old) (X.device site.new) }
+    ensures calls { SiteCounts (is_linked result) (is_told_unfailed result) (X.device site.old) (X.device site.new) }
     ensures says { (X.device site.old).shows ≡ true → Says (is_whole result) (is_linked result)
         (bytes_at (extent_bytes (media_start store.old.kept.journal.half) extent (X.device site.old).seen)
         at (length out.old)) (X.device site.old) (X.device site.new) }
@@ -118,7 +118,7 @@ fn say_piece<X: Site>(
         → AgreesWith (X.device site.new) store.old.kept held }
     ensures seen { (X.device site.new).seen ≡ (X.device site.old).seen }
     ensures kept { store.new.kept ≡ store.old.kept }
-    ensures spent { store.new.spent ≡ not (is_held result) }
+    ensures spent { store.new.spent ≡ not (is_told_unfailed result) }
     ensures room { length out.new ≡ length out.old }
 {
     match store.get_piece(site, extent, at, out) {

@@ -6,7 +6,7 @@ ghost use Rattle.media_store.specs.Pieces.{IsExtent};
 ghost use Rattle.media_store.specs.Stores.{size_of};
 ghost use Rattle.media_store.specs.declared.puts.TheConstants.{PIECE};
 ghost use Rattle.connection_loop.specs.Turns.{GivesMore, SiteCalls};
-ghost use Rattle.request_hearing.specs.Hearing.{IsGiven};
+ghost use Rattle.request_hearing.specs.Hearing.{GivesRequest};
 ghost use Rattle.tams_service.specs.Answering.{GiveLeads, PlanKeepsId, TellsAllOf, WholeLeads, changes_in};
 ghost use Rattle.tams_service.specs.Serving.{KeepsId, needs_in};
 
@@ -34,7 +34,7 @@ impl TamsService {
     ) -> Option<Ending>
         requires unspent { IsFalse self.old.store.spent }
         requires given { (taken : ℕ) × (all : List ℕ) × (said : Bool)
-            × IsGiven taken all said self.old.fed head }
+            × GivesRequest taken all said self.old.fed head }
         requires room { tally.old.answers < 2 ^ 60 }
         requires device { needs_in self.old.store ≤ (X.device site.old).size }
         requires under_way { (X.device site.old).link.under_way ≡ true }

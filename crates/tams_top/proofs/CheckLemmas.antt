@@ -6,7 +6,7 @@ use Rattle.media_journal.specs.declared.fault.JournalFault.{JournalFault}
 use Rattle.media_journal.specs.declared.fault.JournalFault.TheVariants as opening
 use Rattle.store_core.specs.Prepared.{counts_of}
 use Rattle.store_opening.specs.Laws.{KeptStands}
-use Rattle.store_opening.specs.Opening.{IsKept, kept_bytes}
+use Rattle.store_opening.specs.Opening.{IsKept, bytes_in_image}
 use Rattle.store_states.specs.Kept.{StoreView, kept_state}
 use Rattle.store_states.specs.Laws.{IsOneState}
 use Rattle.store_states.specs.States.{StoreState}
@@ -32,9 +32,9 @@ module _ (old new : Device) (ok : Bool) (reads : DiskReads ok old new) where
     λ shows.
         let stands = kept_stands old.seen kept (answer shows) in
         record {
-          stands = (kept_state kept (kept_bytes old.seen kept), stands);
+          stands = (kept_state kept (bytes_in_image old.seen kept), stands);
           counts_are = λ from other.
-              ap (λ (s : StoreState). counts_of s.archive.library) (one old.seen from (kept_state kept (kept_bytes old.seen kept)) other stands);
+              ap (λ (s : StoreState). counts_of s.archive.library) (one old.seen from (kept_state kept (bytes_in_image old.seen kept)) other stands);
         },
     untouched,
   )

@@ -6,8 +6,8 @@ use Rattle.std.specs.List.{AllByRecursion}
 use Rattle.disk_trait.specs.Device.{Connection, Device}
 use Rattle.disk_trait.specs.Calls.{IsCounted, Rose}
 use Rattle.media_journal.specs.declared.header.Header.{Header}
-use Rattle.run_history.specs.Sessions.{AreServed, Hearing, IsServed, IsTold, LinkEnd, Saying, Session, Whole, has_failed, pieces_of, skips_in, stops, stops_in_answer}
-use Rattle.run_history.specs.Serving.{Counts, counts_of, is_cut, run_stops, starves}
+use Rattle.run_history.specs.Sessions.{AreServed, Hearing, IsServed, IsTold, LinkEnd, Saying, Session, Whole, has_link_failed, pieces_of, skips_in, stops, stops_in_answer}
+use Rattle.run_history.specs.Serving.{RunCounts, counts_of_run, is_cut, run_stops, starves}
 use Rattle.run_history.specs.Steps.{Answered, Cut, Refused, Starved, Step, Stopped}
 use Rattle.run_history.specs.Traces.{start_of}
 use Rattle.connection_loop.specs.declared.ending.Ending.{Ending}
@@ -21,11 +21,11 @@ use Rattle.tams_machine.specs.Machine.{tams_machine}
 use Rattle.tams_machine.specs.Requests.{TamsRequest}
 use Rattle.tams_top.specs.declared.outcome.Outcome.{Outcome}
 use Rattle.tams_top.specs.declared.outcome.Outcome.TheVariants.{Formatted, Checked, Worked, Served, NotStore, AlreadyStore, TooSmall, Damaged, DiskFault, NoMemory, LinkFault}
-use Rattle.tams_top.specs.declared.words.Command.TheVariants.{Format, Check, Work}
+use Rattle.tams_top.specs.declared.words.Invocation.TheVariants.{Format, Check, Work}
 use Rattle.tams_top.specs.Words.{IsCommand}
 use Rattle.tams_top.specs.Completeness.{AreServedWhole, IsAnswered, IsServedWhole, NoneRose, OneAnswered}
 use Rattle.tams_top.specs.Histories.{EndsWithoutPeer, OnePeer, Replayed, ServedAll, beginning, replay_outcome, serve_outcome}
-use Rattle.tams_top.specs.Running.{CheckEnds, CommandEnds, FormatRunEnds, RunEnds, WorkCause, no_disk_fault, status_of}
+use Rattle.tams_top.specs.Running.{CheckEnds, CommandEnds, FormatRunEnds, EndsWithCause, WorkCause, no_disk_fault, status_of}
 use Rattle.tams_top.proofs.WordTheorems.{one_command}
 
 no_disk : (old new : Device) (o : Outcome) → IsCounted (no_disk_fault o) old.faults new.faults → NoneRose old new → o ≢ DiskFault
@@ -73,7 +73,7 @@ well_by false false false false answers changes skipped true e = inr (some_skipp
 well_by false false false false answers changes skipped false e =
     inl record { on = refl; fed = refl; linked = refl; made = none_skipped skipped e; by_input = rw e refl }
 
-linked-whole : (link : LinkEnd) → has_failed link ≡ false → link ≡ Whole
+linked-whole : (link : LinkEnd) → has_link_failed link ≡ false → link ≡ Whole
 linked-whole Whole e = refl
 linked-whole Hearing e = absurd (false≢true (sym e))
 linked-whole Saying e = absurd (false≢true (sym e))
@@ -101,7 +101,7 @@ none_served base from (c ∷ cs) served = absurd served
 
 answered : (base : List ℕ) (from : StoreState) (c : Connection) (session : Session TamsRequest) (status : ℕ)
     → IsServed (tams_machine base) (start_of from) c session
-    → EndedWell (stops session.steps) (starves session.steps) (has_failed session.link) (is_cut session.steps) (skips_in session.steps) status
+    → EndedWell (stops session.steps) (starves session.steps) (has_link_failed session.link) (is_cut session.steps) (skips_in session.steps) status
     → IsAnswered base from c session status
 answered base from c session status served well =
     let pieces = pieces_of (tams_machine base) (start_of from) session.steps in
@@ -143,8 +143,8 @@ module _ (base : List ℕ) (from : StoreState) (old new : Device) (begun given :
       let ran = p.runs.ran in
       let session = p.session in
       let one = one_served base from ran.connections session ran.served in
-      let n = counts_of (tams_machine base) from (session ∷ []) in
-      let well = well_by (stops session.steps) (starves session.steps) (has_failed session.link) (is_cut session.steps) n.answers n.changes n.skipped
+      let n = counts_of_run (tams_machine base) from (session ∷ []) in
+      let well = well_by (stops session.steps) (starves session.steps) (has_link_failed session.link) (is_cut session.steps) n.answers n.changes n.skipped
       (nat_lt 0 n.skipped) refl in
       elim well [
         | inl good ↦
@@ -186,7 +186,7 @@ module _ (base : List ℕ) (from : StoreState) (old new : Device) (begun given :
   -- ---- `serve`
 
   whole-by : (starved : Bool) (link : LinkEnd) (cut : Bool) → starved ≡ false
-      → (ending_by false starved (has_failed link) cut ≡ endings.Unlinked → Rose old.link.faults new.link.faults) → link ≡ Whole
+      → (ending_by false starved (has_link_failed link) cut ≡ endings.Unlinked → Rose old.link.faults new.link.faults) → link ≡ Whole
   whole-by true link cut e rose = absurd (false≢true (sym e))
   whole-by false Whole cut e rose = refl
   whole-by false Hearing cut e rose = absurd (none.link (rose refl))
@@ -204,13 +204,13 @@ module _ (base : List ℕ) (from : StoreState) (old new : Device) (begun given :
       let on = no_stops (stops session.steps) (run_stops sessions) e in (
         (λ fed. whole-by (starves session.steps) session.link (is_cut session.steps) fed (subst
             (λ (stopped : Bool).
-            ending_by stopped (starves session.steps) (has_failed session.link) (is_cut session.steps) ≡ endings.Unlinked
+            ending_by stopped (starves session.steps) (has_link_failed session.link) (is_cut session.steps) ≡ endings.Unlinked
             → Rose old.link.faults new.link.faults)
             on.0 counted.0)),
         all-whole sessions on.1 counted.1,
       )
 
-  by_end : (end : RunEnd) (n : Counts) (sessions : List (Session TamsRequest)) (connections : ℕ) → o ≡ serve_outcome end n
+  by_end : (end : RunEnd) (n : RunCounts) (sessions : List (Session TamsRequest)) (connections : ℕ) → o ≡ serve_outcome end n
       → loops.RunEnds new sessions connections end
       → (run_stops sessions ≡ false) × (((length sessions ≡ connections) ⊎ (new.link.closed ≡ true)) × (status_of o ≡ 0))
   by_end run_ends.Complete n sessions connections is ends = (ends.1, (inl ends.0, ap status_of is))
@@ -245,7 +245,8 @@ formatted old new h NoMemory ends held = inr (inr refl)
 formatted old new h DiskFault ends held = absurd (held refl)
 formatted old new h _ ends held = absurd ends
 
-pub formatted_whole : (words : List (List ℕ)) (old new : Device) (clock : Bool) (begun given : List ℕ) (o : Outcome) → RunEnds words old new clock begun given o
+pub formatted_whole : (words : List (List ℕ)) (old new : Device) (clock : Bool) (begun given : List ℕ) (o : Outcome)
+    → EndsWithCause words old new clock begun given o
     → (path : List ℕ) (blocks half id : ℕ) → IsCommand words (Format path blocks half id) → NoneRose old new
     → (status_of o ≡ 0) ⊎ ((status_of o ≡ 2) ⊎ (status_of o ≡ 4))
 formatted_whole words old new clock begun given o run path blocks half id is none = elim run.cause [
@@ -267,7 +268,8 @@ checked old new NoMemory ends held = inr (inr refl)
 checked old new DiskFault ends held = absurd (held refl)
 checked old new _ ends held = absurd ends
 
-pub checked_whole : (words : List (List ℕ)) (old new : Device) (clock : Bool) (begun given : List ℕ) (o : Outcome) → RunEnds words old new clock begun given o
+pub checked_whole : (words : List (List ℕ)) (old new : Device) (clock : Bool) (begun given : List ℕ) (o : Outcome)
+    → EndsWithCause words old new clock begun given o
     → (path : List ℕ) → IsCommand words (Check path) → NoneRose old new → (status_of o ≡ 0) ⊎ ((status_of o ≡ 2) ⊎ (status_of o ≡ 4))
 checked_whole words old new clock begun given o run path is none = elim run.cause [
   | inl starved ↦ inr (inr (ap status_of starved.0))
@@ -288,7 +290,8 @@ worked old new NoMemory cause held = inr (inr refl)
 worked old new DiskFault cause held = absurd (held refl)
 worked old new _ cause held = absurd cause
 
-pub worked_whole : (words : List (List ℕ)) (old new : Device) (clock : Bool) (begun given : List ℕ) (o : Outcome) → RunEnds words old new clock begun given o
+pub worked_whole : (words : List (List ℕ)) (old new : Device) (clock : Bool) (begun given : List ℕ) (o : Outcome)
+    → EndsWithCause words old new clock begun given o
     → (path : List ℕ) → IsCommand words (Work path) → NoneRose old new → (status_of o ≡ 0) ⊎ ((status_of o ≡ 2) ⊎ (status_of o ≡ 4))
 worked_whole words old new clock begun given o run path is none = elim run.cause [
   | inl starved ↦ inr (inr (ap status_of starved.0))

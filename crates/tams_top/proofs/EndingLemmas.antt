@@ -6,8 +6,8 @@ use Rattle.media_journal.specs.declared.header.Header.{Header}
 use Rattle.media_journal.specs.File.{HasOpenHeader}
 use Rattle.tams_top.specs.declared.outcome.Outcome.{Outcome}
 use Rattle.tams_top.specs.declared.outcome.Outcome.TheVariants.{Checked, BadWords, DiskFault, NoMemory, LinkFault}
-use Rattle.tams_top.specs.declared.words.Command.{Command}
-use Rattle.tams_top.specs.declared.words.Command.TheVariants.{Format, Check, Work, Replay, Serve, Workload}
+use Rattle.tams_top.specs.declared.words.Invocation.{Invocation}
+use Rattle.tams_top.specs.declared.words.Invocation.TheVariants.{Format, Check, Work, Replay, Serve, Workload}
 use Rattle.tams_top.specs.Words.{IsCommand}
 use Rattle.media_store.specs.declared.fault.StoreFault.TheVariants as faults
 use Rattle.store_opening.specs.Laws.{DamagedStandsForNone}
@@ -16,7 +16,7 @@ use Rattle.store_states.specs.States.{StandsFor, StoreState}
 use Rattle.tams_top.specs.Formatting.{formatted_state}
 use Rattle.tams_top.specs.Generating.{WorkloadEnds}
 use Rattle.tams_top.specs.Histories.{BeginsFrom, IsSettled, NoPeer, OnePeer, Replayed, ServedAll, beginning}
-use Rattle.tams_top.specs.Running.{CheckEnds, CommandEnds, FormatRunEnds, IsNoCommand, IsReplayFrom, IsServeFrom, IsWorkFrom, LinkFaults, OpenedCause, RefusedFor, ReplayEnds, RunEnds, ServeEnds, ServesNobody, Untouched, WorkCause, WorkEnds, no_peer_fault, status_of}
+use Rattle.tams_top.specs.Running.{CheckEnds, CommandEnds, FormatRunEnds, IsNoCommand, IsReplayFrom, IsServeFrom, IsWorkFrom, LinkFaults, OpenedCause, RefusedFor, ReplayEnds, EndsWithCause, ServeEnds, ServesNobody, Untouched, WorkCause, WorkEnds, no_peer_fault, status_of}
 use Rattle.tams_top.proofs.FormattingLemmas.{untouched_bare}
 use Rattle.tams_top.proofs.RunningLemmas.{no_peer}
 use Rattle.tams_top.proofs.StatusLemmas.{check_done, check_only, check_refused, check_untouched, cut_by, format_done, format_only, format_refused, format_starved, link_fault_by, no_memory_by, opened_only, opened_refused, work_only, work_refused, workload_unrefused}
@@ -24,9 +24,10 @@ use Rattle.tams_top.specs.Working.{WorkedOff}
 use Rattle.tams_top.proofs.WordTheorems.{one_command}
 use Rattle.tams_top.proofs.WorkingLemmas.{no_turns}
 
-module _ (words : List (List ℕ)) (old new : Device) (clock : Bool) (begun given : List ℕ) (o : Outcome) (run : RunEnds words old new clock begun given o) where
+module _ (words : List (List ℕ)) (old new : Device) (clock : Bool) (begun given : List ℕ) (o : Outcome)
+    (run : EndsWithCause words old new clock begun given o) where
   -- a command that was refused
-  command_refused : DamagedStandsForNone → (command : Command) → CommandEnds old new clock begun given o command → status_of o ≡ 2
+  command_refused : DamagedStandsForNone → (command : Invocation) → CommandEnds old new clock begun given o command → status_of o ≡ 2
       → Untouched old new × (old.shows ≡ true → RefusedFor old.seen command)
   command_refused damaged (Format path blocks half id) ends s = format_refused old new _ o ends.0 s
   command_refused damaged (Check path) ends s = check_refused old new damaged o ends.0 s
@@ -36,7 +37,7 @@ module _ (words : List (List ℕ)) (old new : Device) (clock : Bool) (begun give
   command_refused damaged (Workload number count) ends s = absurd (workload_unrefused number count o ends.0 s)
 
   pub run_refused : DamagedStandsForNone → status_of o ≡ 2
-      → Untouched old new × ((command : Command) × IsCommand words command × (old.shows ≡ true → RefusedFor old.seen command))
+      → Untouched old new × ((command : Invocation) × IsCommand words command × (old.shows ≡ true → RefusedFor old.seen command))
   run_refused damaged s = elim run.cause [
     | inl starved ↦ absurd (omega (arith, s, ap status_of starved.0))
     | inr other ↦ elim other [
@@ -46,7 +47,7 @@ module _ (words : List (List ℕ)) (old new : Device) (clock : Bool) (begun give
   ]
 
   -- for which the clock wasn't read
-  command_unread : (command : Command) → CommandEnds old new clock begun given o command → status_of o ≡ 2 → given ≡ begun
+  command_unread : (command : Invocation) → CommandEnds old new clock begun given o command → status_of o ≡ 2 → given ≡ begun
   command_unread (Format path blocks half id) ends s = ends.2.given_is
   command_unread (Check path) ends s = ends.1
   command_unread (Work path) ends s = ends.unread s
@@ -61,7 +62,7 @@ module _ (words : List (List ℕ)) (old new : Device) (clock : Bool) (begun give
   ]
 
   -- a command that the file refuses
-  command_only : (command : Command) → CommandEnds old new clock begun given o command → old.shows ≡ true → RefusedFor old.seen command
+  command_only : (command : Invocation) → CommandEnds old new clock begun given o command → old.shows ≡ true → RefusedFor old.seen command
       → (status_of o ≡ 2) ⊎ ((status_of o ≡ 3) ⊎ (status_of o ≡ 4))
   command_only (Format path blocks half id) ends shows cause = format_only old new _ o ends.0 shows cause
   command_only (Check path) ends shows cause = check_only old new o ends.0 shows cause
@@ -70,7 +71,7 @@ module _ (words : List (List ℕ)) (old new : Device) (clock : Bool) (begun give
   command_only (Serve path port base connections) ends shows cause = opened_only old new o ends.cause shows cause
   command_only (Workload number count) ends shows cause = absurd cause
 
-  pub run_only : (command : Command) → IsCommand words command → old.shows ≡ true → RefusedFor old.seen command
+  pub run_only : (command : Invocation) → IsCommand words command → old.shows ≡ true → RefusedFor old.seen command
       → (status_of o ≡ 2) ⊎ ((status_of o ≡ 3) ⊎ (status_of o ≡ 4))
   run_only command is shows cause = elim run.cause [
     | inl starved ↦ inr (inr (ap status_of starved.0))
@@ -159,7 +160,7 @@ module _ (words : List (List ℕ)) (old new : Device) (clock : Bool) (begun give
   workload_unlinked : (number count : ℕ) → WorkloadEnds number count o → o ≢ LinkFault
   workload_unlinked number count ends is = subst (WorkloadEnds number count) is ends
 
-  command_linked : (command : Command) → CommandEnds old new clock begun given o command → o ≡ LinkFault → Rose old.link.faults new.link.faults
+  command_linked : (command : Invocation) → CommandEnds old new clock begun given o command → o ≡ LinkFault → Rose old.link.faults new.link.faults
   command_linked (Format path blocks half id) ends is = absurd (format_unlinked _ ends.0 is)
   command_linked (Check path) ends is = absurd (check_unlinked ends.0 is)
   command_linked (Work path) ends is = absurd (work_unlinked ends.cause is)
@@ -202,7 +203,7 @@ module _ (words : List (List ℕ)) (old new : Device) (clock : Bool) (begun give
   -- ---- what is said of `serve` alone
 
   module _ (path base : List ℕ) (port connections : ℕ) (is : IsCommand words (Serve path port base connections)) where
-    serve_ends : (did : Command) → IsCommand words did → CommandEnds old new clock begun given o did → ServeEnds base old new clock begun given connections o
+    serve_ends : (did : Invocation) → IsCommand words did → CommandEnds old new clock begun given o did → ServeEnds base old new clock begun given connections o
     serve_ends did it ends =
         subst (CommandEnds old new clock begun given o) (one_command words did (Serve path port base connections) it is) ends
 
@@ -276,7 +277,7 @@ module _ (words : List (List ℕ)) (old new : Device) (clock : Bool) (begun give
   workload_words number count BadWords ends s = ends
   workload_words number count _ ends s = omega (arith, s)
 
-  command_words : (command : Command) → CommandEnds old new clock begun given o command → status_of o ≢ 1
+  command_words : (command : Invocation) → CommandEnds old new clock begun given o command → status_of o ≢ 1
   command_words (Format path blocks half id) ends s = format_words _ o ends.0 s
   command_words (Check path) ends s = check_words o ends.0 s
   command_words (Work path) ends s = work_words o ends.cause s
@@ -326,7 +327,7 @@ module _ (words : List (List ℕ)) (old new : Device) (clock : Bool) (begun give
 
   -- `work` waits for nobody
   module _ (path : List ℕ) (is : IsCommand words (Work path)) where
-    work_ends : (did : Command) → IsCommand words did → CommandEnds old new clock begun given o did → WorkEnds old new clock begun given o
+    work_ends : (did : Invocation) → IsCommand words did → CommandEnds old new clock begun given o did → WorkEnds old new clock begun given o
     work_ends did it ends = subst (CommandEnds old new clock begun given o) (one_command words did (Work path) it is) ends
 
     pub run_alone : new.link ≡ old.link
@@ -340,7 +341,8 @@ module _ (words : List (List ℕ)) (old new : Device) (clock : Bool) (begun give
   run_worked sound from work = elim run.cause [
     | inl starved ↦
         rw (starved.0, starved.1)
-        (record { end = Err faults.Memory; worked = no_turns old new clock begun (Err faults.Memory) sound starved.2 from work.begins (refl, inl (refl, refl)); outcome_is = refl })
+        (record { end = Err faults.Memory; worked = no_turns old new clock begun (Err faults.Memory) sound starved.2 from work.begins
+        (refl, inl (refl, refl)); outcome_is = refl })
     | inr other ↦ elim other [
       | inl bad ↦ absurd (bad.1 (Work work.command.0) work.command.1)
       | inr did ↦ (work_ends work.command.0 work.command.1 did.0 did.1 did.2).history from work.begins
@@ -349,7 +351,7 @@ module _ (words : List (List ℕ)) (old new : Device) (clock : Bool) (begun give
 
   -- `check` writes nothing and waits for nobody
   module _ (path : List ℕ) (is : IsCommand words (Check path)) where
-    check_ends : (did : Command) → IsCommand words did → CommandEnds old new clock begun given o did → CheckEnds old new o × (given ≡ begun)
+    check_ends : (did : Invocation) → IsCommand words did → CommandEnds old new clock begun given o did → CheckEnds old new o × (given ≡ begun)
     check_ends did it ends = subst (CommandEnds old new clock begun given o) (one_command words did (Check path) it is) ends
 
     pub run_unwritten : Untouched old new × (given ≡ begun)
@@ -373,7 +375,7 @@ module _ (words : List (List ℕ)) (old new : Device) (clock : Bool) (begun give
 
   -- `workload` touches nothing of the outside
   module _ (number count : ℕ) (is : IsCommand words (Workload number count)) where
-    workload_ends : (did : Command) → IsCommand words did → CommandEnds old new clock begun given o did
+    workload_ends : (did : Invocation) → IsCommand words did → CommandEnds old new clock begun given o did
         → WorkloadEnds number count o × Untouched old new × (given ≡ begun)
     workload_ends did it ends = subst (CommandEnds old new clock begun given o) (one_command words did (Workload number count) it is) ends
 
@@ -416,7 +418,7 @@ module _ (words : List (List ℕ)) (old new : Device) (clock : Bool) (begun give
           one_command words (Replay replay.command.0 other) (Replay path base) replay.command.1 is in
           cc
 
-      command_starved : (command : Command) → IsCommand words command → CommandEnds old new clock begun given o command → status_of o ≡ 4
+      command_starved : (command : Invocation) → IsCommand words command → CommandEnds old new clock begun given o command → status_of o ≡ 4
           → ServesNobody old new begun given
           ⊎ (((path : List ℕ) × IsCommand words (Work path))
           ⊎ ((base : List ℕ) (from : StoreState) → IsReplayFrom base from words old clock → OnePeer base (beginning from old begun) new given NoMemory))

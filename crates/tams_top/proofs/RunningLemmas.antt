@@ -8,7 +8,7 @@ use Rattle.media_journal.specs.declared.fault.JournalFault.{JournalFault}
 use Rattle.media_journal.specs.declared.fault.JournalFault.TheVariants as opening
 use Rattle.media_journal.specs.Opening.{IsStore}
 use Rattle.media_journal.proofs.OpeningLemmas.{is_store}
-use Rattle.run_history.specs.Serving.{Counts}
+use Rattle.run_history.specs.Serving.{RunCounts}
 use Rattle.connection_loop.specs.declared.run.RunEnd.{RunEnd}
 use Rattle.connection_loop.specs.declared.run.RunEnd.TheVariants.{Complete, NoMore, Unlinked, Stopped}
 use Rattle.connection_loop.specs.Loops.{RunCalls, run_disk_held, run_peers_held}
@@ -132,45 +132,45 @@ module _ (base : List ℕ) (old new : Device) (clock : Bool) (begun : List ℕ) 
 
 -- ---- connections were served
 
-pub serve_disk : (end : RunEnd) (n : Counts) → no_disk_fault (serve_outcome end n) ≡ run_disk_held end
+pub serve_disk : (end : RunEnd) (n : RunCounts) → no_disk_fault (serve_outcome end n) ≡ run_disk_held end
 serve_disk Complete n = refl
 serve_disk NoMore n = refl
 serve_disk Unlinked n = refl
 serve_disk Stopped n = refl
 
-pub serve_peers : (end : RunEnd) (n : Counts) → no_peer_fault (serve_outcome end n) ≡ run_peers_held end
+pub serve_peers : (end : RunEnd) (n : RunCounts) → no_peer_fault (serve_outcome end n) ≡ run_peers_held end
 serve_peers Complete n = refl
 serve_peers NoMore n = refl
 serve_peers Unlinked n = refl
 serve_peers Stopped n = refl
 
-pub serve_cause : (old new : Device) (end : RunEnd) (n : Counts) → (old.shows ≡ true → StandsForOne old.seen) → OpenedCause old new (serve_outcome end n)
+pub serve_cause : (old new : Device) (end : RunEnd) (n : RunCounts) → (old.shows ≡ true → StandsForOne old.seen) → OpenedCause old new (serve_outcome end n)
 serve_cause old new Complete n stood = stood
 serve_cause old new NoMore n stood = stood
 serve_cause old new Unlinked n stood = stood
 serve_cause old new Stopped n stood = tt
 
-pub serve_link : (end : RunEnd) (n : Counts) (old opened new : Device) → old.link.faults ≡ opened.link.faults → RunCalls end opened new
+pub serve_link : (end : RunEnd) (n : RunCounts) (old opened new : Device) → old.link.faults ≡ opened.link.faults → RunCalls end opened new
     → serve_outcome end n ≡ LinkFault → Rose old.link.faults new.link.faults
 serve_link Complete n old opened new same calls e = absurd cc
 serve_link NoMore n old opened new same calls e = absurd cc
 serve_link Unlinked n old opened new same calls e = rw same (calls.unlinked refl)
 serve_link Stopped n old opened new same calls e = absurd cc
 
-pub serve_fed : (end : RunEnd) (n : Counts) → serve_outcome end n ≢ NoMemory
+pub serve_fed : (end : RunEnd) (n : RunCounts) → serve_outcome end n ≢ NoMemory
 serve_fed Complete n e = absurd cc
 serve_fed NoMore n e = absurd cc
 serve_fed Unlinked n e = absurd cc
 serve_fed Stopped n e = absurd cc
 
 -- a run that served wasn't refused
-pub serve_unrefused : (end : RunEnd) (n : Counts) → status_of (serve_outcome end n) ≢ 2
+pub serve_unrefused : (end : RunEnd) (n : RunCounts) → status_of (serve_outcome end n) ≢ 2
 serve_unrefused Complete n s = omega (arith, s)
 serve_unrefused NoMore n s = omega (arith, s)
 serve_unrefused Unlinked n s = omega (arith, s)
 serve_unrefused Stopped n s = omega (arith, s)
 
-pub serve_uncut : (end : RunEnd) (n : Counts) → serve_outcome end n ≢ Cut
+pub serve_uncut : (end : RunEnd) (n : RunCounts) → serve_outcome end n ≢ Cut
 serve_uncut Complete n e = absurd cc
 serve_uncut NoMore n e = absurd cc
 serve_uncut Unlinked n e = absurd cc

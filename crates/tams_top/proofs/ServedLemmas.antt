@@ -9,7 +9,7 @@ use Rattle.site_edge.specs.Clocks.{IsMoment}
 use Rattle.media_rows.specs.Moments.{is_moment}
 use Rattle.run_history.specs.Runs.{Beginning}
 use Rattle.run_history.specs.Sessions.{Session, all_moments}
-use Rattle.run_history.specs.Serving.{Counts, HasServed}
+use Rattle.run_history.specs.Serving.{RunCounts, HasServed}
 use Rattle.run_history.specs.Traces.{start_of}
 use Rattle.run_history.proofs.Going.{has_run}
 use Rattle.connection_loop.specs.declared.connection.Next.{Next}
@@ -21,7 +21,7 @@ use Rattle.connection_loop.specs.Loops.{AreCounted, HasEnded, NextCalls, NextLea
 use Rattle.connection_loop.specs.Tallies.{nothing_counted}
 use Rattle.connection_loop.proofs.Turning.{tells_later}
 use Rattle.connection_loop.specs.Turns.{GivesMore, IsBetween, TellsAll}
-use Rattle.store_opening.specs.Opening.{IsKept, kept_bytes}
+use Rattle.store_opening.specs.Opening.{IsKept, bytes_in_image}
 use Rattle.store_opening.proofs.Kept.{kept_stands}
 use Rattle.store_states.specs.Kept.{StoreView, kept_state}
 use Rattle.store_states.specs.States.{StoreState}
@@ -40,7 +40,7 @@ times moments all k d few = let time = all k d few in grind (arith, nat_tests, t
 
 -- the moments of a history are those that the clock gave
 pub runs_as : RunsKeepBytes → (base : List ℕ) (b : Beginning StoreState) (d : Device) (begun given : List ℕ) (sessions : List (Session TamsRequest))
-    (n : Counts)
+    (n : RunCounts)
     → HasServed (tams_machine base) b d given sessions n → IsDevice d → d.honest ≡ true → d.shows ≡ true → d.tells ≡ true → b.given ≡ begun
     → GivesMore begun given → RunsAs base b sessions d given
 runs_as law base b d begun given sessions n h sound honest shows tells first more =
@@ -53,7 +53,7 @@ runs_as law base b d begun given sessions n h sound honest shows tells first mor
 -- ---- one connection
 
 -- the outcome of what came of waiting for a connection
-abbrev pub next_outcome : Next → Counts → Outcome
+abbrev pub next_outcome : Next → RunCounts → Outcome
 next_outcome NoMore n = served_with n
 next_outcome Unlinked n = LinkFault
 next_outcome (Ended ending) n = replay_outcome ending n
@@ -64,7 +64,7 @@ unless_link true o before now least faults = least
 unless_link false o before now least faults = faults
 
 -- the count of link faults by the outcome
-pub next_link : (next : Next) (n : Counts) (before now : ℕ) → NextLinkCount next before now → LinkFaults (next_outcome next n) before now
+pub next_link : (next : Next) (n : RunCounts) (before now : ℕ) → NextLinkCount next before now → LinkFaults (next_outcome next n) before now
 next_link NoMore n before now count = count
 next_link Unlinked n before now count = count
 next_link (Ended endings.Complete) n before now count = unless_link (nat_lt 0 n.skipped) _ before now (omega (arith, count)) count
@@ -78,7 +78,7 @@ unless_disk true o held = refl
 unless_disk false o held = held
 
 -- that of disk faults
-pub next_disk : (next : Next) (n : Counts) → no_disk_fault (next_outcome next n) ≡ next_disk_held next
+pub next_disk : (next : Next) (n : RunCounts) → no_disk_fault (next_outcome next n) ≡ next_disk_held next
 next_disk NoMore n = refl
 next_disk Unlinked n = refl
 next_disk (Ended endings.Complete) n = unless_disk (nat_lt 0 n.skipped) _ refl
@@ -92,7 +92,7 @@ unless_cause old new true o cause = tt
 unless_cause old new false o cause = cause
 
 -- the file stood for a state
-pub next_cause : (old new : Device) (next : Next) (n : Counts) → (old.shows ≡ true → StandsForOne old.seen) → OpenedCause old new (next_outcome next n)
+pub next_cause : (old new : Device) (next : Next) (n : RunCounts) → (old.shows ≡ true → StandsForOne old.seen) → OpenedCause old new (next_outcome next n)
 next_cause old new NoMore n stood = stood
 next_cause old new Unlinked n stood = stood
 next_cause old new (Ended endings.Complete) n stood = unless_cause old new (nat_lt 0 n.skipped) _ stood
@@ -106,7 +106,7 @@ unless_unrefused true o other s = omega (arith, s)
 unless_unrefused false o other s = other s
 
 -- it wasn't refused
-next_unrefused : (next : Next) (n : Counts) → status_of (next_outcome next n) ≢ 2
+next_unrefused : (next : Next) (n : RunCounts) → status_of (next_outcome next n) ≢ 2
 next_unrefused NoMore n s = omega (arith, s)
 next_unrefused Unlinked n s = omega (arith, s)
 next_unrefused (Ended endings.Complete) n s = unless_unrefused (nat_lt 0 n.skipped) (served_with n) (λ e. omega (arith, e)) s
@@ -117,9 +117,9 @@ next_unrefused (Ended endings.Stopped) n s = omega (arith, s)
 
 -- The file stood for what is kept.
 pub stood_for : (old : Device) (kept : StoreView) → (old.shows ≡ true → IsKept old.seen kept) → old.shows ≡ true → StandsForOne old.seen
-stood_for old kept answer shows = (kept_state kept (kept_bytes old.seen kept), kept_stands old.seen kept (answer shows))
+stood_for old kept answer shows = (kept_state kept (bytes_in_image old.seen kept), kept_stands old.seen kept (answer shows))
 
-module _ (base : List ℕ) (old opened new : Device) (clock : Bool) (begun given : List ℕ) (kept : StoreView) (keeps_first : StoreState → Type 0) (n : Counts)
+module _ (base : List ℕ) (old opened new : Device) (clock : Bool) (begun given : List ℕ) (kept : StoreView) (keeps_first : StoreState → Type 0) (n : RunCounts)
     (law : RunsKeepBytes)
     (sound_old : IsDevice old)
     (sound : IsDevice new)
@@ -141,7 +141,7 @@ module _ (base : List ℕ) (old opened new : Device) (clock : Bool) (begun given
   tells_opened from start = tells_later old opened clock reads.calls.same start.tells
 
   -- the history of connections that were served
-  as_run : (from : StoreState) → BeginsFrom from old clock → (sessions : List (Session TamsRequest)) (m : Counts)
+  as_run : (from : StoreState) → BeginsFrom from old clock → (sessions : List (Session TamsRequest)) (m : RunCounts)
       → HasServed (tams_machine base) (beginning from old begun) new given sessions m → RunsAs base (beginning from old begun) sessions new given
   as_run from start sessions m served =
       let all = tells_later opened new clock same (tells_opened from start) in
@@ -179,7 +179,7 @@ module _ (base : List ℕ) (old opened new : Device) (clock : Bool) (begun given
         let counts = none.0.served.counts in
         inr record {
           runs = as_run from start [] n none.0.served;
-          ends = (ap (λ (k : Counts). k.answers) counts, ap (λ (k : Counts). k.changes) counts, ap (λ (k : Counts). k.skipped) counts, none.1);
+          ends = (ap (λ (k : RunCounts). k.answers) counts, ap (λ (k : RunCounts). k.changes) counts, ap (λ (k : RunCounts). k.skipped) counts, none.1);
         }
     replayed Unlinked leads from start =
         let none = leads (tells_opened from start) (beginning from old begun) [] (between from start) in

@@ -1,12 +1,12 @@
 -- Words spell at most one command.
 use Rattle.std.proofs.Common.{◌≡◌, ◌≤◌, ◌<◌, ◌^◌, ◌∙◌, ◌∷◌, [], ℕ, List, length, get_or, All, Option, Some, None, Result, Ok, Err, IfOk, IfSome, codes, subst, sym, ap, arith}
 use Rattle.std.proofs.lemmas.Fmt.{decimal_injective}
-use Rattle.tams_top.specs.Words.{FormIs, HasForm, IsNumber, IsNumberOrZero, IsPlain, IsFormat, IsCheck, IsWork, IsReplay, IsServe, IsWorkload, IsCommand}
+use Rattle.tams_top.specs.Words.{FormIs, HasForm, IsNumber, IsNumberOrZero, IsPlainWord, IsFormat, IsCheck, IsWork, IsReplay, IsServe, IsWorkload, IsCommand}
 use Rattle.tams_top.specs.Words.IsNumberOrZero.{Zero, Other}
 use Rattle.media_rows.specs.Ids.{id_of}
 use Rattle.tams_top.proofs.WordLemmas.{begins_as_number}
-use Rattle.tams_top.specs.declared.words.Command.{Command}
-use Rattle.tams_top.specs.declared.words.Command.TheVariants.{Format, Check, Work, Replay, Serve, Workload}
+use Rattle.tams_top.specs.declared.words.Invocation.{Invocation}
+use Rattle.tams_top.specs.declared.words.Invocation.TheVariants.{Format, Check, Work, Replay, Serve, Workload}
 
 -- a word is one number at most
 one_number : (most : ℕ) (v w : List ℕ) (m n : ℕ) → most < 2 ^ 64 → v ≡ w → IsNumber most v m → IsNumber most w n → m ≡ n
@@ -32,7 +32,7 @@ one_id : (v w : List ℕ) (a b : ℕ) → v ≡ w → id_of v ≡ Some a → id_
 one_id v w a b e p q = cc
 
 -- the name of a command
-abbrev name_of : Command → List ℕ
+abbrev name_of : Invocation → List ℕ
 name_of (Format path blocks half id) = codes "format"
 name_of (Check path) = codes "check"
 name_of (Work path) = codes "work"
@@ -41,7 +41,7 @@ name_of (Serve path port base connections) = codes "serve"
 name_of (Workload number count) = codes "workload"
 
 -- its first word is its name
-first_word : (words : List (List ℕ)) (a : Command) → IsCommand words a → get_or words 0 [] ≡ name_of a
+first_word : (words : List (List ℕ)) (a : Invocation) → IsCommand words a → get_or words 0 [] ≡ name_of a
 first_word words (Format p m h i) x = let f : IsFormat words p m h i = x.form in ap (λ (ws : List (List ℕ)). get_or ws 0 []) f.words_are
 first_word words (Check p) x = let f : IsCheck words p = x.form in ap (λ (ws : List (List ℕ)). get_or ws 0 []) f.words_are
 first_word words (Work p) x = let f : IsWork words p = x.form in ap (λ (ws : List (List ℕ)). get_or ws 0 []) f.words_are
@@ -49,7 +49,7 @@ first_word words (Replay p b) x = let f : IsReplay words p b = x.form in ap (λ 
 first_word words (Serve p m b k) x = let f : IsServe words p m b k = x.form in ap (λ (ws : List (List ℕ)). get_or ws 0 []) f.words_are
 first_word words (Workload m n) x = let f : IsWorkload words m n = x.form in ap (λ (ws : List (List ℕ)). get_or ws 0 []) f.words_are
 
-pub one_command : (words : List (List ℕ)) (a b : Command) → IsCommand words a → IsCommand words b → a ≡ b
+pub one_command : (words : List (List ℕ)) (a b : Invocation) → IsCommand words a → IsCommand words b → a ≡ b
 one_command words (Format p m h i) (Format q n k j) x y =
     let f : IsFormat words p m h i = x.form in
     let g : IsFormat words q n k j = y.form in
@@ -95,7 +95,7 @@ one_command words _ _ x y =
     cc
 
 -- words of `workload` whose first number is none
-pub not_workload : (number count : List ℕ) → ((n : ℕ) → IsNumberOrZero 1000000 number n → ⊥) → (command : Command)
+pub not_workload : (number count : List ℕ) → ((n : ℕ) → IsNumberOrZero 1000000 number n → ⊥) → (command : Invocation)
     → HasForm (codes "workload" ∷ number ∷ count ∷ []) command → ⊥
 not_workload number count none (Workload m n) x =
     let f : IsWorkload (codes "workload" ∷ number ∷ count ∷ []) m n = x in
@@ -110,7 +110,7 @@ not_workload number count none (Serve p m b k) x =
     let f : IsServe (codes "workload" ∷ number ∷ count ∷ []) p m b k = x in let e = f.words_are in cc
 
 -- what was read by its form is a command
-pub found_in : {E : Type 0} (words : List (List ℕ)) (r : Result (Option Command) E) → All IsPlain words → IfOk r (FormIs words)
+pub found_in : {E : Type 0} (words : List (List ℕ)) (r : Result (Option Invocation) E) → All IsPlainWord words → IfOk r (FormIs words)
     → IfOk r (λ found. IfSome found (IsCommand words))
 found_in words (Ok (Some command)) plain form = record { plain = plain; form = form }
 found_in words (Ok None) plain form = tt

@@ -19,9 +19,9 @@ use Rattle.media_rows.specs.Moments.{is_moment}
 use Rattle.media_store.specs.declared.fault.StoreFault.{StoreFault}
 use Rattle.media_store.specs.declared.fault.StoreFault.TheVariants.{Disk, Memory}
 use Rattle.media_store.specs.declared.turns.TurnMade.TheVariants.{Deleted, NoRoom, Nothing, Swept}
-use Rattle.media_store.specs.Changes.{IsNext, IsNextIf, Makes, MakesIf}
+use Rattle.media_store.specs.Changes.{IsAfterChange, IsNextIf, ChangesStore, MakesIf}
 use Rattle.media_store.specs.declared.turns.TurnMade.{TurnMade}
-use Rattle.media_store.specs.Faults.{OnCalls, OnDisk, OnMemory, not_disk}
+use Rattle.media_store.specs.Faults.{OnCalls, OnDisk, OnMemory, not_disk_fault}
 use Rattle.media_store.specs.Stores.{StoreSeen, journal_of, size_of}
 use Rattle.media_store.specs.Turns.{TurnIs, turn_change}
 use Rattle.request_hearing.proofs.Asking.{kept_calls, state_now-change}
@@ -30,11 +30,11 @@ use Rattle.run_history.specs.Runs.{Beginning, Reached}
 use Rattle.run_history.specs.Steps.{last_or}
 use Rattle.site_edge.specs.Clocks.{IsMoment}
 use Rattle.store_opening.specs.Laws.{DamagedStandsForNone, KeptStands}
-use Rattle.store_opening.specs.Opening.{IsKept, kept_bytes}
+use Rattle.store_opening.specs.Opening.{IsKept, bytes_in_image}
 use Rattle.store_states.specs.Kept.{AgreesWith, kept_state}
 use Rattle.store_states.specs.Laws.{IsOneState}
 use Rattle.store_states.specs.States.{StoreState}
-use Rattle.tams_machine.specs.Answers.{state_after, turn_in}
+use Rattle.tams_machine.specs.Answers.{state_with_change, turn_in}
 use Rattle.tams_machine.specs.Laws.{TurnsKeepGood}
 use Rattle.tams_machine.specs.Machine.{tams_machine}
 use Rattle.tams_machine.specs.Requests.{TamsRequest}
@@ -135,8 +135,8 @@ module _ (b : Beginning StoreState) (moments : List ℕ) (states : List StoreSta
   good_here : is_good here
   good_here = last_good b.state states (All-head is_good b.state states w.good) (All-tail is_good b.state states w.good)
 
-  turn_is : (change : Option Change) → due ≡ change → turn_in t here ≡ option_map (λ c. state_after here c []) change
-  turn_is change is = sym (turn_of store mid here t w.keeps) ∙ ap (option_map (λ c. state_after here c [])) is
+  turn_is : (change : Option Change) → due ≡ change → turn_in t here ≡ option_map (λ c. state_with_change here c []) change
+  turn_is change is = sym (turn_of store mid here t w.keeps) ∙ ap (option_map (λ c. state_with_change here c [])) is
 
   moments_are : All IsMoment (moments ++ t ∷ [])
   moments_are = All-append IsMoment moments (t ∷ []) w.are_moments (All-cons IsMoment t [] at (All-nil IsMoment))
@@ -162,7 +162,7 @@ module _ (b : Beginning StoreState) (moments : List ℕ) (states : List StoreSta
   -- It changed something.
   module _ (change : Change) (is : due ≡ Some change) where
     abbrev after : StoreState
-    after = state_after here change []
+    after = state_with_change here change []
 
     goes : turn_in t here ≡ Some after
     goes = turn_is (Some change) is
@@ -173,7 +173,7 @@ module _ (b : Beginning StoreState) (moments : List ℕ) (states : List StoreSta
         (All-append is_good states (after ∷ []) (All-tail is_good b.state states w.good)
         (All-cons is_good after [] (turn_good keep here after t good_here is_at goes) (All-nil is_good)))
 
-    pub works_on : next.spent ≡ false → Makes true change [] store.kept next.kept here.archive.held mid new → IsNext store.kept change next.kept
+    pub works_on : next.spent ≡ false → ChangesStore true change [] store.kept next.kept here.archive.held mid new → IsAfterChange store.kept change next.kept
         → IsWorking b (moments ++ t ∷ []) (states ++ after ∷ []) new (given ++ t ∷ []) next
     works_on unspent makes is_next = record {
       turned = have_more b.state moments states t after w.turned goes;
@@ -187,7 +187,7 @@ module _ (b : Beginning StoreState) (moments : List ℕ) (states : List StoreSta
     }
 
     -- The disk failed in it, so that its change may stand or not.
-    pub works_torn : Makes false change [] store.kept next.kept here.archive.held mid new → IsDevice new → new.honest ≡ true → new.shows ≡ true
+    pub works_torn : ChangesStore false change [] store.kept next.kept here.archive.held mid new → IsDevice new → new.honest ≡ true → new.shows ≡ true
         → new.tells ≡ true → (later : List ℕ) → later ≡ given ++ t ∷ [] → (end : Result ℕ StoreFault)
         → TurnsEnd (last_or b.state (states ++ after ∷ [])) (length (moments ++ t ∷ [])) [] true end → HasWorked b new later end
     works_torn makes sound honest shows tells later later_is end ends =
@@ -217,7 +217,8 @@ module _ (b : Beginning StoreState) (moments : List ℕ) (states : List StoreSta
       (sym number, refl, inl (t, refl, turn_is None is))
 
   -- There was no memory for it.
-  pub works_starved : new ≡ mid → is_some (turn store.kept.library t) ≡ true → IsDevice new → new.honest ≡ true → new.shows ≡ true → new.tells ≡ true → (later : List ℕ) → later ≡ given ++ t ∷ []
+  pub works_starved : new ≡ mid → is_some (turn store.kept.library t) ≡ true → IsDevice new → new.honest ≡ true → new.shows ≡ true → new.tells ≡ true
+      → (later : List ℕ) → later ≡ given ++ t ∷ []
       → HasWorked b new later (Err Memory)
   works_starved stays some sound honest shows tells later later_is =
       ended (Err Memory) (t ∷ []) new later later_is moments_are
@@ -271,7 +272,8 @@ module _ (old now new : Device) (told tells later : Bool) (begun given given_now
 
   -- The turn changed something.
   pub works_more : (change : Change) → change_due ≡ Some change → next.spent ≡ false
-      → (now.honest ≡ true → now.shows ≡ true → (held : List (List ℕ)) → AgreesWith now store.kept held → MakesIf true change_due store.kept next.kept held now new)
+      → (now.honest ≡ true → now.shows ≡ true → (held : List (List ℕ)) → AgreesWith now store.kept held
+      → MakesIf true change_due store.kept next.kept held now new)
       → IsNextIf store.kept change_due next.kept → DiskCalls true now new
       → WorksOn old new told later begun given_now first next (turns + 1) (counter + 1)
   works_more change is unspent makes is_next calls =
@@ -291,10 +293,11 @@ module _ (old now new : Device) (told tells later : Bool) (begun given given_now
             (made here.honest here.shows _ many.working.keeps.agrees) behind in
             record {
               moments = many.moments ++ t ∷ [];
-              states = many.states ++ state_after (last_or b.state many.states) change [] ∷ [];
+              states = many.states ++ state_with_change (last_or b.state many.states) change [] ∷ [];
               number = omega (arith, length-append many.moments (t ∷ []), many.number);
               working = subst
-                  (λ (l : List ℕ). IsWorking b (many.moments ++ t ∷ []) (many.states ++ state_after (last_or b.state many.states) change [] ∷ []) new l next)
+                  (λ (l : List ℕ). IsWorking b (many.moments ++ t ∷ []) (many.states ++ state_with_change (last_or b.state many.states) change []
+                  ∷ []) new l next)
                   (sym (gives all.clock_tells)) on;
             };
       }
@@ -305,7 +308,8 @@ module _ (old now new : Device) (told tells later : Bool) (begun given given_now
 
     -- It changed nothing.
     pub works_done : change_due ≡ None
-        → (now.honest ≡ true → now.shows ≡ true → (held : List (List ℕ)) → AgreesWith now store.kept held → MakesIf true change_due store.kept next.kept held now new)
+        → (now.honest ≡ true → now.shows ≡ true → (held : List (List ℕ)) → AgreesWith now store.kept held
+        → MakesIf true change_due store.kept next.kept held now new)
         → DiskCalls true now new → HasWorked b new given_now (Ok turns)
     works_done is makes calls =
         let here = told_now all in
@@ -321,7 +325,8 @@ module _ (old now new : Device) (told tells later : Bool) (begun given given_now
 
     -- The disk failed in it.
     pub works_failed : is_some change_due ≡ true
-        → (now.honest ≡ true → now.shows ≡ true → (held : List (List ℕ)) → AgreesWith now store.kept held → MakesIf false change_due store.kept next.kept held now new)
+        → (now.honest ≡ true → now.shows ≡ true → (held : List (List ℕ)) → AgreesWith now store.kept held
+        → MakesIf false change_due store.kept next.kept held now new)
         → DiskCalls false now new → HasWorked b new given_now (Err Disk)
     works_failed some makes calls =
         let here = told_now all in
@@ -340,13 +345,13 @@ module _ (old now new : Device) (told tells later : Bool) (begun given given_now
         → OnDisk {X = TurnMade} (Err fault) (is_some change_due ≡ true)
         → (now.honest ≡ true → now.shows ≡ true → (held : List (List ℕ)) → AgreesWith now store.kept held
         → OnCalls {X = TurnMade} (Err fault) (λ ok. MakesIf ok change_due store.kept next.kept held now new))
-        → DiskCalls (not_disk {X = TurnMade} (Err fault)) now new → HasWorked b new given_now (Err fault)
+        → DiskCalls (not_disk_fault {X = TurnMade} (Err fault)) now new → HasWorked b new given_now (Err fault)
     works_fails Memory Starves starved stays failing makes calls = let at_rest = stays starved in works_without at_rest.0 at_rest.1
     works_fails Disk Starves starved stays failing makes calls = works_failed failing makes calls
 
 -- ---- a run of `work`
 
-pub work_disk : (end : Result ℕ StoreFault) → no_disk_fault (work_outcome end) ≡ not_disk end
+pub work_disk : (end : Result ℕ StoreFault) → no_disk_fault (work_outcome end) ≡ not_disk_fault end
 work_disk (Ok turns) = refl
 work_disk (Err Disk) = refl
 work_disk (Err Memory) = refl
@@ -387,19 +392,19 @@ module _ (old opened : Device) (clock : Bool) (begun : List ℕ) (sound : IsDevi
 
   -- It was, and turns were made.
   pub work_done : KeptStands → IsOneState → (store : StoreSeen) → (old.shows ≡ true → IsKept old.seen store.kept) → store.spent ≡ false
-      → (old.shows ≡ true → LeavesOnly old.seen old → AgreesWith opened store.kept (kept_bytes old.seen store.kept)) → (new : Device) (given : List ℕ)
-      (end : Result ℕ StoreFault) → DiskCalls (not_disk end) opened new
+      → (old.shows ≡ true → LeavesOnly old.seen old → AgreesWith opened store.kept (bytes_in_image old.seen store.kept)) → (new : Device) (given : List ℕ)
+      (end : Result ℕ StoreFault) → DiskCalls (not_disk_fault end) opened new
       → (TellsAll opened clock → (b : Beginning StoreState) → IsWorking b [] [] opened begun store → HasWorked b new given end)
       → WorkEnds old new clock begun given (work_outcome end)
   work_done kept_stands one store answer unspent agrees new given end calls worked = record {
-    cause = work_cause old new end (λ shows. (kept_state store.kept (kept_bytes old.seen store.kept), kept_stands old.seen store.kept (answer shows)));
+    cause = work_cause old new end (λ shows. (kept_state store.kept (bytes_in_image old.seen store.kept), kept_stands old.seen store.kept (answer shows)));
     link = calls.link ∙ reads.calls.link;
     unread = λ s. absurd (work_unrefused end s);
     history = λ from start.
         let shows = start.tells.shows in
         let is =
-        one old.seen (kept_state store.kept (kept_bytes old.seen store.kept)) from (kept_stands old.seen store.kept (answer shows)) start.stands in
-        let keeps = keeps_opened store opened from (kept_bytes old.seen store.kept) unspent (agrees shows start.settled) is in
+        one old.seen (kept_state store.kept (bytes_in_image old.seen store.kept)) from (kept_stands old.seen store.kept (answer shows)) start.stands in
+        let keeps = keeps_opened store opened from (bytes_in_image old.seen store.kept) unspent (agrees shows start.settled) is in
         record {
           end = end;
           worked = worked (tells_later old opened clock reads.calls.same start.tells) (beginning from old begun)

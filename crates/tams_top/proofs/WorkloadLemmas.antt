@@ -11,10 +11,10 @@ use Rattle.disk_trait.specs.Calls.{IsCounted}
 use Rattle.media_rows.specs.Library.{Library}
 use Rattle.media_rows.specs.Snapshot.{rows_of}
 use Rattle.media_rows.specs.declared.row.Row.{Row}
-use Rattle.generated_workload.specs.StoredBytes.{StoredBytesAreTheObjects, object_bytes, stored_bytes_of}
+use Rattle.generated_workload.specs.StoredBytes.{StoredBytesAreTheObjects, stored_total, stored_bytes_of}
 use Rattle.generated_workload.specs.Workload.{workload_requests}
 use Rattle.run_history.specs.Runs.{stops_writing}
-use Rattle.run_history.specs.Serving.{Counts, counts_of}
+use Rattle.run_history.specs.Serving.{RunCounts, counts_of_run}
 use Rattle.run_history.specs.Sessions.{stops}
 use Rattle.run_history.specs.Steps.{Step}
 use Rattle.run_history.specs.Steps as steps
@@ -23,7 +23,7 @@ use Rattle.connection_loop.specs.declared.ending.Ending.TheVariants as endings
 use Rattle.connection_loop.specs.Turns.{ending_of}
 use Rattle.snapshot_rows.specs.Texts.{IsOneList, SpellsRows}
 use Rattle.store_opening.specs.Laws.{KeptStands}
-use Rattle.store_opening.specs.Opening.{IsKept, kept_bytes}
+use Rattle.store_opening.specs.Opening.{IsKept, bytes_in_image}
 use Rattle.store_states.specs.Kept.{StoreView, kept_state}
 use Rattle.store_states.specs.Laws.{IsOneState}
 use Rattle.store_states.specs.States.{StandsFor, StoreState}
@@ -38,7 +38,7 @@ use Rattle.tams_top.specs.Completeness.{IsAnswered, NoneRose}
 use Rattle.tams_top.specs.Generating.{IsWorkloadRun, workload_base, workload_start}
 use Rattle.tams_top.specs.Histories.{NoPeer, OnePeer, beginning, replay_outcome}
 use Rattle.tams_top.specs.Running.{FormatMoments, IsMade, ReplayEnds}
-use Rattle.tams_top.specs.Within.Standing.{HasAnswered, HasHeard, IsMadeInMemory, kept_of, zeros}
+use Rattle.tams_top.specs.Within.Standing.{HasAnswered, HeardToItsEnd, IsMadeInMemory, kept_of_library, zeros}
 use Rattle.tams_top.proofs.CompletenessLemmas.{none_served, peer_answered}
 
 -- ---- the store
@@ -72,7 +72,8 @@ made_in_memory disk bytes fail more peers piece old new blocks half media disk_i
 
 are_zeros : (n : ℕ) → All (λ moment. moment ≡ 0) (zeros n)
 are_zeros zero = All-nil (λ moment. moment ≡ 0)
-are_zeros (suc n) = All-append (λ moment. moment ≡ 0) (zeros n) (0 ∷ []) (are_zeros n) (All-cons (λ moment. moment ≡ 0) 0 [] refl (All-nil (λ moment. moment ≡ 0)))
+are_zeros (suc n) = All-append (λ moment. moment ≡ 0) (zeros n) (0 ∷ []) (are_zeros n) (All-cons (λ moment. moment ≡ 0) 0 [] refl
+    (All-nil (λ moment. moment ≡ 0)))
 
 -- ---- the numbers of a run that served
 
@@ -84,7 +85,7 @@ abbrev changes_of : Outcome → ℕ
 changes_of (Served requests changes skipped) = changes
 changes_of _ = 0
 
-served_by_skips : (some : Bool) (answers changes skipped : ℕ) (n : Counts)
+served_by_skips : (some : Bool) (answers changes skipped : ℕ) (n : RunCounts)
     → Served answers changes skipped ≡ (if some then NoMemory else Served n.answers n.changes n.skipped) → (answers ≡ n.answers) × (changes ≡ n.changes)
 served_by_skips true answers changes skipped n e = absurd cc
 served_by_skips false answers changes skipped n e = (ap answers_of e, ap changes_of e)
@@ -94,7 +95,7 @@ never_served : (some : Bool) (answers changes skipped : ℕ) (other : Outcome) �
 never_served true answers changes skipped other never e = cc
 never_served false answers changes skipped other never e = never e
 
-served_numbers : (end : Ending) (answers changes skipped : ℕ) (n : Counts) → Served answers changes skipped ≡ replay_outcome end n
+served_numbers : (end : Ending) (answers changes skipped : ℕ) (n : RunCounts) → Served answers changes skipped ≡ replay_outcome end n
     → (answers ≡ n.answers) × (changes ≡ n.changes)
 served_numbers endings.Complete answers changes skipped n e = served_by_skips _ answers changes skipped n e
 served_numbers endings.Cut answers changes skipped n e = absurd (never_served _ answers changes skipped Cut (λ e. cc) e)
@@ -121,7 +122,7 @@ module _ (bytes : List ℕ) (old new : Device) (given : List ℕ) (answers chang
     (moments : given ≡ zeros n)
     (disk : IsCounted true old.faults new.faults)
     (ends : ReplayEnds workload_base old new true [] given (Served answers changes skipped))
-    (heard : HasHeard bytes new.link.connections) where
+    (heard : HeardToItsEnd bytes new.link.connections) where
   none : NoneRose old new
   none = record {
     disk = λ rose. let same = disk.stays refl in omega (arith, rose (omega (arith, made.faults)), same);
@@ -132,10 +133,13 @@ module _ (bytes : List ℕ) (old new : Device) (given : List ℕ) (answers chang
       → HasAnswered bytes new (record { requests = answers; changes = changes })
   by_peer p =
       let ran = p.runs.ran in
-      let one = peer_answered workload_base workload_start old new [] given (Served answers changes skipped) disk none (λ e. absurd cc) (λ e. omega (arith, e)) p in
-      let came : new.link.connections ≡ one.0 ∷ [] = ran.connections_are ∙ ap (λ (cs : List Connection). old.link.connections ++ cs) one.1 ∙ ap (λ (cs : List Connection). cs ++ one.0 ∷ []) made.connections in
+      let one = peer_answered workload_base workload_start old new [] given (Served answers changes skipped) disk none (λ e. absurd cc)
+        (λ e. omega (arith, e)) p in
+      let came : new.link.connections ≡ one.0 ∷ [] = ran.connections_are ∙ ap (λ (cs : List Connection). old.link.connections ++ cs) one.1
+        ∙ ap (λ (cs : List Connection). cs ++ one.0 ∷ []) made.connections in
       let same : one.0 ≡ heard.connection = first_of_one (sym came ∙ heard.one) in
-      let numbers = served_numbers (ending_of p.session) answers changes skipped (counts_of (tams_machine workload_base) workload_start (p.session ∷ [])) p.outcome_is in
+      let numbers = served_numbers (ending_of p.session) answers changes skipped (counts_of_run (tams_machine workload_base) workload_start
+        (p.session ∷ [])) p.outcome_is in
       record {
         session = p.session;
         connection = heard.connection;
@@ -152,7 +156,8 @@ module _ (bytes : List ℕ) (old new : Device) (given : List ℕ) (answers chang
   by_nobody p =
       let ran = p.runs.ran in
       let empty : ran.connections ≡ [] = none_served workload_base workload_start ran.connections ran.served in
-      let none_came : new.link.connections ≡ [] = ran.connections_are ∙ ap (λ (cs : List Connection). old.link.connections ++ cs) empty ∙ ap (λ (cs : List Connection). cs ++ []) made.connections in
+      let none_came : new.link.connections ≡ [] = ran.connections_are ∙ ap (λ (cs : List Connection). old.link.connections ++ cs) empty
+        ∙ ap (λ (cs : List Connection). cs ++ []) made.connections in
       let both : heard.connection ∷ [] ≡ [] = sym heard.one ∙ none_came in
       cc
 
@@ -161,7 +166,7 @@ module _ (bytes : List ℕ) (old new : Device) (given : List ℕ) (answers chang
 
 -- one connection, which heard these bytes to their end
 pub heard_one : (cs : List Connection) (told bytes : List ℕ) → length cs ≡ 1 → slice_get (map (λ (c : Connection). c.ended) cs) 0 ≡ Some true
-    → slice_get (map (λ (c : Connection). c.heard) cs) 0 ≡ Some told → told ≡ bytes → HasHeard bytes cs
+    → slice_get (map (λ (c : Connection). c.heard) cs) 0 ≡ Some told → told ≡ bytes → HeardToItsEnd bytes cs
 heard_one [] told bytes one ended heard same = absurd (omega (arith, one))
 heard_one (c ∷ []) told bytes one ended heard same =
     let all : c.heard ≡ told = cc in
@@ -172,26 +177,27 @@ heard_one (c ∷ d ∷ cs) told bytes one ended heard same = absurd (omega (arit
 
 -- the counts and the bytes of a library, from its rows
 pub kept_by_rows : StoredBytesAreTheObjects → IsOneList → (library : Library) (text : List ℕ) (rows : List Row) (bytes : ℕ)
-    → SpellsRows text (rows_of library) → SpellsRows text rows → bytes ≡ stored_bytes_of rows → bytes ≡ object_bytes library.objects
+    → SpellsRows text (rows_of library) → SpellsRows text rows → bytes ≡ stored_bytes_of rows → bytes ≡ stored_total library.objects
 kept_by_rows are one library text rows bytes spelled read is =
     is ∙ ap stored_bytes_of (one text (rows_of library) rows spelled read) ∙ are library
 
 -- what was opened is the library of the state for which an image stands
 pub kept_is : KeptStands → IsOneState → (image : List ℕ) (view : StoreView) (from : StoreState) → IsKept image view → StandsFor image from
-    → kept_of view.library ≡ kept_of from.archive.library
+    → kept_of_library view.library ≡ kept_of_library from.archive.library
 kept_is kept_stands one image view from kept stands =
-    ap (λ (s : StoreState). kept_of s.archive.library) (one image from (kept_state view (kept_bytes image view)) stands (kept_stands image view kept))
+    ap (λ (s : StoreState). kept_of_library s.archive.library) (one image from (kept_state view (bytes_in_image image view)) stands
+      (kept_stands image view kept))
 
 pub kept_found : KeptStands → IsOneState → (image : List ℕ) (view : StoreView) → IsKept image view → (found : Option Kept)
-    → IfSome found (λ (kept : Kept). kept ≡ kept_of view.library)
-    → IfSome found (λ (kept : Kept). (from : StoreState) → StandsFor image from → kept ≡ kept_of from.archive.library)
+    → IfSome found (λ (kept : Kept). kept ≡ kept_of_library view.library)
+    → IfSome found (λ (kept : Kept). (from : StoreState) → StandsFor image from → kept ≡ kept_of_library from.archive.library)
 kept_found stand one image view is None found = tt
 kept_found stand one image view is (Some kept) found = λ from stands. found ∙ kept_is stand one image view from is stands
 
 -- ---- the whole run
 
 pub workload_run : (number count : ℕ) (bytes : List ℕ) (d : Device) (n : Answered) (kept : Kept) → bytes ≡ workload_requests number count
-    → HasAnswered bytes d n → ((from : StoreState) → StandsFor d.seen from → kept ≡ kept_of from.archive.library)
+    → HasAnswered bytes d n → ((from : StoreState) → StandsFor d.seen from → kept ≡ kept_of_library from.archive.library)
     → IsWorkloadRun number count (record {
       number = number;
       count = count;

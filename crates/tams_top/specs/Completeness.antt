@@ -3,7 +3,7 @@ use Rattle.std.specs.Prelude.{◌≡◌, ◌⊎◌, ℕ, true, false, List, [], 
 use Rattle.std.specs.List.{AllByRecursion}
 use Rattle.disk_trait.specs.Device.{Device, Connection}
 use Rattle.disk_trait.specs.Calls.{Rose}
-use Rattle.run_history.specs.Sessions.{IsServed, Session, Whole, all_moments, bytes_of, pieces_of, skips_in, stops}
+use Rattle.run_history.specs.Sessions.{IsServed, Session, Whole, all_moments, bytes_of_pieces, pieces_of, skips_in, stops}
 use Rattle.run_history.specs.Serving.{is_cut, run_stops, starves}
 use Rattle.run_history.specs.Traces.{start_of}
 use Rattle.store_states.specs.States.{StoreState}
@@ -25,7 +25,7 @@ pub record IsAnswered (base : List ℕ) (from : StoreState) (c : Connection)
   pub fed : starves session.steps ≡ false
   pub unstopped : stops session.steps ≡ false
   pub made : skips_in session.steps ≡ 0
-  pub told : c.told ≡ bytes_of (pieces_of (tams_machine base) (start_of from) session.steps)
+  pub told : c.told ≡ bytes_of_pieces (pieces_of (tams_machine base) (start_of from) session.steps)
   pub status_is : status ≡ (if is_cut session.steps then 6 else 0)
 
 -- One connection of `replay` was answered whole.

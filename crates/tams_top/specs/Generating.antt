@@ -1,9 +1,9 @@
 -- What a run of `workload` comes to: generated requests over an empty store in memory.
 use Rattle.std.specs.Prelude.{◌≡◌, ℕ, true, List, [], ◌∷◌, All, codes}
 use Rattle.disk_trait.specs.Device.{Connection}
-use Rattle.generated_workload.specs.StoredBytes.{object_bytes}
+use Rattle.generated_workload.specs.StoredBytes.{stored_total}
 use Rattle.generated_workload.specs.Workload.{workload_requests}
-use Rattle.run_history.specs.Serving.{counts_of}
+use Rattle.run_history.specs.Serving.{counts_of_run}
 use Rattle.run_history.specs.Sessions.{Session, all_moments}
 use Rattle.run_history.specs.Traces.{start_of, state_now, trace_of}
 use Rattle.store_core.specs.Prepared as core
@@ -30,7 +30,7 @@ workload_start = formatted_state record { blocks = BLOCKS; half = HALF; id = STO
 abbrev pub workload_numbers : ℕ → ℕ → Session TamsRequest → WorkloadRun
 workload_numbers number count session =
     let machine = tams_machine workload_base in
-    let n = counts_of machine workload_start (session ∷ []) in
+    let n = counts_of_run machine workload_start (session ∷ []) in
     let last = state_now (trace_of machine workload_start (session ∷ [])) in
     record {
       number = number;
@@ -38,7 +38,7 @@ workload_numbers number count session =
       requests = n.answers;
       changes = n.changes;
       kept = core.counts_of last.archive.library;
-      bytes = object_bytes last.archive.library.objects;
+      bytes = stored_total last.archive.library.objects;
     }
 
 -- The generated requests were heard to their end on one connection over the empty store. Each was

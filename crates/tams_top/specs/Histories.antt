@@ -5,7 +5,7 @@ use Rattle.disk_trait.specs.Calls.{LeavesOnly}
 use Rattle.disk_trait.specs.Device.{Device}
 use Rattle.site_edge.specs.Clocks.{IsMoment}
 use Rattle.run_history.specs.Runs.{Beginning, Ran}
-use Rattle.run_history.specs.Serving.{Counts, counts_of}
+use Rattle.run_history.specs.Serving.{RunCounts, counts_of_run}
 use Rattle.run_history.specs.Sessions.{Session, all_moments}
 use Rattle.run_history.specs.Traces.{start_of, states_of, trace_of}
 use Rattle.connection_loop.specs.declared.ending.Ending.{Ending}
@@ -53,15 +53,15 @@ pub record RunsAs (base : List ℕ) (b : Beginning StoreState) (sessions : List 
 -- ---- outcomes by numbers
 
 -- the outcome with the numbers of a run
-abbrev pub served_with : Counts → Outcome
+abbrev pub served_with : RunCounts → Outcome
 served_with n = Served n.answers n.changes n.skipped
 
 -- an outcome of `replay`, unless a turn was skipped for want of memory
-abbrev pub unless_skipped : Counts → Outcome → Outcome
+abbrev pub unless_skipped : RunCounts → Outcome → Outcome
 unless_skipped n outcome = if nat_lt 0 n.skipped then NoMemory else outcome
 
 -- the outcome of `replay` by how its connection ended and by its numbers
-abbrev pub replay_outcome : Ending → Counts → Outcome
+abbrev pub replay_outcome : Ending → RunCounts → Outcome
 replay_outcome endings.Complete n = unless_skipped n (served_with n)
 replay_outcome endings.Cut n = unless_skipped n Cut
 replay_outcome endings.Unlinked n = unless_skipped n LinkFault
@@ -69,7 +69,7 @@ replay_outcome endings.Starved n = NoMemory
 replay_outcome endings.Stopped n = DiskFault
 
 -- the same of `serve`, by how its connections came to an end
-abbrev pub serve_outcome : RunEnd → Counts → Outcome
+abbrev pub serve_outcome : RunEnd → RunCounts → Outcome
 serve_outcome run_ends.Complete n = served_with n
 serve_outcome run_ends.NoMore n = served_with n
 serve_outcome run_ends.Unlinked n = LinkFault
@@ -83,7 +83,8 @@ pub record OnePeer (base : List ℕ) (b : Beginning StoreState) (new : Device) (
   pub session : Session TamsRequest
   pub runs : RunsAs base b (session ∷ []) new given
   pub outcome_is : outcome
-      ≡ replay_outcome (ending_of session) (counts_of (tams_machine base) b.state (session ∷ []))
+      ≡ replay_outcome (ending_of session) (counts_of_run (tams_machine base) b.state
+        (session ∷ []))
 
 -- Connections were served one after another, at most so many, by one history. Each that ended with
 -- a call of its link that failed raised the count.
@@ -93,7 +94,7 @@ pub record SomePeers (base : List ℕ) (b : Beginning StoreState) (old new : Dev
   pub end : RunEnd
   pub runs : RunsAs base b sessions new given
   pub ends : loops.RunEnds new sessions connections end
-  pub outcome_is : outcome ≡ serve_outcome end (counts_of (tams_machine base) b.state sessions)
+  pub outcome_is : outcome ≡ serve_outcome end (counts_of_run (tams_machine base) b.state sessions)
   pub counted : AreCounted old.link.faults new.link.faults sessions
 
 -- the ends of a run in which no connection began: no peer will come, waiting for one failed, or

@@ -17,8 +17,8 @@ use Rattle.store_states.specs.States.{StandsFor, StoreState}
 use Rattle.tams_top.specs.declared.outcome.WorkloadRun.{WorkloadRun}
 use Rattle.tams_top.specs.declared.outcome.Outcome.{Outcome}
 use Rattle.tams_top.specs.declared.outcome.Outcome.TheVariants.{Formatted, Checked, Worked, Served, Generated, Cut, BadWords, NotStore, AlreadyStore, TooSmall, Damaged, DiskFault, NoMemory, LinkFault}
-use Rattle.tams_top.specs.declared.words.Command.{Command}
-use Rattle.tams_top.specs.declared.words.Command.TheVariants.{Format, Check, Work, Replay, Serve, Workload}
+use Rattle.tams_top.specs.declared.words.Invocation.{Invocation}
+use Rattle.tams_top.specs.declared.words.Invocation.TheVariants.{Format, Check, Work, Replay, Serve, Workload}
 use Rattle.tams_top.specs.Words.{IsCommand}
 use Rattle.tams_top.specs.Formatting.{empty_rows, formatted_state}
 use Rattle.tams_top.specs.Generating.{WorkloadEnds}
@@ -266,7 +266,7 @@ pub record WorkEnds (old new : Device) (clock : Bool) (begun given : List ℕ)
   pub unread : status_of o ≡ 2 → given ≡ begun
 
 -- the ends of a command
-abbrev pub CommandEnds : Device → Device → Bool → List ℕ → List ℕ → Outcome → Command → Type 0
+abbrev pub CommandEnds : Device → Device → Bool → List ℕ → List ℕ → Outcome → Invocation → Type 0
 CommandEnds old new clock begun given o (Format path blocks half id) =
     FormatRunEnds old new record { blocks = blocks; half = half; id = id } o
     × FormatMoments old new record { blocks = blocks; half = half; id = id } o
@@ -287,7 +287,7 @@ no_disk_fault _ = true
 
 -- words that are no command
 abbrev pub IsNoCommand : List (List ℕ) → Type 0
-IsNoCommand words = (command : Command) → IsCommand words command → ⊥
+IsNoCommand words = (command : Invocation) → IsCommand words command → ⊥
 
 -- The ends of a run: no memory to read the words, or words that are no command, which leave the
 -- site and the clock as they were; or the end of their command.
@@ -295,18 +295,19 @@ abbrev pub EndCause : List (List ℕ) → Device → Device → Bool → List �
 EndCause words old new clock begun given o =
     ((o ≡ NoMemory) × (given ≡ begun) × Untouched old new)
     ⊎ (((o ≡ BadWords) × IsNoCommand words × Untouched old new × (given ≡ begun))
-    ⊎ ((command : Command) × IsCommand words command
+    ⊎ ((command : Invocation) × IsCommand words command
     × CommandEnds old new clock begun given o command))
 
 -- a run: the count of disk faults by its end, and the end's cause
-pub record RunEnds (words : List (List ℕ)) (old new : Device) (clock : Bool) (begun given : List ℕ)
+pub record EndsWithCause (words : List (List ℕ)) (old new : Device) (clock : Bool)
+    (begun given : List ℕ)
     (o : Outcome) : Type 0 where
   pub disk : IsCounted (no_disk_fault o) old.faults new.faults
   pub cause : EndCause words old new clock begun given o
 
 -- why a command is refused: there is a store already, or the numbers make none of the file's
 -- length; and the file stands for no state; a `workload` never is
-abbrev pub RefusedFor : List ℕ → Command → Type 0
+abbrev pub RefusedFor : List ℕ → Invocation → Type 0
 RefusedFor image (Format path blocks half id) = HasOpenHeader image
     ⊎ ¬ (FitsStore record { blocks = blocks; half = half; id = id } (length image) empty_rows)
 RefusedFor image (Check path) = StandsForNone image

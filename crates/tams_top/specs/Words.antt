@@ -3,13 +3,13 @@ use Rattle.std.specs.Prelude.{◌≡◌, ◌≢◌, ◌≤◌, ◌*◌, ◌-◌,
 use Rattle.std.specs.List.{starts_with}
 use Rattle.std.specs.Fmt.{decimal}
 use Rattle.media_rows.specs.Ids.{id_of}
-use Rattle.tams_top.specs.declared.words.Command.{Command}
-use Rattle.tams_top.specs.declared.words.Command.TheVariants.{Format, Check, Work, Replay, Serve, Workload}
+use Rattle.tams_top.specs.declared.words.Invocation.{Invocation}
+use Rattle.tams_top.specs.declared.words.Invocation.TheVariants.{Format, Check, Work, Replay, Serve, Workload}
 use Rattle.tams_top.specs.declared.words.Wanted.{Wanted}
 use Rattle.tams_top.specs.declared.words.Wanted.TheVariants.{Nothing, Plain, Fresh, Listen}
 
 -- a word that is not empty and does not begin with `-`
-pub record IsPlain (word : List ℕ) : Type 0 where
+pub record IsPlainWord (word : List ℕ) : Type 0 where
   pub some : 1 ≤ length word
   pub first : slice_index word 0 ≢ 45
 
@@ -88,7 +88,7 @@ pub record IsWorkload (words : List (List ℕ)) (number count : ℕ) : Type 0 wh
   pub count_is : IsNumber 1000 count_word count
 
 -- the words are the command's name and its own words, each of its form
-abbrev pub HasForm : List (List ℕ) → Command → Type 0
+abbrev pub HasForm : List (List ℕ) → Invocation → Type 0
 HasForm words (Format path blocks half id) = IsFormat words path blocks half id
 HasForm words (Check path) = IsCheck words path
 HasForm words (Work path) = IsWork words path
@@ -97,20 +97,20 @@ HasForm words (Serve path port base connections) = IsServe words path port base 
 HasForm words (Workload number count) = IsWorkload words number count
 
 -- the words are in the command set, and spell this command
-pub record IsCommand (words : List (List ℕ)) (command : Command) : Type 0 where
-  pub plain : All IsPlain words
+pub record IsCommand (words : List (List ℕ)) (command : Invocation) : Type 0 where
+  pub plain : All IsPlainWord words
   pub form : HasForm words command
 
 -- the command that words have the form of, or that they have the form of none
-abbrev pub FormIs : List (List ℕ) → Option Command → Type 0
+abbrev pub FormIs : List (List ℕ) → Option Invocation → Type 0
 FormIs words (Some command) = HasForm words command
-FormIs words None = (command : Command) → HasForm words command → ⊥
+FormIs words None = (command : Invocation) → HasForm words command → ⊥
 
 -- What the program opens for these words: a file of a length in bytes for `format`, a file that is
 -- there for `check`, `work` and `replay`, that and a port for `serve`, and nothing for `workload`
 -- and for words that are no command.
 abbrev pub WantedFor : List (List ℕ) → Wanted → Type 0
-WantedFor words Nothing = ((command : Command) → IsCommand words command → ⊥)
+WantedFor words Nothing = ((command : Invocation) → IsCommand words command → ⊥)
     ⊎ ((number count : ℕ) × IsCommand words (Workload number count))
 WantedFor words (Plain path) =
     IsCommand words (Check path) ⊎ (IsCommand words (Work path)

@@ -10,7 +10,7 @@ use Rattle.run_history.specs.Traces.{Trace}
 use Rattle.media_store.specs.declared.fault.StoreFault.{StoreFault}
 use Rattle.media_store.specs.declared.fault.StoreFault.TheVariants as faults
 use Rattle.store_states.specs.States.{StoreState}
-use Rattle.tams_machine.specs.Answers.{is_due, turn_in}
+use Rattle.tams_machine.specs.Answers.{is_turn_due, turn_in}
 use Rattle.tams_machine.specs.Machine.{tams_machine}
 use Rattle.tams_top.specs.declared.outcome.Outcome.{Outcome}
 use Rattle.tams_top.specs.declared.outcome.Outcome.TheVariants.{Worked, DiskFault, NoMemory}
@@ -37,7 +37,7 @@ TurnsEnd last number idle torn (Ok turns) = (turns ≡ number) × (torn ≡ fals
 TurnsEnd last number idle torn (Err faults.Disk) = idle ≡ []
 TurnsEnd last number idle torn (Err faults.Memory) = (torn ≡ false)
     × (((idle ≡ []) × (number ≡ 0))
-    ⊎ ((moment : ℕ) × (idle ≡ moment ∷ []) × (is_due moment last ≡ true)))
+    ⊎ ((moment : ℕ) × (idle ≡ moment ∷ []) × (is_turn_due moment last ≡ true)))
 
 -- A run has ended that made turns: the moments of those that changed something and the states
 -- behind them, and then the moment of one that changed nothing, where there was one. Each crash

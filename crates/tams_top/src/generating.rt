@@ -1,11 +1,11 @@
 //! The command that generates its requests: one connection over a store in memory, at moment 0 throughout.
 ghost use Rattle.std.specs.Prelude.{◌≡◌, ◌≤◌, IfOk, IfSome, IsTrue};
-ghost use Rattle.generated_workload.specs.StoredBytes.{object_bytes};
+ghost use Rattle.generated_workload.specs.StoredBytes.{stored_total};
 ghost use Rattle.generated_workload.specs.Workload.{workload_requests};
 ghost use Rattle.site_edge.specs.MemorySite.{site_device};
 ghost use Rattle.store_states.specs.States.{StandsFor, StoreState};
 ghost use Rattle.tams_top.specs.Generating.{IsWorkloadRun, WorkloadEnds};
-ghost use Rattle.tams_top.specs.Within.Standing.{HasAnswered, HasHeard, IsMadeInMemory, kept_of};
+ghost use Rattle.tams_top.specs.Within.Standing.{HasAnswered, HeardToItsEnd, IsMadeInMemory, kept_of_library};
 
 use crate::formatting::format;
 use crate::outcome::{Outcome, WorkloadRun};
@@ -151,7 +151,7 @@ fn answer_requests(
 
 /// Whether one peer came, and these bytes of it were heard to their end.
 fn has_heard(site: &MemorySite, bytes: &[u8]) -> bool
-    ensures { IsTrue result → HasHeard bytes.now (site_device site.now).link.connections }
+    ensures { IsTrue result → HeardToItsEnd bytes.now (site_device site.now).link.connections }
 {
     if site.connections() != 1 {
         return false;
@@ -162,7 +162,7 @@ fn has_heard(site: &MemorySite, bytes: &[u8]) -> bool
 /// What the store of a site keeps.
 fn kept_in(alloc: Global, site: &mut MemorySite) -> Option<Kept>
     ensures { IfSome result (λ kept. (from : StoreState)
-        → StandsFor (site_device site.old).seen from → kept ≡ kept_of from.archive.library) }
+        → StandsFor (site_device site.old).seen from → kept ≡ kept_of_library from.archive.library) }
 {
     kept_images_stand();
     an_image_stands_for_one_state();
@@ -174,7 +174,7 @@ fn kept_in(alloc: Global, site: &mut MemorySite) -> Option<Kept>
 
 /// What a store keeps, which is let go.
 fn kept_by(alloc: Global, opened: OpenedStore) -> Option<Kept>
-    ensures { IfSome result (λ kept. kept ≡ kept_of opened.core) }
+    ensures { IfSome result (λ kept. kept ≡ kept_of_library opened.core) }
 {
     let counts = opened.core.counts();
     let bytes = bytes_in(alloc, &opened.core)?;
@@ -183,7 +183,7 @@ fn kept_by(alloc: Global, opened: OpenedStore) -> Option<Kept>
 
 /// The bytes of all stored objects of a library, by its rows.
 fn bytes_in(alloc: Global, core: &Core) -> Option<u64>
-    ensures { IfSome result (λ bytes. bytes ≡ object_bytes core.now.objects) }
+    ensures { IfSome result (λ bytes. bytes ≡ stored_total core.now.objects) }
 {
     texts_have_one_meaning();
     stored_bytes_are_the_objects();

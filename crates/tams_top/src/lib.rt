@@ -15,4 +15,4 @@ mod working;
 
 pub use crate::premises::site_over;
 pub use crate::top::run;
-pub use crate::words::{Command, Wanted, devices};
+pub use crate::words::{Invocation, Wanted, devices};

@@ -9,20 +9,20 @@ ghost use Rattle.tams_top.specs.Completeness.{AreServedWhole, IsServedWhole, Non
 ghost use Rattle.tams_top.specs.Formatting.{formatted_state};
 ghost use Rattle.tams_top.specs.Generating.{IsWorkloadRun};
 ghost use Rattle.tams_top.specs.Histories.{IsSettled, OnePeer, Replayed, ServedAll, beginning};
-ghost use Rattle.tams_top.specs.Running.{IsNoCommand, IsReplayFrom, IsServeFrom, IsWorkFrom, RefusedFor, RunEnds, ServesNobody, TakesPart, Untouched, checked_line, generated_line, line_of, status_of};
+ghost use Rattle.tams_top.specs.Running.{IsNoCommand, IsReplayFrom, IsServeFrom, IsWorkFrom, RefusedFor, EndsWithCause, ServesNobody, TakesPart, Untouched, checked_line, generated_line, line_of, status_of};
 ghost use Rattle.tams_top.specs.Words.{IsCommand};
 ghost use Rattle.tams_top.specs.Working.{WorkedOff};
 ghost use Rattle.tams_top.specs.declared.outcome.Outcome.{Outcome};
 ghost use Rattle.tams_top.specs.declared.outcome.WorkloadRun.{WorkloadRun};
-ghost use Rattle.tams_top.specs.declared.words.Command.{Command};
-ghost use Rattle.tams_top.specs.declared.words.Command.TheVariants.{Format, Check, Work, Replay, Serve, Workload};
+ghost use Rattle.tams_top.specs.declared.words.Invocation.{Invocation};
+ghost use Rattle.tams_top.specs.declared.words.Invocation.TheVariants.{Format, Check, Work, Replay, Serve, Workload};
 
 use crate::checking::check;
 use crate::formatting::format;
 use crate::generating::workload;
 use crate::outcome::Outcome;
 use crate::serving::{replay, serve};
-use crate::words::{Command, read_words};
+use crate::words::{Invocation, read_words};
 use crate::working::work;
 use disk_trait::{Memory, TextList};
 use site_edge::{Clock, Sink, Site};
@@ -47,9 +47,9 @@ pub fn run<X: Site, C: Clock, N: Sink>(
     // The status of a command that the file refuses, both ways. A disk fault or want of memory may come
     // before it.
     ensures refused { result ≡ 2 → Untouched (X.device site.old) (X.device site.new)
-        × (C.given clock.new ≡ C.given clock.old) × ((command : Command) × IsCommand words.now command
+        × (C.given clock.new ≡ C.given clock.old) × ((command : Invocation) × IsCommand words.now command
         × ((X.device site.old).shows ≡ true → RefusedFor (X.device site.old).seen command)) }
-    ensures refused_only { (command : Command) → IsCommand words.now command
+    ensures refused_only { (command : Invocation) → IsCommand words.now command
         → (X.device site.old).shows ≡ true → RefusedFor (X.device site.old).seen command
         → (result ≡ 2) ⊎ ((result ≡ 3) ⊎ (result ≡ 4)) }
 
@@ -187,7 +187,7 @@ pub fn run<X: Site, C: Clock, N: Sink>(
     // of the notes changes no status.
     ensures ended { (outcome : Outcome) × (line_put : Bool)
         × (result ≡ status_of outcome)
-        × RunEnds words.now (X.device site.old) (X.device site.new) (C.tells clock.new)
+        × EndsWithCause words.now (X.device site.old) (X.device site.new) (C.tells clock.new)
         (C.given clock.old) (C.given clock.new) outcome
         × TakesPart line_put (N.tells notes.old) (line_of outcome) (N.faults notes.old)
         (N.faults notes.new) (N.taken notes.old) (N.taken notes.new) }
@@ -205,7 +205,7 @@ fn outcome_of<X: Site, C: Clock>(
     site: &mut X,
     clock: &mut C,
 ) -> Outcome
-    ensures { RunEnds words.now (X.device site.old) (X.device site.new) (C.tells clock.new)
+    ensures { EndsWithCause words.now (X.device site.old) (X.device site.new) (C.tells clock.new)
         (C.given clock.old) (C.given clock.new) result }
 {
     match read_words(alloc, words) {
@@ -213,7 +213,7 @@ fn outcome_of<X: Site, C: Clock>(
         Ok(None) => Outcome::BadWords,
         Ok(
             Some(
-                Command::Format {
+                Invocation::Format {
                     path: _,
                     blocks,
                     half,
@@ -221,12 +221,12 @@ fn outcome_of<X: Site, C: Clock>(
                 },
             ),
         ) => format(alloc, site, blocks, half, id),
-        Ok(Some(Command::Check { path: _ })) => check(alloc, site),
-        Ok(Some(Command::Work { path: _ })) => work(alloc, site, clock),
-        Ok(Some(Command::Replay { path: _, base })) => replay(alloc, site, clock, base),
+        Ok(Some(Invocation::Check { path: _ })) => check(alloc, site),
+        Ok(Some(Invocation::Work { path: _ })) => work(alloc, site, clock),
+        Ok(Some(Invocation::Replay { path: _, base })) => replay(alloc, site, clock, base),
         Ok(
             Some(
-                Command::Serve {
+                Invocation::Serve {
                     path: _,
                     port: _,
                     base,
@@ -234,6 +234,6 @@ fn outcome_of<X: Site, C: Clock>(
                 },
             ),
         ) => serve(alloc, site, clock, base, connections),
-        Ok(Some(Command::Workload { number, count })) => workload(alloc, number, count),
+        Ok(Some(Invocation::Workload { number, count })) => workload(alloc, number, count),
     }
 }

@@ -1,7 +1,7 @@
 //! The words of the command line, and what the program opens for them.
 ghost use Rattle.std.specs.Prelude.{◌∷◌, [], ◌↔◌, ℕ, All, codes, IfOk, IfSome, IsNone, IsTrue};
-ghost use Rattle.tams_top.specs.Words.{IsPlain, IsNumber, IsNumberOrZero, IsBaseByte, HasScheme, IsBase, FormIs, IsCommand, WantedFor};
-ghost use Rattle.tams_top.specs.declared.words.Command.{Command};
+ghost use Rattle.tams_top.specs.Words.{IsPlainWord, IsNumber, IsNumberOrZero, IsBaseByte, HasScheme, IsBase, FormIs, IsCommand, WantedFor};
+ghost use Rattle.tams_top.specs.declared.words.Invocation.{Invocation};
 
 use connection_loop::MOST_CONNECTIONS;
 use disk_trait::{Memory, Text, TextList, same_bytes};
@@ -21,7 +21,7 @@ const LAST_PORT: u64 = 65_535;
 
 /// A command, with what its words say.
 #[derive(Drop)]
-pub enum Command {
+pub enum Invocation {
     /// Makes an empty store of so many blocks, of which each half has so many, under an id.
     Format {
         path: Text,
@@ -74,20 +74,20 @@ pub fn devices(alloc: Global, words: &TextList) -> Result<Wanted, Memory>
     ensures { IfOk result (WantedFor words.now) }
 {
     match read_words(alloc, words)? {
-        Some(Command::Format { path, blocks, .. }) => Ok(Wanted::Fresh(path, BLOCK * blocks)),
-        Some(Command::Check { path }) => Ok(Wanted::Plain(path)),
-        Some(Command::Work { path }) => Ok(Wanted::Plain(path)),
-        Some(Command::Replay { path, .. }) => Ok(Wanted::Plain(path)),
-        Some(Command::Serve { path, port, .. }) => Ok(Wanted::Listen(path, port)),
-        Some(Command::Workload { .. }) | None => Ok(Wanted::Nothing),
+        Some(Invocation::Format { path, blocks, .. }) => Ok(Wanted::Fresh(path, BLOCK * blocks)),
+        Some(Invocation::Check { path }) => Ok(Wanted::Plain(path)),
+        Some(Invocation::Work { path }) => Ok(Wanted::Plain(path)),
+        Some(Invocation::Replay { path, .. }) => Ok(Wanted::Plain(path)),
+        Some(Invocation::Serve { path, port, .. }) => Ok(Wanted::Listen(path, port)),
+        Some(Invocation::Workload { .. }) | None => Ok(Wanted::Nothing),
     }
 }
 
 /// The command that these words spell, if they are in the command set.
-pub(crate) fn read_words(alloc: Global, words: &TextList) -> Result<Option<Command>, Memory>
+pub(crate) fn read_words(alloc: Global, words: &TextList) -> Result<Option<Invocation>, Memory>
     ensures found { IfOk result (λ c. IfSome c (IsCommand words.now)) }
     ensures none { IfOk result
-        (λ c. IsNone c → (command : Command) → IsCommand words.now command → ⊥) }
+        (λ c. IsNone c → (command : Invocation) → IsCommand words.now command → ⊥) }
 {
     let items = words.items();
     if !are_plain(items) {
@@ -109,7 +109,7 @@ fn read_five(
     third: &Text,
     fourth: &Text,
     fifth: &Text,
-) -> Result<Option<Command>, Memory>
+) -> Result<Option<Invocation>, Memory>
     ensures { IfOk result (FormIs (name.now ∷ path.now ∷ third.now ∷ fourth.now ∷ fifth.now ∷ [])) }
 {
     if same_bytes(name.bytes(), b"format") {
@@ -128,7 +128,7 @@ fn read_format(
     blocks: &Text,
     half: &Text,
     id: &Text,
-) -> Result<Option<Command>, Memory>
+) -> Result<Option<Invocation>, Memory>
     ensures { IfOk result
         (FormIs (codes "format" ∷ path.now ∷ blocks.now ∷ half.now ∷ id.now ∷ [])) }
 {
@@ -142,7 +142,7 @@ fn read_format(
         return Ok(None);
     };
     let path = path.copy(alloc)?;
-    Ok(Some(Command::Format {
+    Ok(Some(Invocation::Format {
         path,
         blocks,
         half,
@@ -157,7 +157,7 @@ fn read_serve(
     port: &Text,
     base: &Text,
     connections: &Text,
-) -> Result<Option<Command>, Memory>
+) -> Result<Option<Invocation>, Memory>
     ensures { IfOk result
         (FormIs (codes "serve" ∷ path.now ∷ port.now ∷ base.now ∷ connections.now ∷ [])) }
 {
@@ -170,7 +170,7 @@ fn read_serve(
     if !is_base(base.bytes()) {
         return Ok(None);
     }
-    Ok(Some(Command::Serve {
+    Ok(Some(Invocation::Serve {
         path: path.copy(alloc)?,
         port: port as u16,
         base: base.copy(alloc)?,
@@ -184,7 +184,7 @@ fn read_three(
     name: &Text,
     second: &Text,
     third: &Text,
-) -> Result<Option<Command>, Memory>
+) -> Result<Option<Invocation>, Memory>
     ensures { IfOk result (FormIs (name.now ∷ second.now ∷ third.now ∷ [])) }
 {
     if same_bytes(name.bytes(), b"replay") {
@@ -197,20 +197,20 @@ fn read_three(
 }
 
 /// The command that the two words behind `replay` spell by their forms.
-fn read_replay(alloc: Global, path: &Text, base: &Text) -> Result<Option<Command>, Memory>
+fn read_replay(alloc: Global, path: &Text, base: &Text) -> Result<Option<Invocation>, Memory>
     ensures { IfOk result (FormIs (codes "replay" ∷ path.now ∷ base.now ∷ [])) }
 {
     if !is_base(base.bytes()) {
         return Ok(None);
     }
-    Ok(Some(Command::Replay {
+    Ok(Some(Invocation::Replay {
         path: path.copy(alloc)?,
         base: base.copy(alloc)?,
     }))
 }
 
 /// The command that the two words behind `workload` spell by their forms.
-fn read_workload(number: &Text, count: &Text) -> Option<Command>
+fn read_workload(number: &Text, count: &Text) -> Option<Invocation>
     ensures { FormIs (codes "workload" ∷ number.now ∷ count.now ∷ []) result }
 {
     let Some(number) = read_number_or_zero(number.bytes(), MOST_NUMBER) else {
@@ -219,19 +219,19 @@ fn read_workload(number: &Text, count: &Text) -> Option<Command>
     let Some(count) = read_number(count.bytes(), MOST_COUNT) else {
         return None;
     };
-    Some(Command::Workload { number, count })
+    Some(Invocation::Workload { number, count })
 }
 
 /// The command that two words spell by their forms.
-fn read_two(alloc: Global, name: &Text, path: &Text) -> Result<Option<Command>, Memory>
+fn read_two(alloc: Global, name: &Text, path: &Text) -> Result<Option<Invocation>, Memory>
     ensures { IfOk result (FormIs (name.now ∷ path.now ∷ [])) }
 {
     if same_bytes(name.bytes(), b"check") {
         let path = path.copy(alloc)?;
-        Ok(Some(Command::Check { path }))
+        Ok(Some(Invocation::Check { path }))
     } else if same_bytes(name.bytes(), b"work") {
         let path = path.copy(alloc)?;
-        Ok(Some(Command::Work { path }))
+        Ok(Some(Invocation::Work { path }))
     } else {
         Ok(None)
     }
@@ -239,13 +239,13 @@ fn read_two(alloc: Global, name: &Text, path: &Text) -> Result<Option<Command>, 
 
 /// Whether no word is empty or begins with `-`.
 fn are_plain(words: &[Text]) -> bool
-    ensures { IsTrue result ↔ All IsPlain words.now }
+    ensures { IsTrue result ↔ All IsPlainWord words.now }
 {
     words.iter().all(|word| is_plain(word.bytes()))
 }
 
 fn is_plain(word: &[u8]) -> bool
-    ensures { IsTrue result ↔ IsPlain word.now }
+    ensures { IsTrue result ↔ IsPlainWord word.now }
 {
     !word.is_empty() && word[0] != b'-'
 }

@@ -2,7 +2,7 @@
 ghost use Rattle.std.specs.Prelude.{◌≡◌, ◌≤◌, [], true, IsFalse};
 ghost use Rattle.connection_loop.specs.Turns.{TellsAll};
 ghost use Rattle.disk_trait.specs.Calls.{DiskCalls, IsCounted};
-ghost use Rattle.media_store.specs.Faults.{not_disk};
+ghost use Rattle.media_store.specs.Faults.{not_disk_fault};
 ghost use Rattle.media_store.specs.Stores.{size_of};
 ghost use Rattle.run_history.specs.Runs.{Beginning};
 ghost use Rattle.store_states.specs.States.{StoreState};
@@ -48,7 +48,7 @@ fn make_turns<D: Disk, C: Clock>(
 ) -> Result<u64, StoreFault>
     requires unspent { IsFalse store.old.spent }
     requires device { size_of store.old.kept ≤ (D.device disk.old).size }
-    ensures calls { DiskCalls (not_disk result) (D.device disk.old) (D.device disk.new) }
+    ensures calls { DiskCalls (not_disk_fault result) (D.device disk.old) (D.device disk.new) }
     ensures clock { C.tells clock.new ≡ true → C.tells clock.old ≡ true }
     ensures worked { TellsAll (D.device disk.old) (C.tells clock.new)
         → (b : Beginning StoreState)

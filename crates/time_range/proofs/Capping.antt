@@ -2,7 +2,7 @@
 use Rattle.std.proofs.Common.{◌≡◌, ℕ, ◌+◌, ◌*◌, ◌<◌, ◌==◌, nat_lt, ◌&&◌, Bool, true, false, if◌then◌else◌, Option, Some, None, is_some, ◌∙◌, ap, refl, arith}
 use Rattle.std.specs.Option.{option_map, option_and_then, option_or}
 use Rattle.std.proofs.lemmas.Bool.Decides.{nat_tests}
-use Rattle.time_range.specs.Within.Scanning.{capped, digit_of, ts_next, stamp_read, left_bracket, right_bracket, begun, longer, closed, range_read, range_next}
+use Rattle.time_range.specs.Within.Scanning.{capped, digit_of, ts_next, stamp_read, left_bracket, right_bracket, after_bracket, longer, closed, range_read, range_next}
 use Rattle.time_range.specs.declared.spelling.TsParts.{TsParts}
 use Rattle.time_range.specs.declared.spelling.Bracket.{Bracket}
 use Rattle.time_range.specs.declared.spelling.Middle.{Middle}
@@ -108,7 +108,7 @@ map_map f g h k same None = refl
 map_map f g h k same (Some x) = ap (λ y. Some y) (same x)
 
 -- the first byte behind the left bracket
-begun_capped : (left : Option Bracket) (c : ℕ) → begun capped left c ≡ option_map cap_range (begun (λ n. n) left c)
+begun_capped : (left : Option Bracket) (c : ℕ) → after_bracket capped left c ≡ option_map cap_range (after_bracket (λ n. n) left c)
 begun_capped left c =
     both cap_range (c == 95) _ _ (Some (Mark left None)) (option_map (First left) (next_ts Start c)) refl
     (ap (option_map (First left)) (ts_capped Start c) ∙ map_map (First left) cap_ts cap_range (First left) (λ x. refl) (next_ts Start c))
@@ -127,7 +127,8 @@ bracket_capped (Some b) = refl
 -- one more byte that is no right bracket
 longer_capped : (s : RangeScan) (c : ℕ) → longer capped (cap_range s) c ≡ option_map cap_range (longer (λ n. n) s c)
 longer_capped (Left None) c =
-    option_or_capped _ _ (option_map (λ b. Left (Some b)) (left_bracket c)) (begun (λ n. n) None c) (bracket_capped (left_bracket c)) (begun_capped None c)
+    option_or_capped _ _ (option_map (λ b. Left (Some b)) (left_bracket c)) (after_bracket (λ n. n) None c) (bracket_capped (left_bracket c))
+      (begun_capped None c)
 longer_capped (Left (Some b)) c = begun_capped (Some b) c
 longer_capped (First left first) c =
     both cap_range (c == 95) _ _ (option_map (λ p. Mark left (Some p)) (stamp_read first)) (option_map (First left) (next_ts first c))

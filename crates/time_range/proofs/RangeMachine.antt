@@ -4,7 +4,7 @@ use Rattle.std.specs.Option.{option_map, option_and_then, option_or}
 use Rattle.std.proofs.lemmas.Bool.Decides.{Decides-eqb}
 use Rattle.std.proofs.lemmas.List.{append_assoc, append-nil}
 use Rattle.time_range.specs.Spelling.{ts_text, IsStamp, left_text, right_text, stamp_text, middle_text, range_text, HasStamps}
-use Rattle.time_range.specs.Within.Scanning.{run, digit_of, stamp_read, left_bracket, right_bracket, begun, longer, closed, range_read, range_next}
+use Rattle.time_range.specs.Within.Scanning.{run, digit_of, stamp_read, left_bracket, right_bracket, after_bracket, longer, closed, range_read, range_next}
 use Rattle.time_range.specs.Prefixes.{BeginsSome}
 use Rattle.time_range.specs.declared.spelling.TsParts.{TsParts}
 use Rattle.time_range.specs.declared.spelling.Bracket.{Bracket}
@@ -117,7 +117,7 @@ second_step left first s c t stamp fine e =
 -- each byte that is no right bracket makes the next text
 longer_step : (s t : RangeScan) (c : ℕ) → FineRange s → longer (λ n. n) s c ≡ Some t → GoodRange (said_of s ++ c ∷ []) t
 longer_step (Left None) t c fine e =
-    elim (option_or_inv (option_map (λ b. Left (Some b)) (left_bracket c)) (begun (λ n. n) None c) t e) [
+    elim (option_or_inv (option_map (λ b. Left (Some b)) (left_bracket c)) (after_bracket (λ n. n) None c) t e) [
       | inl bracket ↦
           let (b, is, same) = map_some (λ b. Left (Some b)) (left_bracket c) t bracket in
           subst (GoodRange (c ∷ [])) same (left_inv c b (c == 91) (c == 40) ((Decides-eqb c 91).0) ((Decides-eqb c 40).0) is, tt)
@@ -265,7 +265,7 @@ other_byte k never s u c e =
     false_unless (c == k) (λ yes. let is = ap (next_ts s) ((Decides-eqb c k).0 yes) in let none = never s in cc)
 
 -- a byte that begins a timestamp begins the first one
-begun_takes : (left : Option Bracket) (u : TsScan) (c : ℕ) → next_ts Start c ≡ Some u → begun (λ n. n) left c ≡ Some (First left u)
+begun_takes : (left : Option Bracket) (u : TsScan) (c : ℕ) → next_ts Start c ≡ Some u → after_bracket (λ n. n) left c ≡ Some (First left u)
 begun_takes left u c e =
     ap (λ b. if b then Some (Mark left None) else option_map (First left) (next_ts Start c)) (other_byte 95 no_mark Start u c e)
     ∙ ap (option_map (First left)) e
@@ -278,7 +278,8 @@ left_takes None u c e =
     let round = other_byte 40 (no_stamp 40 refl refl refl) Start u c e in
     let bracket : left_bracket c ≡ None = ap (λ b. if b then Some Square else (if c == 40 then Some Round else None)) square ∙ ap
     (λ b. if b then Some Round else None) round in
-    let taken : longer (λ n. n) (Left None) c ≡ Some (First None u) = ap (λ o. option_or (option_map (λ b. Left (Some b)) o) (begun (λ n. n) None c)) bracket ∙
+    let taken : longer (λ n. n) (Left None) c ≡ Some (First None u) = ap (λ o. option_or (option_map (λ b. Left (Some b)) o)
+      (after_bracket (λ n. n) None c)) bracket ∙
     begun_takes None u c e in
     ap (λ o. option_or o (option_and_then (λ p. closed p c) (range_read (Left None)))) taken
 
@@ -369,14 +370,14 @@ run_middle left (Split first second) fine =
     ∙ run_second left first second fine.1
 
 -- a byte that begins no timestamp does not stand behind a left bracket
-begun_none : (c : ℕ) → (c == 95) ≡ false → ((s : TsScan) → next_ts s c ≡ None) → (left : Option Bracket) → begun (λ n. n) left c ≡ None
+begun_none : (c : ℕ) → (c == 95) ≡ false → ((s : TsScan) → next_ts s c ≡ None) → (left : Option Bracket) → after_bracket (λ n. n) left c ≡ None
 begun_none c mark never left =
     ap (λ b. if b then Some (Mark left None) else option_map (First left) (next_ts Start c)) mark ∙ ap (option_map (First left)) (never Start)
 
 -- a right bracket is no part of what goes on
 longer_none : (c : ℕ) → (c == 95) ≡ false → left_bracket c ≡ None → ((s : TsScan) → next_ts s c ≡ None) → (s : RangeScan) → longer (λ n. n) s c ≡ None
 longer_none c mark bracket never (Left None) =
-    ap (λ o. option_or (option_map (λ b. Left (Some b)) o) (begun (λ n. n) None c)) bracket ∙ begun_none c mark never None
+    ap (λ o. option_or (option_map (λ b. Left (Some b)) o) (after_bracket (λ n. n) None c)) bracket ∙ begun_none c mark never None
 longer_none c mark bracket never (Left (Some b)) = begun_none c mark never (Some b)
 longer_none c mark bracket never (First left s) =
     ap (λ b. if b then option_map (λ p. Mark left (Some p)) (stamp_read s) else option_map (First left) (next_ts s c)) mark ∙ ap (option_map (First left))

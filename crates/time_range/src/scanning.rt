@@ -1,6 +1,6 @@
 //! Reading a text byte by byte: what has been read so far, and which byte may follow.
 ghost use Rattle.std.specs.Prelude.{◌≡◌, Option, ℕ, IfOk, IfErr, Some, None};
-ghost use Rattle.time_range.specs.Within.Scanning.{run, StopsAt, capped, digit_of, stamp_read, left_bracket, right_bracket, begun, longer, closed, range_read};
+ghost use Rattle.time_range.specs.Within.Scanning.{run, StopsAt, capped, digit_of, stamp_read, left_bracket, right_bracket, after_bracket, longer, closed, range_read};
 ghost use Rattle.std.specs.Option.{option_map};
 
 use crate::spelling::{Bracket, Middle, RangeParts, TsParts};
@@ -176,7 +176,7 @@ fn closed(parts: RangeParts, byte: u8) -> Option<RangeScan>
 impl RangeScan {
     /// The first byte behind the left bracket.
     fn begun(left: Option<Bracket>, byte: u8) -> Option<RangeScan>
-        ensures { result ≡ begun capped left byte }
+        ensures { result ≡ after_bracket capped left byte }
     {
         if byte == b'_' {
             Some(RangeScan::Mark(left, None))

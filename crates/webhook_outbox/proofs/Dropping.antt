@@ -15,7 +15,7 @@ use Rattle.shared_tree.proofs.Counted.{all_kept, rising_without}
 use Rattle.shared_tree.proofs.Rising.{all_map, around, cut_at, filter_all}
 use Rattle.shared_tree.proofs.Rows.{others_are, values_kept}
 use Rattle.webhook_outbox.specs.declared.outbox.Slot.{Slot}
-use Rattle.webhook_outbox.specs.Within.Drops.{dropped, without_rows, without_serial}
+use Rattle.webhook_outbox.specs.Within.Drops.{dropped, without_event_rows, without_serial}
 use Rattle.webhook_outbox.specs.Within.Slots.{AreSlots, HasFailedWhenFull, event_key, has_slot, hook_serial, hooks_of, is_for, seen_outbox, slot_key}
 use Rattle.webhook_outbox.proofs.Found.{none_at}
 use Rattle.webhook_outbox.proofs.Waiting.{Events, Slots, found_waiting, none_serial}
@@ -56,23 +56,23 @@ module _ {X : Type 0} where
 
 -- events without those that wait for a hook, one after the other
 rows_gone : (hook : ℕ) (kept rest : Events) → IsRising (kept ++ rest) → IsKeyedBy event_key rest
-    → without_rows (values (filter (is_for hook) rest)) (kept ++ rest) ≡ kept ++ filter (λ p. not (is_for hook p)) rest
+    → without_event_rows (values (filter (is_for hook) rest)) (kept ++ rest) ≡ kept ++ filter (λ p. not (is_for hook p)) rest
 rows_gone hook kept [] rising keyed = refl
 rows_gone hook kept (p ∷ ps) rising keyed = by (is_for hook p) refl (λ front up. rows_gone hook front ps up keyed.1)
   where
     by : (b : Bool) → is_for hook p ≡ b
         → ((front : Events) → IsRising (front ++ ps)
-        → without_rows (values (filter (is_for hook) ps)) (front ++ ps) ≡ front ++ filter (λ q. not (is_for hook q)) ps)
-        → without_rows (values (filter (is_for hook) (p ∷ ps))) (kept ++ p ∷ ps) ≡ kept ++ filter (λ q. not (is_for hook q)) (p ∷ ps)
+        → without_event_rows (values (filter (is_for hook) ps)) (front ++ ps) ≡ front ++ filter (λ q. not (is_for hook q)) ps)
+        → without_event_rows (values (filter (is_for hook) (p ∷ ps))) (kept ++ p ∷ ps) ≡ kept ++ filter (λ q. not (is_for hook q)) (p ∷ ps)
     by true e ih =
         let cut : without_key (event_key p.1) (kept ++ p ∷ ps) ≡ kept ++ ps = cut_at (event_key p.1) kept p ps (around kept p ps rising) (sym keyed.0) in
         let rest = ih kept (subst IsRising cut (rising_without (event_key p.1) (kept ++ p ∷ ps) rising)) in
-        rw e (ap (without_rows (values (filter (is_for hook) ps))) cut ∙ rest)
+        rw e (ap (without_event_rows (values (filter (is_for hook) ps))) cut ∙ rest)
     by false e ih =
         let shifted : (kept ++ p ∷ []) ++ ps ≡ kept ++ p ∷ ps = append_assoc kept (p ∷ []) ps in
         let rest = ih (kept ++ p ∷ []) (subst IsRising (sym shifted) rising) in
         rw e
-        (ap (without_rows (values (filter (is_for hook) ps))) (sym shifted) ∙ rest ∙ append_assoc kept (p ∷ []) (filter (λ q. not (is_for hook q)) ps))
+        (ap (without_event_rows (values (filter (is_for hook) ps))) (sym shifted) ∙ rest ∙ append_assoc kept (p ∷ []) (filter (λ q. not (is_for hook q)) ps))
 
 -- what is known where a hook goes
 pub record Goes (serial : ℕ) (slot : Slot) (slots new_slots : Slots) (events new_events : Events) : Type 0 where
@@ -81,7 +81,7 @@ pub record Goes (serial : ℕ) (slot : Slot) (slots new_slots : Slots) (events n
   pub events_rise : IsRising events
   pub slot_is : Some slot ≡ value_at (pos serial) slots
   pub new_slots_are : new_slots ≡ without_key (pos serial) slots
-  pub new_events_are : new_events ≡ without_rows (values slot.waiting) events
+  pub new_events_are : new_events ≡ without_event_rows (values slot.waiting) events
 
 abbrev stays : ℕ → ℤ × Slot → Bool
 stays serial p = not (is_at (pos serial) p)
@@ -97,7 +97,7 @@ events_left : (serial : ℕ) (slot : Slot) (slots new_slots : Slots) (events new
     → new_events ≡ filter (left_for serial) events
 events_left serial slot slots new_slots events new_events d =
     let own = found_waiting serial slots events slot d.kept d.slot_is in
-    d.new_events_are ∙ ap (λ l. without_rows (values l) events) own.1 ∙ rows_gone serial [] events d.events_rise d.kept.events_keyed
+    d.new_events_are ∙ ap (λ l. without_event_rows (values l) events) own.1 ∙ rows_gone serial [] events d.events_rise d.kept.events_keyed
 
 -- a hook's key tells whether it is of a serial
 same_test : (serial : ℕ) (p : ℤ × Slot) → p.0 ≡ slot_key p.1 → (hook_serial p.1 == serial) ≡ is_at (pos serial) p

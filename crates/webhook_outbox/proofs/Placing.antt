@@ -18,7 +18,7 @@ use Rattle.shared_tree.proofs.Counted.{all_append, all_kept, length_with}
 use Rattle.shared_tree.proofs.Rising.{Around, all_map, filter_all, put_left, put_right}
 use Rattle.shared_tree.proofs.Rows.{keyed_with, others_are}
 use Rattle.webhook_outbox.specs.declared.outbox.Slot.{Slot}
-use Rattle.webhook_outbox.specs.Within.Restored.{event_before, has_room, hook_before, is_new, joined, may_join, may_wait, waits}
+use Rattle.webhook_outbox.specs.Within.Restored.{event_before, has_room, hook_before, has_no_serial, with_hook_joined, may_join, may_wait, waits}
 use Rattle.webhook_outbox.specs.Within.Slots.{AreSlots, HasFailedWhenFull, event_key, has_slot, hook_rows, hook_serial, hooks_of, is_for, seen_outbox, slot_has_room, slot_key}
 use Rattle.webhook_outbox.proofs.Dropping.{Held, held, kept_so, not_true}
 use Rattle.webhook_outbox.proofs.Found.{at_is, at_split, none_at, without_kept}
@@ -218,7 +218,7 @@ joined_slots row slot slots new_slots events d e =
     not_full waiting none most = absurd (let is = ap (λ (l : Events). nat_le most_waiting (length l)) none in grind (arith, sym is ∙ most))
 
 pub joined_is : (row : HookRow) (slot : Slot) (slots new_slots : Slots) (events : Events) → Joins row slot slots events
-    → new_slots ≡ with_pair (pos row.serial, slot) slots → seen_outbox new_slots events ≡ joined row (seen_outbox slots events)
+    → new_slots ≡ with_pair (pos row.serial, slot) slots → seen_outbox new_slots events ≡ with_hook_joined row (seen_outbox slots events)
 joined_is row slot slots new_slots events d e =
     let own : hook_serial slot ≡ row.serial = ap (λ (r : HookRow). r.serial) d.row_is in
     let none = none_at (pos row.serial) slots (sym (none_of (value_at (pos row.serial) slots) d.new)) in
@@ -429,7 +429,7 @@ room_is row slot slots events kept rising e = by (slot_has_room slot) refl
 
 -- whether a serial is new, by looks
 pub is_new_is : (serial : ℕ) (slots : Slots) (events : Events) → IsKeyedBy slot_key slots → IsKeyedBy event_key events
-    → is_new serial (seen_outbox slots events)
+    → has_no_serial serial (seen_outbox slots events)
     ≡ (not (is_some (value_at (pos serial) slots)) && not (is_some (value_at (pos serial) events)))
 is_new_is serial slots events slots_keyed events_keyed =
     ap (λ b. not b && not (list_any (λ row. row.serial == serial) (values events))) (sym (hook_seen serial slots slots_keyed))
@@ -437,12 +437,13 @@ is_new_is serial slots events slots_keyed events_keyed =
 
 -- an event may wait where its serial is new and the hook that was found has room
 pub may_wait_is : (row : EventRow) (slot : Slot) (slots : Slots) (events : Events) → AreSlots slots events → IsRising slots
-    → Some slot ≡ value_at (pos row.hook) slots → may_wait row (seen_outbox slots events) ≡ (is_new row.serial (seen_outbox slots events) && slot_has_room slot)
+    → Some slot ≡ value_at (pos row.hook) slots → may_wait row (seen_outbox slots events) ≡ (has_no_serial row.serial (seen_outbox slots events)
+    && slot_has_room slot)
 may_wait_is row slot slots events kept rising e =
-    ap (λ b. is_new row.serial (seen_outbox slots events) && b && list_all (has_room row (values events)) (hooks_of slots))
+    ap (λ b. has_no_serial row.serial (seen_outbox slots events) && b && list_all (has_room row (values events)) (hooks_of slots))
     (sym (hook_seen row.hook slots kept.slots_keyed) ∙ ap is_some (sym e))
-    ∙ ap (λ b. is_new row.serial (seen_outbox slots events) && true && b) (room_is row slot slots events kept rising e)
-    ∙ drop_true (is_new row.serial (seen_outbox slots events)) (slot_has_room slot)
+    ∙ ap (λ b. has_no_serial row.serial (seen_outbox slots events) && true && b) (room_is row slot slots events kept rising e)
+    ∙ drop_true (has_no_serial row.serial (seen_outbox slots events)) (slot_has_room slot)
   where
     drop_true : (a b : Bool) → (a && true && b) ≡ (a && b)
     drop_true true b = refl
@@ -452,9 +453,9 @@ may_wait_is row slot slots events kept rising e =
 pub none_may_wait : (row : EventRow) (slots : Slots) (events : Events) → AreSlots slots events → None ≡ value_at (pos row.hook) slots
     → may_wait row (seen_outbox slots events) ≡ false
 none_may_wait row slots events kept none =
-    ap (λ b. is_new row.serial (seen_outbox slots events) && b && list_all (has_room row (values events)) (hooks_of slots))
+    ap (λ b. has_no_serial row.serial (seen_outbox slots events) && b && list_all (has_room row (values events)) (hooks_of slots))
     (sym (hook_seen row.hook slots kept.slots_keyed) ∙ ap is_some (sym none))
-    ∙ no_one (is_new row.serial (seen_outbox slots events)) (list_all (has_room row (values events)) (hooks_of slots))
+    ∙ no_one (has_no_serial row.serial (seen_outbox slots events)) (list_all (has_room row (values events)) (hooks_of slots))
   where
     no_one : (a b : Bool) → (a && false && b) ≡ false
     no_one true b = refl
@@ -465,7 +466,8 @@ pub may_is : (row : EventRow) (slot : Slot) (slots : Slots) (events : Events) �
     → Some slot ≡ value_at (pos row.hook) slots → may_wait row (seen_outbox slots events) ≡ true
     → ((is_some (value_at (pos row.serial) slots) ≡ false) × (is_some (value_at (pos row.serial) events) ≡ false)) × (slot_has_room slot ≡ true)
 may_is row slot slots events kept rising e may =
-    let parts = and_parts (is_new row.serial (seen_outbox slots events)) (slot_has_room slot) (sym (may_wait_is row slot slots events kept rising e) ∙ may) in
+    let parts = and_parts (has_no_serial row.serial (seen_outbox slots events)) (slot_has_room slot) (sym (may_wait_is row slot slots events kept rising e)
+      ∙ may) in
     let new = and_parts (not (is_some (value_at (pos row.serial) slots))) (not (is_some (value_at (pos row.serial) events)))
     (sym (is_new_is row.serial slots events kept.slots_keyed kept.events_keyed) ∙ parts.0) in
     ((not_true (is_some (value_at (pos row.serial) slots)) new.0, not_true (is_some (value_at (pos row.serial) events)) new.1), parts.1)

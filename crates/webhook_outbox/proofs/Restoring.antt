@@ -13,7 +13,7 @@ use Rattle.media_rows.specs.Lists.{are_distinct, in_order, inserted}
 use Rattle.media_rows.specs.Outbox.{Outbox, most_waiting, waiting_count}
 use Rattle.media_rows.specs.Refusals.{Restores}
 use Rattle.media_rows.specs.Restoring.{by_serial, can_restore_outbox, outbox_of}
-use Rattle.webhook_outbox.specs.Within.Restored.{all_fit, event_before, folded, has_room, hook_before, joined, may_join, may_wait, no_rows, waits}
+use Rattle.webhook_outbox.specs.Within.Restored.{all_fit, event_before, folded, has_room, hook_before, with_hook_joined, may_join, may_wait, no_rows, waits}
 
 -- ---- truths
 
@@ -186,16 +186,16 @@ module _ {X : Type 0} (serial : X → ℕ) where
 
 -- ---- hooks
 
-pub hooks_joined : (hooks : List HookRow) → folded joined hooks no_rows ≡ record { hooks = by_serial (λ row. row.serial) hooks; events = [] }
+pub hooks_joined : (hooks : List HookRow) → folded with_hook_joined hooks no_rows ≡ record { hooks = by_serial (λ row. row.serial) hooks; events = [] }
 hooks_joined [] = refl
-hooks_joined (row ∷ rows) = ap (joined row) (hooks_joined rows)
+hooks_joined (row ∷ rows) = ap (with_hook_joined row) (hooks_joined rows)
 
-pub hooks_fit : (hooks : List HookRow) → all_fit may_join joined hooks no_rows ≡ are_distinct (map (λ row. row.serial) hooks)
+pub hooks_fit : (hooks : List HookRow) → all_fit may_join with_hook_joined hooks no_rows ≡ are_distinct (map (λ row. row.serial) hooks)
 hooks_fit [] = refl
 hooks_fit (row ∷ rows) =
-    ap (λ o. may_join row o && all_fit may_join joined rows no_rows) (hooks_joined rows)
-    ∙ ap (λ b. not b && all_fit may_join joined rows no_rows) (any_ordered hook_before (λ hook. hook.serial == row.serial) rows)
-    ∙ ap (λ b. b && all_fit may_join joined rows no_rows) (others_apart (λ (h : HookRow). h.serial) row.serial rows)
+    ap (λ o. may_join row o && all_fit may_join with_hook_joined rows no_rows) (hooks_joined rows)
+    ∙ ap (λ b. not b && all_fit may_join with_hook_joined rows no_rows) (any_ordered hook_before (λ hook. hook.serial == row.serial) rows)
+    ∙ ap (λ b. b && all_fit may_join with_hook_joined rows no_rows) (others_apart (λ (h : HookRow). h.serial) row.serial rows)
     ∙ ap (λ b. list_all (λ other. not (row.serial == other)) (map (λ (h : HookRow). h.serial) rows) && b) (hooks_fit rows)
 
 -- ---- events
@@ -446,15 +446,16 @@ urls_refuse hooks events e =
     implies_false (are_urls_distinct hooks) (can_restore_outbox hooks events)
     (λ can. (three (are_urls_distinct hooks) (are_distinct (serials hooks events)) (outbox_good hooks events) can).0) e
 
-pub hooks_refuse : (hooks : List HookRow) (events : List EventRow) → all_fit may_join joined hooks no_rows ≡ false → can_restore_outbox hooks events ≡ false
+pub hooks_refuse : (hooks : List HookRow) (events : List EventRow) → all_fit may_join with_hook_joined hooks no_rows ≡ false → can_restore_outbox hooks events
+    ≡ false
 hooks_refuse hooks events e =
-    implies_false (all_fit may_join joined hooks no_rows) (can_restore_outbox hooks events)
+    implies_false (all_fit may_join with_hook_joined hooks no_rows) (can_restore_outbox hooks events)
     (λ can. hooks_fit hooks ∙ distinct_left (map (λ (h : HookRow). h.serial) hooks) (map (λ (r : EventRow). r.serial) events)
     (three (are_urls_distinct hooks) (are_distinct (serials hooks events)) (outbox_good hooks events) can).1.0) e
 
 -- the events come to the hooks
 pub both_restore : (hooks : List HookRow) (events : List EventRow) (bare : Outbox) (result : Result Outbox ApplyFault) → are_urls_distinct hooks ≡ true
-    → (all_fit may_join joined hooks no_rows ≡ true) × (bare ≡ folded joined hooks no_rows)
+    → (all_fit may_join with_hook_joined hooks no_rows ≡ true) × (bare ≡ folded with_hook_joined hooks no_rows)
     → Restores (all_fit may_wait waits events bare) (folded waits events bare) result
     → Restores (can_restore_outbox hooks events) (outbox_of hooks events) result
 both_restore hooks events bare (Ok outbox) urls was h =

@@ -4,7 +4,7 @@ use Rattle.media_rows.specs.declared.event.EventKind.TheVariants.{FlowCreated}
 use Rattle.media_rows.specs.declared.event.EventRow.{EventRow}
 use Rattle.media_rows.specs.declared.hook.HookRow.{HookRow}
 use Rattle.media_rows.specs.Outbox.{Outbox}
-use Rattle.webhook_outbox.specs.Delivered.{IsFirst, after_delivered}
+use Rattle.webhook_outbox.specs.Delivered.{WaitsFirst, after_delivered}
 use Rattle.webhook_outbox.specs.Posting.{posted_within, shown_in}
 
 -- an event of hook 1
@@ -31,7 +31,7 @@ past_the_last : (made : Outbox) → posted_within both (record { outbox = made; 
 past_the_last made = refl
 
 -- the first event is delivered, and the other one waits
-first_is : IsFirst 2 both.events
+first_is : WaitsFirst 2 both.events
 first_is = record { row = event 2; serial = refl; is = refl }
 
 one_left : (after_delivered 2 both).events ≡ event 3 ∷ []

@@ -14,7 +14,7 @@ use Rattle.shared_tree.proofs.Counted.{all_append, all_kept, each_passes, rising
 use Rattle.shared_tree.proofs.Rising.{all_map, fewer, filter_all}
 use Rattle.shared_tree.proofs.Rows.{keyed_with, keyed_without, left_out_is, others_are, values_kept}
 use Rattle.webhook_outbox.specs.declared.outbox.Slot.{Slot}
-use Rattle.webhook_outbox.specs.Delivered.{IsFirst, after_delivered}
+use Rattle.webhook_outbox.specs.Delivered.{WaitsFirst, after_delivered}
 use Rattle.webhook_outbox.specs.Within.Slots.{AreSlots, HasFailedWhenFull, event_key, has_slot, hook_serial, hooks_of, seen_outbox, is_for, slot_key}
 use Rattle.webhook_outbox.proofs.Found.{at_is, at_split, first_value, found_pair, kept_without, none_at, without_kept}
 
@@ -88,7 +88,7 @@ first_among [] x P e h = absurd (grind (arith, e))
 first_among (y ∷ ys) x P e h = subst P (grind (arith, e)) h.0
 
 -- an event that is its hook's first waits
-pub event_is_there : (event : ℕ) (events : Events) → IsKeyedBy event_key events → IsFirst event (values events) → None ≡ value_at (pos event) events → ⊥
+pub event_is_there : (event : ℕ) (events : Events) → IsKeyedBy event_key events → WaitsFirst event (values events) → None ≡ value_at (pos event) events → ⊥
 event_is_there event events keyed is e =
     let others = each events keyed (none_at (pos event) events (sym e)) in
     first_among (waiting_for is.row.hook (values events)) is.row (λ row. row.serial ≡ event → ⊥) is.is

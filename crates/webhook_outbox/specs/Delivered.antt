@@ -7,7 +7,7 @@ use Rattle.media_rows.specs.Outbox.{Outbox, waiting_for}
 use Rattle.shared_tree.specs.Pairs.{first}
 
 -- an event waits, and is the first that waits for its hook
-pub record IsFirst (event : ℕ) (events : List EventRow) : Type 0 where
+pub record WaitsFirst (event : ℕ) (events : List EventRow) : Type 0 where
   pub row : EventRow
   pub serial : row.serial ≡ event
   pub is : first (waiting_for row.hook events) ≡ Some row

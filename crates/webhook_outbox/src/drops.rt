@@ -1,7 +1,7 @@
 //! Hooks that go with the events that wait for them.
 ghost use Rattle.std.specs.Prelude.{◌≡◌, IfOk};
 ghost use Rattle.shared_tree.specs.Pairs.{values_of};
-ghost use Rattle.webhook_outbox.specs.Within.Drops.{dropped, without_rows, without_serial};
+ghost use Rattle.webhook_outbox.specs.Within.Drops.{dropped, without_event_rows, without_serial};
 ghost use Rattle.webhook_outbox.specs.Within.Slots.{hook_rows};
 
 use crate::changes::{without_event, without_slot};
@@ -54,7 +54,7 @@ fn without_rows(
     events: &Version<EventRow>,
     rows: &[&EventRow],
 ) -> Result<Version<EventRow>, Memory>
-    ensures { IfOk result (λ next. next ≡ without_rows (values_of rows.now) events.now) }
+    ensures { IfOk result (λ next. next ≡ without_event_rows (values_of rows.now) events.now) }
 {
     let mut next = events.share()?;
     for row in rows {

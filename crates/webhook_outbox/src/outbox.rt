@@ -5,7 +5,7 @@ ghost use Rattle.media_rows.specs.Good.{has_hook};
 ghost use Rattle.media_rows.specs.Refusals.{Restores};
 ghost use Rattle.media_rows.specs.Restoring.{can_restore_outbox, outbox_of};
 ghost use Rattle.shared_tree.specs.Pairs.{first};
-ghost use Rattle.webhook_outbox.specs.Delivered.{IsBehind, IsBehindHooks, IsFirst, after_delivered, counted};
+ghost use Rattle.webhook_outbox.specs.Delivered.{IsBehind, IsBehindHooks, WaitsFirst, after_delivered, counted};
 ghost use Rattle.webhook_outbox.specs.Within.Slots.{with_last_hook};
 ghost use Rattle.webhook_outbox.specs.Posting.{posted_within, shown_in};
 
@@ -251,7 +251,7 @@ impl Outbox {
 
     /// Leaves out an event, which is the first that waits for its hook.
     pub fn delivered(&self, alloc: Global, event: u64) -> Result<Outbox, Memory>
-        requires first { IsFirst event self.now.events }
+        requires first { WaitsFirst event self.now.events }
         ensures { IfOk result (λ outbox. outbox ≡ after_delivered event self.now) }
     {
         self.slots.keys_rise();

@@ -2,7 +2,7 @@
 ghost use Rattle.std.specs.Prelude.{◌≡◌, IfOk, IsTrue};
 ghost use Rattle.media_rows.specs.Good.{are_urls_distinct};
 ghost use Rattle.media_rows.specs.Refusals.{Restores};
-ghost use Rattle.webhook_outbox.specs.Within.Restored.{all_fit, folded, is_new, joined, may_join, may_wait, no_rows, waits};
+ghost use Rattle.webhook_outbox.specs.Within.Restored.{all_fit, folded, has_no_serial, with_hook_joined, may_join, may_wait, no_rows, waits};
 ghost use Rattle.webhook_outbox.specs.Within.Slots.{slot_has_room};
 
 use crate::changes::{MOST_WAITING, with_row, with_slot};
@@ -30,8 +30,8 @@ pub(crate) fn are_urls_distinct(alloc: Global, hooks: &[HookRow]) -> Result<bool
 
 /// The outbox of these hooks, for which nothing waits. The last one is put first.
 pub(crate) fn hooks_gathered(alloc: Global, hooks: &[HookRow]) -> Result<Outbox, ApplyFault>
-    ensures { Restores (all_fit may_join joined hooks.now no_rows)
-        (folded joined hooks.now no_rows) result }
+    ensures { Restores (all_fit may_join with_hook_joined hooks.now no_rows)
+        (folded with_hook_joined hooks.now no_rows) result }
 {
     let mut outbox = Outbox::empty();
     for passed in 0..hooks.len() {
@@ -73,7 +73,7 @@ fn has_room(slot: &Slot) -> bool
 impl Outbox {
     /// Adds a hook at its place, for which nothing waits. It is refused where its serial is that of another one.
     fn with_joined(&self, alloc: Global, row: &HookRow) -> Result<Outbox, ApplyFault>
-        ensures { Restores (may_join row.now self.now) (joined row.now self.now) result }
+        ensures { Restores (may_join row.now self.now) (with_hook_joined row.now self.now) result }
     {
         if !self.may_join(row) {
             return Err(ApplyFault::Refused);
@@ -91,7 +91,7 @@ impl Outbox {
     /// Adds a hook at its place, for which nothing waits.
     fn joined(&self, alloc: Global, row: &HookRow) -> Result<Outbox, Memory>
         requires new { IsTrue (may_join row.now self.now) }
-        ensures { IfOk result (λ outbox. outbox ≡ joined row.now self.now) }
+        ensures { IfOk result (λ outbox. outbox ≡ with_hook_joined row.now self.now) }
     {
         self.slots.keys_rise();
         let slot = Slot {
@@ -128,7 +128,7 @@ impl Outbox {
 
     /// Whether no hook and no event has a serial.
     fn is_new(&self, serial: u64) -> bool
-        ensures { result ≡ is_new serial self.now }
+        ensures { result ≡ has_no_serial serial self.now }
     {
         value_at(&self.slots, serial).is_none() && value_at(&self.events, serial).is_none()
     }

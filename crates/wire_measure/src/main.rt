@@ -5,7 +5,7 @@
 ghost use Rattle.std.specs.Prelude.{◌≡◌, IsFalse};
 ghost use Rattle.http_wire.specs.declared.stage.Stage.TheVariants.{Open};
 
-use http_wire::{Feed, Step};
+use http_wire::{Feed, FeedStep};
 use std::rt::{Env, Files};
 use std::{env, fs, io};
 
@@ -69,9 +69,9 @@ fn is_whole(feed: &mut Feed, bytes: &[u8], piece: usize) -> bool
             return false;
         }
         match feed.next_request() {
-            Step::More => {}
-            Step::Head(_) | Step::Whole(_) => return true,
-            Step::Refused(_) => return false,
+            FeedStep::More => {}
+            FeedStep::Head(_) | FeedStep::Whole(_) => return true,
+            FeedStep::Refused(_) => return false,
         }
     }
     false

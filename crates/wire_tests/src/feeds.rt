@@ -2,7 +2,7 @@
 //! once and byte by byte.
 
 use disk_trait::{Memory, Text};
-use http_wire::{Feed, Field, FieldList, MethodKind, Step, write_response};
+use http_wire::{Feed, FeedStep, Field, FieldList, MethodKind, write_response};
 use std::alloc::Global;
 
 const MORE: u8 = 0;
@@ -22,12 +22,12 @@ const HEAD: u8 = 100;
 const WHOLE: u8 = 101;
 
 /// The number of a refusal, or a number for each other answer.
-fn number(step: &Step) -> u8 {
+fn number(step: &FeedStep) -> u8 {
     match step {
-        Step::More => MORE,
-        Step::Head(_) => HEAD,
-        Step::Whole(_) => WHOLE,
-        Step::Refused(refusal) => refusal.number(),
+        FeedStep::More => MORE,
+        FeedStep::Head(_) => HEAD,
+        FeedStep::Whole(_) => WHOLE,
+        FeedStep::Refused(refusal) => refusal.number(),
     }
 }
 
@@ -45,7 +45,7 @@ fn one_by_one(feed: &mut Feed, bytes: &[u8]) -> u8 {
         feed.push(&bytes[i..i + 1]);
         let step = feed.next_request();
         match step {
-            Step::More => {}
+            FeedStep::More => {}
             _ => return number(&step),
         }
     }
@@ -245,7 +245,7 @@ fn tells_chunks(feed: &mut Feed) -> bool {
     feed.push(b"POST /a?b HTTP/1.1\r\nTransfer-Encoding: chunked\r\nExpect: 100-Continue\r\n\r\n");
     feed.push(b"3\r\nabc\r\n2\r\nde\r\n0\r\n\r\nGET");
     match feed.next_request() {
-        Step::Whole(head) => {
+        FeedStep::Whole(head) => {
             let target = feed.bytes(head.target) == b"/a?b".as_slice();
             let body = feed.bytes(head.body) == b"abcde".as_slice();
             target && body && head.method == MethodKind::Post && head.wants_interim && !head.ends
@@ -260,7 +260,7 @@ fn hands_on(feed: &mut Feed) -> bool {
     feed.restart();
     feed.push(b"PUT /media/o HTTP/1.1\r\nContent-Length: 3\r\nConnection: Close\r\n\r\nabcGET");
     match feed.next_request() {
-        Step::Head(head) => {
+        FeedStep::Head(head) => {
             let count = feed.take_body(&mut out);
             let none = feed.take_body(&mut out);
             head.length == 3 && head.ends && count == 3 && none == 0 && out[2] == b'c'

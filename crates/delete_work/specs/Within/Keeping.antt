@@ -13,8 +13,8 @@ use Rattle.shared_tree.specs.Rows.{IsKeyedBy}
 use Rattle.id_index.specs.Index.{IsIndexOf}
 
 -- the serial of a request, and its key
-abbrev pub request_serial : DeleteRow → ℕ
-request_serial row = row.serial
+abbrev pub serial_of_row : DeleteRow → ℕ
+serial_of_row row = row.serial
 
 abbrev pub request_key : DeleteRow → ℤ
 request_key row = id_key row.serial
@@ -40,7 +40,7 @@ flow_ending row = if is_ending row then row.flow ∷ [] else []
 
 -- an index has at each flow the requests that delete it
 abbrev pub IsEnding : List (ℤ × DeleteRow) → List (ℤ × List (ℤ × ℕ)) → Type 0
-IsEnding rows ending = IsIndexOf request_serial flow_ending rows ending
+IsEnding rows ending = IsIndexOf serial_of_row flow_ending rows ending
 
 -- Requests stand at the keys of their serials; those unfinished and those done stand apart once
 -- more, and those that delete a flow are found by it.
@@ -80,5 +80,5 @@ ended_by flow moment (row ∷ rows) requests =
 
 -- a book has just these rows, which come in any order and of which no two have one serial
 pub record HoldsJust (rows requests : List DeleteRow) : Type 0 where
-  pub distinct : are_distinct (map request_serial rows) ≡ true
+  pub distinct : are_distinct (map serial_of_row rows) ≡ true
   pub is : requests ≡ requests_of rows

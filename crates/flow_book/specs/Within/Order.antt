@@ -40,7 +40,7 @@ AreUsed by_source sources =
 
 -- sources and flows stand at the keys of their ids, both indexes are theirs, and each source has a
 -- flow
-pub record IsKept (sources : List (ℤ × SourceRow)) (flows : List (ℤ × FlowRow))
+pub record IsKeptInOrder (sources : List (ℤ × SourceRow)) (flows : List (ℤ × FlowRow))
     (by_source collectors : List (ℤ × List (ℤ × ℕ))) : Type 0 where
   pub sources_keyed : IsKeyedBy source_key sources
   pub flows_keyed : IsKeyedBy flow_key flows

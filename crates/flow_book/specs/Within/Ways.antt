@@ -22,8 +22,9 @@ pub record AreFollowed (flows apart : List (ℤ × FlowRow)) (to : ℕ) (waiting
       → (leads flows apart to from || has_number next waiting) ≡ true
 
 -- the flows without these, and the ids that wait with those that were among the flows
-abbrev pub swept : List ℕ → List (ℤ × FlowRow) → List ℕ → List (ℤ × FlowRow) × List ℕ
-swept [] apart waiting = (apart, waiting)
-swept (id ∷ ids) apart waiting =
+abbrev pub moved_to_waiting : List ℕ → List (ℤ × FlowRow) → List ℕ → List (ℤ × FlowRow) × List ℕ
+moved_to_waiting [] apart waiting = (apart, waiting)
+moved_to_waiting (id ∷ ids) apart waiting =
     if is_some (value_at (id_key id) apart)
-    then swept ids (without_key (id_key id) apart) (waiting ++ id ∷ []) else swept ids apart waiting
+    then moved_to_waiting ids (without_key (id_key id) apart)
+      (waiting ++ id ∷ []) else moved_to_waiting ids apart waiting

@@ -3,7 +3,7 @@ use Rattle.std.specs.Prelude.{◌≡◌, ℕ, ◌+◌, ◌-◌, ◌<◌, ◌≤�
 use Rattle.http_wire.specs.Framing.{max_body}
 use Rattle.http_wire.specs.Heads.{Front, more, refused, whole}
 use Rattle.http_wire.specs.Lines.{line_end}
-use Rattle.http_wire.specs.Chunks.{chunked, chunks_within, ending_of, coded_front, line_size, one_chunk, prefixed}
+use Rattle.http_wire.specs.Chunks.{chunked, chunks_within, data_ending, coded_front, line_size, one_chunk, prefixed}
 use Rattle.http_wire.specs.declared.chunk_line.Ending.TheVariants.{Ended}
 use Rattle.http_wire.specs.declared.chunk_line.LineSeen.{LineSeen}
 use Rattle.http_wire.specs.declared.chunk_line.LineSeen.TheVariants.{Last, Open, Read}
@@ -37,7 +37,7 @@ IsLineSeen bytes room (Last n) = IsLastLine bytes n
 pub record IsChunk (bytes : List ℕ) (room n size : ℕ) : Type 0 where
   pub line : IsLine bytes room n size
   pub inside : n + size + 2 ≤ length bytes
-  pub ends : ending_of (drop (n + size) bytes) ≡ Ended 2
+  pub ends : data_ending (drop (n + size) bytes) ≡ Ended 2
 
 -- what is found of the chunk at the front
 abbrev pub FindsChunk : List ℕ → ℕ → ChunkFound → Type 0

@@ -12,7 +12,7 @@ use Rattle.http_wire.specs.declared.front.NextFound.{NextFound}
 use Rattle.http_wire.specs.declared.front.NextFound.TheVariants as nexts
 use Rattle.http_wire.specs.declared.framing.WireFault.TheVariants.{BadHead}
 use Rattle.http_wire.specs.declared.head.FoundHead.{FoundHead}
-use Rattle.http_wire.specs.declared.head.Span.{Span}
+use Rattle.http_wire.specs.declared.head.FeedSpan.{FeedSpan}
 use Rattle.http_wire.specs.declared.stage.Head.{Head}
 use Rattle.http_wire.specs.declared.lines.Looked.TheVariants.{Still}
 use Rattle.http_wire.specs.declared.lines.Place.{Place}
@@ -79,8 +79,8 @@ KnowsHead unread (seen.Seeking place at) = IsSeeking unread place at
 KnowsHead unread (seen.Found found progress) = IsFound unread found
 
 -- a head is shown as it was found, with a body at a place, as the so many-th
-pub record IsShown
-    (found : FoundHead) (body : Span) (size number : ℕ) (shown : Head) : Type 0 where
+pub record ShowsHead
+    (found : FoundHead) (body : FeedSpan) (size number : ℕ) (shown : Head) : Type 0 where
   pub method : shown.method ≡ found.method
   pub target : shown.target ≡ found.target
   pub body_is : shown.body ≡ body

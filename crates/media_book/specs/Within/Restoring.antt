@@ -14,8 +14,8 @@ abbrev pub with_objects : List ObjectRow → Media → Media
 with_objects rows media = record media { objects = media.objects ++ rows }
 
 -- these segments come behind all others
-abbrev pub with_rows : List SegmentRow → Media → Media
-with_rows rows media = record media { segments = media.segments ++ rows }
+abbrev pub with_segments_behind : List SegmentRow → Media → Media
+with_segments_behind rows media = record media { segments = media.segments ++ rows }
 
 -- the blocks of an object in this state are free
 abbrev pub can_hold : Media → ObjectState → Bool
@@ -46,5 +46,5 @@ pub record ObjectsCame (blocks count : ℕ) (all : List ObjectRow) (media : Medi
 -- so many of the segments came to a book without any
 pub record RowsCame (start : Media) (count : ℕ) (all : List SegmentRow) (media : Media) : Type 0
   where
-    pub is : media ≡ with_rows (take count all) start
+    pub is : media ≡ with_segments_behind (take count all) start
     pub good : are_rows_good start.objects (take count all) ≡ true

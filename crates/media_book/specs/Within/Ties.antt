@@ -14,7 +14,7 @@ use Rattle.media_rows.specs.Lists.{are_distinct, each_pair, or_else}
 use Rattle.media_rows.specs.Objects.{blocks_of, is_clear_of, is_stored_object, without_objects}
 use Rattle.media_rows.specs.Refusals.{when}
 use Rattle.media_rows.specs.Sound.{are_posts_good}
-use Rattle.object_blobs.specs.Holes.{Area, IsGiven, is_free_block, is_taken_place}
+use Rattle.object_blobs.specs.Holes.{Area, GivesBlocks, is_free_block, is_taken_place}
 use Rattle.object_refs.specs.declared.kept.Kept.{Kept}
 use Rattle.object_refs.specs.References.{objects_in}
 use Rattle.reference_laws.specs.Ties.{AreTied}
@@ -22,8 +22,8 @@ use Rattle.segment_book.specs.Answers.{meeting_refusal}
 use Rattle.media_book.specs.Media.{AreSome, Media, allocation_refusal, are_objects_below, are_segments_below, library_with, stored_size, with_allocated, with_posts, without_rows}
 
 -- the states of objects
-abbrev pub states_of : List ObjectRow → List ObjectState
-states_of objects = map (λ row. row.state) objects
+abbrev pub object_states : List ObjectRow → List ObjectState
+object_states objects = map (λ row. row.state) objects
 
 -- Extents lie apart within the blocks of an area, the blocks that they leave are its free ones, and
 -- their bytes are so many.
@@ -40,7 +40,7 @@ pub record IsMedia (segments : List SegmentRow) (kept : List Kept) (area : Area)
     : Type 0 where
   pub tied : AreTied segments kept
   pub named : are_references_good (objects_in kept) segments ≡ true
-  pub held : AreHeld (states_of (objects_in kept)) area bytes
+  pub held : AreHeld (object_states (objects_in kept)) area bytes
   pub rising : rises_by (λ row. row.serial) segments ≡ true
 
 -- segments, objects and an area as media
@@ -98,7 +98,7 @@ MayLose (Stored start size) area bytes = MayFree start size area bytes
 
 -- the blocks of so many bytes were given back
 pub record IsFreed (start size : ℕ) (old new : Area) (before after : ℕ) : Type 0 where
-  pub given : IsGiven start (blocks_of size) old new
+  pub given : GivesBlocks start (blocks_of size) old new
   pub counted : after ≡ before - size
 
 -- what an object has was given back
@@ -111,7 +111,7 @@ pub record Freeing (start : List ObjectRow) (blocks : ℕ) (area : Area) (bytes 
     (all left : List ObjectRow) : Type 0 where
   pub objects : List ObjectRow
   pub rest : without_objects left objects ≡ without_objects all start
-  pub held : AreHeld (states_of objects) area bytes
+  pub held : AreHeld (object_states objects) area bytes
   pub same : area.blocks ≡ blocks
   pub some : AreSomeObjects left objects
   pub rising : rises_by (λ row. row.serial) objects ≡ true

@@ -86,8 +86,8 @@ abbrev pub bare : ObjectRow → Kept
 bare row = record { row = row; flows = [] }
 
 -- the objects with a new one at its place, to which nothing refers
-abbrev pub with_row : ObjectRow → List Kept → List Kept
-with_row row kept = inserted kept_before (bare row) kept
+abbrev pub with_new_object : ObjectRow → List Kept → List Kept
+with_new_object row kept = inserted kept_before (bare row) kept
 
 -- one reference more for each of these segments, of which the last one comes first
 abbrev pub referring : List SegmentRow → List Kept → List Kept

@@ -20,12 +20,12 @@ abbrev pub rows_in : List (ℤ × List SegmentRow) → List SegmentRow
 rows_in flows = flat_map (λ p. p.1) flows
 
 -- one list behind another
-abbrev pub joined : List (List SegmentRow) → List SegmentRow
-joined lists = flat_map (λ rows. rows) lists
+abbrev pub rows_joined : List (List SegmentRow) → List SegmentRow
+rows_joined lists = flat_map (λ rows. rows) lists
 
 -- the same by rising serial
-abbrev pub segments_in : List (ℤ × List SegmentRow) → List SegmentRow
-segments_in flows = by_serial (λ row. row.serial) (rows_in flows)
+abbrev pub segments_in_flows : List (ℤ × List SegmentRow) → List SegmentRow
+segments_in_flows flows = by_serial (λ row. row.serial) (rows_in flows)
 
 -- the segments at the key of a flow
 abbrev pub flow_rows : ℕ → List (ℤ × List SegmentRow) → List SegmentRow
@@ -51,18 +51,18 @@ pub record IsFlow (p : ℤ × List SegmentRow) : Type 0 where
   pub bounded : list_all has_ends p.1 ≡ true
 
 -- what holds of the flows of a book that counts its segments
-pub record IsBook (flows : List (ℤ × List SegmentRow)) (count : ℕ) : Type 0 where
+pub record AreCountedFlows (flows : List (ℤ × List SegmentRow)) (count : ℕ) : Type 0 where
   pub each : AllByRecursion IsFlow flows
   pub others : AreOthers (rows_in flows)
   pub counted : count ≡ length (rows_in flows)
 
 -- the flows with these segments at a key, where nothing stands for none
-abbrev pub with_rows : ℤ → List SegmentRow → List (ℤ × List SegmentRow)
+abbrev pub with_rows_at : ℤ → List SegmentRow → List (ℤ × List SegmentRow)
     → List (ℤ × List SegmentRow)
-with_rows key [] flows = without_key key flows
-with_rows key (row ∷ rows) flows = with_pair (key, row ∷ rows) flows
+with_rows_at key [] flows = without_key key flows
+with_rows_at key (row ∷ rows) flows = with_pair (key, row ∷ rows) flows
 
 -- the fault of an index as one of a book
-abbrev pub IsFaultOf : AddFault → BookFault → Type 0
-IsFaultOf (faults.Overlap range) fault = fault ≡ books.Refused (Overlap range)
-IsFaultOf faults.Memory fault = fault ≡ books.Memory
+abbrev pub IsIndexFault : AddFault → BookFault → Type 0
+IsIndexFault (faults.Overlap range) fault = fault ≡ books.Refused (Overlap range)
+IsIndexFault faults.Memory fault = fault ≡ books.Memory

@@ -18,10 +18,10 @@ front_len count (Some object) limit = count
 front_len count None limit = if nat_lt limit count then limit + 1 else count
 
 -- the first point of the last of the first so many rows, where there are more
-abbrev pub key_behind : ℕ → List SegmentRow → Option ℤ
-key_behind limit rows =
+abbrev pub last_point_behind : ℕ → List SegmentRow → Option ℤ
+last_point_behind limit rows =
     if nat_lt limit (length rows) then last_key first_point (take limit rows) else None
 
 -- a page of the first so many rows
 abbrev pub shown_rows : ℕ → List SegmentRow → View
-shown_rows limit rows = Segments (take limit rows) (key_behind limit rows)
+shown_rows limit rows = Segments (take limit rows) (last_point_behind limit rows)

@@ -15,9 +15,9 @@ abbrev pub IsInner : ℤ → Type 0
 IsInner point = (negsuc (2 ^ 127 - 1) <ℤ point) × (point <ℤ pos (2 ^ 127 - 1))
 
 -- the point from which on all segments reach a point, where this is the last that begins up to it
-abbrev pub start_of : ℤ → Option (ℤ × SegmentRow) → ℤ
-start_of point None = point
-start_of point (Some p) = if reaches point p then p.0 else point
+abbrev pub walk_start : ℤ → Option (ℤ × SegmentRow) → ℤ
+walk_start point None = point
+walk_start point (Some p) = if reaches point p then p.0 else point
 
 -- a pair's segment begins by a high end, and ends behind a low one
 abbrev pub begins : Option ℤ → ℤ × SegmentRow → Bool

@@ -1,9 +1,9 @@
 -- A clock that stands, and a store in memory under way, which proofs alone need.
 use Rattle.std.specs.Prelude.{◌≡◌, ℕ, zero, suc, Bool, true, List, [], ◌∷◌, ◌++◌, All, is_some, unwrap_or}
 use Rattle.disk_trait.specs.Device.{Connection, Device}
-use Rattle.generated_workload.specs.StoredBytes.{object_bytes}
+use Rattle.generated_workload.specs.StoredBytes.{stored_total}
 use Rattle.media_rows.specs.Library.{Library}
-use Rattle.run_history.specs.Serving.{counts_of}
+use Rattle.run_history.specs.Serving.{counts_of_run}
 use Rattle.run_history.specs.Sessions.{Session, all_moments}
 use Rattle.run_history.specs.Traces.{start_of, state_now, trace_of}
 use Rattle.store_core.specs.Prepared as core
@@ -37,7 +37,7 @@ pub record IsMadeInMemory (d : Device) : Type 0 where
   pub connections : d.link.connections ≡ []
 
 -- one connection began, which heard these bytes to their end
-pub record HasHeard (bytes : List ℕ) (connections : List Connection) : Type 0 where
+pub record HeardToItsEnd (bytes : List ℕ) (connections : List Connection) : Type 0 where
   pub connection : Connection
   pub one : connections ≡ connection ∷ []
   pub heard : connection.heard ≡ bytes
@@ -54,13 +54,13 @@ pub record HasAnswered (bytes : List ℕ) (d : Device) (n : Answered) : Type 0 w
   pub still : All (λ moment. moment ≡ 0)
       (all_moments (tams_machine workload_base) (start_of workload_start) (session ∷ []))
   pub requests : n.requests
-      ≡ (counts_of (tams_machine workload_base) workload_start (session ∷ [])).answers
+      ≡ (counts_of_run (tams_machine workload_base) workload_start (session ∷ [])).answers
   pub changes : n.changes
-      ≡ (counts_of (tams_machine workload_base) workload_start (session ∷ [])).changes
+      ≡ (counts_of_run (tams_machine workload_base) workload_start (session ∷ [])).changes
   pub stands : (tams_machine workload_base).stands d.seen
       (state_now (trace_of (tams_machine workload_base) workload_start (session ∷ [])))
 
 -- what a store keeps of this library, and the bytes of its objects
-abbrev pub kept_of : Library → Kept
-kept_of library =
-    record { counts = core.counts_of library; bytes = object_bytes library.objects }
+abbrev pub kept_of_library : Library → Kept
+kept_of_library library =
+    record { counts = core.counts_of library; bytes = stored_total library.objects }

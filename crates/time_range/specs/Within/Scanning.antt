@@ -66,15 +66,15 @@ abbrev pub right_bracket : ℕ → Option Bracket
 right_bracket byte = if byte == 93 then Some Square else (if byte == 41 then Some Round else None)
 
 -- the first byte behind the left bracket, if it is none that closes the range
-abbrev pub begun : (ℕ → ℕ) → Option Bracket → ℕ → Option RangeScan
-begun cap left byte =
+abbrev pub after_bracket : (ℕ → ℕ) → Option Bracket → ℕ → Option RangeScan
+after_bracket cap left byte =
     if byte == 95 then Some (Mark left None) else option_map (First left) (ts_next cap Start byte)
 
 -- one more byte of a range that is no right bracket
 abbrev pub longer : (ℕ → ℕ) → RangeScan → ℕ → Option RangeScan
 longer cap (Left None) byte =
-    option_or (option_map (λ b. Left (Some b)) (left_bracket byte)) (begun cap None byte)
-longer cap (Left (Some bracket)) byte = begun cap (Some bracket) byte
+    option_or (option_map (λ b. Left (Some b)) (left_bracket byte)) (after_bracket cap None byte)
+longer cap (Left (Some bracket)) byte = after_bracket cap (Some bracket) byte
 longer cap (First left first) byte =
     if byte == 95 then option_map (λ p. Mark left (Some p)) (stamp_read first)
     else option_map (First left) (ts_next cap first byte)

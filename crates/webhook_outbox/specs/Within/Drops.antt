@@ -7,9 +7,10 @@ use Rattle.shared_tree.specs.Pairs.{without_key}
 use Rattle.webhook_outbox.specs.Within.Slots.{event_key}
 
 -- events without these
-abbrev pub without_rows : List EventRow → List (ℤ × EventRow) → List (ℤ × EventRow)
-without_rows [] events = events
-without_rows (row ∷ rows) events = without_rows rows (without_key (event_key row) events)
+abbrev pub without_event_rows : List EventRow → List (ℤ × EventRow) → List (ℤ × EventRow)
+without_event_rows [] events = events
+without_event_rows (row ∷ rows) events = without_event_rows rows
+    (without_key (event_key row) events)
 
 -- the outbox without the hook of a serial and its events
 abbrev pub without_serial : ℕ → Outbox → Outbox

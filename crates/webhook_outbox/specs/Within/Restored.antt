@@ -33,23 +33,23 @@ event_before a b = nat_lt a.serial b.serial
 abbrev pub may_join : HookRow → Outbox → Bool
 may_join row outbox = not (list_any (λ hook. hook.serial == row.serial) outbox.hooks)
 
-abbrev pub joined : HookRow → Outbox → Outbox
-joined row outbox = record outbox { hooks = inserted hook_before row outbox.hooks }
+abbrev pub with_hook_joined : HookRow → Outbox → Outbox
+with_hook_joined row outbox = record outbox { hooks = inserted hook_before row outbox.hooks }
 
 -- a hook is another one, or stays good with these events
 abbrev pub has_room : EventRow → List EventRow → HookRow → Bool
 has_room row events hook = not (hook.serial == row.hook) || is_hook_good (row ∷ events) hook
 
 -- no hook and no event has a serial
-abbrev pub is_new : ℕ → Outbox → Bool
-is_new serial outbox =
+abbrev pub has_no_serial : ℕ → Outbox → Bool
+has_no_serial serial outbox =
     not (list_any (λ hook. hook.serial == serial) outbox.hooks)
     && not (list_any (λ row. row.serial == serial) outbox.events)
 
 -- an event's serial is new, and its hook is kept and stays good
 abbrev pub may_wait : EventRow → Outbox → Bool
 may_wait row outbox =
-    is_new row.serial outbox && has_hook outbox.hooks row
+    has_no_serial row.serial outbox && has_hook outbox.hooks row
     && list_all (has_room row outbox.events) outbox.hooks
 
 -- the outbox with the event at its place

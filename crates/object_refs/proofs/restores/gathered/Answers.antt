@@ -1,5 +1,5 @@
 use Rattle.std.proofs.Common.{◌≡◌, ◌∷◌, ◌-◌, ◌+◌, drop, length, arith}
-use Rattle.object_refs.specs.Within.Books.{are_names_distinct, bare_objects, with_row}
+use Rattle.object_refs.specs.Within.Books.{are_names_distinct, bare_objects, with_new_object}
 use Rattle.object_refs.proofs.Gathered.{gathered_more, handed_on, is_new, not_gathered, one_more}
 use Rattle.object_refs.proofs.restores.gathered.Goals as goal
 
@@ -10,7 +10,7 @@ returns-in-Err c =
     let row = c.index-objects-objects.result in
     let shape : drop (length all - (c.loop-placed.placed + 1)) all ≡ row ∷ drop (length all - c.loop-placed.placed) all =
     one_more all c.loop-placed.placed row (omega (arith, c.loop-placed-test.true)) c.index-objects-objects.is in
-    handed_on c.in-Err.fault (is_new row c.loop-placed.book) (are_names_distinct all) (with_row row c.loop-placed.book) (bare_objects all)
+    handed_on c.in-Err.fault (is_new row c.loop-placed.book) (are_names_distinct all) (with_new_object row c.loop-placed.book) (bare_objects all)
     (λ new. not_gathered (length all - (c.loop-placed.placed + 1)) row (drop (length all - c.loop-placed.placed) all) all c.loop-placed.book
     c.loop-placed.invariant new shape) c.in-Err.ensures
 

@@ -2,7 +2,7 @@ use Rattle.std.proofs.Common.{◌≡◌, ◌≤◌, ℕ, List, [], ◌∷◌, �
 use Rattle.std.proofs.lemmas.Bool.{false≢true}
 use Rattle.std.proofs.lemmas.List.{length-append}
 use Rattle.run_history.specs.Steps.{Piece, piece_bytes}
-use Rattle.run_history.specs.Sessions.{bytes_of}
+use Rattle.run_history.specs.Sessions.{bytes_of_pieces}
 use Rattle.run_history.proofs.laws.serving.Goals as goal
 
 front_size : List Piece → ℕ
@@ -11,11 +11,12 @@ front_size (p ∷ pieces) = length (piece_bytes p)
 
 -- of three pieces, the first of which has a byte, two weren't told where nothing was
 none_told : (a b c : Piece) (front : List Piece) (last : Piece) (part : List ℕ) → 1 ≤ length (piece_bytes a)
-    → a ∷ b ∷ c ∷ [] ≡ front ++ last ∷ [] → [] ≡ bytes_of front ++ part → ⊥
+    → a ∷ b ∷ c ∷ [] ≡ front ++ last ∷ [] → [] ≡ bytes_of_pieces front ++ part → ⊥
 unfolding front_size
 none_told a b c [] last part some is none = absurd (omega (arith, ap length is))
 none_told a b c (p ∷ front) last part some is none =
-    omega (arith, some, ap front_size is, ap length none, length-append (piece_bytes p ++ bytes_of front) part, length-append (piece_bytes p) (bytes_of front))
+    omega (arith, some, ap front_size is, ap length none, length-append (piece_bytes p ++ bytes_of_pieces front) part, length-append (piece_bytes p)
+      (bytes_of_pieces front))
 
 pub returns : goal.returns
 returns c =

@@ -5,7 +5,7 @@ use Rattle.std.specs.Int.{int_max}
 use Rattle.shared_tree.specs.Pairs.{is_from, is_up_to, last}
 use Rattle.std.specs.List.{AllByRecursion}
 use Rattle.segment_index.specs.Within.Keyed.{reaches}
-use Rattle.segment_index.specs.Within.Walks.{StartsPage, start_of}
+use Rattle.segment_index.specs.Within.Walks.{StartsPage, walk_start}
 use Rattle.segment_index.proofs.Starts.{page_from, page_open, starts_are}
 use Rattle.segment_index.proofs.pages.first_key.Goals as goal
 
@@ -17,7 +17,7 @@ returns-in-Some-clause-first g c =
     let fit_behind : FitsSigned w128 c.point_behind-behind.result = search rules in
     let fit_start : FitsSigned w128 c.first_reaching.result = search rules in
     let fit : FitsSigned w128 c.max.result = search rules in
-    let start : c.first_reaching.result ≡ start_of c.in-Some.low (last (filter (is_up_to c.in-Some.low) rows)) =
+    let start : c.first_reaching.result ≡ walk_start c.in-Some.low (last (filter (is_up_to c.in-Some.low) rows)) =
     simp to_z-of_z at c.first_reaching.ensures.start in
     let key : c.max.result ≡ int_max c.point_behind-behind.result c.first_reaching.result = simp to_z-of_z at c.max.ensures.value in
     let reach = subst (λ s. AllByRecursion (λ p. is_from s p ≡ reaches c.in-Some.low p) rows) (sym start)

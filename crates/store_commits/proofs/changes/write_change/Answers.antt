@@ -3,7 +3,7 @@ use Rattle.std.specs.Option.{option_copied}
 use Rattle.std.proofs.lemmas.Result.{err_from_is_err_and}
 use Rattle.media_journal.specs.Journal.{Position}
 use Rattle.store_commits.specs.Carrying.{journal_for}
-use Rattle.store_commits.specs.Within.{kept_before}
+use Rattle.store_commits.specs.Within.{kept_with_rows}
 use Rattle.store_commits.proofs.Writing.{holds_for, rows_failed, written}
 use Rattle.store_commits.proofs.changes.write_change.Goals as goal
 
@@ -25,5 +25,5 @@ returns-clause-makes g c = λ honest shows kept held next next_held agrees same 
     let there = holds_for mid kept.journal rows next.objects next_held (made.bytes honest shows kept held agrees same next.objects next_held holds) in
     written kept held rows next c.args.frame.now next_held (is_ok c.append_change.result) (g.D.Disk.device c.args.disk.now) mid
     (g.D.Disk.device c.append_change.new.disk) first
-    (c.append_change.ensures.makes (made.calls.same.honest ∙ honest) (made.calls.same.shows ∙ shows) (kept_before kept rows) held next next_held
+    (c.append_change.ensures.makes (made.calls.same.honest ∙ honest) (made.calls.same.shows ∙ shows) (kept_with_rows kept rows) held next next_held
     (first.agrees refl) (ap (λ (p : Position). journal_for p rows) same ∙ sym made.moved) step there)

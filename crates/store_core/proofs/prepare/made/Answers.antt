@@ -1,8 +1,8 @@
 use Rattle.std.proofs.Common.{sym, subst}
 use Rattle.media_rows.specs.declared.command.Command.{Command}
-use Rattle.store_core.specs.Within.{Makes}
+use Rattle.store_core.specs.Within.{MakesAnswer}
 use Rattle.store_core.proofs.prepare.made.Goals as goal
 
 pub returns-in-Allocate : goal.returns-in-Allocate
 returns-in-Allocate c =
-    subst (λ (command : Command). Makes c.args.parts.now command c.args.now c.allocate.result) (sym c.in-Allocate.is) c.allocate.ensures
+    subst (λ (command : Command). MakesAnswer c.args.parts.now command c.args.now c.allocate.result) (sym c.in-Allocate.is) c.allocate.ensures

@@ -2,7 +2,7 @@ use Rattle.std.proofs.Common.{Option, subst}
 use Rattle.media_rows.specs.Answer.{answer}
 use Rattle.store_plans.specs.declared.outcome.Planned.{Planned}
 use Rattle.store_plans.specs.Plans.{journal_in}
-use Rattle.store_plans.specs.Within.{IsFitted, outcome_of}
+use Rattle.store_plans.specs.Within.{IsFitted, prepared_outcome}
 use Rattle.store_plans.proofs.Fitted.{made_for, prepared_full, prepared_is, prepared_plan}
 use Rattle.store_plans.proofs.commands.plan_change.Goals as goal
 
@@ -17,13 +17,13 @@ fitted-requires c =
 pub returns-in-Some-clause-planned : goal.returns-in-Some-clause-planned
 returns-in-Some-clause-planned c =
     let journal = journal_in c.args.library.now c.args.journal.now in
-    let plan = subst (λ (o : Option Planned). IsFitted journal (outcome_of c.in-Ok.prepared) o) c.in-Some.is c.in_ok-planned.ensures.plan in
+    let plan = subst (λ (o : Option Planned). IsFitted journal (prepared_outcome c.in-Ok.prepared) o) c.in-Some.is c.in_ok-planned.ensures.plan in
     prepared_plan journal (answer c.args.library.now c.args.command.now c.args.now) c.in-Ok.prepared c.in-Some.planned c.in-Ok.ensures.prepared plan
 
 -- and so is the refusal of a change that doesn't fit
 pub returns-in_ok-unchanged-in-None-clause-planned : goal.returns-in_ok-unchanged-in-None-clause-planned
 returns-in_ok-unchanged-in-None-clause-planned c =
     let journal = journal_in c.args.library.now c.args.journal.now in
-    let full = subst (λ (o : Option Planned). IsFitted journal (outcome_of c.in-Ok.prepared) o) c.in-None.is c.in_ok-planned.ensures.plan in
+    let full = subst (λ (o : Option Planned). IsFitted journal (prepared_outcome c.in-Ok.prepared) o) c.in-None.is c.in_ok-planned.ensures.plan in
     prepared_full journal (answer c.args.library.now c.args.command.now c.args.now) c.in-Ok.prepared c.in_ok-unchanged-in-None.field-0
     c.in-Ok.ensures.prepared full c.in_ok-unchanged-in-None.ensures

@@ -3,7 +3,7 @@ use Rattle.media_rows.specs.Apply.{turn}
 use Rattle.media_store.specs.Stores.{journal_of}
 use Rattle.media_store.specs.Turns.{turn_change}
 use Rattle.store_states.specs.Kept.{StoreView}
-use Rattle.tams_service.specs.Saying.{is_held}
+use Rattle.tams_service.specs.Saying.{is_told_unfailed}
 use Rattle.tams_service.proofs.Finished.{read_failed, turn_failed, turn_made, turn_skipped}
 use Rattle.tams_service.proofs.Ids.{next_id}
 use Rattle.tams_service.proofs.answering.finish.Goals as goal
@@ -20,7 +20,7 @@ returns-then-is_failed-clause-leads g c = λ all.
 pub returns-in-Ok-clause-leads : goal.returns-in-Ok-clause-leads
 returns-in-Ok-clause-leads g c = λ all.
     let said = c.say_answer-told.ensures in
-    let whole : not (is_held c.say_answer-told.result) ≡ false = sym c.is_failed.ensures ∙ c.if-is_failed.false in
+    let whole : not (is_told_unfailed c.say_answer-told.result) ≡ false = sym c.is_failed.ensures ∙ c.if-is_failed.false in
     rw (c.ending_behind.ensures, c.count-in-Ok.ensures, c.changes_of.ensures)
     (turn_made (g.X.Disk.device c.args.site.now) (g.X.Disk.device c.say_answer-told.new.site) (g.X.Disk.device c.turn.new.disk)
     c.args.store.now c.say_answer-told.new.store c.turn.new.self c.args.tally.now _ c.args.reply.now.changes c.args.now c.args.reply.now.ends
@@ -32,7 +32,7 @@ returns-in-Ok-clause-leads g c = λ all.
 pub returns-in-Err-Memory-clause-leads : goal.returns-in-Err-Memory-clause-leads
 returns-in-Err-Memory-clause-leads g c = λ all.
     let said = c.say_answer-told.ensures in
-    let whole : not (is_held c.say_answer-told.result) ≡ false = sym c.is_failed.ensures ∙ c.if-is_failed.false in
+    let whole : not (is_told_unfailed c.say_answer-told.result) ≡ false = sym c.is_failed.ensures ∙ c.if-is_failed.false in
     let starved = rw c.in-Err-Memory.field-0-is at c.in-Err-Memory.ensures.memory in
     rw (c.ending_behind-in-Err-Memory.ensures, c.count-in-Err-Memory.ensures)
     (turn_skipped (g.X.Disk.device c.args.site.now) (g.X.Disk.device c.say_answer-told.new.site) (g.X.Disk.device c.turn.new.disk)
@@ -45,7 +45,7 @@ returns-in-Err-Memory-clause-leads g c = λ all.
 pub returns-in-Err-Disk-clause-leads : goal.returns-in-Err-Disk-clause-leads
 returns-in-Err-Disk-clause-leads g c = λ all.
     let said = c.say_answer-told.ensures in
-    let whole : not (is_held c.say_answer-told.result) ≡ false = sym c.is_failed.ensures ∙ c.if-is_failed.false in
+    let whole : not (is_told_unfailed c.say_answer-told.result) ≡ false = sym c.is_failed.ensures ∙ c.if-is_failed.false in
     let failed = c.in-Err-Disk.ensures in
     rw c.count-in-Err-Disk.ensures
     (turn_failed (g.X.Disk.device c.args.site.now) (g.X.Disk.device c.say_answer-told.new.site) (g.X.Disk.device c.turn.new.disk)

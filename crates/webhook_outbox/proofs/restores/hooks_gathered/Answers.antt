@@ -1,5 +1,5 @@
 use Rattle.std.proofs.Common.{◌≡◌, ◌∷◌, ◌-◌, ◌+◌, drop, length, arith}
-use Rattle.webhook_outbox.specs.Within.Restored.{all_fit, folded, joined, may_join, no_rows}
+use Rattle.webhook_outbox.specs.Within.Restored.{all_fit, folded, with_hook_joined, may_join, no_rows}
 use Rattle.webhook_outbox.proofs.Restoring.{gathers_more, handed_on, not_gathered, one_more}
 use Rattle.webhook_outbox.proofs.restores.hooks_gathered.Goals as goal
 
@@ -10,9 +10,9 @@ returns-in-Err c =
     let row = c.index-hooks-hooks.result in
     let shape : drop (length all - (c.loop-passed.passed + 1)) all ≡ row ∷ drop (length all - c.loop-passed.passed) all =
     one_more all c.loop-passed.passed row (omega (arith, c.loop-passed-test.true)) c.index-hooks-hooks.is in
-    handed_on c.in-Err.fault (may_join row c.loop-passed.outbox) (all_fit may_join joined all no_rows) (joined row c.loop-passed.outbox)
-    (folded joined all no_rows)
-    (λ new. not_gathered may_join joined (length all - (c.loop-passed.passed + 1)) row (drop (length all - c.loop-passed.passed) all) all no_rows
+    handed_on c.in-Err.fault (may_join row c.loop-passed.outbox) (all_fit may_join with_hook_joined all no_rows) (with_hook_joined row c.loop-passed.outbox)
+    (folded with_hook_joined all no_rows)
+    (λ new. not_gathered may_join with_hook_joined (length all - (c.loop-passed.passed + 1)) row (drop (length all - c.loop-passed.passed) all) all no_rows
     c.loop-passed.outbox c.loop-passed.invariant new shape) c.in-Err.ensures
 
 -- a hook whose serial is new stands at its place
@@ -22,5 +22,5 @@ loop-passed-preserved c =
     let row = c.index-hooks-hooks.result in
     let shape : drop (length all - (c.loop-passed.passed + 1)) all ≡ row ∷ drop (length all - c.loop-passed.passed) all =
     one_more all c.loop-passed.passed row (omega (arith, c.loop-passed-test.true)) c.index-hooks-hooks.is in
-    gathers_more may_join joined row (drop (length all - c.loop-passed.passed) all) (drop (length all - (c.loop-passed.passed + 1)) all) no_rows
+    gathers_more may_join with_hook_joined row (drop (length all - c.loop-passed.passed) all) (drop (length all - (c.loop-passed.passed + 1)) all) no_rows
     c.loop-passed.outbox c.in-Ok.next c.loop-passed.invariant c.in-Ok.ensures.0 c.in-Ok.ensures.1 shape

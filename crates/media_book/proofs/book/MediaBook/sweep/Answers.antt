@@ -3,7 +3,7 @@ use Rattle.media_rows.specs.Objects.{sweep_size, without_objects}
 use Rattle.std.proofs.Common.{take}
 use Rattle.object_refs.specs.References.{objects_in}
 use Rattle.media_book.specs.Media.{swept}
-use Rattle.media_book.specs.Within.Ties.{AreHeld, states_of}
+use Rattle.media_book.specs.Within.Ties.{AreHeld, object_states}
 use Rattle.media_book.proofs.Sweeping.{swept_is, swept_seen, swept_some}
 use Rattle.media_book.proofs.book.MediaBook.sweep.Goals as goal
 
@@ -26,7 +26,7 @@ invariant_of-result c =
     rw c.in_ok-share.ensures
     (swept_is c.self.inside.segments kept _ c.self.inside.space _ c.self.inside.bytes _ c.in_ok-swept.swept.gone c.args.now c.self.invariant
     c.is_in_order.ensures.serials is c.in_ok-swept.ensures.left c.in_ok-swept.ensures.rows
-    (subst (λ l. AreHeld (states_of (without_objects l (objects_in kept))) c.in_ok-freed.freed.space c.in_ok-freed.freed.bytes) c.items-gone.ensures
+    (subst (λ l. AreHeld (object_states (without_objects l (objects_in kept))) c.in_ok-freed.freed.space c.in_ok-freed.freed.bytes) c.items-gone.ensures
     c.in_ok-freed.ensures.held))
 
 pub returns : goal.returns

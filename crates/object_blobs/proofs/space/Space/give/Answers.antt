@@ -1,5 +1,5 @@
 use Rattle.std.proofs.Common.{◌≡◌, ◌+◌, ◌≤◌, rules, arith, Fits, w64, true, sym, subst}
-use Rattle.object_blobs.specs.Holes.{Area, IsGiven, is_taken_place}
+use Rattle.object_blobs.specs.Holes.{Area, GivesBlocks, is_taken_place}
 use Rattle.object_blobs.specs.Within.Keys.{area_of}
 use Rattle.object_blobs.proofs.Giving.{Asked, given_area, given_holes}
 use Rattle.object_blobs.proofs.Seen.{kept_most}
@@ -41,4 +41,4 @@ returns c =
     } in
     let given = given_area c.self.inside.blocks c.args.start c.args.blocks c.self.inside.holes c.in_ok-others.others c.in_ok-with_hole.field-0
     c.joined_start-first.result c.joined_end-last.result asked c.in_ok-others.ensures c.in_ok-with_hole.ensures in
-    subst (λ old. IsGiven c.args.start c.args.blocks old (area_of c.self.inside.blocks c.in_ok-with_hole.field-0)) c.self.view_is given
+    subst (λ old. GivesBlocks c.args.start c.args.blocks old (area_of c.self.inside.blocks c.in_ok-with_hole.field-0)) c.self.view_is given

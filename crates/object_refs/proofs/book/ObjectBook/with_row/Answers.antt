@@ -3,7 +3,7 @@ use mir.Syntax.{w128}
 use Rattle.std.proofs.lemmas.Int.{to_z-of_z}
 use Rattle.shared_tree.specs.Pairs.{with_pair}
 use Rattle.object_refs.specs.References.{kept_of}
-use Rattle.object_refs.specs.Within.Books.{has_serial, with_row}
+use Rattle.object_refs.specs.Within.Books.{has_serial, with_new_object}
 use Rattle.object_refs.proofs.Coming.{bare_is, kept_with, new_book}
 use Rattle.object_refs.proofs.Restoring.{put_row}
 use Rattle.object_refs.proofs.book.ObjectBook.with_row.Goals as goal
@@ -35,4 +35,4 @@ returns c =
     put_row row rows c.in_ok-with_value.field-0 c.keys_rise.ensures c.self.invariant.keyed
     (subst (λ kept. has_serial row.serial kept ≡ false) (sym c.self.view_is) c.requires.serial)
     (put ∙ ap (λ k. with_pair (k, new) rows) c.serial_key.ensures ∙ ap (λ v. with_pair (pos row.serial, v) rows) made)
-    ∙ ap (with_row row) c.self.view_is
+    ∙ ap (with_new_object row) c.self.view_is

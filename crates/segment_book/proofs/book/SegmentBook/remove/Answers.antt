@@ -4,7 +4,7 @@ use Rattle.std.proofs.lemmas.Int.{to_z-of_z}
 use Rattle.media_rows.specs.Segments.{without_segments}
 use Rattle.library_laws.proofs.ListLemmas.{In-from_Contains}
 use Rattle.segment_index.specs.Answers.{without_start}
-use Rattle.segment_book.specs.Within.Flows.{segments_in}
+use Rattle.segment_book.specs.Within.Flows.{segments_in_flows}
 use Rattle.segment_book.proofs.Serials.{ends_told}
 use Rattle.segment_book.proofs.Views.{book_without, view_without}
 use Rattle.segment_book.proofs.book.SegmentBook.remove.Goals as goal
@@ -14,7 +14,7 @@ pub invariant_of-result : goal.invariant_of-result
 invariant_of-result c =
     let flows = c.self.inside.flows in
     let row = c.args.row.now in
-    let here = In-from_Contains (segments_in flows) row (subst (λ rows. Contains rows row) (sym c.self.view_is) c.requires.there) in
+    let here = In-from_Contains (segments_in_flows flows) row (subst (λ rows. Contains rows row) (sym c.self.view_is) c.requires.there) in
     let fit : FitsSigned w128 c.first_point.result = search rules in
     let others = simp to_z-of_z at c.in_ok-index.ensures in
     let left_in = others ∙ ap (λ point. without_start point c.in_ok-index_of.field-0) c.first_point.ensures ∙ ap (without_start _) c.in_ok-index_of.ensures in
@@ -26,7 +26,7 @@ pub returns : goal.returns
 returns c =
     let flows = c.self.inside.flows in
     let row = c.args.row.now in
-    let here = In-from_Contains (segments_in flows) row (subst (λ rows. Contains rows row) (sym c.self.view_is) c.requires.there) in
+    let here = In-from_Contains (segments_in_flows flows) row (subst (λ rows. Contains rows row) (sym c.self.view_is) c.requires.there) in
     let fit : FitsSigned w128 c.first_point.result = search rules in
     let others = simp to_z-of_z at c.in_ok-index.ensures in
     let left_in = others ∙ ap (λ point. without_start point c.in_ok-index_of.field-0) c.first_point.ensures ∙ ap (without_start _) c.in_ok-index_of.ensures in

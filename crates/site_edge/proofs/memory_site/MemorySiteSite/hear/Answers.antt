@@ -1,5 +1,5 @@
 use Rattle.std.proofs.Common.{false, Ok, Err, refl}
-use Rattle.site_edge.specs.Lines.{heard_more, marked}
+use Rattle.site_edge.specs.Lines.{heard_more, with_passed}
 use Rattle.site_edge.specs.declared.fault.LinkFailed.{LinkFailed}
 use Rattle.site_edge.proofs.ConnectionLemmas.{told-heard_more, heard_more-is}
 use Rattle.site_edge.proofs.KeptLemmas.{kept_changed}
@@ -12,7 +12,7 @@ invariant_of-self c =
     (told-heard_more c.hear_last.result c.hear_last.new.out) c.hear_last.ensures.heard c.self.invariant
 
 pub invariant_of-self-in-Err : goal.invariant_of-self-in-Err
-invariant_of-self-in-Err c = kept_changed (marked false) _ c.count.new.tally c.mark_last.new.lines.items (λ k. refl) c.mark_last.ensures c.self.invariant
+invariant_of-self-in-Err c = kept_changed (with_passed false) _ c.count.new.tally c.mark_last.new.lines.items (λ k. refl) c.mark_last.ensures c.self.invariant
 
 -- What the connection heard is added, and nothing else.
 pub returns-in-Ok-clause-call : goal.returns-in-Ok-clause-call
@@ -29,13 +29,13 @@ returns-in-Ok-clause-heard c =
 -- A failing call marks the connection, and nothing else.
 pub returns-in-Err-clause-call : goal.returns-in-Err-clause-call
 returns-in-Err-clause-call c =
-    rw (← c.self.view_is) (silent_call _ (marked false) _ c.count.new.tally c.mark_last.new.lines.items (λ k. refl) c.mark_last.ensures
+    rw (← c.self.view_is) (silent_call _ (with_passed false) _ c.count.new.tally c.mark_last.new.lines.items (λ k. refl) c.mark_last.ensures
     c.in-Err.ensures.counts.counted)
 
 pub returns-in-Err-clause-heard : goal.returns-in-Err-clause-heard
 returns-in-Err-clause-heard c =
     rw (← c.self.view_is) (heard_clause LinkFailed (Err c.in-Err.failed) c.args.out.now _ c.count.new.tally c.mark_last.new.lines.items
-    c.in-Err.ensures.peer_faults (changed_to (marked false) _ _ _ (failed_mark LinkFailed c.in-Err.failed c.args.out.now) c.mark_last.ensures))
+    c.in-Err.ensures.peer_faults (changed_to (with_passed false) _ _ _ (failed_mark LinkFailed c.in-Err.failed c.args.out.now) c.mark_last.ensures))
 
 pub returns-in-Ok-clause-fails : goal.returns-in-Ok-clause-fails
 returns-in-Ok-clause-fails c =
@@ -44,4 +44,4 @@ returns-in-Ok-clause-fails c =
 
 pub returns-in-Err-clause-fails : goal.returns-in-Err-clause-fails
 returns-in-Err-clause-fails c =
-    rw (← c.self.view_is) (changed_fails _ (marked false) _ c.count.new.tally c.mark_last.new.lines.items c.mark_last.ensures c.in-Err.ensures.counts)
+    rw (← c.self.view_is) (changed_fails _ (with_passed false) _ c.count.new.tally c.mark_last.new.lines.items c.mark_last.ensures c.in-Err.ensures.counts)

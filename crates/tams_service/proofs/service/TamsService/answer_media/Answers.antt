@@ -1,5 +1,5 @@
 use Rattle.std.proofs.Common.{◌∙◌, subst, sym}
-use Rattle.request_hearing.specs.Hearing.{IsOpened}
+use Rattle.request_hearing.specs.Hearing.{OpensMedia}
 use Rattle.tams_service.specs.Answering.{MediaLeads}
 use Rattle.tams_service.specs.Serving.{ServiceSeen}
 use Rattle.tams_service.proofs.Bodies.{media_planned, media_starved}
@@ -9,14 +9,14 @@ use Rattle.tams_service.proofs.service.TamsService.answer_media.Goals as goal
 pub take_put-requires-clause-put : goal.take_put-requires-clause-put
 take_put-requires-clause-put g c =
     let (so_far, all, said, opened) = c.requires.opened in
-    let o = subst (λ (s : ServiceSeen). IsOpened so_far all said s.fed c.args.head) (sym c.self.view_is) opened in
+    let o = subst (λ (s : ServiceSeen). OpensMedia so_far all said s.fed c.args.head) (sym c.self.view_is) opened in
     put_begun o c.self.inside.base c.bytes.result.now c.now-now.result c.self.inside.store.kept c.in-Ok.plan.responses (c.bytes.ensures ∙ o.tells.target)
     c.in-Ok.plan.put c.in-Ok.ensures
 
 pub take_put-requires-clause-id : goal.take_put-requires-clause-id
 take_put-requires-clause-id g c =
     let (so_far, all, said, opened) = c.requires.opened in
-    let o = subst (λ (s : ServiceSeen). IsOpened so_far all said s.fed c.args.head) (sym c.self.view_is) opened in
+    let o = subst (λ (s : ServiceSeen). OpensMedia so_far all said s.fed c.args.head) (sym c.self.view_is) opened in
     begun_id o c.self.inside.base c.bytes.result.now c.now-now.result c.self.inside.store.kept c.in-Ok.plan.responses (c.bytes.ensures ∙ o.tells.target)
     c.in-Ok.plan.put c.in-Ok.ensures
 

@@ -1,5 +1,5 @@
 use Rattle.std.proofs.Common.{[], refl, subst, sym}
-use Rattle.request_hearing.specs.Hearing.{IsGiven}
+use Rattle.request_hearing.specs.Hearing.{GivesRequest}
 use Rattle.tams_service.specs.Answering.{WholeLeads}
 use Rattle.tams_service.specs.Serving.{ServiceSeen}
 use Rattle.tams_service.proofs.Ids.{planned_id}
@@ -10,21 +10,21 @@ use Rattle.tams_service.proofs.service.TamsService.answer_whole.Goals as goal
 pub plan_answer-requires-clause-no_put : goal.plan_answer-requires-clause-no_put
 plan_answer-requires-clause-no_put g c = λ object asks.
     let (so_far, all, said, given) = c.requires.given in
-    let here = subst (λ (s : ServiceSeen). IsGiven so_far all said s.fed c.args.head) (sym c.self.view_is) given in
+    let here = subst (λ (s : ServiceSeen). GivesRequest so_far all said s.fed c.args.head) (sym c.self.view_is) given in
     no_put here c.media_puts_agree.ensures.asks c.self.inside.routes object (rw (c.bytes.ensures, c.bytes-2.ensures) at asks)
 
 -- Where bytes of an object follow nothing is written.
 pub give_answer-requires-clause-media : goal.give_answer-requires-clause-media
 give_answer-requires-clause-media g c =
     let (so_far, all, said, given) = c.requires.given in
-    let here = subst (λ (s : ServiceSeen). IsGiven so_far all said s.fed c.args.head) (sym c.self.view_is) given in
+    let here = subst (λ (s : ServiceSeen). GivesRequest so_far all said s.fed c.args.head) (sym c.self.view_is) given in
     let planned = rw (c.bytes.ensures, c.bytes-2.ensures) at c.in-Ok.ensures.answers [] here.request in
     media_still c.self.inside.store.kept (planned (parts_are here)) c.in-Ok.ensures.media
 
 pub give_answer-requires-clause-id : goal.give_answer-requires-clause-id
 give_answer-requires-clause-id g c =
     let (so_far, all, said, given) = c.requires.given in
-    let here = subst (λ (s : ServiceSeen). IsGiven so_far all said s.fed c.args.head) (sym c.self.view_is) given in
+    let here = subst (λ (s : ServiceSeen). GivesRequest so_far all said s.fed c.args.head) (sym c.self.view_is) given in
     let planned = rw (c.bytes.ensures, c.bytes-2.ensures) at c.in-Ok.ensures.answers [] here.request in
     planned_id c.self.inside.store.kept _ c.in-Ok.answer.planned (planned (parts_are here)).planned.step
 

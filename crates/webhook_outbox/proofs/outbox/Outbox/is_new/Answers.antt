@@ -1,6 +1,6 @@
 use Rattle.std.proofs.Common.{◌≡◌, pos, true, false, not, ◌&&◌, is_some, ap, sym, ◌∙◌}
 use Rattle.shared_tree.specs.Pairs.{value_at}
-use Rattle.webhook_outbox.specs.Within.Restored.{is_new}
+use Rattle.webhook_outbox.specs.Within.Restored.{has_no_serial}
 use Rattle.webhook_outbox.proofs.Placing.{is_new_is, told_none}
 use Rattle.webhook_outbox.proofs.outbox.Outbox.is_new.Goals as goal
 
@@ -17,7 +17,7 @@ returns-then-is_none c =
     no_event
     ∙ sym (is_new_is c.args.serial slots events c.self.invariant.slots_keyed c.self.invariant.events_keyed
     ∙ ap (λ b. b && not (is_some (value_at (pos c.args.serial) events))) no_hook)
-    ∙ ap (is_new c.args.serial) c.self.view_is
+    ∙ ap (has_no_serial c.args.serial) c.self.view_is
 
 -- a hook has it
 pub returns-else-is_none : goal.returns-else-is_none
@@ -29,4 +29,4 @@ returns-else-is_none c =
     c.if-is_none.false
     ∙ sym (is_new_is c.args.serial slots events c.self.invariant.slots_keyed c.self.invariant.events_keyed
     ∙ ap (λ b. b && not (is_some (value_at (pos c.args.serial) events))) a_hook)
-    ∙ ap (is_new c.args.serial) c.self.view_is
+    ∙ ap (has_no_serial c.args.serial) c.self.view_is

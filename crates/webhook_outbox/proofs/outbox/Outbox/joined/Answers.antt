@@ -1,6 +1,6 @@
 use Rattle.std.proofs.Common.{◌≡◌, true, ap, sym, subst, ◌∙◌}
 use Rattle.webhook_outbox.specs.declared.outbox.Slot.{Slot}
-use Rattle.webhook_outbox.specs.Within.Restored.{joined, may_join}
+use Rattle.webhook_outbox.specs.Within.Restored.{with_hook_joined, may_join}
 use Rattle.webhook_outbox.specs.Within.Slots.{AreSlots, seen_outbox}
 use Rattle.webhook_outbox.proofs.Placing.{Joins, joined_is, joined_slots, new_joins}
 use Rattle.webhook_outbox.proofs.outbox.Outbox.joined.Goals as goal
@@ -37,4 +37,4 @@ returns c =
       empty = c.empty.ensures;
     } in
     ap (seen_outbox c.in_ok-with_slot.field-0) c.in_ok-share.ensures
-    ∙ joined_is row slot slots c.in_ok-with_slot.field-0 events d c.in_ok-with_slot.ensures ∙ ap (joined row) c.self.view_is
+    ∙ joined_is row slot slots c.in_ok-with_slot.field-0 events d c.in_ok-with_slot.ensures ∙ ap (with_hook_joined row) c.self.view_is

@@ -1,5 +1,5 @@
 use Rattle.std.proofs.Common.{◌≡◌, true, ◌&&◌, ap, sym, ◌∙◌}
-use Rattle.webhook_outbox.specs.Within.Restored.{is_new, may_wait}
+use Rattle.webhook_outbox.specs.Within.Restored.{has_no_serial, may_wait}
 use Rattle.webhook_outbox.specs.Within.Slots.{seen_outbox, slot_has_room}
 use Rattle.webhook_outbox.proofs.Placing.{may_wait_is, none_may_wait}
 use Rattle.webhook_outbox.proofs.outbox.Outbox.may_wait.Goals as goal
@@ -10,7 +10,8 @@ returns-then-is_new c =
     let row = c.args.row.now in
     let slots = c.self.inside.slots in
     let events = c.self.inside.events in
-    let new : is_new row.serial (seen_outbox slots events) ≡ true = ap (is_new row.serial) c.self.view_is ∙ sym c.is_new.ensures ∙ c.if-is_new.true in
+    let new : has_no_serial row.serial (seen_outbox slots events) ≡ true = ap (has_no_serial row.serial) c.self.view_is ∙ sym c.is_new.ensures
+      ∙ c.if-is_new.true in
     c.has_room.ensures
     ∙ sym (may_wait_is row c.in-Some.slot.now slots events c.self.invariant c.keys_rise.ensures c.in-Some.ensures
     ∙ ap (λ b. b && slot_has_room c.in-Some.slot.now) new)

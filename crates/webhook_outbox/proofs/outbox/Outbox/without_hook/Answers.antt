@@ -2,7 +2,7 @@ use Rattle.std.proofs.Common.{◌≡◌, IfOk, ap, sym, subst, ◌∙◌}
 use Rattle.shared_tree.specs.Pairs.{values_of}
 use Rattle.shared_tree.specs.Rows.{IsKeyedBy}
 use Rattle.shared_tree.proofs.Counted.{all_kept}
-use Rattle.webhook_outbox.specs.Within.Drops.{without_rows, without_serial}
+use Rattle.webhook_outbox.specs.Within.Drops.{without_event_rows, without_serial}
 use Rattle.webhook_outbox.specs.Within.Slots.{event_key, is_for}
 use Rattle.webhook_outbox.proofs.Dropping.{Goes, gone_is, gone_slots, none_goes}
 use Rattle.webhook_outbox.proofs.Listing.{event_serials}
@@ -28,7 +28,7 @@ invariant_of-result c =
       events_rise = c.keys_rise-2.ensures;
       slot_is = c.in-Some.ensures;
       new_slots_are = c.in_ok-without_slot-in-Some.ensures;
-      new_events_are = c.in_ok-without_rows-in-Some.ensures ∙ ap (λ l. without_rows l c.self.inside.events) rows;
+      new_events_are = c.in_ok-without_rows-in-Some.ensures ∙ ap (λ l. without_event_rows l c.self.inside.events) rows;
     } in
     gone_slots c.args.serial c.in-Some.slot.now c.self.inside.slots c.in_ok-without_slot-in-Some.field-0 c.self.inside.events
     c.in_ok-without_rows-in-Some.field-0 d
@@ -44,7 +44,7 @@ returns-in_ok-without_rows-in-Some c =
       events_rise = c.keys_rise-2.ensures;
       slot_is = c.in-Some.ensures;
       new_slots_are = c.in_ok-without_slot-in-Some.ensures;
-      new_events_are = c.in_ok-without_rows-in-Some.ensures ∙ ap (λ l. without_rows l c.self.inside.events) rows;
+      new_events_are = c.in_ok-without_rows-in-Some.ensures ∙ ap (λ l. without_event_rows l c.self.inside.events) rows;
     } in
     gone_is c.args.serial c.in-Some.slot.now c.self.inside.slots c.in_ok-without_slot-in-Some.field-0 c.self.inside.events
     c.in_ok-without_rows-in-Some.field-0 d
