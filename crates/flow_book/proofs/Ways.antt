@@ -240,7 +240,7 @@ followed_on flows apart to next rest ids keyed ids_are old =
     kept a = is_some (value_at (id_key a) flows)
 
     now : (a : ℕ) → leads flows (moved_to_waiting ids apart rest).0 to a
-      ≡ ((a == to) || (kept a && is_none (cond (has_number a ids) None (value_at (id_key a) apart))))
+        ≡ ((a == to) || (kept a && is_none (cond (has_number a ids) None (value_at (id_key a) apart))))
     now a = ap (λ o. (a == to) || (kept a && is_none o)) (swept_apart a ids apart rest)
 
     still : (a : ℕ) → leads flows apart to a ≡ true → leads flows (moved_to_waiting ids apart rest).0 to a ≡ true

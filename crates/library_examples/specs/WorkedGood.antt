@@ -97,7 +97,7 @@ pub record BadExtents : Type 0 where
   pub no_bytes_at_0 : are_extents_good 46 (at 0 0 ∷ at 0 1 ∷ []) ≡ true
   pub no_good_library :
       is_good (studio_with_objects (object_a ∷ object_b ∷ record object_c { state = Stored 2 1 }
-        ∷ []))
+      ∷ []))
       ≡ false
 
 -- Ids and addresses are distinct, lists stand in their order, and serials are distinct, at least 1,

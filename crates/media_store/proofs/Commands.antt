@@ -71,7 +71,7 @@ none_stored library (commands.AddSegments flow posts) moment is =
     answered (refusal_of library (commands.AddSegments flow posts)) (accepted library (commands.AddSegments flow posts) moment) refl
 none_stored library (commands.CutSegments flow range) moment is =
     answered (refusal_of library (commands.CutSegments flow range)) (accepted library (commands.CutSegments flow range) moment)
-      (none_cut library flow range moment)
+    (none_cut library flow range moment)
 none_stored library (commands.PutHook hook) moment is =
     answered (refusal_of library (commands.PutHook hook)) (accepted library (commands.PutHook hook) moment) refl
 none_stored library (commands.DropHook url) moment is =

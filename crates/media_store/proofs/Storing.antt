@@ -90,6 +90,6 @@ store_makes ok old new kept held change extent planned payload journal device ho
     (fits_there old.seen area change extent there stores) (stored_there old.seen area change extent stores) in
     let made = carries kept held next agrees same (rows_are kept change planned.rows makes.first) step in
     let with_bytes = subst (λ (some : List (List ℕ)). Carries ok (archive_of kept held)
-      (kept_written kept planned.rows next payload) some old new) bytes made in
+    (kept_written kept planned.rows next payload) some old new) bytes made in
     subst (λ (frame : Option (List ℕ)). ChangesStore ok change came kept (kept_with kept planned frame) held old new) (sym is)
     (carried ok old new kept held change came planned.rows next payload (applied_is_sound kept.library change next makes.made).gives with_bytes)

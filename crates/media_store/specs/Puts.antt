@@ -98,7 +98,7 @@ TakesPiece kept (Refused why) piece old new before after = Unit {0}
 TakesPiece kept (Kept extent) piece old new before after =
     new.same ≡ (old.same
     && bytes_eq (bytes_at (bytes_at_extent kept extent before.seen) old.handed
-      (length piece)) piece)
+    (length piece)) piece)
 TakesPiece kept (Write extent planned) piece old new before after =
     take new.handed (bytes_at_extent kept extent after.seen)
     ≡ take old.handed (bytes_at_extent kept extent before.seen) ++ piece
@@ -173,4 +173,4 @@ EndsPut ok (Refused why) change kept held old new = Keeps kept held old new
 EndsPut ok (Kept extent) change kept held old new = Keeps kept held old new
 EndsPut ok (Write extent planned) change kept held old new =
     ChangesStore ok change (bytes_at_extent kept extent old.seen) kept
-      (kept_by kept planned) held old new
+    (kept_by kept planned) held old new

@@ -145,7 +145,7 @@ module _ {State Request : Type 0} {m : Machine State Request} {b : Beginning Sta
       let written : writing ≡ false = sym s.written ∙ (open-going m (step ∷ []) (stay, tt)).writing in
       let told : (bytes_of_pieces (pieces_of m first steps) ++ interim_bytes said) ++ s.told.0 ≡ bytes_of_pieces (pieces_of m first (steps ++ step ∷ [])) =
       ap (λ x. x ++ s.told.0) front_is ∙ ap (λ x. bytes_of_pieces front ++ x) (s.told.1.whole all) ∙ sym (bytes-push front piece)
-        ∙ ap bytes_of_pieces pieces_are in
+      ∙ ap bytes_of_pieces pieces_are in
       subst (Going m b new (given ++ moments) next finished (steps ++ step ∷ [])) counts_are
       (goes_with_step s.begun.so_far step comes_to this new rest s.is stay few one_answer s.good
       (connections_are

@@ -91,7 +91,7 @@ said_changed : (passes : Bool) (sent : List ℕ) (before talks : List Talk)
     → talks ≡ change_last (with_changed_connection (after_say passes sent)) before
 said_changed passes sent before talks is =
     is ∙ change_last-change_last (with_changed_connection (with_passed passes)) (with_changed_connection (told_more sent))
-      (with_changed_connection (after_say passes sent)) before
+    (with_changed_connection (after_say passes sent)) before
     (λ talk. refl)
 
 -- what was told, once the last connection was told bytes
@@ -133,7 +133,7 @@ say_call true passes bytes site mid tally talks kept mid_is is counted =
 say_call false passes bytes site mid tally talks kept mid_is is counted =
     let new = record site { tally = tally; talks = talks } in
     let marks : talks ≡ change_last (with_changed_connection (with_passed false)) site.talks = is
-      ∙ ap (λ m. change_last (with_changed_connection (with_passed false)) m.talks) mid_is in
+    ∙ ap (λ m. change_last (with_changed_connection (with_passed false)) m.talks) mid_is in
     let left : SameLeft site new =
     record {
       past = refl;
@@ -158,7 +158,7 @@ said_clause true passes bytes site mid tally talks mid_is is peer_faults =
     })
 said_clause false passes bytes site mid tally talks mid_is is peer_faults =
     let marks : talks ≡ change_last (with_changed_connection (with_passed false)) site.talks = is
-      ∙ ap (λ m. change_last (with_changed_connection (with_passed false)) m.talks) mid_is in
+    ∙ ap (λ m. change_last (with_changed_connection (with_passed false)) m.talks) mid_is in
     rw mid_is (record {
       peers = record { peer_faults = rw mid_is at peer_faults; closed = refl };
       under_way = refl;
@@ -307,7 +307,7 @@ said_fails true passes bytes site mid tally talks mid_is is counts =
     })
 said_fails false passes bytes site mid tally talks mid_is is counts =
     rw mid_is (changed_fails false (with_passed false) site tally talks
-      (is ∙ ap (λ m. change_last (with_changed_connection (with_passed false)) m.talks) mid_is)
+    (is ∙ ap (λ m. change_last (with_changed_connection (with_passed false)) m.talks) mid_is)
     (rw mid_is at counts))
 
 -- what was sent, by whether the call took a number
@@ -329,7 +329,7 @@ said_sent true passes bytes site mid tally talks mid_is is number =
     said_told passes (kept_bytes passes bytes) site.talks talks changed ∙ ap (λ bytes. change_last (λ t. t ++ bytes) (told_of site)) sent
 said_sent false passes bytes site mid tally talks mid_is is number =
     let marks : talks ≡ change_last (with_changed_connection (with_passed false)) site.talks = is
-      ∙ ap (λ m. change_last (with_changed_connection (with_passed false)) m.talks) mid_is in
+    ∙ ap (λ m. change_last (with_changed_connection (with_passed false)) m.talks) mid_is in
     let sent : [] ≡ (if tally.made == site.tally.made then [] else kept_bytes false bytes) =
     sent_if false site.tally.made tally.made (kept_bytes false bytes) (rw mid_is at number) in
     ap (λ ts. map (λ c. c.told) (map (λ talk. talk.connection) ts)) marks ∙

@@ -73,7 +73,7 @@ advances_carry ok before next held old new halves made =
     let t = kept_state next held in
     record {
       moments = elapses_weaker (Moves before t) (MoveEnds ok before t) (Replaces t.half before.archive t.archive)
-        (ReplaceEnds ok t.half before.archive t.archive)
+          (ReplaceEnds ok t.half before.archive t.archive)
           old new made.moments
           (λ q p could now. move_replaces t.half before t halves refl q p now)
           (λ q p could left now. move_end_replaces ok t.half before t halves refl q p now);
@@ -130,7 +130,7 @@ module _ (kept : StoreView) (held : List (List ℕ)) (next : StoreView) (next_he
   half = 4096 * next.journal.half
 
   carried : (ok : Bool) (old new : Device) → Carries ok archive kept held old new → Elapses (Replaces half archive archive)
-    (ReplaceEnds ok half archive archive) old new
+      (ReplaceEnds ok half archive archive) old new
   carried ok old new first =
       subst (λ (h : ℕ). Elapses (Replaces (4096 * h) archive archive) (ReplaceEnds ok (4096 * h) archive archive) old new) (sym halves) first.moments
 
@@ -154,7 +154,7 @@ module _ (kept : StoreView) (held : List (List ℕ)) (next : StoreView) (next_he
   pub carries_nothing : (ok : Bool) (old new : Device) → Carries ok archive kept held old new → Carries false archive next next_held old new
   carries_nothing ok old new first = record {
     moments = elapses_weaker (Replaces half archive archive) (ReplaceEnds ok half archive archive) (Replaces half archive after)
-      (Replaces half archive after) old new
+        (Replaces half archive after) old new
         (carried ok old new first)
         (λ q p could now. stays_first half archive after q p now)
         (λ q p could left now. stays_first half archive after q p (end_replaces ok half archive archive q p now));

@@ -125,7 +125,7 @@ module _ (s : StoreSeen) (from : Fed) (shown : Head) (old : Device) (moment : �
 
   -- It has come whole, or a part of it.
   is_begun : (part : List ℕ) → length part ≤ shown.length → SpellsRequest p.taken (o.text ++ part) (request_with part) ⊎ Heads p.taken (o.text ++ part)
-    (request_with part)
+      (request_with part)
   is_begun part few = elim (cases_lt (length part) shown.length) [
     | inl less ↦ inr ((opened_with part).begun less)
     | inr full ↦ inl ((opened_with part).whole (omega (arith, few, full)))
@@ -197,7 +197,7 @@ module _ (s : StoreSeen) (from : Fed) (shown : Head) (old : Device) (moment : �
           sized (Some x) is = is.sized ∙ sym body.comes
 
       whole_so : (new : Device) (now : RunCounts) (next : StoreSeen) (result : Option Ending)
-        → PutLeads mid new store next n now put responses moment shown.ends result
+          → PutLeads mid new store next n now put responses moment shown.ends result
           → p.taken < 1000000 → LeadsTo p new next moment fed.unread now result
       whole_so new now next result leads few =
           leads p (o.text ++ body.part) fed.unread (request_with body.part) (asks_there body.part body.takes) (keeps_there unspent)

@@ -140,6 +140,6 @@ module _ (base : List ℕ) (old new : Device) (store : StoreSeen) (n now : RunCo
     where
       ending_by : (k : Bool) → (if k then endings.Complete else endings.Unlinked)
           ≡ ending_of {Request = TamsRequest} (under_way (Refused all (record { interim = interim_where p.said; response = response }) ∷ [])
-            (if k then Whole else Saying))
+          (if k then Whole else Saying))
       ending_by true = refl
       ending_by false = refl

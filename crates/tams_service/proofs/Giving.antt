@@ -130,7 +130,7 @@ module _ (p : RunPlace) (old mid new : Device) (n now : RunCounts) (text rest : 
   -- ---- it was written
 
   module _ (follows : MediaFollows) (makes : (c : Change) (came : List ℕ) → MakesChange (media.journal_of store.kept) c answer.planned → fits_bytes c came
-    ≡ true
+      ≡ true
       → CameThere old store.kept c came → ChangesStore true c came store.kept (kept_by store.kept answer.planned) p.state.archive.held old mid)
       (none : answer.planned.frame ≡ None → mid ≡ old) (next : StoreSeen) (kept : next.kept ≡ kept_by store.kept answer.planned)
       (unspent : next.spent ≡ false)

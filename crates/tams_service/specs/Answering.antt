@@ -240,7 +240,7 @@ abbrev pub FailedIn : RunPlace → List ℕ → TamsRequest → ℕ → List Sto
 FailedIn p text r moment [] = SpellsRequest p.taken text r ⊎ Heads p.taken text r
 FailedIn p text r moment (next ∷ states) =
     SpellsRequest p.taken text r × (states ≡ []) × ((answer_in p.base r moment p.state).change
-      ≡ Some next)
+    ≡ Some next)
 
 -- whether there is one
 abbrev pub is_writing : List StoreState → Bool

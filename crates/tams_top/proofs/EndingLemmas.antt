@@ -341,8 +341,12 @@ module _ (words : List (List ℕ)) (old new : Device) (clock : Bool) (begun give
   run_worked sound from work = elim run.cause [
     | inl starved ↦
         rw (starved.0, starved.1)
-        (record { end = Err faults.Memory; worked = no_turns old new clock begun (Err faults.Memory) sound starved.2 from work.begins
-        (refl, inl (refl, refl)); outcome_is = refl })
+        (record {
+          end = Err faults.Memory;
+          worked = no_turns old new clock begun (Err faults.Memory) sound starved.2 from work.begins
+              (refl, inl (refl, refl));
+          outcome_is = refl;
+        })
     | inr other ↦ elim other [
       | inl bad ↦ absurd (bad.1 (Work work.command.0) work.command.1)
       | inr did ↦ (work_ends work.command.0 work.command.1 did.0 did.1 did.2).history from work.begins

@@ -134,12 +134,12 @@ module _ (bytes : List ℕ) (old new : Device) (given : List ℕ) (answers chang
   by_peer p =
       let ran = p.runs.ran in
       let one = peer_answered workload_base workload_start old new [] given (Served answers changes skipped) disk none (λ e. absurd cc)
-        (λ e. omega (arith, e)) p in
+      (λ e. omega (arith, e)) p in
       let came : new.link.connections ≡ one.0 ∷ [] = ran.connections_are ∙ ap (λ (cs : List Connection). old.link.connections ++ cs) one.1
-        ∙ ap (λ (cs : List Connection). cs ++ one.0 ∷ []) made.connections in
+      ∙ ap (λ (cs : List Connection). cs ++ one.0 ∷ []) made.connections in
       let same : one.0 ≡ heard.connection = first_of_one (sym came ∙ heard.one) in
       let numbers = served_numbers (ending_of p.session) answers changes skipped (counts_of_run (tams_machine workload_base) workload_start
-        (p.session ∷ [])) p.outcome_is in
+      (p.session ∷ [])) p.outcome_is in
       record {
         session = p.session;
         connection = heard.connection;
@@ -157,7 +157,7 @@ module _ (bytes : List ℕ) (old new : Device) (given : List ℕ) (answers chang
       let ran = p.runs.ran in
       let empty : ran.connections ≡ [] = none_served workload_base workload_start ran.connections ran.served in
       let none_came : new.link.connections ≡ [] = ran.connections_are ∙ ap (λ (cs : List Connection). old.link.connections ++ cs) empty
-        ∙ ap (λ (cs : List Connection). cs ++ []) made.connections in
+      ∙ ap (λ (cs : List Connection). cs ++ []) made.connections in
       let both : heard.connection ∷ [] ≡ [] = sym heard.one ∙ none_came in
       cc
 
@@ -186,7 +186,7 @@ pub kept_is : KeptStands → IsOneState → (image : List ℕ) (view : StoreView
     → kept_of_library view.library ≡ kept_of_library from.archive.library
 kept_is kept_stands one image view from kept stands =
     ap (λ (s : StoreState). kept_of_library s.archive.library) (one image from (kept_state view (bytes_in_image image view)) stands
-      (kept_stands image view kept))
+    (kept_stands image view kept))
 
 pub kept_found : KeptStands → IsOneState → (image : List ℕ) (view : StoreView) → IsKept image view → (found : Option Kept)
     → IfSome found (λ (kept : Kept). kept ≡ kept_of_library view.library)

@@ -84,7 +84,7 @@ pub record OnePeer (base : List ℕ) (b : Beginning StoreState) (new : Device) (
   pub runs : RunsAs base b (session ∷ []) new given
   pub outcome_is : outcome
       ≡ replay_outcome (ending_of session) (counts_of_run (tams_machine base) b.state
-        (session ∷ []))
+      (session ∷ []))
 
 -- Connections were served one after another, at most so many, by one history. Each that ended with
 -- a call of its link that failed raised the count.

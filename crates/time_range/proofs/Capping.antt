@@ -128,7 +128,7 @@ bracket_capped (Some b) = refl
 longer_capped : (s : RangeScan) (c : ℕ) → longer capped (cap_range s) c ≡ option_map cap_range (longer (λ n. n) s c)
 longer_capped (Left None) c =
     option_or_capped _ _ (option_map (λ b. Left (Some b)) (left_bracket c)) (after_bracket (λ n. n) None c) (bracket_capped (left_bracket c))
-      (begun_capped None c)
+    (begun_capped None c)
 longer_capped (Left (Some b)) c = begun_capped (Some b) c
 longer_capped (First left first) c =
     both cap_range (c == 95) _ _ (option_map (λ p. Mark left (Some p)) (stamp_read first)) (option_map (First left) (next_ts first c))

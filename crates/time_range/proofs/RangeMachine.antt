@@ -279,7 +279,7 @@ left_takes None u c e =
     let bracket : left_bracket c ≡ None = ap (λ b. if b then Some Square else (if c == 40 then Some Round else None)) square ∙ ap
     (λ b. if b then Some Round else None) round in
     let taken : longer (λ n. n) (Left None) c ≡ Some (First None u) = ap (λ o. option_or (option_map (λ b. Left (Some b)) o)
-      (after_bracket (λ n. n) None c)) bracket ∙
+    (after_bracket (λ n. n) None c)) bracket ∙
     begun_takes None u c e in
     ap (λ o. option_or o (option_and_then (λ p. closed p c) (range_read (Left None)))) taken
 

@@ -467,7 +467,7 @@ pub may_is : (row : EventRow) (slot : Slot) (slots : Slots) (events : Events) �
     → ((is_some (value_at (pos row.serial) slots) ≡ false) × (is_some (value_at (pos row.serial) events) ≡ false)) × (slot_has_room slot ≡ true)
 may_is row slot slots events kept rising e may =
     let parts = and_parts (has_no_serial row.serial (seen_outbox slots events)) (slot_has_room slot) (sym (may_wait_is row slot slots events kept rising e)
-      ∙ may) in
+    ∙ may) in
     let new = and_parts (not (is_some (value_at (pos row.serial) slots))) (not (is_some (value_at (pos row.serial) events)))
     (sym (is_new_is row.serial slots events kept.slots_keyed kept.events_keyed) ∙ parts.0) in
     ((not_true (is_some (value_at (pos row.serial) slots)) new.0, not_true (is_some (value_at (pos row.serial) events)) new.1), parts.1)

@@ -27,4 +27,4 @@ moved_to_waiting [] apart waiting = (apart, waiting)
 moved_to_waiting (id ∷ ids) apart waiting =
     if is_some (value_at (id_key id) apart)
     then moved_to_waiting ids (without_key (id_key id) apart)
-      (waiting ++ id ∷ []) else moved_to_waiting ids apart waiting
+    (waiting ++ id ∷ []) else moved_to_waiting ids apart waiting

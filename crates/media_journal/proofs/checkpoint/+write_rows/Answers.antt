@@ -27,13 +27,18 @@ returns-clause-calls g t c =
     calls_twice _ _ _ _ (record { same = first.same; link = first.link; counted = first.counted }) c.write_rows.ensures.calls
 
 pub returns-clause-few_calls : goal.returns-clause-few_calls
-returns-clause-few_calls g t c = omega (arith, c.in_ok-write_at.ensures.call.one_moment, c.write_rows.ensures.few_calls, row_writes-more
-    (length c.args.rows.now) (omega arith))
+returns-clause-few_calls g t c = omega (
+  arith,
+  c.in_ok-write_at.ensures.call.one_moment,
+  c.write_rows.ensures.few_calls,
+  row_writes-more
+      (length c.args.rows.now) (omega arith),
+)
 
 pub returns-clause-written : goal.returns-clause-written
 returns-clause-written g t c = λ shows.
     let first = c.in_ok-write_at.ensures in
     let whole = (g.met.D.Disk.sound c.args.disk.now).length shows in
     on_ok_weaker c.write_rows.result (λ seen. seen ∙ rw (first.written shows)
-      (pieces_written _ c.args.rows.now _ _ c.args.at _ c.split_at.ensures.front_len c.split_at.ensures.by_index.0 (omega (arith, whole, c.requires.device))))
+    (pieces_written _ c.args.rows.now _ _ c.args.at _ c.split_at.ensures.front_len c.split_at.ensures.by_index.0 (omega (arith, whole, c.requires.device))))
     (c.write_rows.ensures.written (first.call.same.shows ∙ shows))

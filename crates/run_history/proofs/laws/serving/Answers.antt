@@ -15,8 +15,15 @@ none_told : (a b c : Piece) (front : List Piece) (last : Piece) (part : List ℕ
 unfolding front_size
 none_told a b c [] last part some is none = absurd (omega (arith, ap length is))
 none_told a b c (p ∷ front) last part some is none =
-    omega (arith, some, ap front_size is, ap length none, length-append (piece_bytes p ++ bytes_of_pieces front) part, length-append (piece_bytes p)
-      (bytes_of_pieces front))
+    omega (
+      arith,
+      some,
+      ap front_size is,
+      ap length none,
+      length-append (piece_bytes p ++ bytes_of_pieces front) part,
+      length-append (piece_bytes p)
+          (bytes_of_pieces front),
+    )
 
 pub returns : goal.returns
 returns c =

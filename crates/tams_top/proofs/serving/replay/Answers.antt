@@ -17,7 +17,7 @@ returns-in-Ended-clause-ends g c =
     (replay_ends c.args.base (g.X.Disk.device c.args.site.now) (g.X.Disk.device c.open.new.disk) (g.X.Disk.device c.serve_next-next.new.site)
     (g.C.Clock.tells c.serve_next-next.new.clock) (g.C.Clock.given c.args.clock.now) (g.C.Clock.given c.serve_next-next.new.clock) c.in-Ok.service.store.kept _
     c.serve_next-next.new.tally c.runs_keep_bytes.ensures (g.met.X.Disk.sound c.args.site.now)
-      (g.met.X.Disk.sound c.serve_next-next.new.site) c.in-Ok.ensures.reads
+    (g.met.X.Disk.sound c.serve_next-next.new.site) c.in-Ok.ensures.reads
     c.in-Ended.ensures.calls.same c.in-Ok.ensures.answer
     (λ from start. c.in-Ok.ensures.keeps start.tells.shows start.settled from start.stands) c.serve_next-next.ensures.moments _ (Ended c.in-Ended.ending)
     c.in-Ended.ensures.calls
@@ -30,7 +30,7 @@ returns-in-NoMore-clause-ends g c =
     (replay_ends c.args.base (g.X.Disk.device c.args.site.now) (g.X.Disk.device c.open.new.disk) (g.X.Disk.device c.serve_next-next.new.site)
     (g.C.Clock.tells c.serve_next-next.new.clock) (g.C.Clock.given c.args.clock.now) (g.C.Clock.given c.serve_next-next.new.clock) c.in-Ok.service.store.kept _
     c.serve_next-next.new.tally c.runs_keep_bytes.ensures (g.met.X.Disk.sound c.args.site.now)
-      (g.met.X.Disk.sound c.serve_next-next.new.site) c.in-Ok.ensures.reads
+    (g.met.X.Disk.sound c.serve_next-next.new.site) c.in-Ok.ensures.reads
     c.in-NoMore.ensures.calls.same c.in-Ok.ensures.answer
     (λ from start. c.in-Ok.ensures.keeps start.tells.shows start.settled from start.stands) c.serve_next-next.ensures.moments _ NoMore c.in-NoMore.ensures.calls
     (λ all b sessions between. (rw c.in-Ok.ensures.afresh.1 at c.in-NoMore.ensures.leads) all b sessions (rw c.new-tally.ensures between)))
@@ -41,7 +41,7 @@ returns-in-Unlinked-clause-ends g c =
     (replay_ends c.args.base (g.X.Disk.device c.args.site.now) (g.X.Disk.device c.open.new.disk) (g.X.Disk.device c.serve_next-next.new.site)
     (g.C.Clock.tells c.serve_next-next.new.clock) (g.C.Clock.given c.args.clock.now) (g.C.Clock.given c.serve_next-next.new.clock) c.in-Ok.service.store.kept _
     c.serve_next-next.new.tally c.runs_keep_bytes.ensures (g.met.X.Disk.sound c.args.site.now)
-      (g.met.X.Disk.sound c.serve_next-next.new.site) c.in-Ok.ensures.reads
+    (g.met.X.Disk.sound c.serve_next-next.new.site) c.in-Ok.ensures.reads
     c.in-Unlinked.ensures.calls.same c.in-Ok.ensures.answer
     (λ from start. c.in-Ok.ensures.keeps start.tells.shows start.settled from start.stands) c.serve_next-next.ensures.moments _ Unlinked c.in-Unlinked.ensures.calls
     (λ all b sessions between. (rw c.in-Ok.ensures.afresh.1 at c.in-Unlinked.ensures.leads) all b sessions (rw c.new-tally.ensures between)))

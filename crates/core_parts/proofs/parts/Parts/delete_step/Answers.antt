@@ -33,7 +33,7 @@ returns c =
     let left : c.in_ok-media.media ≡ without_rows (removed_by_step library.segments request) now (media_of library) =
     c.in_ok-media.ensures ∙ ap₂ (λ rows m. without_rows rows now m) (c.items-2.ensures ∙ sym r ∙ removed) (c.deref-2.ensures ∙ ap media_of c.self.view_is) in
     let stepped : c.in_ok-stepped.stepped ≡ with_requests (after_step request.serial (is_finished_by_step library.segments request) now library.requests)
-      (registry_of library) =
+    (registry_of library) =
     c.in_ok-stepped.ensures ∙ ap₂ with_requests (sym b ∙ book) (ap registry_of c.self.view_is) in
     let hull : c.hull_if_any-hull.result ≡ hull_if_any (removed_by_step library.segments request) =
     c.hull_if_any-hull.ensures ∙ ap hull_if_any (c.items.ensures ∙ sym r ∙ removed) in

@@ -14,7 +14,7 @@ step-requires-clause-ready g c =
     let step = subst (λ (s : StoreSeen). IsTurnPlan (journal_of s.kept) c.args.now (Delete c.in-Delete.planned)) c.self.view_is
     (rw c.in-Delete.is at c.in_ok-plan_turn.ensures.planned) in
     let fits = subst (λ (s : StoreSeen). TurnFits s.kept.journal (Delete c.in-Delete.planned)) c.self.view_is
-      (rw c.in-Delete.is at c.in_ok-plan_turn.ensures.fits) in
+    (rw c.in-Delete.is at c.in_ok-plan_turn.ensures.fits) in
     ready c.args.self.now.kept (changed Done (DeleteStep c.args.now)) c.in-Delete.planned step.plan fits
 
 pub returns-in-Delete-clause-makes : goal.returns-in-Delete-clause-makes
@@ -46,7 +46,7 @@ step-requires-in-Sweep-clause-ready g c =
     let step = subst (λ (s : StoreSeen). IsTurnPlan (journal_of s.kept) c.args.now (Sweep c.in-Sweep.planned)) c.self.view_is
     (rw c.in-Sweep.is at c.in_ok-plan_turn.ensures.planned) in
     let fits = subst (λ (s : StoreSeen). TurnFits s.kept.journal (Sweep c.in-Sweep.planned)) c.self.view_is
-      (rw c.in-Sweep.is at c.in_ok-plan_turn.ensures.fits) in
+    (rw c.in-Sweep.is at c.in_ok-plan_turn.ensures.fits) in
     ready c.args.self.now.kept (changed Done (SweepStep c.args.now)) c.in-Sweep.planned step.plan fits
 
 pub returns-in-Sweep-clause-makes : goal.returns-in-Sweep-clause-makes

@@ -9,7 +9,7 @@ use Rattle.webhook_outbox.proofs.outbox.Outbox.delivered.Goals as goal
 pub unreachable-requires : goal.unreachable-requires
 unreachable-requires c =
     event_is_there c.args.event c.self.inside.events c.self.invariant.events_keyed (subst (λ (o : Outbox). WaitsFirst c.args.event o.events)
-      (sym c.self.view_is)
+    (sym c.self.view_is)
     c.requires.first) c.in_default.ensures
 
 -- for a hook that is kept

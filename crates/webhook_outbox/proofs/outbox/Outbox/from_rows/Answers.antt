@@ -24,7 +24,7 @@ returns-in-Err c =
     let hooks = c.args.hooks.now in
     let events = c.args.events.now in
     handed_on c.in-Err.fault (all_fit may_join with_hook_joined hooks no_rows) (can_restore_outbox hooks events) (folded with_hook_joined hooks no_rows)
-      (outbox_of hooks events)
+    (outbox_of hooks events)
     (hooks_refuse hooks events)
     (subst (λ l. Restores (all_fit may_join with_hook_joined l no_rows) (folded with_hook_joined l no_rows)
     (Err c.in-Err.fault)) c.items-2.ensures c.in-Err.ensures)

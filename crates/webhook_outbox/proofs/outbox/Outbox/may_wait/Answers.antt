@@ -11,7 +11,7 @@ returns-then-is_new c =
     let slots = c.self.inside.slots in
     let events = c.self.inside.events in
     let new : has_no_serial row.serial (seen_outbox slots events) ≡ true = ap (has_no_serial row.serial) c.self.view_is ∙ sym c.is_new.ensures
-      ∙ c.if-is_new.true in
+    ∙ c.if-is_new.true in
     c.has_room.ensures
     ∙ sym (may_wait_is row c.in-Some.slot.now slots events c.self.invariant c.keys_rise.ensures c.in-Some.ensures
     ∙ ap (λ b. b && slot_has_room c.in-Some.slot.now) new)
