@@ -13,3 +13,4 @@ pub mod Reaching
 pub mod Room
 pub mod Seeking
 pub mod Staying
+pub mod Trailers

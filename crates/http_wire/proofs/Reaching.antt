@@ -11,6 +11,7 @@ use Rattle.http_wire.specs.declared.chunks.ChunkFound.TheVariants as found
 use Rattle.http_wire.specs.declared.chunks.Progress.{Progress}
 use Rattle.http_wire.specs.declared.framing.WireFault.{WireFault}
 use Rattle.http_wire.proofs.Ends.{line_end-append_some}
+use Rattle.http_wire.proofs.Trailers.{TrailerSeen_later}
 use Rattle.http_wire.proofs.ChunkSteps.{chunk_steps, chunks_behind, chunks_within-one, prefixed-nothing, prefixed-prefixed}
 
 -- nothing is known of a line
@@ -37,11 +38,14 @@ seen_later bytes later room (lines.Read n size) seen = record {
   some = seen.some;
   fits = seen.fits;
 }
-seen_later bytes later room (lines.Last n) seen = record {
-  ends = line_end-append_some bytes later n seen.ends;
-  inside = omega (arith, seen.inside, length-append bytes later);
-  sized = rw (take-append-le n bytes later seen.inside) seen.sized;
-}
+seen_later bytes later room (lines.Last n trail) (seen, looked) = (
+  record {
+    ends = line_end-append_some bytes later n seen.ends;
+    inside = omega (arith, seen.inside, length-append bytes later);
+    sized = rw (take-append-le n bytes later seen.inside) seen.sized;
+  },
+  rw (drop-append-le n bytes later seen.inside) (TrailerSeen_later (drop n bytes) later trail looked),
+)
 
 -- and so does how far a body was read
 pub Reached_later : (bytes later content : List ℕ) (progress : Progress) → IsReached bytes content progress → IsReached (bytes ++ later) content progress

@@ -1,14 +1,14 @@
 -- Where nothing whole stands in bytes, there is room for one byte more.
-use Rattle.std.proofs.Common.{◌≡◌, ℕ, ◌+◌, ◌<◌, ◌≤◌, Bool, true, false, cond, List, length, take, drop, refl, sym, ap, ◌∙◌, arith, rules, Option, Some, None, Result, Ok, Err, nat_lt, length-take, length-drop}
+use Rattle.std.proofs.Common.{◌≡◌, ℕ, ◌<◌, ◌≤◌, Bool, true, false, cond, List, length, take, drop, refl, sym, ap, ◌∙◌, arith, Option, Some, None, Result, Ok, Err, nat_lt, length-take, length-drop}
 use Rattle.std.proofs.lemmas.Bool.Decides.{nat_tests}
 use Rattle.std.proofs.lemmas.List.{length-take-le}
 use Rattle.httparse.specs.Grammar.{RequestHead}
-use Rattle.http_wire.specs.Chunks.{capped_data, chunked, chunks_within}
-use Rattle.http_wire.specs.Feeds.{Fed, GivesHead, HeadHasRoom, Waits, WaitsWithRoom, feed_room}
+use Rattle.http_wire.specs.Chunks.{capped_data, chunks_within}
+use Rattle.http_wire.specs.Feeds.{HeadHasRoom, WaitsWithRoom, feed_room}
 use Rattle.http_wire.specs.Framing.{declared, fields_of, is_coded, is_media, judge, judged_framing, max_body}
 use Rattle.http_wire.specs.Heads.{Front, IsHead, IsHeadBy, more, refused, whole}
 use Rattle.http_wire.specs.Lines.{head_end, max_head}
-use Rattle.http_wire.specs.Requests.{Got, IsNext, after_head, after_read, body_at, framed_body, media_head, opened, with_content}
+use Rattle.http_wire.specs.Requests.{after_head, after_read, body_at, framed_body, media_head, opened, with_content}
 use Rattle.http_wire.specs.declared.framing.Framing.{Framing}
 use Rattle.http_wire.specs.declared.framing.Framing.TheVariants.{Chunked, Length}
 use Rattle.http_wire.specs.declared.framing.WireFault.{WireFault}
@@ -16,7 +16,6 @@ use Rattle.http_wire.specs.declared.framing.WireFault.TheVariants.{Coding, TooLa
 use Rattle.http_wire.specs.declared.lines.Looked.{Looked}
 use Rattle.http_wire.specs.declared.lines.Looked.TheVariants.{Ended, Still}
 use Rattle.http_wire.specs.declared.lines.Place.TheVariants.{Before}
-use Rattle.http_wire.specs.declared.stage.Head.{Head}
 use Rattle.http_wire.proofs.Ends.{looked_inside}
 use Rattle.http_wire.proofs.Staying.{head_inside}
 

@@ -1,4 +1,5 @@
--- What only proofs need: bounds of what is found, and how far bodies were read.
+-- What only proofs need: bounds of what is found, and how far bodies and trailers were read.
 pub mod Lines
 pub mod Reading
 pub mod Seeing
+pub mod Trailers

@@ -1,11 +1,22 @@
 //! The line before a chunk, and the trailer behind the last one (RFC 9112, section 7.1).
 ghost use Rattle.std.specs.Prelude.{◌≡◌, ◌≤◌, IfSome, None, length, take};
-ghost use Rattle.http_wire.specs.Chunks.{data_ending, count_lines, line_size, trailer, trailer_by};
-ghost use Rattle.http_wire.specs.Within.Lines.{IsEndedIn};
+ghost use Rattle.http_wire.specs.Chunks.{data_ending, count_lines, line_size};
 ghost use Rattle.http_wire.specs.Lines.{line_end};
+ghost use Rattle.http_wire.specs.Within.Trailers.{FindsTrailer, IsTrailerSeen};
 
 use crate::lines::{Looked, Place, after, find_line, front, look};
 use httparse::{Status, parse_chunk_size};
+
+/// How far a trailer was looked at.
+#[derive(Clone, Copy)]
+pub(crate) struct TrailerSeen {
+    /// So many of its bytes hold no empty line,
+    pub(crate) at: usize,
+    /// and lead to this place,
+    pub(crate) place: Place,
+    /// and so many lines end in them.
+    pub(crate) lines: usize,
+}
 
 /// What is known of the line at the front of bytes.
 #[derive(Clone, Copy)]
@@ -14,9 +25,27 @@ pub(crate) enum LineSeen {
     Open(usize),
     /// It has so many bytes, and names so many bytes of data.
     Read(usize, usize),
-    /// It has so many bytes, and is the last chunk's.
-    Last(usize),
+    /// It has so many bytes, and is the last chunk's. The trailer behind it was looked at so far.
+    Last(usize, TrailerSeen),
 }
+
+/// What is found of a trailer.
+#[derive(Clone, Copy)]
+pub(crate) enum TrailerFound {
+    /// Nothing whole as yet, but it was looked at so far.
+    More(TrailerSeen),
+    /// It can't be read.
+    Wrong,
+    /// It has so many bytes.
+    Whole(usize),
+}
+
+/// A trailer that wasn't looked at.
+pub(crate) const UNSEEN_TRAILER: TrailerSeen = TrailerSeen {
+    at: 0,
+    place: Place::After,
+    lines: 0,
+};
 
 /// What stands at the front of bytes as an end.
 #[derive(Clone, Copy)]
@@ -87,39 +116,40 @@ pub(crate) fn closed(bytes: &[u8]) -> Ending
     }
 }
 
-/// The trailer: lines up to and with the first empty one.
-pub(crate) fn trailer(bytes: &[u8]) -> Ending
-    ensures end { result ≡ trailer bytes.now }
-    ensures inside { IsEndedIn result (length bytes.now) }
+/// Looks for the end of a trailer, its first empty line, where so much of it was looked at before.
+pub(crate) fn find_trailer(bytes: &[u8], seen: TrailerSeen) -> TrailerFound
+    requires { IsTrailerSeen bytes.now seen }
+    ensures { FindsTrailer bytes.now result }
 {
-    let seen = front(bytes, MAX_TRAILER);
-    match look(Place::After, seen) {
-        Looked::Ended(count) => ended_trailer(seen, count),
-        Looked::Still(_) => {
-            if seen.len() >= MAX_TRAILER || count_lines(seen) >= MAX_TRAILER_LINES {
-                Ending::Wrong
+    let most = front(bytes, MAX_TRAILER);
+    let rest = after(most, seen.at);
+    match look(seen.place, rest) {
+        Looked::Ended(count) => {
+            if seen.lines + count_lines(front(rest, count)) > MAX_TRAILER_LINES {
+                TrailerFound::Wrong
             } else {
-                Ending::Open
+                TrailerFound::Whole(seen.at + count)
+            }
+        }
+        Looked::Still(place) => {
+            let lines = seen.lines + count_lines(rest);
+            if most.len() >= MAX_TRAILER || lines >= MAX_TRAILER_LINES {
+                TrailerFound::Wrong
+            } else {
+                TrailerFound::More(TrailerSeen {
+                    at: most.len(),
+                    place,
+                    lines,
+                })
             }
         }
     }
 }
 
-/// A trailer whose empty line ends behind so many bytes.
-fn ended_trailer(bytes: &[u8], count: usize) -> Ending
-    ensures end { result ≡ trailer_by (Looked.Ended count) bytes.now }
-    ensures inside { IsEndedIn result count }
-{
-    if count_lines(front(bytes, count)) > MAX_TRAILER_LINES {
-        Ending::Wrong
-    } else {
-        Ending::Ended(count)
-    }
-}
-
 /// How many lines end in bytes.
-pub(crate) fn count_lines(bytes: &[u8]) -> usize
-    ensures { result ≡ count_lines bytes.now }
+fn count_lines(bytes: &[u8]) -> usize
+    ensures lines { result ≡ count_lines bytes.now }
+    ensures few { result ≤ length bytes.now }
 {
     bytes.iter().filter(|byte| **byte == b'\n').count()
 }

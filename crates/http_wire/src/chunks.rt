@@ -1,12 +1,16 @@
 //! A chunked body (RFC 9112, section 7.1), read in whatever pieces it comes: each chunk is looked at once.
-ghost use Rattle.std.specs.Prelude.{◌≡◌, ◌-◌, ◌≤◌, Some, length, take};
+ghost use Rattle.std.specs.Prelude.{◌≡◌, ◌-◌, ◌≤◌, Some, drop, length};
 ghost use Rattle.std.specs.Vec.{vec_capacity};
-ghost use Rattle.http_wire.specs.Chunks.{coded_front, line_size};
+ghost use Rattle.http_wire.specs.Chunks.{coded_front};
 ghost use Rattle.http_wire.specs.Framing.{max_body};
 ghost use Rattle.http_wire.specs.Lines.{line_end};
-ghost use Rattle.http_wire.specs.Within.Reading.{FindsChunk, FindsChunked, FindsChunks, IsLine, IsLineSeen, IsReached};
+ghost use Rattle.http_wire.specs.Within.Reading.{FindsChunk, FindsChunked, FindsChunks, IsLastLine, IsLine, IsLineSeen, IsReached};
+ghost use Rattle.http_wire.specs.Within.Trailers.{IsTrailerSeen};
 
-use crate::chunk_line::{Ending, LineSeen, closed, find_line_behind, read_size, trailer};
+use crate::chunk_line::{
+    Ending, LineSeen, TrailerFound, TrailerSeen, UNSEEN_TRAILER, closed, find_line_behind,
+    find_trailer, read_size,
+};
 use crate::framing::{BODY_ROOM, WireFault};
 use crate::lines::{after, front, keep, part};
 
@@ -53,7 +57,7 @@ fn read_chunk(bytes: &[u8], room: usize, line: LineSeen) -> ChunkFound
 {
     match line {
         LineSeen::Read(count, size) => read_data(bytes, room, count, size),
-        LineSeen::Last(count) => read_last(bytes, room, count),
+        LineSeen::Last(count, seen) => read_last(bytes, room, count, seen),
         LineSeen::Open(seen) => match find_line_behind(bytes, seen) {
             Some(count) => read_line(bytes, room, count),
             None => ChunkFound::More(LineSeen::Open(bytes.len())),
@@ -71,7 +75,7 @@ fn read_line(bytes: &[u8], room: usize, count: usize) -> ChunkFound
         None => ChunkFound::Refused(WireFault::BadFraming),
         Some(size) => {
             if size == 0 {
-                read_last(bytes, room, count)
+                read_last(bytes, room, count, UNSEEN_TRAILER)
             } else if size > room as u64 {
                 ChunkFound::Refused(WireFault::TooLarge)
             } else {
@@ -81,17 +85,16 @@ fn read_line(bytes: &[u8], room: usize, count: usize) -> ChunkFound
     }
 }
 
-/// Reads the last chunk, whose line has so many bytes, and the trailer.
-fn read_last(bytes: &[u8], room: usize, count: usize) -> ChunkFound
-    requires ends { line_end bytes.now ≡ Some count }
-    requires inside { count ≤ length bytes.now }
-    requires sized { line_size (take count bytes.now) ≡ Some 0 }
+/// Reads the last chunk, whose line has so many bytes, and the trailer, of which so much was looked at.
+fn read_last(bytes: &[u8], room: usize, count: usize, seen: TrailerSeen) -> ChunkFound
+    requires line { IsLastLine bytes.now count }
+    requires trailer { IsTrailerSeen (drop count bytes.now) seen }
     ensures { FindsChunk bytes.now room result }
 {
-    match trailer(after(bytes, count)) {
-        Ending::Open => ChunkFound::More(LineSeen::Last(count)),
-        Ending::Wrong => ChunkFound::Refused(WireFault::BadFraming),
-        Ending::Ended(more) => ChunkFound::Last(count + more),
+    match find_trailer(after(bytes, count), seen) {
+        TrailerFound::More(seen) => ChunkFound::More(LineSeen::Last(count, seen)),
+        TrailerFound::Wrong => ChunkFound::Refused(WireFault::BadFraming),
+        TrailerFound::Whole(more) => ChunkFound::Last(count + more),
     }
 }
 

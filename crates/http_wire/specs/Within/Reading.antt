@@ -4,6 +4,7 @@ use Rattle.http_wire.specs.Framing.{max_body}
 use Rattle.http_wire.specs.Heads.{Front, more, refused, whole}
 use Rattle.http_wire.specs.Lines.{line_end}
 use Rattle.http_wire.specs.Chunks.{chunked, chunks_within, data_ending, coded_front, line_size, one_chunk, prefixed}
+use Rattle.http_wire.specs.Within.Trailers.{IsTrailerSeen}
 use Rattle.http_wire.specs.declared.chunk_line.Ending.TheVariants.{Ended}
 use Rattle.http_wire.specs.declared.chunk_line.LineSeen.{LineSeen}
 use Rattle.http_wire.specs.declared.chunk_line.LineSeen.TheVariants.{Last, Open, Read}
@@ -31,7 +32,7 @@ pub record IsLastLine (bytes : List ℕ) (n : ℕ) : Type 0 where
 abbrev pub IsLineSeen : List ℕ → ℕ → LineSeen → Type 0
 IsLineSeen bytes room (Open n) = (n ≤ length bytes) × (line_end (take n bytes) ≡ None)
 IsLineSeen bytes room (Read n size) = IsLine bytes room n size
-IsLineSeen bytes room (Last n) = IsLastLine bytes n
+IsLineSeen bytes room (Last n seen) = IsLastLine bytes n × IsTrailerSeen (drop n bytes) seen
 
 -- a whole chunk with data stands at the front
 pub record IsChunk (bytes : List ℕ) (room n size : ℕ) : Type 0 where
