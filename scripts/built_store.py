@@ -6,6 +6,8 @@ import subprocess
 import sys
 import time
 
+from local_ports import free_port
+
 TOP = os.path.dirname(os.path.dirname(os.path.abspath(__file__)))
 # the one that the environment's TAMS names, else the one that was built here
 PROGRAM = os.path.abspath(os.environ.get('TAMS') or os.path.join(TOP, 'crates', 'tams', 'out', 'tams'))
@@ -45,9 +47,7 @@ def format_store(folder, blocks, half):
 @contextlib.contextmanager
 def served(folder):
     """The address of the store in this folder, while it is served. In the end the program is killed, as by a crash."""
-    with socket.socket() as listener:
-        listener.bind(('127.0.0.1', 0))
-        port = listener.getsockname()[1]
+    port = free_port()
     base = f'http://127.0.0.1:{port}'
     with subprocess.Popen([PROGRAM, 'serve', 's', str(port), base, '1000'], cwd=folder, stdin=subprocess.DEVNULL,
                           stdout=subprocess.DEVNULL) as program:

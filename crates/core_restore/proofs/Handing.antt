@@ -19,14 +19,14 @@ use Rattle.media_rows.specs.Library.{Library}
 use Rattle.media_rows.specs.Lists.{each_pair, rises}
 use Rattle.media_rows.specs.Ranges.{has_both_ends}
 use Rattle.media_rows.specs.Refusals.{Restores}
-use Rattle.media_rows.specs.Snapshot.{library_of, row_before}
+use Rattle.media_rows.specs.Snapshot.{have_numbers, library_of, row_before}
 use Rattle.core_parts.specs.Parts.{library_of_parts}
 use Rattle.core_registry.specs.Registry.{Registry, registry_of}
 use Rattle.core_registry.specs.Restoring.{can_restore, registry_of_rows}
 use Rattle.core_rows.specs.Kinds.{Kinds, kinds_of, library_of_kinds}
 use Rattle.media_book.specs.Media.{Media, are_media_good, are_objects_good, are_rows_good, media_if, media_of}
 use Rattle.library_laws.proofs.RestoreLemmas.{stays}
-use Rattle.core_restore.specs.Restored.{are_rows_of_good, have_numbers}
+use Rattle.core_restore.specs.Restored.{are_rows_of_good}
 use Rattle.core_restore.specs.Within.{AreInOrder, are_parts_good, are_tied, are_values_good, is_rest_good, library_from_kinds, registry_rows}
 
 -- ---- answers

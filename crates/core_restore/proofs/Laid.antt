@@ -16,12 +16,12 @@ use Rattle.media_rows.specs.Good.{is_good}
 use Rattle.media_rows.specs.Library.{Library}
 use Rattle.media_rows.specs.Lists.{in_order, rises}
 use Rattle.media_rows.specs.Segments.{low_before}
-use Rattle.media_rows.specs.Snapshot.{kind_number, library_of, older, row_before, rows_of, segment_row_before}
+use Rattle.media_rows.specs.Snapshot.{have_numbers, is_numbers, library_of, older, row_before, rows_of, segment_row_before}
 use Rattle.core_rows.specs.Kinds.{Kinds, KindsMakeTheLibrary, joined, kind_of, kinds_of, library_of_kinds}
 use Rattle.library_laws.specs.RowLaws.{RowsGiveTheLibrary, RowsRise}
 use Rattle.library_laws.proofs.ChangesKept.{good_is_tested}
 use Rattle.library_laws.proofs.ListLemmas.{In-back, list_any-from_In}
-use Rattle.core_restore.specs.Restored.{RowsOfALibraryPass, PassingRowsAreOfALibrary, have_numbers}
+use Rattle.core_restore.specs.Restored.{RowsOfALibraryPass, PassingRowsAreOfALibrary}
 use Rattle.core_restore.proofs.Backed.{back, by_flow}
 use Rattle.core_restore.proofs.Handing.{numbers_are}
 use Rattle.core_restore.proofs.Parted.{absent_of, flows, hooks, objects, requests, rise_of, segments, sources}
@@ -172,7 +172,7 @@ passing_rows made id blocks all e =
 
 numbered : (library : Library) → have_numbers (rows_of library) ≡ true
 numbered library =
-    list_any-from_In (λ row. kind_number row == 8) (rows_of library) (rows.Numbers library.next_serial)
+    list_any-from_In is_numbers (rows_of library) (rows.Numbers library.next_serial)
     (In-back (map rows.Source library.catalog.sources ++ map rows.Flow library.catalog.flows ++ map rows.Object library.objects
     ++ map rows.Segment (in_order segment_row_before library.segments) ++ map rows.Request library.requests ++ map rows.Hook library.outbox.hooks
     ++ map rows.Event library.outbox.events) (rows.Numbers library.next_serial ∷ []) (rows.Numbers library.next_serial) (inl refl)) refl

@@ -11,14 +11,14 @@ use Rattle.media_rows.specs.declared.segment.SegmentRow.{SegmentRow}
 use Rattle.media_rows.specs.Catalog.{flow_of}
 use Rattle.media_rows.specs.Collections.{is_kept}
 use Rattle.media_rows.specs.Good.{rises_by}
-use Rattle.media_rows.specs.Lists.{rises}
+use Rattle.media_rows.specs.Lists.{is_behind, rises}
 use Rattle.media_rows.specs.Views.{id_key}
 use Rattle.shared_tree.specs.Pairs.{value_at, with_pair}
 use Rattle.id_index.proofs.Ids.{same_key}
 use Rattle.id_index.proofs.Pairs.{value_at_with}
 use Rattle.library_laws.proofs.ListLemmas.{In-take, list_all-In, list_all-from_In}
 use Rattle.library_laws.proofs.KeptLemmas.{rises-parts}
-use Rattle.core_restore.specs.Within.{AreLast, is_behind, is_behind_flow}
+use Rattle.core_restore.specs.Within.{AreLast, is_behind_flow}
 
 -- ---- flows that are kept
 

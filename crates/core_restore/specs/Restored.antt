@@ -1,16 +1,11 @@
 -- Rows from which a library is made, as when a file is opened. Our own rules.
-use Rattle.std.specs.Prelude.{◌≡◌, ℕ, ◌==◌, List, Bool, ◌&&◌, IsTrue}
-use Rattle.std.specs.List.{list_any}
+use Rattle.std.specs.Prelude.{◌≡◌, ℕ, List, Bool, ◌&&◌, IsTrue}
 use Rattle.media_rows.specs.declared.row.Row.{Row}
 use Rattle.media_rows.specs.Good.{Good, is_good}
 use Rattle.media_rows.specs.Library.{Library}
 use Rattle.media_rows.specs.Lists.{rises}
-use Rattle.media_rows.specs.Snapshot.{kind_number, library_of, row_before, rows_of}
+use Rattle.media_rows.specs.Snapshot.{have_numbers, library_of, row_before, rows_of}
 use Rattle.library_laws.specs.Laws.{HaveRanges}
-
--- the row of numbers is among these
-abbrev pub have_numbers : List Row → Bool
-have_numbers rows = list_any (λ row. kind_number row == 8) rows
 
 -- The rows are those of a good library, in the order of a snapshot: each stands before all later
 -- ones, the row of numbers is among them, and the library that they make is good.

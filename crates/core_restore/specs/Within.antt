@@ -1,5 +1,5 @@
 -- Words that the calls within this crate cite, and no other crate.
-use Rattle.std.specs.Prelude.{◌≡◌, ℕ, ◌==◌, ℤ, nat_lt, nat_le, List, [], ◌∷◌, ◌++◌, Bool, true, not, ◌&&◌, ◌||◌, IsTrue, Option, Some, None}
+use Rattle.std.specs.Prelude.{◌≡◌, ℕ, ◌==◌, ℤ, nat_lt, nat_le, List, [], ◌∷◌, ◌++◌, Bool, not, ◌&&◌, ◌||◌, IsTrue}
 use Rattle.std.specs.List.{list_all}
 use Rattle.media_rows.specs.declared.flow.FlowRow.{FlowRow}
 use Rattle.media_rows.specs.declared.request.DeleteRow.{DeleteRow}
@@ -8,7 +8,7 @@ use Rattle.media_rows.specs.Catalog.{flow_before, source_before}
 use Rattle.media_rows.specs.Collections.{is_kept}
 use Rattle.media_rows.specs.Good.{are_serials_good, are_texts_good, is_request_good, rises_by}
 use Rattle.media_rows.specs.Library.{Library, last_serial, serials_of}
-use Rattle.media_rows.specs.Lists.{rises}
+use Rattle.media_rows.specs.Lists.{is_behind, rises}
 use Rattle.media_rows.specs.Views.{id_key}
 use Rattle.core_registry.specs.declared.restores.RegistryRows.{RegistryRows}
 use Rattle.core_registry.specs.Restoring.{can_restore}
@@ -82,11 +82,6 @@ abbrev pub rise_within : ℕ → List ℕ → Bool
 rise_within next numbers = rises nat_lt (0 ∷ (numbers ++ next ∷ [])) && nat_le next last_serial
 
 -- ---- the last segments of flows
-
--- a serial lies behind this one, where there is one
-abbrev pub is_behind : Option ℕ → ℕ → Bool
-is_behind None serial = true
-is_behind (Some last) serial = nat_lt last serial
 
 -- a serial lies behind those of all segments of a flow
 abbrev pub is_behind_flow : List SegmentRow → ℕ → ℕ → Bool

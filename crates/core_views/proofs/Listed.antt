@@ -7,10 +7,10 @@ use Rattle.media_rows.specs.declared.command.SourceFilter.{SourceFilter}
 use Rattle.media_rows.specs.declared.flow.FlowRow.{FlowRow}
 use Rattle.media_rows.specs.declared.reply.View.TheVariants.{Sources}
 use Rattle.media_rows.specs.declared.source.SourceRow.{SourceRow}
-use Rattle.media_rows.specs.Lists.{is_past, items_past}
+use Rattle.media_rows.specs.Lists.{is_behind, is_past, items_past}
 use Rattle.media_rows.specs.Views.{flow_key, id_key, passes_flow, passes_source, shown_sources, source_key}
 use Rattle.id_index.proofs.Ids.{below_key}
-use Rattle.flow_book.specs.Listing.{flows_listed, is_listed_behind, is_flow_listed, is_source_listed, sources_listed}
+use Rattle.flow_book.specs.Listing.{flows_listed, is_flow_listed, is_source_listed, sources_listed}
 use Rattle.core_views.specs.Pages.{key_before, key_behind}
 
 -- what a list leaves out that begins behind an id doesn't lie past its key
@@ -36,7 +36,7 @@ behind_kept {X = X} id start passes (x ∷ xs) =
 behind_by : {X : Type 0} (id : X → ℕ) (back : Bool) (after : Option ℤ) (start : Option ℕ) (passes : X → Bool) (xs : List X)
     → option_map id_key start ≡ (if back then None else after)
     → filter (λ x. is_past after back (id_key (id x)))
-    (if back then reverse (filter (λ x. is_listed_behind start (id x) && passes x) xs) else filter (λ x. is_listed_behind start (id x) && passes x) xs)
+    (if back then reverse (filter (λ x. is_behind start (id x) && passes x) xs) else filter (λ x. is_behind start (id x) && passes x) xs)
     ≡ filter (λ x. is_past after back (id_key (id x))) (if back then reverse (filter passes xs) else filter passes xs)
 behind_by id back after None passes xs e = refl
 behind_by id true after (Some start) passes xs e = absurd (cc)
@@ -47,8 +47,7 @@ behind_by id false (Some key) (Some start) passes xs e =
 
 pub listed_behind : {X : Type 0} (id : X → ℕ) (page : Page) (start : Option ℕ) (passes : X → Bool) (xs : List X)
     → option_map id_key start ≡ key_before page
-    → items_past (λ x. id_key (id x)) page (filter (λ x. is_listed_behind start (id x) && passes x) xs) ≡ items_past (λ x. id_key (id x)) page
-    (filter passes xs)
+    → items_past (λ x. id_key (id x)) page (filter (λ x. is_behind start (id x) && passes x) xs) ≡ items_past (λ x. id_key (id x)) page (filter passes xs)
 listed_behind id page start passes xs e = behind_by id page.reverse page.after start passes xs e
 
 -- the sources and the flows of a page among those that are listed

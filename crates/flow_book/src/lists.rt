@@ -1,7 +1,8 @@
 //! Lists of the flows and sources that pass a filter.
 ghost use Rattle.std.specs.Prelude.{◌≡◌};
 ghost use Rattle.shared_tree.specs.Pairs.{values_of};
-ghost use Rattle.flow_book.specs.Listing.{flows_listed, is_listed_behind, is_flow_listed, is_source_listed, sources_listed};
+ghost use Rattle.media_rows.specs.Lists.{is_behind};
+ghost use Rattle.flow_book.specs.Listing.{flows_listed, is_flow_listed, is_source_listed, sources_listed};
 ghost use Rattle.catalog_rows.specs.Answers.{Computes};
 
 use catalog_rows::{passes_flow, passes_source};
@@ -60,7 +61,7 @@ fn is_source_listed(wanted: &SourceFilter, after: Option<u128>, row: &SourceRow)
 }
 
 fn is_behind(after: Option<u128>, id: u128) -> bool
-    ensures { result ≡ is_listed_behind after id }
+    ensures { result ≡ is_behind after id }
 {
     match after {
         None => true,

@@ -8,7 +8,7 @@ ghost use Rattle.media_rows.specs.Moments.{is_moment};
 ghost use Rattle.good_values.specs.Within.{are_plain_texts, is_hook_in_utf8};
 
 use disk_trait::{Memory, Text};
-use media_rows::{FlowBody, Hook, Member, Tag, is_essence};
+use media_rows::{FlowBody, Hook, Member, Tag, is_essence, is_utf8};
 use std::alloc::Global;
 
 /// The last moment, in seconds since 1970-01-01T00:00:00Z.
@@ -31,38 +31,27 @@ pub(crate) fn is_moment_or_none(moment: &Option<u64>) -> bool
     }
 }
 
-/// Whether bytes are UTF-8.
-#[tactic(auto, using(crate::proofs::Utf8::is_text, crate::proofs::Utf8::is_no_text))]
-pub(crate) fn is_text(bytes: &[u8]) -> bool
-    ensures { result ≡ is_utf8 bytes.now }
-{
-    match str::from_utf8(bytes) {
-        Ok(_) => true,
-        Err(_) => false,
-    }
-}
-
 /// Whether a text that may be absent is UTF-8.
 pub(crate) fn is_text_or_none(text: &Option<Text>) -> bool
     ensures { result ≡ if_there is_utf8 text.now }
 {
     match text {
         None => true,
-        Some(text) => is_text(text.bytes()),
+        Some(text) => is_utf8(text.bytes()),
     }
 }
 
 fn are_texts(texts: &[Text]) -> bool
     ensures { result ≡ list_all is_utf8 texts.now }
 {
-    texts.iter().all(|text| is_text(text.bytes()))
+    texts.iter().all(|text| is_utf8(text.bytes()))
 }
 
 /// Whether a tag's texts are UTF-8.
 pub(crate) fn is_tag_text(tag: &Tag) -> bool
     ensures { result ≡ is_tag_text tag.now }
 {
-    is_text(tag.name.bytes()) && are_texts(tag.values.items())
+    is_utf8(tag.name.bytes()) && are_texts(tag.values.items())
 }
 
 pub(crate) fn are_tag_texts(tags: &[Tag]) -> bool
@@ -112,5 +101,5 @@ fn are_plain_texts(body: &FlowBody) -> bool
 pub(crate) fn is_hook_text(hook: &Hook) -> bool
     ensures { result ≡ is_hook_in_utf8 hook.now }
 {
-    is_text(hook.url.bytes()) && is_text_or_none(&hook.key_name) && is_text_or_none(&hook.key_value)
+    is_utf8(hook.url.bytes()) && is_text_or_none(&hook.key_name) && is_text_or_none(&hook.key_value)
 }

@@ -1,5 +1,4 @@
 pub mod Pieces
-pub mod Texts
 pub mod Apart
 pub mod Seeking
 pub mod Fitting

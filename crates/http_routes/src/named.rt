@@ -8,10 +8,9 @@ ghost use Rattle.http_routes.specs.Named.{decoded_at, named_id, named_object, na
 use crate::path::piece_at;
 use disk_trait::{Memory, Text};
 use http_wire::read_length;
-use media_rows::{is_object_id, print_id, read_id};
+use media_rows::{is_object_id, is_utf8, print_id, read_id};
 use percent_encoding::percent_decode;
 use std::alloc::Global;
-use std::str;
 
 /// The id stands behind so many slashes.
 const ID_PLACE: usize = 2;
@@ -58,7 +57,7 @@ pub fn read_named_tag(alloc: Global, path: &[u8]) -> Result<Option<Text>, Memory
     ensures good { IfOk result (λ found. IsTrue (if_there is_utf8 found)) }
 {
     let name = decoded_at(alloc, path, NAME_PLACE)?;
-    if has_tag_length(name.bytes()) && is_text(name.bytes()) {
+    if has_tag_length(name.bytes()) && is_utf8(name.bytes()) {
         Ok(Some(name))
     } else {
         Ok(None)
@@ -69,17 +68,6 @@ fn has_tag_length(name: &[u8]) -> bool
     ensures { result ≡ (nat_le 1 (length name.now) && nat_le (length name.now) LONGEST_TAG_NAME) }
 {
     1 <= name.len() && name.len() <= LONGEST_TAG_NAME
-}
-
-/// Whether bytes are UTF-8.
-#[tactic(auto, using(crate::proofs::Texts::is_text, crate::proofs::Texts::is_no_text))]
-fn is_text(bytes: &[u8]) -> bool
-    ensures { result ≡ is_utf8 bytes.now }
-{
-    match str::from_utf8(bytes) {
-        Ok(_) => true,
-        Err(_) => false,
-    }
 }
 
 /// The serial of the delete request that a path names, where its id is one of this store.

@@ -1,3 +1,4 @@
 pub mod IdLemmas
 mod CalendarLemmas
 pub mod RangeLemmas
+mod TextLemmas

@@ -69,6 +69,11 @@ unfoldable pub numbers_below : ℕ → List ℕ
 numbers_below zero = []
 numbers_below (suc n) = numbers_below n ++ n ∷ []
 
+-- a number lies behind another, where there is one
+abbrev pub is_behind : Option ℕ → ℕ → Bool
+is_behind None number = true
+is_behind (Some last) number = nat_lt last number
+
 -- the first that is there
 abbrev pub or_else : {X : Type 0} → Option X → Option X → Option X
 or_else None other = other

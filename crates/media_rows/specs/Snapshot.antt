@@ -1,7 +1,8 @@
 -- The rows of a library, in the order in which a snapshot has them: by kind, then sources and flows
 -- by id, segments by flow and first point, and all else by serial; the next serial comes last. And
 -- the library of such rows. Our own rules.
-use Rattle.std.specs.Prelude.{ℕ, ℤ, None, ◌==◌, nat_lt, List, [], ◌∷◌, ◌++◌, Bool, ◌&&◌, ◌||◌, Option, map}
+use Rattle.std.specs.Prelude.{ℕ, ℤ, None, ◌==◌, nat_lt, List, [], ◌∷◌, ◌++◌, Bool, true, false, ◌&&◌, ◌||◌, Option, map}
+use Rattle.std.specs.List.{list_any}
 use Rattle.time_range.specs.Points.{low_of}
 use Rattle.media_rows.specs.declared.event.EventRow.{EventRow}
 use Rattle.media_rows.specs.declared.flow.FlowRow.{FlowRow}
@@ -52,6 +53,15 @@ place_point (rows.Request row) = None
 place_point (rows.Hook row) = None
 place_point (rows.Event row) = None
 place_point (rows.Numbers next_serial) = None
+
+-- a row is that of the next serial
+abbrev pub is_numbers : Row → Bool
+is_numbers (rows.Numbers next_serial) = true
+is_numbers _ = false
+
+-- the row of the next serial is among these
+abbrev pub have_numbers : List Row → Bool
+have_numbers all = list_any is_numbers all
 
 -- a row stands before another in a snapshot: by kind, then in the order of its kind
 abbrev pub row_before : Row → Row → Bool

@@ -20,6 +20,7 @@ mod request;
 mod row;
 mod segment;
 mod source;
+mod texts;
 
 pub use crate::change::Change;
 pub use crate::command::{
@@ -41,3 +42,4 @@ pub use crate::request::{DeleteList, DeleteRow, DeleteStatus};
 pub use crate::row::{Row, RowList};
 pub use crate::segment::{PostList, Segment, SegmentList, SegmentRow};
 pub use crate::source::{IdList, SourceList, SourceRow};
+pub use crate::texts::is_utf8;

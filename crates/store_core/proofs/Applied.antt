@@ -20,13 +20,13 @@ use Rattle.media_rows.specs.Lists.{rises}
 use Rattle.media_rows.specs.Moments.{is_moment}
 use Rattle.media_rows.specs.Objects.{blocks_of, is_free}
 use Rattle.media_rows.specs.Refusals.{IsChange, Restores}
-use Rattle.media_rows.specs.Snapshot.{library_of, row_before}
+use Rattle.media_rows.specs.Snapshot.{have_numbers, library_of, row_before}
 use Rattle.media_rows.specs.Sound.{has_good_values, is_good_command, is_sound}
 use Rattle.library_laws.specs.ChangeLaws.{AppliedIsSound, AppliesIsTested}
 use Rattle.library_laws.specs.Laws.{AnswersApply, AppliesWithin, GoodIsTested}
 use Rattle.core_parts.specs.Conditions.{HasRoom, IsReady}
 use Rattle.core_parts.specs.Parts.{within_serials}
-use Rattle.core_restore.specs.Restored.{are_rows_of_good, have_numbers}
+use Rattle.core_restore.specs.Restored.{are_rows_of_good}
 use Rattle.store_core.specs.Within.{without_reason}
 
 -- ---- where the serials don't end

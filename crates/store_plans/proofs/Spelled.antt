@@ -1,6 +1,5 @@
 -- The record of a change, and the text of a library before it.
 use Rattle.std.proofs.Common.{◌≡◌, ◌<◌, ℕ, true, List, [], ◌∷◌, ◌++◌, length, map, refl, sym, ap, subst, arith}
-use Rattle.std.specs.List.{list_any}
 use Rattle.std.proofs.lemmas.Bool.{or_right}
 use Rattle.media_rows.specs.declared.change.Change.{Change}
 use Rattle.media_rows.specs.declared.change.Change.TheVariants as changes
@@ -9,14 +8,14 @@ use Rattle.media_rows.specs.declared.row.Row.TheVariants as rows
 use Rattle.media_rows.specs.Good.{Good}
 use Rattle.media_rows.specs.Library.{Library}
 use Rattle.media_rows.specs.Lists.{in_order}
-use Rattle.media_rows.specs.Snapshot.{rows_of, segment_row_before}
+use Rattle.media_rows.specs.Snapshot.{have_numbers, is_numbers, rows_of, segment_row_before}
 use Rattle.change_codec.specs.Changes.{change_spelling, later_spelling}
 use Rattle.change_codec.specs.Codec.{SpellsChange}
 use Rattle.change_codec.specs.Fitting.{snapshot_size}
 use Rattle.snapshot_rows.specs.Texts.{SpellsRows}
 use Rattle.library_laws.specs.Laws.{GoodIsTested}
 use Rattle.library_laws.specs.RowLaws.{RowsGiveTheLibrary}
-use Rattle.store_states.specs.States.{IsTextOf, is_numbers}
+use Rattle.store_states.specs.States.{IsTextOf}
 
 -- ---- spellings
 
@@ -43,9 +42,9 @@ some_payload payload change spells = subst (λ (bytes : List ℕ). 0 < length by
 
 -- ---- the text of a library
 
-numbers_last : (front : List Row) (next : ℕ) → list_any is_numbers (front ++ rows.Numbers next ∷ []) ≡ true
+numbers_last : (front : List Row) (next : ℕ) → have_numbers (front ++ rows.Numbers next ∷ []) ≡ true
 numbers_last [] next = refl
-numbers_last (row ∷ front) next = or_right (is_numbers row) (list_any is_numbers (front ++ rows.Numbers next ∷ [])) (numbers_last front next)
+numbers_last (row ∷ front) next = or_right (is_numbers row) (have_numbers (front ++ rows.Numbers next ∷ [])) (numbers_last front next)
 
 -- the rows of a good library are its text
 pub text_of : RowsGiveTheLibrary → GoodIsTested → (library : Library) → Good library → (text : List ℕ) → SpellsRows text (rows_of library)

@@ -1,19 +1,17 @@
 -- The state for which an image of the file stands: its active half has the rows of a good library
 -- and records whose changes apply one after another, and each stored object's bytes are those at
 -- its extent. Our own format.
-use Rattle.std.specs.Prelude.{◌≡◌, ◌+◌, ◌-◌, ◌*◌, ℕ, Bool, true, false, List, [], ◌∷◌, map, Some, IsTrue}
-use Rattle.std.specs.List.{list_any}
+use Rattle.std.specs.Prelude.{◌≡◌, ◌+◌, ◌-◌, ◌*◌, ℕ, List, [], ◌∷◌, map, Some, IsTrue}
 use Rattle.media_rows.specs.declared.change.Change.{Change}
 use Rattle.media_rows.specs.declared.object.ObjectRow.{ObjectRow}
 use Rattle.media_rows.specs.declared.object.ObjectState.{ObjectState}
 use Rattle.media_rows.specs.declared.object.ObjectState.TheVariants.{Allocated, Stored}
 use Rattle.media_rows.specs.declared.row.Row.{Row}
-use Rattle.media_rows.specs.declared.row.Row.TheVariants.{Numbers}
 use Rattle.media_rows.specs.Apply.{applied}
 use Rattle.media_rows.specs.Good.{is_good}
 use Rattle.media_rows.specs.Library.{Library}
 use Rattle.media_rows.specs.Media.{Archive}
-use Rattle.media_rows.specs.Snapshot.{library_of}
+use Rattle.media_rows.specs.Snapshot.{have_numbers, library_of}
 use Rattle.change_codec.specs.Codec.{SpellsChange}
 use Rattle.snapshot_rows.specs.Texts.{SpellsRows}
 use Rattle.object_blobs.specs.Extents.{extent_bytes}
@@ -45,17 +43,12 @@ held_in image area objects = map (λ row. state_bytes image area row.state) obje
 
 -- ---- rows
 
--- the row of numbers
-abbrev pub is_numbers : Row → Bool
-is_numbers (Numbers next) = true
-is_numbers _ = false
-
 -- The text spells rows in their order, that of numbers among them, and they make the library, under
 -- this id and with so many media blocks. It is good.
 pub record IsTextOf (id blocks : ℕ) (text : List ℕ) (library : Library) : Type 0 where
   pub rows : List Row
   pub spells : SpellsRows text rows
-  pub numbered : IsTrue (list_any is_numbers rows)
+  pub numbered : IsTrue (have_numbers rows)
   pub made : library ≡ library_of id blocks rows
   pub good : IsTrue (is_good library)
 

@@ -1,15 +1,14 @@
 -- Worked values, computed by hand for a store of 64 blocks with 8 of them a half: two blocks and
 -- two halves stand before the media blocks, of which there are 46.
 use Rattle.std.specs.Prelude.{◌≡◌, ◌-◌, ℕ, List, [], ◌∷◌, true, false}
-use Rattle.std.specs.List.{list_any}
 use Rattle.media_rows.specs.declared.object.ObjectRow.{ObjectRow}
 use Rattle.media_rows.specs.declared.object.ObjectState.{ObjectState}
 use Rattle.media_rows.specs.declared.object.ObjectState.TheVariants.{Allocated, Stored}
 use Rattle.media_rows.specs.declared.row.Row.TheVariants.{Numbers}
 use Rattle.media_rows.specs.Library.{Library, empty_library}
-use Rattle.media_rows.specs.Snapshot.{library_of}
+use Rattle.media_rows.specs.Snapshot.{have_numbers, library_of}
 use Rattle.object_blobs.specs.Extents.{extent_start}
-use Rattle.store_states.specs.States.{blocks_before, held_in, is_numbers, media_start}
+use Rattle.store_states.specs.States.{blocks_before, held_in, media_start}
 
 -- an object in this state
 abbrev pub object_in : ObjectState → ObjectRow
@@ -32,5 +31,5 @@ pub record BytesAsWorked : Type 0 where
 -- The row of numbers alone makes the empty library, and no rows have it not.
 pub record RowsAsWorked : Type 0 where
   pub empty : library_of 1 (64 - blocks_before 8) (Numbers 1 ∷ []) ≡ empty_library 1 46
-  pub numbered : list_any is_numbers (Numbers 1 ∷ []) ≡ true
-  pub none : list_any is_numbers [] ≡ false
+  pub numbered : have_numbers (Numbers 1 ∷ []) ≡ true
+  pub none : have_numbers [] ≡ false

@@ -1,6 +1,5 @@
 -- A line that is put into the notes part by part.
-use Rattle.std.proofs.Common.{◌≡◌, ◌≢◌, ◌++◌, ◌∙◌, ℕ, zero, suc, codes, Bool, true, false, List, refl, sym, ap, append_assoc}
-use Rattle.std.proofs.lemmas.Bool.{false≢true}
+use Rattle.std.proofs.Common.{◌≡◌, ◌≢◌, ◌++◌, ◌∙◌, ℕ, zero, suc, codes, Bool, true, List, refl, sym, ap, append_assoc}
 use Rattle.disk_trait.proofs.Theorems.{counted_twice}
 use Rattle.site_edge.specs.Links.{Sends}
 use Rattle.tams_top.specs.Running.{TakesPart, changes_end, numbered}
@@ -21,23 +20,6 @@ takes_twice ok tells later first second a b c old mid new same one two = record 
       let q = two.puts (same ∙ yes) in
       let whole : p.0 ≡ first = p.1.whole refl in
       (first ++ q.0, sends_more ok first second q.0 q.1, q.2 ∙ ap (λ xs. xs ++ q.0) (p.2 ∙ ap (λ xs. old ++ xs) whole) ∙ append_assoc old first q.0);
-}
-
--- a part of a line that was taken in part
-pub takes_front : (tells : Bool) (first second : List ℕ) (a b : ℕ) (old new : List ℕ) → TakesPart false tells first a b old new
-    → TakesPart false tells (first ++ second) a b old new
-takes_front tells first second a b old new one = record {
-  counted = one.counted;
-  puts = λ yes.
-      let p = one.puts yes in (
-        p.0,
-        record {
-          prefix = (p.1.prefix.0 ++ second, ap (λ xs. xs ++ second) p.1.prefix.1 ∙ append_assoc p.0 p.1.prefix.0 second);
-          whole = λ no.
-              absurd (false≢true no);
-        },
-        p.2,
-      );
 }
 
 -- the end of a line where turns were skipped

@@ -1,5 +1,5 @@
 use Rattle.std.proofs.Common.{ap, ◌∙◌}
-use Rattle.core_restore.specs.Within.{is_behind}
+use Rattle.media_rows.specs.Lists.{is_behind}
 use Rattle.core_restore.proofs.ties.is_after_segments.Goals as goal
 
 -- the last segment of the flow tells, where there is one

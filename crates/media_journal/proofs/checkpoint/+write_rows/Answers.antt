@@ -1,4 +1,4 @@
-use Rattle.std.proofs.Common.{◌≡◌, ◌∙◌, length, arith}
+use Rattle.std.proofs.Common.{◌∙◌, length, arith}
 use Rattle.std.proofs.lemmas.Result.{err_from_is_err_and, on_ok_weaker}
 use Rattle.disk_trait.proofs.Theorems.{calls_twice}
 use Rattle.media_journal.proofs.CheckpointLemmas.{pieces_written, row_writes-more}

@@ -1,0 +1,16 @@
+//! Texts in UTF-8 (RFC 3629).
+ghost use Rattle.std.specs.Prelude.{◌≡◌};
+ghost use Rattle.std.specs.Str.{is_utf8};
+
+use std::str;
+
+/// Whether bytes are UTF-8.
+#[tactic(auto, using(crate::proofs::TextLemmas::passes, crate::proofs::TextLemmas::fails))]
+pub fn is_utf8(bytes: &[u8]) -> bool
+    ensures { result ≡ is_utf8 bytes.now }
+{
+    match str::from_utf8(bytes) {
+        Ok(_) => true,
+        Err(_) => false,
+    }
+}
