@@ -16,7 +16,7 @@ pub trait Disk {
 
     /// What more a device says of when its calls fail and what they leave: what the call asked for, the
     /// value before, the value after, and whether the call succeeded.
-    ghost fails: { Request → Self → Self → Bool → Type 0 };
+    ghost fails: { DiskRequest → Self → Self → Bool → Type 0 };
 
     /// The length in bytes.
     fn len(&self) -> u64

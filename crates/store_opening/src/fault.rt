@@ -16,7 +16,7 @@ pub(crate) enum OpenFault {
 impl From<OpenFault> for JournalFault {
     ghost use Rattle.store_opening.specs.Within.{opening_fault};
 
-    ghost from_gives = { λ fault e. e ≡ as_journal_fault fault };
+    ghost from_gives = { λ fault e. e ≡ opening_fault fault };
 
     fn from(fault: OpenFault) -> Self {
         match fault {
