@@ -3,7 +3,7 @@ use Rattle.std.proofs.Common.{◌≡◌, ℕ, ◌+◌, ◌<◌, ◌≤◌, Bool,
 use Rattle.std.proofs.lemmas.Bool.Decides.{nat_tests}
 use Rattle.std.proofs.lemmas.List.{drop-take, length-take-le, take-take, take_all}
 use Rattle.std.proofs.Common.{length-drop}
-use Rattle.http_wire.specs.Feeds.{StepsTo, AnswersBy, Fed, Leaves, TellsHead, TellsBody, Turns, feed_room, is_last_request, no_place}
+use Rattle.http_wire.specs.Feeds.{Fed, Leaves, TellsHead, TellsBody, Turns, feed_room, is_last_request, no_place}
 use Rattle.http_wire.specs.Heads.{refused, span_text}
 use Rattle.http_wire.specs.Parts.{GivenParts, held}
 use Rattle.http_wire.specs.Requests.{IsNext}
@@ -14,21 +14,10 @@ use Rattle.http_wire.specs.declared.head.FeedSpan.{FeedSpan}
 use Rattle.http_wire.specs.declared.stage.Head.{Head}
 use Rattle.http_wire.specs.declared.stage.Stage.{Stage}
 use Rattle.http_wire.specs.declared.stage.Stage.TheVariants.{Failed, Media, Open}
-use Rattle.http_wire.specs.declared.stage.FeedStep.{FeedStep}
 use Rattle.http_wire.specs.declared.stage.FeedStep.TheVariants as steps
 use Rattle.http_wire.specs.Steps.{wire_refusal}
 use Rattle.media_rows.specs.declared.refusal.Refusal.{Refusal}
 use Rattle.http_wire.proofs.Seeking.{text_at-take}
-
--- an answer where nothing was refused
-answers_by : (stage : Stage) (old new : Fed) (step : FeedStep) → ((fault : WireFault) → stage ≡ Failed fault → ⊥) → Turns old step new
-    → AnswersBy stage old step new
-answers_by Open old new step other turns = turns
-answers_by (Media left) old new step other turns = turns
-answers_by (Failed fault) old new step other turns = absurd (other fault refl)
-
-pub answers_turn : (old new : Fed) (step : FeedStep) → ((fault : WireFault) → old.stage ≡ Failed fault → ⊥) → Turns old step new → StepsTo old step new
-answers_turn old new step other turns = answers_by old.stage old new step other turns
 
 -- ---- places in the bytes that are given
 

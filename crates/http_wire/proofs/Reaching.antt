@@ -1,10 +1,11 @@
 -- How far a chunked body was read: from the start, one chunk on, and under more bytes.
-use Rattle.std.proofs.Common.{◌≡◌, ℕ, ◌+◌, ◌-◌, ◌≤◌, List, [], ◌++◌, length, take, drop, refl, sym, ap, ◌∙◌, arith, append-nil, append_assoc, length-append, length-drop, drop-drop}
-use Rattle.std.proofs.lemmas.List.{drop-append-le, take-append-le, length-take-le}
-use Rattle.http_wire.specs.Chunks.{chunks, chunks_within, one_chunk, prefixed}
+use Rattle.std.proofs.Common.{◌≡◌, ℕ, ◌+◌, ◌-◌, ◌<◌, ◌≤◌, nat_eq, nat_lt, true, false, rules, List, [], ◌++◌, length, take, drop, refl, sym, ap, ◌∙◌, arith, append-nil, append_assoc, length-append, length-drop, length-take, drop-drop}
+use Rattle.std.proofs.lemmas.Bool.Decides.{nat_tests}
+use Rattle.std.proofs.lemmas.List.{take_all, drop-append-le, take-append-le, length-take-le}
+use Rattle.http_wire.specs.Chunks.{chunked, chunks, chunks_within, coded_front, max_coded, one_chunk, prefixed}
 use Rattle.http_wire.specs.Framing.{max_body}
-use Rattle.http_wire.specs.Heads.{more, refused, whole}
-use Rattle.http_wire.specs.Within.Reading.{IsChunk, IsLineSeen, IsReached, FindsChunk}
+use Rattle.http_wire.specs.Heads.{Front, more, refused, whole}
+use Rattle.http_wire.specs.Within.Reading.{IsChunk, IsLine, IsLineSeen, IsReached, FindsChunk}
 use Rattle.http_wire.specs.declared.chunk_line.LineSeen.{LineSeen}
 use Rattle.http_wire.specs.declared.chunk_line.LineSeen.TheVariants as lines
 use Rattle.http_wire.specs.declared.chunks.ChunkFound.TheVariants as found
@@ -126,3 +127,39 @@ pub chunks_on : (bytes content rest : List ℕ) (room : ℕ) (progress : Progres
     → IsReached bytes (content ++ take s (drop n rest)) (fresh (progress.at + n + s + 2))
 chunks_on bytes content rest room progress n s reached there left chunk =
     rw there (Reached_more bytes content progress n s reached (rw (← there, ← left) chunk))
+
+-- ---- a chunk that lacks data
+
+-- a line that was read, and too few bytes behind it
+short_chunk : (next : ℕ → List ℕ → Front (List ℕ)) (rest : List ℕ) (room n size : ℕ) → IsLine rest room n size → length rest - n < size
+    → one_chunk next room rest ≡ more
+short_chunk next rest room n size line few =
+    let some : nat_eq size 0 ≡ false = (let above = line.some in search (arith, rules, nat_tests)) in
+    let fits : nat_lt room size ≡ false = (let within = line.fits in search (arith, rules, nat_tests)) in
+    let short : length (drop n rest) < size = omega (arith, length-drop n rest) in
+    let lacks : nat_lt (length (drop n rest)) size ≡ true = search (arith, rules, nat_tests) in
+    rw (line.ends, line.sized, some, fits, lacks) refl
+
+chunks_short_by : (bytes content : List ℕ) (progress : Progress) (n size : ℕ) → IsReached bytes content progress → progress.line ≡ lines.Read n size
+    → length bytes - progress.at - n < size → chunks_within max_body bytes ≡ more
+chunks_short_by bytes content progress n size reached is few =
+    let line : IsLine (drop progress.at bytes) (max_body - length content) n size = rw is at reached.line in
+    let short : length (drop progress.at bytes) - n < size = omega (arith, length-drop progress.at bytes) in
+    reached_front bytes content progress reached
+    ∙ ap (prefixed content progress.at)
+    (short_chunk (chunks (max_body - length content)) (drop progress.at bytes) (max_body - length content) n size line short)
+
+-- the line lies within the bytes
+pub line_within : (bytes content : List ℕ) (progress : Progress) (n size : ℕ) → IsReached (coded_front bytes) content progress
+    → progress.line ≡ lines.Read n size → progress.at + n ≤ length bytes
+line_within bytes content progress n size reached is =
+    let line : IsLine (drop progress.at (coded_front bytes)) (max_body - length content) n size = rw is at reached.line in
+    omega (arith, line.inside, reached.inside, length-drop progress.at (coded_front bytes), length-take 8388609 bytes)
+
+-- so the body isn't whole
+pub chunked_short : (bytes content : List ℕ) (progress : Progress) (n size : ℕ) → IsReached (coded_front bytes) content progress
+    → progress.line ≡ lines.Read n size → length bytes ≤ max_coded → length bytes - progress.at - n < size → chunked bytes ≡ more
+chunked_short bytes content progress n size reached is few short =
+    let all : coded_front bytes ≡ bytes = take_all 8388609 bytes (omega arith) in
+    let within : nat_lt max_coded (length bytes) ≡ false = search (arith, rules, nat_tests) in
+    rw (all, chunks_short_by bytes content progress n size (rw all at reached) is short, within) refl

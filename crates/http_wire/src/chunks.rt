@@ -1,8 +1,9 @@
 //! A chunked body (RFC 9112, section 7.1), read in whatever pieces it comes: each chunk is looked at once.
-ghost use Rattle.std.specs.Prelude.{◌≡◌, ◌-◌, ◌≤◌, Some, drop, length};
+ghost use Rattle.std.specs.Prelude.{◌≡◌, ◌-◌, ◌≤◌, ℕ, IsTrue, List, Some, drop, length};
 ghost use Rattle.std.specs.Vec.{vec_capacity};
-ghost use Rattle.http_wire.specs.Chunks.{coded_front};
+ghost use Rattle.http_wire.specs.Chunks.{chunked, coded_front};
 ghost use Rattle.http_wire.specs.Framing.{max_body};
+ghost use Rattle.http_wire.specs.Heads.{more};
 ghost use Rattle.http_wire.specs.Lines.{line_end};
 ghost use Rattle.http_wire.specs.Within.Reading.{FindsChunk, FindsChunked, FindsChunks, IsLastLine, IsLine, IsLineSeen, IsReached};
 ghost use Rattle.http_wire.specs.Within.Trailers.{IsTrailerSeen};
@@ -148,6 +149,19 @@ pub(crate) fn read_chunks(bytes: &[u8], start: Progress, body: &mut Vec<u8>) -> 
                 };
             }
         }
+    }
+}
+
+/// Whether a chunk whose line was read lacks data, whatever it is.
+pub(crate) fn lacks_data(bytes: &[u8], progress: &Progress) -> bool
+    requires { (content : List ℕ) × IsReached (coded_front bytes.now) content progress.now }
+    ensures { IsTrue result → chunked bytes.now ≡ more }
+{
+    match progress.line {
+        LineSeen::Read(count, size) => {
+            bytes.len() <= MAX_CODED && bytes.len() - progress.at - count < size
+        }
+        LineSeen::Open(_) | LineSeen::Last(_, _) => false,
     }
 }
 

@@ -1,10 +1,12 @@
 //! A feed cuts the bytes of a connection into requests, in whatever pieces they come.
 ghost use Rattle.std.specs.Prelude.{◌≡◌, ◌-◌, ◌+◌, ◌++◌, ◌↔◌, ◌≤◌, [], IfOk, IsFalse, IsTrue, drop, length, min, take};
-ghost use Rattle.http_wire.specs.Feeds.{StepsTo, IsInterimDue, IsPlace, span_bytes, feed_room, handed_on, heard, is_last_request, kept_count, left_of, new_feed};
+ghost use Rattle.http_wire.specs.Feeds.{StepsTo, IsInterimDue, IsPlace, Turns, span_bytes, feed_room, handed_on, heard, is_last_request, kept_count, left_of, new_feed};
+ghost use Rattle.http_wire.specs.Heads.{more};
+ghost use Rattle.http_wire.specs.Requests.{IsNext};
 ghost use Rattle.http_wire.specs.Within.Seeing.{ShowsHead, KnowsHead};
 
 use crate::framing::BODY_ROOM;
-use crate::front::{NextFound, find_next};
+use crate::front::{NextFound, find_next, is_short};
 use crate::head::{FeedSpan, FoundHead};
 use crate::kept::{KEPT_ROOM, Kept};
 use crate::lines::{Place, front, part};
@@ -127,6 +129,29 @@ impl Feed {
         if let Stage::Failed(fault) = self.stage {
             return FeedStep::Refused(fault.refusal());
         }
+        if self.lacks_bytes() {
+            self.kept.hold(0);
+            self.stage = Stage::Open;
+            return FeedStep::More;
+        }
+        self.read_next()
+    }
+
+    /// Whether the body that is under way is known to lack bytes, whatever they are.
+    fn lacks_bytes(&self) -> bool
+        ensures { IsTrue result → IsNext self.now.unread more }
+    {
+        match &self.seen {
+            Seen::Seeking(_, _) => false,
+            Seen::Found(found, progress) => is_short(self.kept.unread(), found, progress),
+        }
+    }
+
+    /// The same as `next_request`, where nothing was refused.
+    fn read_next(&mut self) -> FeedStep
+        requires goes_on { IsFalse self.old.ended }
+        ensures { Turns self.old result self.new }
+    {
         let next = find_next(self.kept.unread(), self.seen, &mut self.body);
         self.seen = UNSEEN;
         self.stage = Stage::Open;

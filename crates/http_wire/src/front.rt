@@ -1,12 +1,13 @@
 //! The request at the front of the unread bytes.
-ghost use Rattle.std.specs.Prelude.{◌≡◌, ◌≤◌, Ok, false};
+ghost use Rattle.std.specs.Prelude.{◌≡◌, ◌≤◌, ℕ, IsTrue, List, Ok, false};
 ghost use Rattle.std.specs.Vec.{vec_capacity};
 ghost use Rattle.http_wire.specs.Framing.{max_body};
 ghost use Rattle.http_wire.specs.Heads.{IsHead, more, refused};
+ghost use Rattle.http_wire.specs.Requests.{IsNext};
 ghost use Rattle.http_wire.specs.Within.Seeing.{FindsNext, IsFound, IsRead, IsSeen};
 
 use crate::chunk_line::LineSeen;
-use crate::chunks::{ChunksFound, Progress, read_chunked};
+use crate::chunks::{ChunksFound, Progress, lacks_data, read_chunked};
 use crate::framing::{Framing, WireFault};
 use crate::head::FoundHead;
 use crate::lines::after;
@@ -31,6 +32,21 @@ const UNREAD: Progress = Progress {
     at: 0,
     line: LineSeen::Open(0),
 };
+
+/// Whether the body behind a head, which was read so far, lacks bytes, whatever they are.
+pub(crate) fn is_short(unread: &[u8], found: &FoundHead, progress: &Progress) -> bool
+    requires { (content : List ℕ) × IsRead unread.now content found.now progress.now }
+    ensures { IsTrue result → IsNext unread.now more }
+{
+    if found.is_media {
+        return false;
+    }
+    match found.framing {
+        Err(_) => false,
+        Ok(Framing::Length(size)) => ((unread.len() - found.length) as u64) < size,
+        Ok(Framing::Chunked) => lacks_data(after(unread, found.length), progress),
+    }
+}
 
 /// Finds the request at the front, where something is known of the bytes. The data of chunks is put behind
 /// what was read before.
