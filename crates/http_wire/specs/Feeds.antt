@@ -67,6 +67,10 @@ heard fed bytes = record fed { unread = fed.unread ++ bytes }
 abbrev pub handed_on : Fed → ℕ → Fed
 handed_on fed n = record fed { unread = drop n fed.unread; stage = less_by n fed.stage }
 
+-- So many bytes of a media body went past the feed, which kept none of them.
+abbrev pub passed_by : Fed → ℕ → Fed
+passed_by fed n = record fed { stage = less_by n fed.stage }
+
 -- ---- places
 
 -- Whether a place is in the bytes of the last request. Otherwise it is in the data of its chunked

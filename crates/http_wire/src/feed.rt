@@ -1,6 +1,6 @@
 //! A feed cuts the bytes of a connection into requests, in whatever pieces they come.
 ghost use Rattle.std.specs.Prelude.{◌≡◌, ◌-◌, ◌+◌, ◌++◌, ◌↔◌, ◌≤◌, [], IfOk, IsFalse, IsTrue, drop, length, min, take};
-ghost use Rattle.http_wire.specs.Feeds.{StepsTo, IsInterimDue, IsPlace, Turns, span_bytes, feed_room, handed_on, heard, is_last_request, kept_count, left_of, new_feed};
+ghost use Rattle.http_wire.specs.Feeds.{StepsTo, IsInterimDue, IsPlace, Turns, span_bytes, feed_room, handed_on, heard, is_last_request, kept_count, left_of, new_feed, passed_by};
 ghost use Rattle.http_wire.specs.Heads.{more};
 ghost use Rattle.http_wire.specs.Requests.{IsNext};
 ghost use Rattle.http_wire.specs.Within.Seeing.{ShowsHead, KnowsHead};
@@ -221,6 +221,29 @@ impl Feed {
         }
         self.stage = Stage::Media(left - count as u64);
         count
+    }
+
+    /// How many body bytes of the last media PUT weren't handed on yet.
+    pub fn body_left(&self) -> u64
+        ensures { result ≡ left_of self.now.stage }
+    {
+        match self.stage {
+            Stage::Media(left) => left,
+            Stage::Open => 0,
+            Stage::Failed(_) => 0,
+        }
+    }
+
+    /// Counts body bytes of the last media PUT as handed on, which its caller had from the peer by itself,
+    /// where no byte is unread. It takes no memory.
+    pub fn pass_body(&mut self, count: usize)
+        requires none { self.old.unread ≡ [] }
+        requires left { count ≤ left_of self.old.stage }
+        ensures { self.new ≡ passed_by self.old count }
+    {
+        if let Stage::Media(left) = self.stage {
+            self.stage = Stage::Media(left - count as u64);
+        }
     }
 
     /// Whether the head at the front of the bytes that weren't given yet is whole, isn't refused, and an

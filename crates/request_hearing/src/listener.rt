@@ -106,7 +106,8 @@ impl Hearing {
         }
     }
 
-    /// Hears a piece where nothing is unread.
+    /// Hears a piece where nothing is unread, at its place at once. What stands behind the body stays with the
+    /// peer.
     fn hear_body<X: Site>(&mut self, site: &mut X, out: &mut [u8]) -> Body
         requires none { self.old.unread ≡ [] }
         requires left { 0 < left_of self.old.stage }
@@ -116,9 +117,13 @@ impl Hearing {
         ensures { HearsBody self.old self.new out.new (X.device site.old) (X.device site.new)
             result }
     {
-        match self.hear(site) {
+        let room = self.feed.body_left().min(out.len() as u64) as usize;
+        match hear_into(site, out, room) {
             Ok(0) => Body::Ended,
-            Ok(_) => Body::Piece(self.feed.take_body(out)),
+            Ok(count) => {
+                self.feed.pass_body(count);
+                Body::Piece(count)
+            }
             Err(LinkFailed) => Body::Unheard,
         }
     }
