@@ -9,9 +9,9 @@ use Rattle.shared_tree.specs.Pairs.{IsRising, is_at, value_at, values, with_pair
 use Rattle.shared_tree.specs.Rows.{IsKeyedBy}
 use Rattle.shared_tree.proofs.Rows.{left_out_is, replaced_is}
 use Rattle.object_refs.specs.declared.kept.Kept.{Kept}
-use Rattle.object_refs.specs.declared.names.Named.{Named}
+use Rattle.object_refs.specs.NameTables.{Names, Renames}
 use Rattle.object_refs.specs.References.{changed_at, flows_in, kept_of, less_one, objects_in, reference_of, references_in, references_to, refers, released, without_id, idle_row, released_at}
-use Rattle.object_refs.specs.Within.Names.{Renames, id_number}
+use Rattle.object_refs.specs.Within.Names.{id_number}
 use Rattle.object_refs.specs.Within.Books.{IsBook, idle_entered, idle_key_of, idle_left, kept_key}
 use Rattle.object_refs.proofs.Found.{all_looked, found_seen, tests_at}
 use Rattle.object_refs.proofs.Inverse.{some_same}
@@ -31,7 +31,7 @@ pub row_seen : (rows : Rows) (old : Kept) → IsRising rows → IsKeyedBy kept_k
     → value_at (kept_key old) rows ≡ Some old
 row_seen rows old rising keyed e = (found_seen kept_key (has_id old.row.id) rows old rising keyed e).0
 
-pub changed_book : (rows rows' : Rows) (names names' : List (ℤ × List Named)) (idle left idle' : List (ℤ × ℕ)) (old new : Kept) (old_key key : Option ℤ)
+pub changed_book : (rows rows' : Rows) (names names' : Names) (idle left idle' : List (ℤ × ℕ)) (old new : Kept) (old_key key : Option ℤ)
     → IsBook rows names idle → IsRising rows → kept_of old.row.id (values rows) ≡ Some old → new.row.id ≡ old.row.id → new.row.serial ≡ old.row.serial
     → old_key ≡ idle_key_of old → key ≡ idle_key_of new → rows' ≡ with_pair (kept_key old, new) rows → names' ≡ names → left ≡ idle_left old_key idle
     → idle' ≡ idle_entered key old.row.serial left → IsBook rows' names' idle'
@@ -39,7 +39,7 @@ changed_book rows rows' names names' idle left idle' old new old_key key book ri
     book_changes rows rows' names names' idle idle' old new book (row_seen rows old rising book.keyed found) id serial er en
     (ei ∙ ap (λ k. idle_entered k old.row.serial left) ek ∙ ap (idle_entered (idle_key_of new) old.row.serial) (el ∙ ap (λ k. idle_left k idle) eo))
 
-pub changed_values : (rows rows' : Rows) (names : List (ℤ × List Named)) (idle : List (ℤ × ℕ)) (old new : Kept) (change : Kept → Kept)
+pub changed_values : (rows rows' : Rows) (names : Names) (idle : List (ℤ × ℕ)) (old new : Kept) (change : Kept → Kept)
     → IsBook rows names idle → IsRising rows → kept_of old.row.id (values rows) ≡ Some old → new ≡ change old → rows' ≡ with_pair (kept_key old, new) rows
     → values rows' ≡ changed_at old.row.id change (values rows)
 changed_values rows rows' names idle old new change book rising found made is =
@@ -180,7 +180,7 @@ each_row (q ∷ qs) before after id flow moment h =
     ∙ ap (λ r. r ∷ idled (references_in before) (references_in after) moment (objects_in (values qs))) h.0
 
 -- the objects once a reference went, by the library's rule
-pub released_objects : (rows : Rows) (names : List (ℤ × List Named)) (idle : List (ℤ × ℕ)) (old : Kept) (id : List ℕ) (flow moment : ℕ) (next : List Kept)
+pub released_objects : (rows : Rows) (names : Names) (idle : List (ℤ × ℕ)) (old : Kept) (id : List ℕ) (flow moment : ℕ) (next : List Kept)
     → IsBook rows names idle → IsRising rows → kept_of id (values rows) ≡ Some old → refers (references_in (values rows)) id flow ≡ true
     → next ≡ changed_at id (released_at flow moment) (values rows)
     → objects_in next ≡ idled (references_in (values rows)) (references_in next) moment (objects_in (values rows))
@@ -259,7 +259,7 @@ flows_back : (own : List ℕ) (flows : List ℕ) → map (λ row. row.flow) (map
 flows_back own [] = refl
 flows_back own (f ∷ fs) = ap (λ l. f ∷ l) (flows_back own fs)
 
-pub naming_found : (id : List ℕ) (rows : Rows) (names : List (ℤ × List Named)) (idle : List (ℤ × ℕ)) (old : Kept) → IsBook rows names idle → IsRising rows
+pub naming_found : (id : List ℕ) (rows : Rows) (names : Names) (idle : List (ℤ × ℕ)) (old : Kept) → IsBook rows names idle → IsRising rows
     → kept_of id (values rows) ≡ Some old → flows_naming (references_in (values rows)) id ≡ placed_all nat_lt old.flows
 naming_found id rows names idle old book rising found =
     ap (λ l. placed_all nat_lt (map (λ row. row.flow) l)) (refs_found id rows names old rising book.keyed book.named found)
@@ -270,14 +270,14 @@ naming_none id kept none = ap (λ l. placed_all nat_lt (map (λ row. row.flow) l
 
 -- ---- an object that goes
 
-pub left_book : (rows rows' : Rows) (names names' : List (ℤ × List Named)) (idle idle' : List (ℤ × ℕ)) (old : Kept) (number : ℕ) (old_key : Option ℤ)
+pub left_book : (rows rows' : Rows) (names names' : Names) (idle idle' : List (ℤ × ℕ)) (old : Kept) (number : ℕ) (old_key : Option ℤ)
     → IsBook rows names idle → IsRising rows → kept_of old.row.id (values rows) ≡ Some old → number ≡ id_number old.row.id → old_key ≡ idle_key_of old
     → rows' ≡ without_key (kept_key old) rows → Renames number old.row.id None names names' → idle' ≡ idle_left old_key idle → IsBook rows' names' idle'
 left_book rows rows' names names' idle idle' old number old_key book rising found en eo er renames ei =
     book_loses rows rows' names names' idle idle' old book (row_seen rows old rising book.keyed found) er
     (subst (λ n. Renames n old.row.id None names names') en renames) (ei ∙ ap (λ k. idle_left k idle) eo)
 
-pub left_values : (rows rows' : Rows) (names : List (ℤ × List Named)) (idle : List (ℤ × ℕ)) (old : Kept) → IsBook rows names idle → IsRising rows
+pub left_values : (rows rows' : Rows) (names : Names) (idle : List (ℤ × ℕ)) (old : Kept) → IsBook rows names idle → IsRising rows
     → kept_of old.row.id (values rows) ≡ Some old → rows' ≡ without_key (kept_key old) rows → values rows' ≡ without_id old.row.id (values rows)
 left_values rows rows' names idle old book rising found is =
     ap values is ∙ left_out_is (has_id old.row.id) (kept_key old) rows rising

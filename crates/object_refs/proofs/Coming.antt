@@ -6,8 +6,8 @@ use Rattle.media_rows.specs.Objects.{object_of}
 use Rattle.shared_tree.specs.Pairs.{IsRising, values, with_pair}
 use Rattle.object_refs.specs.declared.kept.Kept.{Kept}
 use Rattle.object_refs.specs.References.{are_below, kept_of, objects_in, with_new}
-use Rattle.object_refs.specs.declared.names.Named.{Named}
-use Rattle.object_refs.specs.Within.Names.{Renames, id_number}
+use Rattle.object_refs.specs.NameTables.{Names, Renames}
+use Rattle.object_refs.specs.Within.Names.{id_number}
 use Rattle.object_refs.specs.Within.Books.{IsBook, bare, has_serial, idle_entered, idle_key_of, with_new_object}
 use Rattle.object_refs.proofs.Found.{object_is, unnamed}
 use Rattle.object_refs.proofs.Moving.{book_gains}
@@ -29,7 +29,7 @@ not_kept id kept e = by (kept_of id kept) (ap is_some (sym (object_is id kept)) 
     by (Some k) f = absurd (grind (arith, f))
 
 pub new_book : (row : ObjectRow) (copied : List ℕ) (number : ℕ) (key : Option ℤ) (kept : Kept) (rows rows' : List (ℤ × Kept))
-    (names names' : List (ℤ × List Named)) (idle idle' : List (ℤ × ℕ)) → IsBook rows names idle → IsRising rows → row.serial < 2 ^ 64
+    (names names' : Names) (idle idle' : List (ℤ × ℕ)) → IsBook rows names idle → IsRising rows → row.serial < 2 ^ 64
     → has_serial row.serial (values rows) ≡ false → kept_of row.id (values rows) ≡ None → kept ≡ bare row → copied ≡ row.id → number ≡ id_number row.id
     → key ≡ idle_key_of kept → rows' ≡ with_pair (pos row.serial, kept) rows → Renames number copied (Some row.serial) names names'
     → idle' ≡ idle_entered key row.serial idle → IsBook rows' names' idle'

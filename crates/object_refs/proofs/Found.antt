@@ -7,9 +7,9 @@ use Rattle.shared_tree.specs.Rows.{IsKeyedBy}
 use Rattle.shared_tree.proofs.Rows.{found_is}
 use Rattle.shared_tree.proofs.Rising.{all_map}
 use Rattle.object_refs.specs.declared.kept.Kept.{Kept}
-use Rattle.object_refs.specs.declared.names.Named.{Named}
+use Rattle.object_refs.specs.NameTables.{Names, serial_named}
 use Rattle.object_refs.specs.References.{kept_of, objects_in}
-use Rattle.object_refs.specs.Within.Names.{id_number, serial_named}
+use Rattle.object_refs.specs.Within.Names.{id_number}
 use Rattle.object_refs.specs.Within.Books.{IsInverse, id_at, name_at}
 use Rattle.object_refs.proofs.Inverse.{clash, some_same}
 use Rattle.object_refs.proofs.Looks.{below_differs, is_same, looked_here, looked_past, same_is}
@@ -64,7 +64,7 @@ abbrev Rows : Type 0
 Rows = List (ℤ × Kept)
 
 -- whether a row has the id is whether it stands at the id's serial
-pub tests_at : (id : List ℕ) (s : ℤ) (kept : Kept) (rows : Rows) (names : List (ℤ × List Named)) → IsRising rows → IsInverse (id_at rows) (name_at names)
+pub tests_at : (id : List ℕ) (s : ℤ) (kept : Kept) (rows : Rows) (names : Names) → IsRising rows → IsInverse (id_at rows) (name_at names)
     → value_at s rows ≡ Some kept → kept.row.id ≡ id → AllByRecursion (λ p. bytes_eq p.1.row.id id ≡ is_at s p) rows
 tests_at id s kept rows names rising inverse here has =
     all_map (λ p. value_at p.0 rows ≡ Some p.1) (λ p. bytes_eq p.1.row.id id ≡ is_at s p) one rows (all_looked rows rising)
@@ -86,7 +86,7 @@ tests_at id s kept rows names rising inverse here has =
             sym (clash (bytes_same p.1.row.id id (ap (λ k. k.row.id) same ∙ has)) eb)
 
 -- no row has an id without a serial
-pub no_tests : (id : List ℕ) (rows : Rows) (names : List (ℤ × List Named)) → IsRising rows → IsInverse (id_at rows) (name_at names) → name_at names id ≡ None
+pub no_tests : (id : List ℕ) (rows : Rows) (names : Names) → IsRising rows → IsInverse (id_at rows) (name_at names) → name_at names id ≡ None
     → AllByRecursion (λ p. bytes_eq p.1.row.id id ≡ false) rows
 no_tests id rows names rising inverse none =
     all_map (λ p. value_at p.0 rows ≡ Some p.1) (λ p. bytes_eq p.1.row.id id ≡ false) one rows (all_looked rows rising)
@@ -109,18 +109,18 @@ seen_at id s rows e = by (value_at s rows) refl e
     by (Some kept) eo f = (kept, eo, some_same f)
 
 -- an id's serial leads to the object that a search finds
-pub kept_found : (id : List ℕ) (serial : ℕ) (rows : Rows) (names : List (ℤ × List Named)) → IsRising rows → IsInverse (id_at rows) (name_at names)
+pub kept_found : (id : List ℕ) (serial : ℕ) (rows : Rows) (names : Names) → IsRising rows → IsInverse (id_at rows) (name_at names)
     → serial_named (id_number id) id names ≡ Some serial → value_at (pos serial) rows ≡ kept_of id (values rows)
 kept_found id serial rows names rising inverse e =
     let at = seen_at id (pos serial) rows (inverse.home id (pos serial) (ap (option_map (λ n. pos n)) e)) in
     found_is (λ k. bytes_eq k.row.id id) (pos serial) rows (tests_at id (pos serial) at.0 rows names rising inverse at.1 at.2)
 
-pub kept_none : (id : List ℕ) (rows : Rows) (names : List (ℤ × List Named)) → IsRising rows → IsInverse (id_at rows) (name_at names)
+pub kept_none : (id : List ℕ) (rows : Rows) (names : Names) → IsRising rows → IsInverse (id_at rows) (name_at names)
     → serial_named (id_number id) id names ≡ None → kept_of id (values rows) ≡ None
 kept_none id rows names rising inverse e = none_found (λ k. bytes_eq k.row.id id) rows (no_tests id rows names rising inverse (ap (option_map (λ n. pos n)) e))
 
 -- an object that isn't found has no serial
-pub unnamed : (id : List ℕ) (rows : Rows) (names : List (ℤ × List Named)) → IsRising rows → IsInverse (id_at rows) (name_at names)
+pub unnamed : (id : List ℕ) (rows : Rows) (names : Names) → IsRising rows → IsInverse (id_at rows) (name_at names)
     → kept_of id (values rows) ≡ None → name_at names id ≡ None
 unnamed id rows names rising inverse none = by (serial_named (id_number id) id names) refl
   where

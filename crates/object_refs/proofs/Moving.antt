@@ -5,13 +5,13 @@ use Rattle.shared_tree.specs.Pairs.{value_at, with_pair, without_key}
 use Rattle.shared_tree.specs.Rows.{IsKeyedBy}
 use Rattle.shared_tree.proofs.Rows.{keyed_with, keyed_without}
 use Rattle.object_refs.specs.declared.kept.Kept.{Kept}
-use Rattle.object_refs.specs.declared.names.Named.{Named}
-use Rattle.object_refs.specs.Within.Names.{Renames, id_number}
+use Rattle.object_refs.specs.NameTables.{Names, Renames}
+use Rattle.object_refs.specs.Within.Names.{id_number}
 use Rattle.object_refs.specs.Within.Books.{IsBook, IsInverse, id_at, idle_at, idle_entered, idle_key, idle_key_of, idle_left, idle_serial, kept_key, key_if_idle, name_at}
 use Rattle.object_refs.proofs.Inverse.{is_it, is_there, moved, some_same, unmoved}
 use Rattle.object_refs.proofs.Looks.{all_with, all_without, is_same, looked_with, looked_with_other, looked_without, looked_without_other, same_is}
 use Rattle.object_refs.proofs.Found.{seen_holds}
-use Rattle.object_refs.proofs.Naming.{bytes_differ, bytes_same, same_bytes}
+use Rattle.object_refs.proofs.Naming.{bytes_differ, bytes_same, other_id, same_bytes}
 use Rattle.object_refs.proofs.Numbers.{same_number}
 
 abbrev Rows : Type 0
@@ -107,7 +107,7 @@ sweeps_move rows rows' idle serial new keyed small fits has here elsewhere inver
 -- ---- ids
 
 -- the id of a serial stays, and so do all names
-pub ids_stay : (rows rows' : Rows) (names : List (ℤ × List Named)) (s : ℤ) (old new : Kept) → value_at s rows ≡ Some old → value_at s rows' ≡ Some new
+pub ids_stay : (rows rows' : Rows) (names : Names) (s : ℤ) (old new : Kept) → value_at s rows ≡ Some old → value_at s rows' ≡ Some new
     → new.row.id ≡ old.row.id → ((t : ℤ) → int_eq s t ≡ false → value_at t rows' ≡ value_at t rows) → IsInverse (id_at rows) (name_at names)
     → IsInverse (id_at rows') (name_at names)
 ids_stay rows rows' names s old new was is same elsewhere inverse = unmoved (id_at rows) (id_at rows') (name_at names) inverse stays
@@ -122,7 +122,7 @@ ids_stay rows rows' names s old new was is same elsewhere inverse = unmoved (id_
         by false e = ap (option_map (λ k. k.row.id)) (elsewhere t e)
 
 -- a new id comes with a new serial
-pub ids_come : (rows rows' : Rows) (names names' : List (ℤ × List Named)) (id : List ℕ) (serial : ℕ) (new : Kept) → value_at (pos serial) rows ≡ None
+pub ids_come : (rows rows' : Rows) (names names' : Names) (id : List ℕ) (serial : ℕ) (new : Kept) → value_at (pos serial) rows ≡ None
     → value_at (pos serial) rows' ≡ Some new → new.row.id ≡ id → ((t : ℤ) → int_eq (pos serial) t ≡ false → value_at t rows' ≡ value_at t rows)
     → name_at names id ≡ None → Renames (id_number id) id (Some serial) names names' → IsInverse (id_at rows) (name_at names)
     → IsInverse (id_at rows') (name_at names')
@@ -134,13 +134,13 @@ ids_come rows rows' names names' id serial new was is has elsewhere none renames
       left = λ k en eo. absurd
           (let f = is_there bytes_eq same_bytes bytes_same (id_at rows (pos serial)) k eo in let g = sym (ap (option_map (λ x. x.row.id)) was)
           ∙ f in grind (arith, g));
-      others = λ k en eo. ap (option_map (λ m. pos m)) (renames.others (id_number k) k (bytes_differ id k en));
+      others = λ k en eo. ap (option_map (λ m. pos m)) (renames.others (id_number k) k (λ e. other_id id k (bytes_differ id k en)));
       fresh = λ k t en back. absurd
           (let f : None ≡ Some t = sym none ∙ subst (λ z. name_at names z ≡ Some t) (sym (same_bytes id k en)) back in grind (arith, f));
     })
 
 -- an id goes with its serial
-pub ids_go : (rows rows' : Rows) (names names' : List (ℤ × List Named)) (id : List ℕ) (s : ℤ) (old : Kept) → value_at s rows ≡ Some old → old.row.id ≡ id
+pub ids_go : (rows rows' : Rows) (names names' : Names) (id : List ℕ) (s : ℤ) (old : Kept) → value_at s rows ≡ Some old → old.row.id ≡ id
     → value_at s rows' ≡ None → ((t : ℤ) → int_eq s t ≡ false → value_at t rows' ≡ value_at t rows) → Renames (id_number id) id None names names'
     → IsInverse (id_at rows) (name_at names) → IsInverse (id_at rows') (name_at names')
 ids_go rows rows' names names' id s old was has is elsewhere renames inverse =
@@ -149,7 +149,7 @@ ids_go rows rows' names names' id s old was has is elsewhere renames inverse =
       elsewhere = λ t e. ap (option_map (λ k. k.row.id)) (elsewhere t e);
       entered = λ k e. absurd (grind (arith, e));
       left = λ k en eo. subst (λ z. name_at names' z ≡ None) (one k eo) (ap (option_map (λ m. pos m)) renames.this);
-      others = λ k en eo. ap (option_map (λ m. pos m)) (renames.others (id_number k) k (other k eo));
+      others = λ k en eo. ap (option_map (λ m. pos m)) (renames.others (id_number k) k (λ e. other_id id k (other k eo)));
       fresh = λ k t en back. absurd (grind (arith, en));
     })
   where
@@ -165,7 +165,7 @@ ids_go rows rows' names names' id s old was has is elsewhere renames inverse =
 -- ---- the book
 
 -- an object of the book is changed
-pub book_changes : (rows rows' : Rows) (names names' : List (ℤ × List Named)) (idle idle' : Idle) (old new : Kept) → IsBook rows names idle
+pub book_changes : (rows rows' : Rows) (names names' : Names) (idle idle' : Idle) (old new : Kept) → IsBook rows names idle
     → value_at (kept_key old) rows ≡ Some old → new.row.id ≡ old.row.id → new.row.serial ≡ old.row.serial → rows' ≡ with_pair (kept_key old, new) rows
     → names' ≡ names → idle' ≡ idle_entered (idle_key_of new) old.row.serial (idle_left (idle_key_of old) idle) → IsBook rows' names' idle'
 book_changes rows rows' names names' idle idle' old new book was id serial er en ei =
@@ -188,7 +188,7 @@ book_changes rows rows' names names' idle idle' old new book was id serial er en
     away t e = looked_with_other t (kept_key old) new rows e
 
 -- an object comes
-pub book_gains : (rows rows' : Rows) (names names' : List (ℤ × List Named)) (idle idle' : Idle) (new : Kept) → IsBook rows names idle
+pub book_gains : (rows rows' : Rows) (names names' : Names) (idle idle' : Idle) (new : Kept) → IsBook rows names idle
     → new.row.serial < 2 ^ 64 → value_at (kept_key new) rows ≡ None → name_at names new.row.id ≡ None → rows' ≡ with_pair (kept_key new, new) rows
     → Renames (id_number new.row.id) new.row.id (Some new.row.serial) names names' → idle' ≡ idle_entered (idle_key_of new) new.row.serial idle
     → IsBook rows' names' idle'
@@ -209,7 +209,7 @@ book_gains rows rows' names names' idle idle' new book low was none er renames e
     away t e = looked_with_other t (kept_key new) new rows e
 
 -- an object goes
-pub book_loses : (rows rows' : Rows) (names names' : List (ℤ × List Named)) (idle idle' : Idle) (old : Kept) → IsBook rows names idle
+pub book_loses : (rows rows' : Rows) (names names' : Names) (idle idle' : Idle) (old : Kept) → IsBook rows names idle
     → value_at (kept_key old) rows ≡ Some old → rows' ≡ without_key (kept_key old) rows → Renames (id_number old.row.id) old.row.id None names names'
     → idle' ≡ idle_left (idle_key_of old) idle → IsBook rows' names' idle'
 book_loses rows rows' names names' idle idle' old book was er renames ei =

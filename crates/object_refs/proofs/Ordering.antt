@@ -8,7 +8,7 @@ use Rattle.media_rows.specs.Good.{are_object_ids_distinct, rises_by}
 use Rattle.shared_tree.specs.Pairs.{IsRising, value_at, values}
 use Rattle.shared_tree.specs.Rows.{IsKeyedBy}
 use Rattle.object_refs.specs.declared.kept.Kept.{Kept}
-use Rattle.object_refs.specs.declared.names.Named.{Named}
+use Rattle.object_refs.specs.NameTables.{Names}
 use Rattle.object_refs.specs.References.{objects_in}
 use Rattle.object_refs.specs.Within.Books.{IsInverse, id_at, kept_key, name_at}
 use Rattle.object_refs.proofs.Found.{all_looked}
@@ -40,7 +40,7 @@ serials_rise (p ∷ rows) rising keyed =
     (all_higher p.1 rows keyed.1 (subst (λ z. AllByRecursion (λ q. z <ℤ q.0) rows) keyed.0 rising.0)) (serials_rise rows rising.1 keyed.1)
 
 -- two places don't have one id
-apart : (rows : Rows) (names : List (ℤ × List Named)) (p q : ℤ × Kept) → IsInverse (id_at rows) (name_at names) → value_at p.0 rows ≡ Some p.1
+apart : (rows : Rows) (names : Names) (p q : ℤ × Kept) → IsInverse (id_at rows) (name_at names) → value_at p.0 rows ≡ Some p.1
     → value_at q.0 rows ≡ Some q.1 → p.0 <ℤ q.0 → not (bytes_eq p.1.row.id q.1.row.id) ≡ true
 apart rows names p q inverse look look' lt = by (bytes_eq p.1.row.id q.1.row.id) refl
   where
@@ -51,7 +51,7 @@ apart rows names p q inverse look look' lt = by (bytes_eq p.1.row.id q.1.row.id)
         absurd (let same : p.0 ≡ q.0 = some_same (sym one ∙ other) in omega (arith, ints, same, lt))
     by false e = refl
 
-ids_above : (rows : Rows) (names : List (ℤ × List Named)) (p : ℤ × Kept) (qs : Rows) → IsInverse (id_at rows) (name_at names) → value_at p.0 rows ≡ Some p.1
+ids_above : (rows : Rows) (names : Names) (p : ℤ × Kept) (qs : Rows) → IsInverse (id_at rows) (name_at names) → value_at p.0 rows ≡ Some p.1
     → AllByRecursion (λ q. value_at q.0 rows ≡ Some q.1) qs → AllByRecursion (λ q. p.0 <ℤ q.0) qs
     → list_all (λ id. not (bytes_eq p.1.row.id id)) (map (λ (row : ObjectRow). row.id) (objects_in (values qs))) ≡ true
 ids_above rows names p [] inverse look looks lt = refl
@@ -59,7 +59,7 @@ ids_above rows names p (q ∷ qs) inverse look looks lt =
     both (not (bytes_eq p.1.row.id q.1.row.id)) (list_all (λ id. not (bytes_eq p.1.row.id id)) (map (λ (row : ObjectRow). row.id) (objects_in (values qs))))
     (apart rows names p q inverse look looks.0 lt.0) (ids_above rows names p qs inverse look looks.1 lt.1)
 
-distinct_from : (rows : Rows) (names : List (ℤ × List Named)) (qs : Rows) → IsInverse (id_at rows) (name_at names) → IsRising qs
+distinct_from : (rows : Rows) (names : Names) (qs : Rows) → IsInverse (id_at rows) (name_at names) → IsRising qs
     → AllByRecursion (λ q. value_at q.0 rows ≡ Some q.1) qs → are_object_ids_distinct (objects_in (values qs)) ≡ true
 distinct_from rows names [] inverse rising looks = refl
 distinct_from rows names (q ∷ qs) inverse rising looks =
@@ -67,6 +67,6 @@ distinct_from rows names (q ∷ qs) inverse rising looks =
     (are_object_ids_distinct (objects_in (values qs))) (ids_above rows names q qs inverse looks.0 looks.1 rising.0)
     (distinct_from rows names qs inverse rising.1 looks.1)
 
-pub ids_distinct : (rows : Rows) (names : List (ℤ × List Named)) → IsInverse (id_at rows) (name_at names) → IsRising rows
+pub ids_distinct : (rows : Rows) (names : Names) → IsInverse (id_at rows) (name_at names) → IsRising rows
     → are_object_ids_distinct (objects_in (values rows)) ≡ true
 ids_distinct rows names inverse rising = distinct_from rows names rows inverse rising (all_looked rows rising)

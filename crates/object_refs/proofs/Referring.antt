@@ -8,7 +8,7 @@ use Rattle.media_rows.specs.Objects.{reference_count, references}
 use Rattle.shared_tree.specs.Pairs.{IsRising, is_at, value_at, values}
 use Rattle.shared_tree.specs.Rows.{IsKeyedBy}
 use Rattle.object_refs.specs.declared.kept.Kept.{Kept}
-use Rattle.object_refs.specs.declared.names.Named.{Named}
+use Rattle.object_refs.specs.NameTables.{Names}
 use Rattle.object_refs.specs.References.{kept_of, reference_of, references_in, references_to}
 use Rattle.object_refs.specs.Within.Books.{IsInverse, id_at, kept_key, name_at}
 use Rattle.object_refs.proofs.Inverse.{some_same}
@@ -75,13 +75,13 @@ refs_at id s (p ∷ rest) kept rising tests e = by (is_at s p) refl (λ e'. refs
         ∙ ih (sym (looked_past s p rest et) ∙ e)
 
 -- a kept one has its own
-pub refs_found : (id : List ℕ) (rows : List (ℤ × Kept)) (names : List (ℤ × List Named)) (kept : Kept) → IsRising rows → IsKeyedBy kept_key rows
+pub refs_found : (id : List ℕ) (rows : List (ℤ × Kept)) (names : Names) (kept : Kept) → IsRising rows → IsKeyedBy kept_key rows
     → IsInverse (id_at rows) (name_at names) → kept_of id (values rows) ≡ Some kept → references (references_in (values rows)) id ≡ references_to kept
 refs_found id rows names kept rising keyed inverse e =
     let at = found_seen kept_key (λ k. bytes_eq k.row.id id) rows kept rising keyed e in
     refs_at id (kept_key kept) rows kept rising (tests_at id (kept_key kept) kept rows names rising inverse at.0 (same_bytes kept.row.id id at.1)) at.0
 
-pub count_found : (id : List ℕ) (rows : List (ℤ × Kept)) (names : List (ℤ × List Named)) (kept : Kept) → IsRising rows → IsKeyedBy kept_key rows
+pub count_found : (id : List ℕ) (rows : List (ℤ × Kept)) (names : Names) (kept : Kept) → IsRising rows → IsKeyedBy kept_key rows
     → IsInverse (id_at rows) (name_at names) → kept_of id (values rows) ≡ Some kept → reference_count (references_in (values rows)) id ≡ length kept.flows
 count_found id rows names kept rising keyed inverse e = ap length (refs_found id rows names kept rising keyed inverse e)
     ∙ length-map kept.flows (reference_of kept.row.id)

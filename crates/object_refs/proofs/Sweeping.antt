@@ -11,7 +11,7 @@ use Rattle.shared_tree.specs.Pairs.{IsRising, first, value_at, values}
 use Rattle.shared_tree.specs.Rows.{IsKeyedBy}
 use Rattle.shared_tree.proofs.Rising.{all_map, filter_none}
 use Rattle.object_refs.specs.declared.kept.Kept.{Kept}
-use Rattle.object_refs.specs.declared.names.Named.{Named}
+use Rattle.object_refs.specs.NameTables.{Names}
 use Rattle.object_refs.specs.References.{objects_in, reference_of, references_in}
 use Rattle.object_refs.specs.Within.Books.{IsBook, idle_key, idle_key_of, idle_serial, kept_key, key_if_idle}
 use Rattle.object_refs.proofs.Changing.{any_map, has_any, named_is}
@@ -87,7 +87,7 @@ all_rows P (p ∷ rows) h = (h.0, all_rows P rows h.1)
 -- ---- which objects are due
 
 -- an object is named where it has references
-pub all_named : (rows : Rows) (names : List (ℤ × List Named)) (idle : List (ℤ × ℕ)) → IsBook rows names idle → IsRising rows
+pub all_named : (rows : Rows) (names : Names) (idle : List (ℤ × ℕ)) → IsBook rows names idle → IsRising rows
     → AllByRecursion (λ p. is_named (references_in (values rows)) p.1.row.id ≡ has_any p.1.flows) rows
 all_named rows names idle book rising =
     all_map (λ p. value_at p.0 rows ≡ Some p.1) (λ p. is_named (references_in (values rows)) p.1.row.id ≡ has_any p.1.flows) one rows (all_looked rows rising)
@@ -114,7 +114,7 @@ no_flows [] e = refl
 no_flows (x ∷ l) e = absurd (grind (arith, e))
 
 -- none is due where each that has no references is idle for too short a time
-pub none_due : (rows : Rows) (names : List (ℤ × List Named)) (idle : List (ℤ × ℕ)) (moment : ℕ) → IsBook rows names idle → IsRising rows
+pub none_due : (rows : Rows) (names : Names) (idle : List (ℤ × ℕ)) (moment : ℕ) → IsBook rows names idle → IsRising rows
     → AllByRecursion (λ p. p.1.flows ≡ [] → nat_le (p.1.row.idle_since + idle_time) moment ≡ false) rows
     → first (due_objects (references_in (values rows)) (objects_in (values rows)) moment) ≡ None
 none_due rows names idle moment book rising short =
@@ -154,7 +154,7 @@ serial_some None s e = absurd (grind (arith, e))
 serial_some (Some n) s e = (n, refl)
 
 -- the object at the first serial of the order
-pub first_is : (rows : Rows) (names : List (ℤ × List Named)) (idle : List (ℤ × ℕ)) (serial : ℕ) → IsBook rows names idle → IsRising rows → IsRising idle
+pub first_is : (rows : Rows) (names : Names) (idle : List (ℤ × ℕ)) (serial : ℕ) → IsBook rows names idle → IsRising rows → IsRising idle
     → first (values idle) ≡ Some serial → (k : Kept) × (value_at (pos serial) rows ≡ Some k) × IsFirst rows k
 first_is rows names [] serial book rising rising' e = absurd (grind (arith, e))
 first_is rows names (i ∷ idle) serial book rising rising' e =
@@ -185,7 +185,7 @@ first_is rows names (i ∷ idle) serial book rising rising' e =
         seen_holds (λ z v. i.0 ≤ℤ z) (i ∷ idle) (idle_key p.1.row.idle_since p.1.row.serial) value.0 from value.1
 
 -- nothing stands in an empty order
-pub none_is : (rows : Rows) (names : List (ℤ × List Named)) (idle : List (ℤ × ℕ)) (moment : ℕ) → IsBook rows names idle → IsRising rows
+pub none_is : (rows : Rows) (names : Names) (idle : List (ℤ × ℕ)) (moment : ℕ) → IsBook rows names idle → IsRising rows
     → first (values idle) ≡ None → first (due_objects (references_in (values rows)) (objects_in (values rows)) moment) ≡ None
 none_is rows names (i ∷ idle) moment book rising e = absurd (grind (arith, e))
 none_is rows names [] moment book rising e =
@@ -221,7 +221,7 @@ or_right true b e = refl
 or_right false b e = e
 
 -- where the first isn't due, none is
-pub not_over : (rows : Rows) (names : List (ℤ × List Named)) (idle : List (ℤ × ℕ)) (moment : ℕ) (k : Kept) → IsBook rows names idle → IsRising rows
+pub not_over : (rows : Rows) (names : Names) (idle : List (ℤ × ℕ)) (moment : ℕ) (k : Kept) → IsBook rows names idle → IsRising rows
     → IsFirst rows k → nat_le (k.row.idle_since + idle_time) moment ≡ false
     → first (due_objects (references_in (values rows)) (objects_in (values rows)) moment) ≡ None
 not_over rows names idle moment k book rising is e = none_due rows names idle moment book rising (both rows is.least book.small)
@@ -239,7 +239,7 @@ not_over rows names idle moment k book rising is e = none_due rows names idle mo
         short le fits = too_short k.row.idle_since q.1.row.idle_since moment (omega (arith, le, fits)) e
 
 -- where it is due, it is the first that is
-pub is_first_due : (rows : Rows) (names : List (ℤ × List Named)) (idle : List (ℤ × ℕ)) (moment : ℕ) (k : Kept) → IsBook rows names idle → IsRising rows
+pub is_first_due : (rows : Rows) (names : Names) (idle : List (ℤ × ℕ)) (moment : ℕ) (k : Kept) → IsBook rows names idle → IsRising rows
     → IsFirst rows k → nat_le (k.row.idle_since + idle_time) moment ≡ true
     → first (due_objects (references_in (values rows)) (objects_in (values rows)) moment) ≡ Some k.row
 is_first_due rows names idle moment k book rising is over =
@@ -316,7 +316,7 @@ least_key = negsuc (2 ^ 127 - 1)
 key_least : (n : ℕ) → least_key ≤ℤ id_key n
 key_least n = omega (arith, ints)
 
-pub idle_least : (rows : Rows) (names : List (ℤ × List Named)) (idle : List (ℤ × ℕ)) → IsBook rows names idle → IsRising idle
+pub idle_least : (rows : Rows) (names : Names) (idle : List (ℤ × ℕ)) → IsBook rows names idle → IsRising idle
     → AllByRecursion (λ p. negsuc (2 ^ 127 - 1) ≤ℤ p.0) idle
 idle_least rows names idle book rising = all_map (λ p. value_at p.0 idle ≡ Some p.1) (λ p. negsuc (2 ^ 127 - 1) ≤ℤ p.0) one idle (all_looked idle rising)
   where
@@ -329,13 +329,13 @@ pub rows_least : (rows : Rows) → IsKeyedBy kept_key rows → AllByRecursion (�
 rows_least rows keyed = all_map (λ p. p.0 ≡ kept_key p.1) (λ p. negsuc (2 ^ 127 - 1) ≤ℤ p.0) (λ p e. rw e (omega (arith, ints))) rows keyed
 
 -- a look at the first serial finds an object
-pub first_seen : (rows : Rows) (names : List (ℤ × List Named)) (idle : List (ℤ × ℕ)) (serial : ℕ) → IsBook rows names idle → IsRising rows → IsRising idle
+pub first_seen : (rows : Rows) (names : Names) (idle : List (ℤ × ℕ)) (serial : ℕ) → IsBook rows names idle → IsRising rows → IsRising idle
     → first (values idle) ≡ Some serial → value_at (pos serial) rows ≡ None → true ≡ false
 first_seen rows names idle serial book rising rising' e none = let found =
     first_is rows names idle serial book rising rising' e in none_some (sym none ∙ found.1)
 
 -- and it is that object
-pub first_found : (rows : Rows) (names : List (ℤ × List Named)) (idle : List (ℤ × ℕ)) (serial : ℕ) (k : Kept) → IsBook rows names idle → IsRising rows
+pub first_found : (rows : Rows) (names : Names) (idle : List (ℤ × ℕ)) (serial : ℕ) (k : Kept) → IsBook rows names idle → IsRising rows
     → IsRising idle → first (values idle) ≡ Some serial → value_at (pos serial) rows ≡ Some k → IsFirst rows k
 first_found rows names idle serial k book rising rising' e look = let found =
     first_is rows names idle serial book rising rising' e in subst (IsFirst rows) (some_same (sym found.1 ∙ look)) found.2

@@ -1,4 +1,5 @@
 pub mod References
+pub mod NameTables
 pub mod Within
 pub use Rattle.media_rows.specs.Lists
 pub use Rattle.media_rows.specs.Objects

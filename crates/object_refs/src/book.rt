@@ -13,7 +13,7 @@ ghost use Rattle.object_refs.specs.Within.Books.{has_serial, stored_of};
 use crate::changes::{is_stored, referred_kept, released_kept, stored_kept};
 use crate::kept::Kept;
 use crate::keys::{all_values, first_value, value_at};
-use crate::names::{Bucket, id_number, serial_named};
+use crate::names::{NameTable, id_number};
 use crate::restores::{gathered, referred_by};
 use disk_trait::{Duplicate, Memory, Text};
 use media_rows::{
@@ -34,7 +34,7 @@ pub struct ObjectBook {
     /// The objects by their serials.
     pub(crate) rows: Version<Kept>,
     /// Their serials by the numbers of their ids.
-    pub(crate) names: Version<Bucket>,
+    pub(crate) names: NameTable,
     /// The serials of the objects to which nothing refers, in the order in which they are swept.
     pub(crate) idle: Version<u64>,
 }
@@ -59,7 +59,7 @@ impl ObjectBook {
     {
         ObjectBook {
             rows: Version::empty(),
-            names: Version::empty(),
+            names: NameTable::empty(),
             idle: Version::empty(),
         }
     }
@@ -284,7 +284,7 @@ impl ObjectBook {
         ensures { option_copied result ≡ kept_of id.now self.now }
     {
         self.rows.keys_rise();
-        match serial_named(&self.names, id_number(id), id) {
+        match self.names.at(id_number(id), id) {
             Some(serial) => value_at(&self.rows, &serial_key(serial)),
             None => None,
         }

@@ -10,7 +10,7 @@ use crate::book::serial_key;
 use crate::flows::FlowCounts;
 use crate::kept::Kept;
 use crate::keys::{with_value, without_value};
-use crate::names::{Named, id_number, with_name, without_name};
+use crate::names::id_number;
 use disk_trait::{Duplicate, Memory, Text};
 use media_rows::{Extent, ObjectRow, ObjectState};
 use shared_tree::Version;
@@ -53,13 +53,10 @@ impl ObjectBook {
         };
         let key = kept.idle_key();
         let number = id_number(&kept.row.id);
-        let name = Named {
-            id: kept.row.id.copy(alloc)?,
-            serial,
-        };
+        let id = kept.row.id.copy(alloc)?;
         Ok(ObjectBook {
             rows: with_value(alloc, &self.rows, &serial_key(serial), kept)?,
-            names: with_name(alloc, &self.names, number, name)?,
+            names: self.names.with(alloc, number, id, serial)?,
             idle: idle_entered(alloc, &self.idle, &key, serial)?,
         })
     }
@@ -97,7 +94,7 @@ impl ObjectBook {
         let id = &old.row.id;
         Ok(ObjectBook {
             rows: without_value(alloc, &self.rows, &serial_key(old.row.serial))?,
-            names: without_name(alloc, &self.names, id_number(id), id)?,
+            names: self.names.without(alloc, id_number(id), id)?,
             idle: idle_left(alloc, &self.idle, &old.idle_key())?,
         })
     }

@@ -11,3 +11,4 @@ mod names;
 mod restores;
 
 pub use crate::book::ObjectBook;
+pub use crate::names::NameTable;

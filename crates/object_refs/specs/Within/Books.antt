@@ -11,9 +11,9 @@ use Rattle.media_rows.specs.Views.{id_key}
 use Rattle.shared_tree.specs.Pairs.{value_at, with_pair, without_key}
 use Rattle.shared_tree.specs.Rows.{IsKeyedBy}
 use Rattle.object_refs.specs.declared.kept.Kept.{Kept}
-use Rattle.object_refs.specs.declared.names.Named.{Named}
-use Rattle.object_refs.specs.References.{changed_at, less_one, objects_in, referred}
-use Rattle.object_refs.specs.Within.Names.{id_number, serial_named}
+use Rattle.object_refs.specs.NameTables.{Names, serial_named}
+use Rattle.object_refs.specs.References.{changed_at, objects_in, referred}
+use Rattle.object_refs.specs.Within.Names.{id_number}
 
 -- objects stand by serial
 abbrev pub kept_key : Kept → ℤ
@@ -31,7 +31,7 @@ abbrev pub id_at : List (ℤ × Kept) → ℤ → Option (List ℕ)
 id_at rows s = option_map (λ k. k.row.id) (value_at s rows)
 
 -- the serial that names give an id
-abbrev pub name_at : List (ℤ × List Named) → List ℕ → Option ℤ
+abbrev pub name_at : Names → List ℕ → Option ℤ
 name_at names id = option_map (λ serial. pos serial) (serial_named (id_number id) id names)
 
 -- ---- the order in which objects are swept
@@ -119,8 +119,7 @@ pub record AreReferred (segments : List SegmentRow) (start kept : List Kept) : T
 -- Objects stand by serial, which is a number of 64 bits. Each id leads to its object's serial and
 -- to no other one. Each object without references stands in the order of sweeps, and no other
 -- one.
-pub record IsBook (rows : List (ℤ × Kept)) (names : List (ℤ × List Named))
-    (idle : List (ℤ × ℕ)) : Type 0 where
+pub record IsBook (rows : List (ℤ × Kept)) (names : Names) (idle : List (ℤ × ℕ)) : Type 0 where
   pub keyed : IsKeyedBy kept_key rows
   pub small : AllByRecursion (λ p. p.1.row.serial < 2 ^ 64) rows
   pub named : IsInverse (id_at rows) (name_at names)

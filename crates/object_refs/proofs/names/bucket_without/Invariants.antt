@@ -1,5 +1,5 @@
 use Rattle.std.proofs.Common.{◌≡◌, ◌++◌, drop, filter, not}
-use Rattle.object_refs.specs.Within.Names.{is_named_so}
+use Rattle.object_refs.specs.NameTables.{is_named_so}
 use Rattle.object_refs.proofs.names.bucket_without.Given as goal
 
 abbrev pub invariant-loop-other : goal.invariant-loop-other

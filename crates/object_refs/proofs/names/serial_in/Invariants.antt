@@ -1,5 +1,5 @@
 use Rattle.std.proofs.Common.{◌≡◌, drop}
-use Rattle.object_refs.specs.Within.Names.{serial_in}
+use Rattle.object_refs.specs.NameTables.{serial_in}
 use Rattle.object_refs.proofs.names.serial_in.Given as goal
 
 abbrev pub invariant-loop-entry : goal.invariant-loop-entry

@@ -3,7 +3,7 @@ use mir.Syntax.{w128}
 use Rattle.std.proofs.lemmas.Int.{to_z-of_z}
 use Rattle.shared_tree.specs.Pairs.{value_at}
 use Rattle.object_refs.specs.References.{kept_of}
-use Rattle.object_refs.specs.Within.Names.{serial_named}
+use Rattle.object_refs.specs.NameTables.{serial_named}
 use Rattle.object_refs.proofs.Found.{kept_found, kept_none}
 use Rattle.object_refs.proofs.book.ObjectBook.kept.Goals as goal
 
