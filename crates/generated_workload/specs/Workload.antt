@@ -7,14 +7,11 @@ use Rattle.std.specs.Fmt.{decimal}
 use Rattle.std.specs.Int.{div_ceil}
 use Rattle.std.specs.List.{flat_map, repeat}
 use Rattle.form_urlencoded.specs.Form.{append_pair}
+use Rattle.http_wire.specs.Response.{crlf}
 use Rattle.media_rows.specs.Lists.{numbers_below}
 use Rattle.generated_workload.specs.declared.workload.TheConstants.{MOST_COUNT}
 
 -- ---- requests, with no field but the length of a body
-
--- the end of a line, and of a request's head
-abbrev pub crlf : List ℕ
-crlf = codes "\r\n"
 
 -- the first line of a request
 abbrev pub request_line : List ℕ → List ℕ → List ℕ
@@ -97,7 +94,7 @@ segment_range i = seconds_range (segment_start i) (segment_start (i + 1))
 -- the body that posts its segment
 abbrev pub segment_body : ℕ → List ℕ
 segment_body i =
-    codes "{\"generated_id\":\"" ++ generated_id i
+    codes "{\"object_id\":\"" ++ generated_id i
     ++ codes "\",\"timerange\":\"" ++ segment_range i ++ codes "\"}"
 
 -- the request that puts it
