@@ -1,10 +1,10 @@
 //! The parts of a library from its rows.
-ghost use Rattle.std.specs.Prelude.{◌≡◌, IsTrue, Some};
+ghost use Rattle.std.specs.Prelude.{◌≡◌, IfOk, IsTrue, Some};
 ghost use Rattle.media_rows.specs.Good.{is_good, rises_by};
 ghost use Rattle.media_rows.specs.Refusals.{Restores};
 ghost use Rattle.media_rows.specs.Snapshot.{library_of};
 ghost use Rattle.media_book.specs.Media.{are_media_good, media_of};
-ghost use Rattle.core_rows.specs.Kinds.{library_of_kinds};
+ghost use Rattle.core_rows.specs.Kinds.{kinds_of, library_of_kinds};
 ghost use Rattle.core_restore.specs.Restored.{are_rows_of_good};
 ghost use Rattle.core_restore.specs.Within.{AreInOrder, is_rest_good, library_from_kinds};
 
@@ -14,6 +14,7 @@ use crate::values::are_values_good;
 use core_parts::Parts;
 use core_registry::{Registry, RegistryRows};
 use core_rows::{Kinds, kinds_make_the_library, part_rows};
+use disk_trait::Memory;
 use media_book::{MediaBook, media_are_good};
 use media_rows::{ApplyFault, RowList};
 use std::alloc::Global;
@@ -24,19 +25,26 @@ pub fn parts_of_rows(
     alloc: Global,
     id: u128,
     blocks: u64,
-    rows: &RowList,
+    rows: RowList,
 ) -> Result<Parts, ApplyFault>
-    ensures { Restores (are_rows_of_good id blocks rows.now) (library_of id blocks rows.now) result }
+    ensures { Restores (are_rows_of_good id blocks rows) (library_of id blocks rows) result }
 {
     kinds_make_the_library();
     if !do_rise(rows.items()) {
         return Err(ApplyFault::Refused);
     }
-    let kinds = part_rows(alloc, rows)?;
+    let kinds = kinds_alone(alloc, rows)?;
     match kinds.next_serial {
         Some(next_serial) => parts_of_kinds(alloc, id, blocks, kinds, next_serial),
         None => Err(ApplyFault::Refused),
     }
+}
+
+/// Rows by their kinds. The list of all of them goes before anything else takes memory.
+fn kinds_alone(alloc: Global, rows: RowList) -> Result<Kinds, Memory>
+    ensures { IfOk result (λ kinds. kinds ≡ kinds_of rows) }
+{
+    part_rows(alloc, &rows)
 }
 
 /// The library of rows by their kinds. Segments come in any order.

@@ -141,7 +141,7 @@ fn from_text(alloc: Global, text: &[u8]) -> Result<Option<Core>, Memory> {
         Err(RowsFault::Damaged(_)) => return Ok(None),
         Err(RowsFault::Memory) => return Err(Memory),
     };
-    match Core::from_rows(alloc, STORE, BLOCKS, &rows) {
+    match Core::from_rows(alloc, STORE, BLOCKS, rows) {
         Ok(core) => Ok(Some(core)),
         Err(ApplyFault::Refused) => Ok(None),
         Err(ApplyFault::Memory) => Err(Memory),

@@ -29,9 +29,9 @@ impl Core {
         alloc: Global,
         id: u128,
         blocks: u64,
-        rows: &RowList,
+        rows: RowList,
     ) -> Result<Core, ApplyFault>
-        ensures { Restores (are_rows_of_good id blocks rows.now) (library_of id blocks rows.now) result }
+        ensures { Restores (are_rows_of_good id blocks rows) (library_of id blocks rows) result }
     {
         good_is_tested();
         match parts_of_rows(alloc, id, blocks, rows) {

@@ -27,7 +27,7 @@ pub(crate) fn library_of_rows(alloc: Global, opened: &Opened) -> Result<Core, Op
         Err(RowsFault::Memory) => return Err(OpenFault::Memory),
     };
     let media_blocks = opened.blocks - (2 * opened.half + 2);
-    match Core::from_rows(alloc, opened.id, media_blocks, &rows) {
+    match Core::from_rows(alloc, opened.id, media_blocks, rows) {
         Ok(library) => Ok(library),
         Err(ApplyFault::Refused) => Err(OpenFault::Damaged(opened.rows_at.saturating_sub(8))),
         Err(ApplyFault::Memory) => Err(OpenFault::Memory),

@@ -11,7 +11,7 @@ use Rattle.core_restore.proofs.parts.parts_of_rows.Goals as goal
 pub parts_of_kinds-requires-clause-order : goal.parts_of_kinds-requires-clause-order
 parts_of_kinds-requires-clause-order c =
     subst AreInOrder (sym c.in_ok-kinds.ensures)
-    (kinds_rise c.args.rows.now (ap (rises row_before) (sym c.items.ensures) ∙ sym c.do_rise.ensures ∙ c.if-not-do_rise.false))
+    (kinds_rise c.args.rows (ap (rises row_before) (sym c.items.ensures) ∙ sym c.do_rise.ensures ∙ c.if-not-do_rise.false))
 
 -- what their kinds restore they do
 pub returns-in-Some : goal.returns-in-Some
@@ -19,8 +19,8 @@ returns-in-Some c =
     let seen = ap (λ (k : Kinds). k.next_serial) c.kinds.view_is in
     let found = c.in-Some.is in
     let some : c.in_ok-kinds.kinds.next_serial ≡ Some c.in-Some.next_serial = cc in
-    from_kinds c.args.id c.args.blocks c.in-Some.next_serial c.args.rows.now c.in_ok-kinds.kinds c.parts_of_kinds.result c.in_ok-kinds.ensures
-    (c.kinds_make_the_library.ensures c.args.id c.args.blocks c.args.rows.now)
+    from_kinds c.args.id c.args.blocks c.in-Some.next_serial c.args.rows c.in_ok-kinds.kinds c.parts_of_kinds.result c.in_ok-kinds.ensures
+    (c.kinds_make_the_library.ensures c.args.id c.args.blocks c.args.rows)
     (ap (rises row_before) (sym c.items.ensures) ∙ sym c.do_rise.ensures ∙ c.if-not-do_rise.false) some c.parts_of_kinds.ensures
 
 -- without a next serial they aren't those of a library
@@ -29,4 +29,4 @@ returns-in-None c =
     let seen = ap (λ (k : Kinds). k.next_serial) c.kinds.view_is in
     let found = c.in-None.is in
     let none : c.in_ok-kinds.kinds.next_serial ≡ None = cc in
-    no_numbers c.args.id c.args.blocks c.args.rows.now c.in_ok-kinds.kinds c.in_ok-kinds.ensures none
+    no_numbers c.args.id c.args.blocks c.args.rows c.in_ok-kinds.kinds c.in_ok-kinds.ensures none
