@@ -33,8 +33,8 @@ def ran(*words):
 
 
 def changes(flows, near):
-    """The microseconds of each kind of change, at the first so many flows."""
-    words = (line.split() for line in ran("change", flows, near, TIMES))
+    """The microseconds of each kind of change, at the first so many flows. The first line says how much is kept."""
+    words = (line.split() for line in ran("change", flows, near, TIMES)[1:])
     return {what: int(nanoseconds) / 1000 for what, nanoseconds in words}
 
 

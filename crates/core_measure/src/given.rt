@@ -8,8 +8,7 @@ ghost use Rattle.media_rows.specs.Sound.{are_posts_good, is_new_hook_good};
 use disk_trait::{Memory, Text};
 use good_values::has_both_ends;
 use media_rows::{
-    BookFault, EventKind, EventList, FlowBody, FormatKind, Hook, IdList, MemberList, PostList,
-    Refusal, Segment, TagList,
+    EventKind, EventList, FlowBody, FormatKind, Hook, MemberList, PostList, Segment, TagList,
 };
 use std::alloc::Global;
 use time_range::{End, TimeRange, Ts};
@@ -30,7 +29,7 @@ const ALL_EVENTS: [EventKind; 8] = [
 ];
 
 /// A text of UTF-8.
-#[tactic(auto, using(crate::proofs::Texts::is_text))]
+#[tactic(auto, using(crate::proofs::TextLemmas::passes))]
 pub(crate) fn text_of(alloc: Global, text: &str) -> Result<Text, Memory>
     ensures { IfOk result (λ text. IsTrue (is_utf8 text)) }
 {
@@ -58,46 +57,26 @@ pub(crate) fn flow_body(alloc: Global, id: u128, source: u128) -> FlowBody
     }
 }
 
-/// A list of kinds of events.
-pub(crate) fn events(alloc: Global, kinds: &[EventKind]) -> Result<EventList, Memory> {
-    let mut list = EventList::new(alloc);
-    for kind in kinds {
-        list.push(*kind)?;
+/// Each kind of event, as a list.
+fn all_events(alloc: Global) -> Result<EventList, Memory> {
+    let mut events = EventList::new(alloc);
+    for kind in &ALL_EVENTS {
+        events.push(*kind)?;
     }
-    Ok(list)
+    Ok(events)
 }
 
 /// A hook that takes each event.
 pub(crate) fn hook(alloc: Global, url: &str) -> Result<Hook, Memory>
     ensures { IfOk result (λ hook. IsTrue (is_new_hook_good hook)) }
 {
+    let events = all_events(alloc)?;
     Ok(Hook {
         url: text_of(alloc, url)?,
-        events: events(alloc, &ALL_EVENTS)?,
+        events,
         key_name: None,
         key_value: None,
         flow_ids: None,
-        source_ids: None,
-    })
-}
-
-/// A hook that takes an event of one kind, of one flow.
-pub(crate) fn hook_of_flow(
-    alloc: Global,
-    url: &str,
-    kind: EventKind,
-    flow: u128,
-) -> Result<Hook, Memory>
-    ensures { IfOk result (λ hook. IsTrue (is_new_hook_good hook)) }
-{
-    let mut flows = IdList::new(alloc);
-    flows.push(flow)?;
-    Ok(Hook {
-        url: text_of(alloc, url)?,
-        events: events(alloc, &[kind])?,
-        key_name: None,
-        key_value: None,
-        flow_ids: Some(flows),
         source_ids: None,
     })
 }
@@ -110,11 +89,6 @@ pub(crate) fn range(place: u64, count: u64) -> TimeRange {
         (Some(low), Some(high)) => TimeRange::between(End::Including(low), End::Excluding(high)),
         _ => TimeRange::never(),
     }
-}
-
-/// The key of the segment at a place: its first point, in half nanoseconds.
-pub(crate) fn key_of(place: u64) -> i128 {
-    i128::from(place) * STEP * 2
 }
 
 /// A segment at a place, and `None` where that lies past the end of the line.
@@ -136,25 +110,19 @@ fn segment(alloc: Global, object: &Text, place: u64) -> Result<Option<Segment>, 
     }))
 }
 
-/// The refusal of what no command here comes to bring.
-fn misplaced(alloc: Global) -> BookFault {
-    BookFault::Refused(Refusal::BadTimerange(Text::new(alloc)))
-}
-
-/// A post of so many segments of an object, from the one at a place on.
+/// A post of so many segments of an object, from the one at a place on. What lies past the end of the line is left out.
 pub(crate) fn posts(
     alloc: Global,
     object: &Text,
     place: u64,
     count: u64,
-) -> Result<PostList, BookFault>
+) -> Result<PostList, Memory>
     ensures { IfOk result (λ posts. IsTrue (are_posts_good posts)) }
 {
     let mut posts = PostList::new(alloc);
     for number in 0..count {
-        match segment(alloc, object, place.saturating_add(number))? {
-            Some(post) => posts.push(post)?,
-            None => return Err(misplaced(alloc)),
+        if let Some(post) = segment(alloc, object, place.saturating_add(number))? {
+            posts.push(post)?;
         }
     }
     Ok(posts)

@@ -1,12 +1,13 @@
 //! Each kind of change, prepared and installed on a library of many flows.
-use crate::commands;
 use crate::given::{flow_body, hook, posts, range, text_of};
 use crate::library::{
     BARE_OBJECT, FLOWS_OF_A_SOURCE, HOOK, OBJECT_BYTES, SEGMENTS_OF_A_FLOW, object_of,
 };
 use crate::places::Places;
-use disk_trait::{Memory, Text};
-use media_rows::{BookFault, Part, Refusal};
+use crate::stop::Stop;
+use crate::{commands, let_go};
+use disk_trait::Memory;
+use media_rows::Part;
 use std::alloc::Global;
 use store_core::{Core, Prepared};
 use time_range::TimeRange;
@@ -90,109 +91,112 @@ fn source_of(flow: u64) -> u128 {
     u128::from(flow / FLOWS_OF_A_SOURCE)
 }
 
-/// A change of flows or sources, where the kind is one of those.
-fn prepared_flow(
-    alloc: Global,
-    core: &Core,
-    kind: Kind,
-    flows: u64,
-    place: u64,
-) -> Result<Prepared, BookFault> {
+/// A flow of the same source as one at a place, put.
+fn put_flow(alloc: Global, core: &Core, flow: u128, place: u64) -> Result<Prepared, Stop> {
+    commands::put_flow(alloc, core, flow_body(alloc, flow, source_of(place)), NOW)
+}
+
+/// The label of a flow's source, set.
+fn set_source(alloc: Global, core: &Core, place: u64) -> Result<Prepared, Stop> {
+    let label = Part::Label(Some(text_of(alloc, "hall")?));
+    commands::set_source(alloc, core, source_of(place), label, NOW)
+}
+
+/// The bytes of the object that has none yet.
+fn keep(alloc: Global, core: &Core) -> Result<Prepared, Stop> {
+    let bare = text_of(alloc, BARE_OBJECT)?;
+    commands::keep(alloc, core, bare, OBJECT_BYTES, NOW)
+}
+
+/// A segment of a flow's own object, behind those that the flow has.
+fn add_segment(alloc: Global, core: &Core, place: u64) -> Result<Prepared, Stop> {
+    let object = object_of(alloc, place)?;
+    let posts = posts(alloc, &object, SEGMENTS_OF_A_FLOW, 1)?;
+    commands::add_segments(alloc, core, u128::from(place), posts, NOW)
+}
+
+/// A hook, put.
+fn put_hook(alloc: Global, core: &Core) -> Result<Prepared, Stop> {
+    commands::put_hook(alloc, core, hook(alloc, "http://b/")?, NOW)
+}
+
+/// The hook that there is, dropped.
+fn drop_hook(alloc: Global, core: &Core) -> Result<Prepared, Stop> {
+    commands::drop_hook(alloc, core, text_of(alloc, HOOK)?, NOW)
+}
+
+/// A change of a kind, of the flow at a place where it is of one.
+fn prepared(site: &Site<'_>, core: &Core, kind: Kind, place: u64) -> Result<Prepared, Stop> {
+    let alloc = site.alloc;
     let flow = u128::from(place);
-    let last = u128::from(flows);
+    let last = u128::from(site.flows);
     match kind {
-        Kind::PutFlow => {
-            commands::put_flow(alloc, core, flow_body(alloc, flow, source_of(place)), NOW)
-        }
-        Kind::NewFlow => {
-            commands::put_flow(
-                alloc,
-                core,
-                flow_body(alloc, last + 1, source_of(place)),
-                NOW,
-            )
-        }
+        Kind::PutFlow => put_flow(alloc, core, flow, place),
+        Kind::NewFlow => put_flow(alloc, core, last + 1, place),
         Kind::SetFlow => commands::set_flow(alloc, core, flow, Part::MaxBitRate(Some(place)), NOW),
-        Kind::SetSource => {
-            let label = Part::Label(Some(text_of(alloc, "hall")?));
-            commands::set_source(alloc, core, source_of(place), label, NOW)
-        }
+        Kind::SetSource => set_source(alloc, core, place),
         Kind::DropFlow => commands::drop_flow(alloc, core, last, NOW),
         Kind::AskDelete => commands::cut_segments(alloc, core, flow, TimeRange::eternity(), NOW),
-        _ => prepared_media(alloc, core, kind, place),
-    }
-}
-
-/// A change of objects or segments, where the kind is one of those.
-fn prepared_media(
-    alloc: Global,
-    core: &Core,
-    kind: Kind,
-    place: u64,
-) -> Result<Prepared, BookFault> {
-    let flow = u128::from(place);
-    match kind {
         Kind::Allocate => commands::allocate(alloc, core, flow, 1, NOW),
-        Kind::Keep => {
-            let bare = Text::from_bytes(alloc, BARE_OBJECT.as_bytes())?;
-            commands::keep(alloc, core, &bare, OBJECT_BYTES, NOW)
-        }
-        Kind::AddSegment => {
-            let object = object_of(alloc, place)?;
-            match posts(alloc, &object, SEGMENTS_OF_A_FLOW, 1) {
-                Ok(posts) => commands::add_segments(alloc, core, flow, posts, NOW),
-                Err(fault) => Err(fault),
-            }
-        }
+        Kind::Keep => keep(alloc, core),
+        Kind::AddSegment => add_segment(alloc, core, place),
         Kind::CutSegment => commands::cut_segments(alloc, core, flow, range(20, 1), NOW),
-        _ => prepared_other(alloc, core, kind),
-    }
-}
-
-/// A change of hooks, or a turn.
-fn prepared_other(alloc: Global, core: &Core, kind: Kind) -> Result<Prepared, BookFault> {
-    match kind {
-        Kind::PutHook => commands::put_hook(alloc, core, hook(alloc, "http://b/")?, NOW),
-        Kind::DropHook => commands::drop_hook(alloc, core, HOOK, NOW),
-        _ => match core.prepare_turn(alloc, NOW) {
-            Ok(Some(prepared)) => Ok(prepared),
-            Ok(None) => Err(BookFault::Refused(Refusal::NoRequest)),
-            Err(Memory) => Err(BookFault::Memory),
-        },
+        Kind::PutHook => put_hook(alloc, core),
+        Kind::DropHook => drop_hook(alloc, core),
+        Kind::DeleteStep | Kind::SweepStep => commands::turn(alloc, core, NOW),
     }
 }
 
 /// The library on which a kind of change is made: for a delete step, one with a request.
-pub(crate) fn base_of(site: &Site<'_>, kind: Kind) -> Result<Core, BookFault> {
-    let mut core = site.base.share()?;
+pub(crate) fn base_of(site: &Site<'_>, kind: Kind) -> Result<Core, Stop> {
     if let Kind::DeleteStep = kind {
-        match commands::drop_flow(site.alloc, &core, 0, NOW) {
-            Ok(prepared) => core.install(prepared),
-            Err(fault) => return Err(fault),
-        }
+        let made = commands::drop_flow(site.alloc, site.base, 0, NOW)?;
+        return Ok(made.core);
     }
-    Ok(core)
+    Ok(site.base.share()?)
 }
 
-/// Prepares a kind of change so often, each time on the same library, and installs one in ten.
-pub(crate) fn repeated(
+/// Becomes what was prepared, and goes.
+fn become_prepared(core: Core, made: Prepared) {
+    let mut core = core;
+    core.install(made);
+}
+
+/// Installs what was prepared in a library of its own.
+fn installed(core: Result<Core, Memory>, made: Prepared) -> Result<(), Stop> {
+    match core {
+        Ok(core) => {
+            become_prepared(core, made);
+            Ok(())
+        }
+        Err(Memory) => {
+            let_go::prepared(made);
+            Err(Stop::Memory)
+        }
+    }
+}
+
+/// Prepares a change of a kind, and installs it where that is wanted. The library itself stays.
+pub(crate) fn changed(
     site: &Site<'_>,
     base: &Core,
     kind: Kind,
-    times: u64,
-) -> Result<(), BookFault> {
-    let mut core = base.share()?;
+    place: u64,
+    installs: bool,
+) -> Result<(), Stop> {
+    let made = prepared(site, base, kind, place)?;
+    if installs {
+        return installed(base.share(), made);
+    }
+    let_go::prepared(made);
+    Ok(())
+}
+
+/// Prepares a kind of change so often, each time on the same library, and installs one in ten.
+pub(crate) fn repeated(site: &Site<'_>, base: &Core, kind: Kind, times: u64) -> Result<(), Stop> {
     let mut places = Places::new(site.near);
     for time in 0..times {
-        match prepared_flow(site.alloc, &core, kind, site.flows, places.next()) {
-            Ok(prepared) => {
-                if time % INSTALLED == 0 {
-                    core.install(prepared);
-                    core = base.share()?;
-                }
-            }
-            Err(fault) => return Err(fault),
-        }
+        changed(site, base, kind, places.next(), time % INSTALLED == 0)?;
     }
     Ok(())
 }

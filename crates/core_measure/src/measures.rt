@@ -1,43 +1,45 @@
 //! How long changes take, by the processor time of the process.
-use crate::kinds::{KINDS, Kind, Site, base_of, repeated};
-use crate::library::{empty, library};
-use crate::records::{applied, changes};
-use media_rows::{ApplyFault, BookFault, Change, Refusal};
-use std::alloc::Global;
-use std::io;
+use crate::kinds::{KINDS, Kind, Site, base_of, changed, repeated};
+use crate::let_go;
+use crate::library::library;
+use crate::records::{add_changes, opened};
+use crate::stop::Stop;
+use disk_trait::Listed;
+use media_rows::Change;
 use std::time::CpuClock;
 use store_core::{Core, Counts};
-
-/// The status where the words are done.
-const DONE: u8 = 0;
-
-/// The status where a call refused what it has to take.
-const REFUSED: u8 = 3;
-
-/// The status where there is no memory.
-pub(crate) const NO_MEMORY: u8 = 4;
 
 /// Of so many rounds the best counts.
 const ROUNDS: u64 = 5;
 
-/// Says why a measure ended, and gives the status.
-fn ended<R: Print>(rt: &R, what: &str, fault: &BookFault) -> io::Result<u8> {
-    match fault {
-        BookFault::Refused(why) => {
-            let number = why.number();
-            println!(rt; "{what}: refused {number}")?;
-            Ok(REFUSED)
-        }
-        BookFault::Memory => {
-            println!(rt; "{what}: no memory")?;
-            Ok(NO_MEMORY)
-        }
+/// Prints a name and its number.
+fn say(rt: &HostRuntime, name: &str, number: u128) -> Result<(), Stop> {
+    match println!(rt; "{name} {number}") {
+        Ok(()) => Ok(()),
+        Err(_) => Err(Stop::Outside),
+    }
+}
+
+/// Prints how much is kept.
+fn say_counts(rt: &HostRuntime, counts: Counts) -> Result<(), Stop> {
+    let Counts {
+        flows,
+        segments,
+        objects,
+        ..
+    } = counts;
+    match println!(rt; "flows {flows} segments {segments} objects {objects}") {
+        Ok(()) => Ok(()),
+        Err(_) => Err(Stop::Outside),
     }
 }
 
 /// The processor time so far, in nanoseconds.
-fn nanoseconds<R: CpuClock>(rt: &R) -> io::Result<u128> {
-    Ok(rt.process_cpu_time()?.as_nanos())
+fn nanoseconds(rt: &HostRuntime) -> Result<u128, Stop> {
+    match rt.process_cpu_time() {
+        Ok(time) => Ok(time.as_nanos()),
+        Err(_) => Err(Stop::Outside),
+    }
 }
 
 /// The nanoseconds of one, of so many that took this time, and 0 of none.
@@ -48,100 +50,115 @@ fn of_one(taken: u128, times: u64) -> u128 {
     }
 }
 
-/// The nanoseconds of one change of a kind in the best round.
-fn best<R: CpuClock>(
-    rt: &R,
+/// The nanoseconds of one change of a kind in a round.
+fn round(
+    rt: &HostRuntime,
     site: &Site<'_>,
+    base: &Core,
     kind: Kind,
     times: u64,
-) -> io::Result<Result<u128, BookFault>> {
-    let base = match base_of(site, kind) {
-        Ok(base) => base,
-        Err(fault) => return Ok(Err(fault)),
-    };
-    let mut least = u128::MAX;
-    for _round in 0..ROUNDS {
-        let start = nanoseconds(rt)?;
-        if let Err(fault) = repeated(site, &base, kind, times) {
-            return Ok(Err(fault));
-        }
-        let taken = nanoseconds(rt)?.saturating_sub(start);
-        least = least.min(of_one(taken, times));
-    }
-    Ok(Ok(least))
+) -> Result<u128, Stop> {
+    let start = nanoseconds(rt)?;
+    repeated(site, base, kind, times)?;
+    let taken = nanoseconds(rt)?.saturating_sub(start);
+    Ok(of_one(taken, times))
 }
 
-/// Prints the nanoseconds that each kind of change takes, on a library of so many flows, at random among the first
-/// ones.
-pub(crate) fn measure_changes<R: Print + AllocGlobal + CpuClock>(
-    rt: &R,
+/// The nanoseconds of one change of a kind in the best round. One is made before.
+fn best(
+    rt: &HostRuntime,
+    site: &Site<'_>,
+    base: &Core,
+    kind: Kind,
+    times: u64,
+) -> Result<u128, Stop> {
+    changed(site, base, kind, 0, true)?;
+    let mut least = u128::MAX;
+    for _round in 0..ROUNDS {
+        least = least.min(round(rt, site, base, kind, times)?);
+    }
+    Ok(least)
+}
+
+/// Prints the nanoseconds that a kind of change takes.
+fn measure_kind(rt: &HostRuntime, site: &Site<'_>, kind: Kind, times: u64) -> Result<(), Stop> {
+    let base = base_of(site, kind)?;
+    let least = best(rt, site, &base, kind, times);
+    let_go::library(base);
+    say(rt, kind.name(), least?)
+}
+
+/// Prints the nanoseconds that each kind of change takes.
+fn measure_kinds(rt: &HostRuntime, site: &Site<'_>, times: u64) -> Result<(), Stop> {
+    say_counts(rt, site.base.counts())?;
+    for kind in &KINDS {
+        measure_kind(rt, site, *kind, times)?;
+    }
+    Ok(())
+}
+
+/// Prints how much is kept in a library of so many flows, and the nanoseconds that each kind of change takes on it, at
+/// random among the first flows.
+pub(crate) fn measure_changes(
+    rt: &HostRuntime,
     flows: u64,
     near: u64,
     times: u64,
-) -> io::Result<u8> {
+) -> Result<(), Stop> {
     let alloc = rt.alloc();
-    let core = match library(alloc, flows) {
-        Ok(core) => core,
-        Err(fault) => return ended(rt, "library", &fault),
-    };
+    let core = library(alloc, flows)?;
     let site = Site {
         alloc,
         base: &core,
         flows,
         near: near.min(flows),
     };
-    for kind in KINDS {
-        let name = kind.name();
-        match best(rt, &site, kind, times)? {
-            Ok(least) => println!(rt; "{name} {least}")?,
-            Err(fault) => return ended(rt, name, &fault),
+    let done = measure_kinds(rt, &site, times);
+    let_go::library(core);
+    done
+}
+
+/// How long changes took to be applied, and how much was kept then.
+#[derive(Clone, Copy)]
+struct Reading {
+    nanoseconds: u128,
+    counts: Counts,
+}
+
+/// Applies changes in a row to an empty library.
+fn applied(rt: &HostRuntime, changes: &[Change]) -> Result<Reading, Stop> {
+    let start = nanoseconds(rt)?;
+    let core = opened(rt.alloc(), changes)?;
+    let end = nanoseconds(rt);
+    let counts = core.counts();
+    let_go::library(core);
+    Ok(Reading {
+        nanoseconds: end?.saturating_sub(start),
+        counts,
+    })
+}
+
+/// Prints the nanoseconds of the best round, and how much is kept behind it.
+fn measure_applied(rt: &HostRuntime, changes: &[Change]) -> Result<(), Stop> {
+    let mut best = applied(rt, changes)?;
+    for _round in 1..ROUNDS {
+        let again = applied(rt, changes)?;
+        if again.nanoseconds < best.nanoseconds {
+            best = again;
         }
     }
-    Ok(DONE)
+    say(rt, "apply", best.nanoseconds)?;
+    say_counts(rt, best.counts)
 }
 
-/// The library behind changes from an empty one.
-fn opened(alloc: Global, changes: &[Change]) -> Result<Core, BookFault> {
-    let first = empty(alloc)?;
-    match applied(alloc, first, changes) {
-        Ok(core) => Ok(core),
-        Err(ApplyFault::Refused) => Err(BookFault::Refused(Refusal::OtherBytes)),
-        Err(ApplyFault::Memory) => Err(BookFault::Memory),
-    }
-}
-
-/// Prints the nanoseconds that so many records take that are applied in a row, and what there is then.
-pub(crate) fn measure_records<R: Print + AllocGlobal + CpuClock>(
-    rt: &R,
-    records: u64,
-) -> io::Result<u8> {
+/// Prints the nanoseconds that so many records take that are applied in a row, and how much is kept then.
+pub(crate) fn measure_records(rt: &HostRuntime, records: u64) -> Result<(), Stop> {
     let alloc = rt.alloc();
-    let changes = match changes(alloc, records) {
-        Ok(changes) => changes,
-        Err(fault) => return ended(rt, "records", &fault),
+    let mut changes = Listed::new(alloc);
+    let done = match add_changes(alloc, &mut changes, records) {
+        Ok(()) => measure_applied(rt, changes.items()),
+        Err(_) => Err(Stop::Memory),
     };
-    let mut least = u128::MAX;
-    let mut kept = None;
-    for _round in 0..ROUNDS {
-        let start = nanoseconds(rt)?;
-        let core = match opened(alloc, changes.items()) {
-            Ok(core) => core,
-            Err(fault) => return ended(rt, "apply", &fault),
-        };
-        least = least.min(nanoseconds(rt)?.saturating_sub(start));
-        kept = Some(core.counts());
-    }
-    println!(rt; "apply {least}")?;
-    if let Some(
-        Counts {
-            flows,
-            segments,
-            objects,
-            ..
-        },
-    ) = kept
-    {
-        println!(rt; "flows {flows} segments {segments} objects {objects}")?;
-    }
-    Ok(DONE)
+    let_go::changes(changes);
+    done
 }

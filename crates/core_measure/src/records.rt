@@ -1,8 +1,10 @@
 //! Changes as a journal has them, applied one after another.
 use crate::given::{flow_body, posts};
-use crate::library::{FLOWS_OF_A_SOURCE, OBJECT_BYTES, object_of};
-use disk_trait::{Listed, Text, TextList};
-use media_rows::{ApplyFault, BookFault, Change};
+use crate::let_go;
+use crate::library::{FLOWS_OF_A_SOURCE, OBJECT_BYTES, empty, object_of};
+use crate::stop::{Stop, stop_of_apply};
+use disk_trait::{Listed, Memory, TextList};
+use media_rows::{ApplyFault, Change};
 use std::alloc::Global;
 use store_core::Core;
 
@@ -22,9 +24,9 @@ fn put_flow(alloc: Global, flow: u64) -> Change {
 }
 
 /// An object is made for a flow.
-fn allocate(alloc: Global, flow: u64, object: Text) -> Result<Change, BookFault> {
+fn allocate(alloc: Global, flow: u64, index: u64) -> Result<Change, Memory> {
     let mut objects = TextList::new(alloc);
-    objects.push(object)?;
+    objects.push(object_of(alloc, index)?)?;
     Ok(Change::Allocate {
         moment: NOW,
         flow: u128::from(flow),
@@ -32,8 +34,28 @@ fn allocate(alloc: Global, flow: u64, object: Text) -> Result<Change, BookFault>
     })
 }
 
+/// An object's bytes are kept.
+fn store(alloc: Global, index: u64) -> Result<Change, Memory> {
+    Ok(Change::Store {
+        moment: NOW,
+        object: object_of(alloc, index)?,
+        start_block: index,
+        length: u64::from(OBJECT_BYTES),
+    })
+}
+
+/// A segment of an object is added to a flow.
+fn add_segment(alloc: Global, flow: u64, place: u64, index: u64) -> Result<Change, Memory> {
+    let object = object_of(alloc, index)?;
+    Ok(Change::AddSegments {
+        moment: NOW,
+        flow: u128::from(flow),
+        segments: posts(alloc, &object, place, 1)?,
+    })
+}
+
 /// The change of this number: the first of each flow puts it, and the others go in threes.
-fn change(alloc: Global, number: u64) -> Result<Change, BookFault> {
+fn change(alloc: Global, number: u64) -> Result<Change, Memory> {
     let flow = number / CHANGES_OF_A_FLOW;
     let step = number % CHANGES_OF_A_FLOW;
     if step == 0 {
@@ -41,40 +63,45 @@ fn change(alloc: Global, number: u64) -> Result<Change, BookFault> {
     }
     let place = (step - 1) / 3;
     let index = flow * 3 + place;
-    let object = object_of(alloc, index)?;
     match step % 3 {
-        1 => allocate(alloc, flow, object),
-        2 => Ok(Change::Store {
-            moment: NOW,
-            object,
-            start_block: index,
-            length: u64::from(OBJECT_BYTES),
-        }),
-        _ => Ok(Change::AddSegments {
-            moment: NOW,
-            flow: u128::from(flow),
-            segments: posts(alloc, &object, place, 1)?,
-        }),
+        1 => allocate(alloc, flow, index),
+        2 => store(alloc, index),
+        _ => add_segment(alloc, flow, place, index),
     }
 }
 
-/// So many changes, each of which applies to the library behind those before it.
-pub(crate) fn changes(alloc: Global, records: u64) -> Result<Listed<Change>, BookFault> {
-    let mut changes = Listed::new(alloc);
+/// Adds so many changes, each of which applies to the library behind those before it.
+pub(crate) fn add_changes(
+    alloc: Global,
+    changes: &mut Listed<Change>,
+    records: u64,
+) -> Result<(), Memory> {
     for number in 0..records {
         changes.push(change(alloc, number)?)?;
     }
-    Ok(changes)
+    Ok(())
 }
 
-/// The library behind these changes.
-pub(crate) fn applied(alloc: Global, first: Core, changes: &[Change]) -> Result<Core, ApplyFault> {
-    let mut core = first;
+/// What was made of a library, where nothing refused it.
+fn taken(next: Result<Core, ApplyFault>) -> Result<Core, Stop> {
+    match next {
+        Ok(next) => Ok(next),
+        Err(fault) => Err(stop_of_apply(fault)),
+    }
+}
+
+/// The library behind a change.
+fn applied(alloc: Global, core: Core, change: &Change) -> Result<Core, Stop> {
+    let next = core.apply(alloc, change);
+    let_go::library(core);
+    taken(next)
+}
+
+/// The library behind changes from an empty one.
+pub(crate) fn opened(alloc: Global, changes: &[Change]) -> Result<Core, Stop> {
+    let mut core = empty(alloc)?;
     for change in changes {
-        match core.apply(alloc, change) {
-            Ok(next) => core = next,
-            Err(fault) => return Err(fault),
-        }
+        core = applied(alloc, core, change)?;
     }
     Ok(core)
 }

@@ -4,5 +4,5 @@ use Rattle.std.specs.Str.{IsUtf8, is_utf8}
 use Rattle.std.proofs.lemmas.Str.{is_utf8-from_IsUtf8}
 
 -- a text that is UTF-8 passes the test
-pub is_text : (text : List ℕ) → IsUtf8 text → is_utf8 text ≡ true
-is_text text utf8 = is_utf8-from_IsUtf8 text utf8
+pub passes : (text : List ℕ) → IsUtf8 text → is_utf8 text ≡ true
+passes text utf8 = is_utf8-from_IsUtf8 text utf8
