@@ -39,18 +39,30 @@ pub(crate) fn is_shown<R: Print + Eprint>(
 
 /// The program's commands with their words.
 fn program<'a>(alloc: Global) -> Result<Command<'a>, AllocError> {
+    let program = with(bare_program(alloc), format(alloc))?;
+    let program = with(program, check(alloc))?;
+    let program = with(program, work(alloc))?;
+    let program = with(program, replay(alloc))?;
+    let program = with(program, serve(alloc))?;
+    with(program, workload(alloc))
+}
+
+/// The program without its commands.
+fn bare_program<'a>(alloc: Global) -> Command<'a> {
     Command::new(alloc, "tams")
         .about("A store for time-addressable media, in one file, whose promises are proved")
         .version(VERSION)
         .no_binary_name(true)
         .disable_help_subcommand(true)
         .subcommand_required(true)
-        .subcommand(format(alloc)?)?
-        .subcommand(check(alloc)?)?
-        .subcommand(work(alloc)?)?
-        .subcommand(replay(alloc)?)?
-        .subcommand(serve(alloc)?)?
-        .subcommand(workload(alloc)?)
+}
+
+/// The program with a command more.
+fn with<'a>(
+    program: Command<'a>,
+    command: Result<Command<'a>, AllocError>,
+) -> Result<Command<'a>, AllocError> {
+    program.subcommand(command?)
 }
 
 fn format<'a>(alloc: Global) -> Result<Command<'a>, AllocError> {

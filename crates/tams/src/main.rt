@@ -8,9 +8,7 @@ ghost use Rattle.std.specs.Prelude.{◌≡◌};
 mod help;
 
 use disk_trait::{Memory, MemoryDisk, NumberList, Text, TextList};
-use site_edge::{
-    FileFailed, FileSite, HostClock, HostSink, MemorySite, NetSite, PeerList, Sink, StoreFile,
-};
+use site_edge::{FileSite, HostClock, HostSink, MemorySite, NetSite, PeerList, Sink, StoreFile};
 use std::alloc::Global;
 use std::env;
 use std::fs::File;
@@ -72,29 +70,51 @@ fn status_of<
         return Ok(DONE);
     }
     let wanted = tams_top::devices(rt.alloc(), &words)?;
+    Ok(status_over(rt, &words, &wanted, streams))
+}
+
+/// The status of a command over what its words name.
+fn status_over<
+    R: Files<File = File> + Clock + Net<Stream = TcpStream, Listener = TcpListener> + AllocGlobal,
+>(rt: &R, words: &TextList, wanted: &Wanted, streams: Streams) -> u8 {
     let mut clock = HostClock::new(rt);
-    let mut notes = notes_of(&wanted, &words, streams);
-    let opened = match &wanted {
-        Wanted::Nothing => {
-            let mut site = empty_site(rt.alloc());
-            return Ok(tams_top::run(rt.alloc(), &words, &mut site, &mut clock, &mut notes));
-        }
-        Wanted::Plain(path) => StoreFile::open(rt, path),
+    let mut notes = notes_of(wanted, words, streams);
+    let opened = match wanted {
+        Wanted::Nothing => return run_nowhere(rt.alloc(), words, &mut clock, &mut notes),
+        Wanted::Plain(path) | Wanted::Listen(path, _) => StoreFile::open(rt, path),
         Wanted::Fresh(path, length) => StoreFile::make(rt, path, *length),
-        Wanted::Listen(path, port) => {
-            return Ok(match StoreFile::open(rt, path) {
-                Ok(file) => serve(rt, &words, file, *port, &mut clock, &mut notes),
-                Err(FileFailed) => report(&mut notes, b"disk fault\n", DISK_FAULT),
-            });
-        }
     };
-    Ok(match opened {
-        Ok(file) => {
-            let mut site = FileSite::new(file, streams.input, streams.output);
-            tams_top::run(rt.alloc(), &words, &mut site, &mut clock, &mut notes)
-        }
-        Err(FileFailed) => report(&mut notes, b"disk fault\n", DISK_FAULT),
-    })
+    let Ok(file) = opened else {
+        return report(&mut notes, b"disk fault\n", DISK_FAULT);
+    };
+    match wanted {
+        Wanted::Listen(_, port) => serve(rt, words, file, *port, &mut clock, &mut notes),
+        _ => run_on_file(rt.alloc(), words, file, streams, &mut clock, &mut notes),
+    }
+}
+
+/// The status of a command that names no file.
+fn run_nowhere<C: site_edge::Clock>(
+    alloc: Global,
+    words: &TextList,
+    clock: &mut C,
+    notes: &mut HostSink,
+) -> u8 {
+    let mut site = empty_site(alloc);
+    tams_top::run(alloc, words, &mut site, clock, notes)
+}
+
+/// The status of a command over a file, whose one peer is the standard input and output.
+fn run_on_file<C: site_edge::Clock>(
+    alloc: Global,
+    words: &TextList,
+    file: StoreFile,
+    streams: Streams,
+    clock: &mut C,
+    notes: &mut HostSink,
+) -> u8 {
+    let mut site = FileSite::new(file, streams.input, streams.output);
+    tams_top::run(alloc, words, &mut site, clock, notes)
 }
 
 /// The status of a command whose peers connect to this port.
