@@ -9,6 +9,7 @@ ghost use Rattle.media_rows.specs.declared.refusal.Refusal.TheVariants.{IdTaken,
 ghost use Rattle.shared_tree.specs.Pairs.{first, values_of};
 ghost use Rattle.object_refs.specs.References.{are_below, book_of, changed_at, flows_in, kept_of, objects_in, references_in, referred, refers, released, released_at, stored_at, with_new, without_id};
 ghost use Rattle.object_refs.specs.Within.Books.{has_serial, stored_of};
+ghost use Rattle.object_refs.specs.Within.Names.{id_number};
 
 use crate::changes::{is_stored, referred_kept, released_kept, stored_kept};
 use crate::kept::Kept;
@@ -122,10 +123,11 @@ impl ObjectBook {
             (when (is_some (object_of id.now (objects_in self.now))) (IdTaken id.now))
             (with_new id.now serial now self.now) result }
     {
-        if self.find(id).is_some() {
+        let number = id_number(id);
+        if self.has_id(number, id) {
             return Err(BookFault::Refused(Refusal::IdTaken(id.copy(alloc)?)));
         }
-        Ok(self.with_new(alloc, id, serial, now)?)
+        Ok(self.with_new(alloc, id, number, serial, now)?)
     }
 
     /// Notes that an object has its bytes, at this place, and is idle since now. It is refused as
@@ -227,8 +229,9 @@ impl ObjectBook {
         requires unnamed { IsFalse (is_named (references_in self.now) id.now) }
         ensures { IfOk result (λ next. next ≡ without_id id.now self.now) }
     {
-        match self.kept(id) {
-            Some(old) => self.without_kept(alloc, old),
+        let number = id_number(id);
+        match self.kept_at(number, id) {
+            Some(old) => self.without_kept(alloc, number, old),
             None => self.share(),
         }
     }
@@ -283,8 +286,24 @@ impl ObjectBook {
     fn kept(&self, id: &Text) -> Option<&Kept>
         ensures { option_copied result ≡ kept_of id.now self.now }
     {
+        self.kept_at(id_number(id), id)
+    }
+
+    /// Whether an object has this id, whose number is given.
+    pub(crate) fn has_id(&self, number: u128, id: &Text) -> bool
+        requires number { number ≡ id_number id.now }
+        ensures { result ≡ is_some (object_of id.now (objects_in self.now)) }
+    {
+        self.kept_at(number, id).is_some()
+    }
+
+    /// The object of an id, whose number is given, with the references to it.
+    fn kept_at(&self, number: u128, id: &Text) -> Option<&Kept>
+        requires number { number ≡ id_number id.now }
+        ensures { option_copied result ≡ kept_of id.now self.now }
+    {
         self.rows.keys_rise();
-        match self.names.at(id_number(id), id) {
+        match self.names.at(number, id) {
             Some(serial) => value_at(&self.rows, &serial_key(serial)),
             None => None,
         }

@@ -3,6 +3,7 @@ ghost use Rattle.std.specs.Prelude.{◌≡◌, ◌<◌, ◌^◌, IfOk, IsFalse, 
 ghost use Rattle.media_rows.specs.Objects.{is_stored};
 ghost use Rattle.object_refs.specs.References.{are_below, changed_at, kept_of, referred, released_at, stored_at, with_new, without_id};
 ghost use Rattle.object_refs.specs.Within.Books.{has_serial, idle_entered, idle_left, with_new_object};
+ghost use Rattle.object_refs.specs.Within.Names.{id_number};
 ghost use Rattle.object_refs.specs.declared.kept.Kept.{Kept};
 
 use crate::ObjectBook;
@@ -10,21 +11,22 @@ use crate::book::serial_key;
 use crate::flows::FlowCounts;
 use crate::kept::Kept;
 use crate::keys::{with_value, without_value};
-use crate::names::id_number;
 use disk_trait::{Duplicate, Memory, Text};
 use media_rows::{Extent, ObjectRow, ObjectState};
 use shared_tree::Version;
 use std::alloc::Global;
 
 impl ObjectBook {
-    /// The book with a new object.
+    /// The book with a new object, the number of whose id is given.
     pub(crate) fn with_new(
         &self,
         alloc: Global,
         id: &Text,
+        number: u128,
         serial: u64,
         now: u64,
     ) -> Result<ObjectBook, Memory>
+        requires number { number ≡ id_number id.now }
         requires above { IsTrue (are_below serial self.now) }
         requires id { kept_of id.now self.now ≡ None }
         ensures { IfOk result (λ next. next ≡ with_new id.now serial now self.now) }
@@ -35,11 +37,17 @@ impl ObjectBook {
             state: ObjectState::Allocated,
             idle_since: now,
         };
-        self.with_row(alloc, row)
+        self.with_row(alloc, number, row)
     }
 
-    /// The book with a new object at its place, to which nothing refers.
-    pub(crate) fn with_row(&self, alloc: Global, row: ObjectRow) -> Result<ObjectBook, Memory>
+    /// The book with a new object at its place, to which nothing refers. The number of its id is given.
+    pub(crate) fn with_row(
+        &self,
+        alloc: Global,
+        number: u128,
+        row: ObjectRow,
+    ) -> Result<ObjectBook, Memory>
+        requires number { number ≡ id_number row.id }
         requires id { kept_of row.id self.now ≡ None }
         requires serial { IsFalse (has_serial row.serial self.now) }
         ensures { IfOk result (λ next. next ≡ with_new_object row self.now) }
@@ -52,7 +60,6 @@ impl ObjectBook {
             flows: FlowCounts::empty(),
         };
         let key = kept.idle_key();
-        let number = id_number(&kept.row.id);
         let id = kept.row.id.copy(alloc)?;
         Ok(ObjectBook {
             rows: with_value(alloc, &self.rows, &serial_key(serial), kept)?,
@@ -85,16 +92,21 @@ impl ObjectBook {
         })
     }
 
-    /// The book without an object.
-    pub(crate) fn without_kept(&self, alloc: Global, old: &Kept) -> Result<ObjectBook, Memory>
+    /// The book without an object, the number of whose id is given.
+    pub(crate) fn without_kept(
+        &self,
+        alloc: Global,
+        number: u128,
+        old: &Kept,
+    ) -> Result<ObjectBook, Memory>
+        requires number { number ≡ id_number old.now.row.id }
         requires found { kept_of old.now.row.id self.now ≡ Some old.now }
         ensures { IfOk result (λ next. next ≡ without_id old.now.row.id self.now) }
     {
         self.rows.keys_rise();
-        let id = &old.row.id;
         Ok(ObjectBook {
             rows: without_value(alloc, &self.rows, &serial_key(old.row.serial))?,
-            names: self.names.without(alloc, id_number(id), id)?,
+            names: self.names.without(alloc, number, &old.row.id)?,
             idle: idle_left(alloc, &self.idle, &old.idle_key())?,
         })
     }

@@ -1,5 +1,5 @@
 //! Objects by their ids: each id is found by a number, in a list of the ids that have that number.
-ghost use Rattle.std.specs.Prelude.{◌≡◌, ◌≤◌, [], IfOk, None, Some, length, take};
+ghost use Rattle.std.specs.Prelude.{◌≡◌, ◌∷◌, ◌≤◌, [], IfOk, None, Some, length, take};
 ghost use Rattle.std.specs.Int.{from_be_bytes, w128};
 ghost use Rattle.object_refs.specs.NameTables.{Renames, bucket_at, is_named_so, serial_in, serial_named};
 ghost use Rattle.object_refs.specs.Within.Names.{bucket_with, bucket_without, id_number};
@@ -161,8 +161,20 @@ fn bucket_with(alloc: Global, bucket: &[Named], entry: Named) -> Result<Bucket, 
     ensures { IfOk result (λ list. list ≡ bucket_with entry bucket.now) }
 {
     let mut list = bucket_without(alloc, bucket, &entry.id)?;
+    if list.items().is_empty() {
+        return bucket_of(alloc, entry);
+    }
     list.push(entry)?;
     Ok(list)
+}
+
+/// The entries of a number that has this one alone, as nearly all have: they take no room for more.
+fn bucket_of(alloc: Global, entry: Named) -> Result<Bucket, Memory>
+    ensures { IfOk result (λ list. list ≡ entry ∷ []) }
+{
+    let mut entries = Vec::with_capacity(alloc, 1)?;
+    entries.push(entry)?;
+    Ok(Bucket::from_vec(entries))
 }
 
 /// The entries without those of an id.

@@ -7,6 +7,7 @@ ghost use Rattle.object_refs.specs.References.{changed_at, objects_in, referred}
 ghost use Rattle.object_refs.specs.Within.Books.{are_names_distinct, bare_objects, has_serial, referring, with_new_object};
 
 use crate::ObjectBook;
+use crate::names::id_number;
 use disk_trait::Duplicate;
 use media_rows::{ApplyFault, BookFault, ObjectRow, SegmentRow};
 use std::alloc::Global;
@@ -32,10 +33,11 @@ fn with_object(alloc: Global, book: &ObjectBook, row: &ObjectRow) -> Result<Obje
         && not (has_serial row.now.serial book.now))
         (with_new_object row.now book.now) result }
 {
-    if book.find(&row.id).is_some() || book.has_serial(row.serial) {
+    let number = id_number(&row.id);
+    if book.has_id(number, &row.id) || book.has_serial(row.serial) {
         return Err(ApplyFault::Refused);
     }
-    Ok(book.with_row(alloc, row.duplicate(alloc)?)?)
+    Ok(book.with_row(alloc, number, row.duplicate(alloc)?)?)
 }
 
 /// The book with the references of these segments. The last one comes first.

@@ -1,5 +1,6 @@
 use Rattle.std.proofs.Common.{ap, sym, ◌∙◌}
 use Rattle.object_refs.specs.References.{without_id}
+use Rattle.object_refs.specs.Within.Names.{id_number}
 use Rattle.object_refs.proofs.Changing.{none_left}
 use Rattle.object_refs.proofs.Lists.{if_ok}
 use Rattle.object_refs.proofs.Refusing.{found_again, found_id}
@@ -7,7 +8,10 @@ use Rattle.object_refs.proofs.book.ObjectBook.sweep.Goals as goal
 
 -- the object is the one of its own id
 pub without_kept-requires : goal.without_kept-requires
-without_kept-requires c = record { found = found_again c.args.id.now c.args.self.now c.in-Some.old.now (sym c.in-Some.ensures) }
+without_kept-requires c = record {
+  number = c.id_number-number.ensures ∙ ap id_number (sym (found_id c.args.id.now c.args.self.now c.in-Some.old.now (sym c.in-Some.ensures)));
+  found = found_again c.args.id.now c.args.self.now c.in-Some.old.now (sym c.in-Some.ensures);
+}
 
 pub returns-in-Some : goal.returns-in-Some
 returns-in-Some c =

@@ -1,9 +1,14 @@
-use Rattle.std.proofs.Common.{ap, ◌∙◌}
+use Rattle.std.proofs.Common.{ap, sym, ◌∙◌}
 use Rattle.object_refs.specs.References.{kept_of}
+use Rattle.object_refs.specs.Within.Names.{id_number}
 use Rattle.object_refs.proofs.Coming.{new_at_end}
 use Rattle.object_refs.proofs.Lists.{if_ok}
 use Rattle.object_refs.proofs.Restoring.{below_fresh}
 use Rattle.object_refs.proofs.book.ObjectBook.with_new.Goals as goal
+
+-- the copied id has the same number
+pub with_row-requires-clause-number : goal.with_row-requires-clause-number
+with_row-requires-clause-number c = c.requires.number ∙ ap id_number (sym c.in_ok-copy.ensures)
 
 -- the id and the serial are new
 pub with_row-requires-clause-id : goal.with_row-requires-clause-id

@@ -17,10 +17,10 @@ invariant_of-result c =
     let fit : FitsSigned w128 c.serial_key.result = search rules in
     let made = bare_is row c.empty.result c.empty.ensures in
     let put : c.in_ok-with_value.field-0 ≡ with_pair (c.serial_key.result, new) rows = simp to_z-of_z at c.in_ok-with_value.ensures in
-    new_book row c.in_ok-id.id c.id_number-number.result c.idle_key-key.result new rows c.in_ok-with_value.field-0 c.self.inside.names
+    new_book row c.in_ok-id.id c.args.number c.idle_key-key.result new rows c.in_ok-with_value.field-0 c.self.inside.names
     c.in_ok-with.field-0 c.self.inside.idle c.in_ok-idle_entered.field-0 c.self.invariant c.keys_rise.ensures c.tell_small.ensures
     (subst (λ kept. has_serial row.serial kept ≡ false) (sym c.self.view_is) c.requires.serial) (ap (kept_of row.id) c.self.view_is ∙ c.requires.id) made
-    c.in_ok-id.ensures c.id_number-number.ensures c.idle_key-key.ensures
+    c.in_ok-id.ensures c.requires.number c.idle_key-key.ensures
     (put ∙ ap (λ k. with_pair (k, new) rows) c.serial_key.ensures) c.in_ok-with.ensures c.in_ok-idle_entered.ensures
 
 -- the object stands at its place

@@ -13,8 +13,8 @@ invariant_of-result c =
     let fit : FitsSigned w128 c.serial_key.result = search rules in
     let cut : c.in_ok-without_value.field-0 ≡ without_key c.serial_key.result rows = simp to_z-of_z at c.in_ok-without_value.ensures in
     left_book rows c.in_ok-without_value.field-0 c.self.inside.names c.in_ok-without.field-0 c.self.inside.idle c.in_ok-idle_left.field-0 c.args.old.now
-    c.id_number.result c.idle_key.result c.self.invariant c.keys_rise.ensures
-    (ap (kept_of c.args.old.now.row.id) c.self.view_is ∙ c.requires.found) c.id_number.ensures c.idle_key.ensures
+    c.args.number c.idle_key.result c.self.invariant c.keys_rise.ensures
+    (ap (kept_of c.args.old.now.row.id) c.self.view_is ∙ c.requires.found) c.requires.number c.idle_key.ensures
     (cut ∙ ap (λ k. without_key k rows) c.serial_key.ensures) c.in_ok-without.ensures c.in_ok-idle_left.ensures
 
 -- and all others stay
