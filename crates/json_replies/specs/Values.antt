@@ -8,7 +8,7 @@ use Rattle.media_rows.specs.Ids.{id_text}
 use Rattle.media_rows.specs.Moments.{moment_text}
 use Rattle.media_rows.specs.declared.event.EventKind.{EventKind}
 use Rattle.media_rows.specs.declared.flow.FormatKind.{FormatKind}
-use Rattle.media_rows.specs.declared.flow.Member.{ObjectMember as Collected}
+use Rattle.media_rows.specs.declared.flow.Member.{Member as Collected}
 use Rattle.media_rows.specs.declared.flow.Tag.{Tag}
 use Rattle.media_rows.specs.declared.request.DeleteStatus.{DeleteStatus}
 use Rattle.time_range.specs.Printing.{canonical_ts_text, canonical_range_text}
