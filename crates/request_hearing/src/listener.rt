@@ -93,7 +93,6 @@ impl Hearing {
     /// where none is. It takes no memory.
     pub fn take_body<X: Site>(&mut self, site: &mut X, out: &mut [u8]) -> Body
         requires left { 0 < left_of self.old.stage }
-        requires room { length self.old.last < feed_room }
         requires some { 0 < length out.old }
         requires under_way { (X.device site.old).link.under_way ≡ true }
         ensures { HearsBody self.old self.new out.new (X.device site.old) (X.device site.new)
@@ -111,7 +110,6 @@ impl Hearing {
     fn hear_body<X: Site>(&mut self, site: &mut X, out: &mut [u8]) -> Body
         requires none { self.old.unread ≡ [] }
         requires left { 0 < left_of self.old.stage }
-        requires room { length self.old.last < feed_room }
         requires some { 0 < length out.old }
         requires under_way { (X.device site.old).link.under_way ≡ true }
         ensures { HearsBody self.old self.new out.new (X.device site.old) (X.device site.new)
