@@ -29,7 +29,6 @@ const ALL_EVENTS: [EventKind; 8] = [
 ];
 
 /// A text of UTF-8.
-#[tactic(auto, using(crate::proofs::TextLemmas::passes))]
 pub(crate) fn text_of(alloc: Global, text: &str) -> Result<Text, Memory>
     ensures { IfOk result (λ text. IsTrue (is_utf8 text)) }
 {
