@@ -3,8 +3,8 @@ use crate::places::Places;
 use disk_trait::Memory;
 use flow_book::FlowBook;
 use media_rows::{
-    ApplyFault, BookFault, FlowBody, FlowFilter, FormatKind, MemberList, SourceFilter, TagList,
-    TagTests,
+    ApplyFault, BookFault, FlowBody, FlowFilter, FlowList, FormatKind, MemberList, SourceFilter,
+    SourceList, TagList, TagTests,
 };
 use std::alloc::Global;
 
@@ -30,20 +30,35 @@ fn body(alloc: Global, id: u64) -> FlowBody {
     }
 }
 
-/// The book with a flow put; one that is refused finds no memory.
-fn with_flow(alloc: Global, book: &FlowBook, id: u64, now: u64) -> Result<FlowBook, Memory> {
-    match book.put_flow(alloc, &body(alloc, id), now) {
+/// Lets a book go.
+fn let_go(book: FlowBook) {}
+
+/// The book that a put made; one that is refused finds no memory.
+fn taken(made: Result<FlowBook, BookFault>) -> Result<FlowBook, Memory> {
+    match made {
         Ok(next) => Ok(next),
-        Err(BookFault::Memory) => Err(Memory),
-        Err(BookFault::Refused(_)) => Err(Memory),
+        Err(_) => Err(Memory),
     }
+}
+
+/// What a put of a flow makes of a book.
+fn put(alloc: Global, book: &FlowBook, id: u64, now: u64) -> Result<FlowBook, BookFault> {
+    let body = body(alloc, id);
+    book.put_flow(alloc, &body, now)
+}
+
+/// The book with a flow put.
+fn with_flow(alloc: Global, book: FlowBook, id: u64, now: u64) -> Result<FlowBook, Memory> {
+    let made = put(alloc, &book, id, now);
+    let_go(book);
+    taken(made)
 }
 
 /// A book of so many flows.
 fn book_of(alloc: Global, size: u64) -> Result<FlowBook, Memory> {
     let mut book = FlowBook::empty();
     for id in 0..size {
-        book = with_flow(alloc, &book, id, 0)?;
+        book = with_flow(alloc, book, id, 0)?;
     }
     Ok(book)
 }
@@ -54,15 +69,15 @@ pub(crate) fn puts(alloc: Global, size: u64, times: u64) -> Result<u64, Memory> 
     let mut places = Places::new(size);
     let mut sum = 0_u64;
     for now in 0..times {
-        book = with_flow(alloc, &book, places.next(), now)?;
+        book = with_flow(alloc, book, places.next(), now)?;
         sum = sum.wrapping_add(book.flow_count());
     }
+    let_go(book);
     Ok(sum)
 }
 
-/// The sum of the moments of flows at random places, each made at moment 1.
-pub(crate) fn looks(alloc: Global, size: u64, times: u64) -> Result<u64, Memory> {
-    let book = book_of(alloc, size)?;
+/// What looks at flows at random places add up to.
+fn looked(book: &FlowBook, size: u64, times: u64) -> u64 {
     let mut places = Places::new(size);
     let mut sum = 0_u64;
     for _time in 0..times {
@@ -70,33 +85,67 @@ pub(crate) fn looks(alloc: Global, size: u64, times: u64) -> Result<u64, Memory>
             sum = sum.wrapping_add(row.created).wrapping_add(1);
         }
     }
+    sum
+}
+
+/// The sum of the moments of flows at random places, each made at moment 1.
+pub(crate) fn looks(alloc: Global, size: u64, times: u64) -> Result<u64, Memory> {
+    let book = book_of(alloc, size)?;
+    let sum = looked(&book, size, times);
+    let_go(book);
     Ok(sum)
 }
 
-/// How many flows there are in books that are made from the rows of one.
-pub(crate) fn opened(alloc: Global, size: u64, times: u64) -> Result<u64, Memory> {
-    let book = book_of(alloc, size)?;
-    let sources = SourceFilter {
+/// All sources of a book.
+fn sources_of(alloc: Global, book: &FlowBook) -> Result<SourceList, Memory> {
+    let all = SourceFilter {
         format: None,
         label: None,
         tags: TagTests::new(alloc),
     };
-    let flows = FlowFilter {
+    book.list_sources(alloc, &all, None)
+}
+
+/// All flows of a book.
+fn flows_of(alloc: Global, book: &FlowBook) -> Result<FlowList, Memory> {
+    let all = FlowFilter {
         source: None,
         format: None,
         codec: None,
         label: None,
         tags: TagTests::new(alloc),
     };
-    let sources = book.list_sources(alloc, &sources, None)?;
-    let flows = book.list_flows(alloc, &flows, None)?;
+    book.list_flows(alloc, &all, None)
+}
+
+/// How many flows a book has that was made from rows; one that is refused has none.
+fn count_of(made: Result<FlowBook, ApplyFault>) -> Result<u64, Memory> {
+    match made {
+        Ok(book) => Ok(book.flow_count()),
+        Err(ApplyFault::Refused) => Ok(0),
+        Err(ApplyFault::Memory) => Err(Memory),
+    }
+}
+
+/// How many flows there are in books that are made from these rows.
+fn remade(
+    alloc: Global,
+    sources: &SourceList,
+    flows: &FlowList,
+    times: u64,
+) -> Result<u64, Memory> {
     let mut sum = 0_u64;
     for _time in 0..times {
-        match FlowBook::from_rows(alloc, &sources, &flows) {
-            Ok(again) => sum = sum.wrapping_add(again.flow_count()),
-            Err(ApplyFault::Refused) => return Ok(sum),
-            Err(ApplyFault::Memory) => return Err(Memory),
-        }
+        sum = sum.wrapping_add(count_of(FlowBook::from_rows(alloc, sources, flows))?);
     }
     Ok(sum)
+}
+
+/// How many flows there are in books that are made from the rows of one.
+pub(crate) fn opened(alloc: Global, size: u64, times: u64) -> Result<u64, Memory> {
+    let book = book_of(alloc, size)?;
+    let sources = sources_of(alloc, &book);
+    let flows = flows_of(alloc, &book);
+    let_go(book);
+    remade(alloc, &sources?, &flows?, times)
 }

@@ -61,22 +61,48 @@ fn referred(alloc: Global, book: &ObjectBook, id: &Text, flow: u128) -> Result<O
     }
 }
 
+/// Lets a book go.
+fn let_go(book: ObjectBook) {}
+
+/// The book with the object of the next serial.
+fn with_next(alloc: Global, book: ObjectBook, serial: u64) -> Result<ObjectBook, Memory>
+    requires { IsTrue (are_below serial book) }
+    ensures { IfOk result (λ next. IsTrue (are_below (serial + 1) next)) }
+{
+    let made = match id_of(alloc, serial) {
+        Ok(id) => allocated(alloc, &book, &id, serial),
+        Err(Memory) => Err(Memory),
+    };
+    let_go(book);
+    made
+}
+
 /// A book of so many objects, which have no bytes yet.
 fn bare_book(alloc: Global, size: u64) -> Result<ObjectBook, Memory>
     ensures { IfOk result (λ book. IsTrue (are_below size book)) }
 {
     let mut book = ObjectBook::empty();
     for serial in 0..size {
-        book = allocated(alloc, &book, &id_of(alloc, serial)?, serial)?;
+        book = with_next(alloc, book, serial)?;
     }
     Ok(book)
+}
+
+/// The book with the bytes of an object.
+fn with_bytes(alloc: Global, book: ObjectBook, number: u64) -> Result<ObjectBook, Memory> {
+    let made = match id_of(alloc, number) {
+        Ok(id) => stored(alloc, &book, &id),
+        Err(Memory) => Err(Memory),
+    };
+    let_go(book);
+    made
 }
 
 /// The book with the bytes of each of so many objects.
 fn stored_book(alloc: Global, size: u64) -> Result<ObjectBook, Memory> {
     let mut book = bare_book(alloc, size)?;
     for number in 0..size {
-        book = stored(alloc, &book, &id_of(alloc, number)?)?;
+        book = with_bytes(alloc, book, number)?;
     }
     Ok(book)
 }

@@ -77,6 +77,9 @@ fn with_segment<L: Ledger>(
     }
 }
 
+/// Lets an index go.
+fn let_go(index: SegmentIndex) {}
+
 /// An index of so many segments.
 fn index_of<L: Ledger>(
     alloc: Global,
@@ -85,10 +88,52 @@ fn index_of<L: Ledger>(
 ) -> Result<SegmentIndex, Memory> {
     let mut index = SegmentIndex::empty();
     for place in 0..size {
-        let low = i128::from(place) * STEP;
-        index = with_segment(alloc, &index, low, low + STEP / 2, steps)?;
+        index = with_next(alloc, index, place, steps)?;
     }
     Ok(index)
+}
+
+/// The index with the segment of a place.
+fn with_next<L: Ledger>(
+    alloc: Global,
+    index: SegmentIndex,
+    place: u64,
+    steps: &mut Steps<L>,
+) -> Result<SegmentIndex, Memory> {
+    let low = i128::from(place) * STEP;
+    let made = with_segment(alloc, &index, low, low + STEP / 2, steps);
+    let_go(index);
+    made
+}
+
+/// How many segments stand on a page from a place on.
+fn page<L: Ledger>(
+    alloc: Global,
+    index: &SegmentIndex,
+    place: u64,
+    steps: &mut Steps<L>,
+) -> Result<u64, Memory> {
+    let low = i128::from(place) * STEP;
+    let wanted = range(low, low + STEP * 1_000_000_000);
+    let mut rows: Vec<&SegmentRow> = Vec::with_capacity(alloc, PAGE)?;
+    index.range(&wanted, None, PAGE, false, &mut rows, steps);
+    Ok(rows.len() as u64)
+}
+
+/// How many segments stand on pages of an index at random places.
+fn pages_of<L: Ledger>(
+    alloc: Global,
+    index: &SegmentIndex,
+    size: u64,
+    times: u64,
+    steps: &mut Steps<L>,
+) -> Result<u64, Memory> {
+    let mut places = Places::new(size);
+    let mut sum = 0_u64;
+    for _time in 0..times {
+        sum = sum.wrapping_add(page(alloc, index, places.next(), steps)?);
+    }
+    Ok(sum)
 }
 
 /// How many segments stand on pages at random places.
@@ -104,16 +149,40 @@ pub(crate) fn pages<L: Ledger>(
 {
     let mut steps = Steps::<L>::new(blank);
     let index = index_of(alloc, size, &mut steps)?;
-    let mut places = Places::new(size);
-    let mut sum = 0_u64;
-    for _time in 0..times {
-        let low = i128::from(places.next()) * STEP;
-        let wanted = range(low, low + STEP * 1_000_000_000);
-        let mut rows: Vec<&SegmentRow> = Vec::with_capacity(alloc, PAGE)?;
-        index.range(&wanted, None, PAGE, false, &mut rows, &mut steps);
-        sum = sum.wrapping_add(rows.len() as u64);
-    }
-    Ok(sum)
+    let sum = pages_of(alloc, &index, size, times, &mut steps);
+    let_go(index);
+    sum
+}
+
+/// An index from which a segment was removed again, and how many it had before.
+#[derive(Drop)]
+struct Undone {
+    index: SegmentIndex,
+    count: u64,
+}
+
+/// The index with a segment behind a place, from which it is removed again.
+fn added<L: Ledger>(
+    alloc: Global,
+    index: SegmentIndex,
+    place: u64,
+    steps: &mut Steps<L>,
+) -> Result<Undone, Memory> {
+    let low = i128::from(place) * STEP + STEP / 2;
+    let made = with_segment(alloc, &index, low, low + STEP / 4, steps);
+    let_go(index);
+    removed(alloc, made?, low * 2)
+}
+
+/// The index without the segment at a key.
+fn removed(alloc: Global, index: SegmentIndex, key: i128) -> Result<Undone, Memory> {
+    let count = index.len();
+    let without = index.remove(alloc, key);
+    let_go(index);
+    Ok(Undone {
+        index: without?,
+        count,
+    })
 }
 
 /// How many segments an index has once one was added and removed, at random places.
@@ -132,10 +201,10 @@ pub(crate) fn adds<L: Ledger>(
     let mut places = Places::new(size);
     let mut sum = 0_u64;
     for _time in 0..times {
-        let low = i128::from(places.next()) * STEP + STEP / 2;
-        let more = with_segment(alloc, &index, low, low + STEP / 4, &mut steps)?;
-        sum = sum.wrapping_add(more.len());
-        index = more.remove(alloc, low * 2)?;
+        let Undone { index: next, count } = added(alloc, index, places.next(), &mut steps)?;
+        index = next;
+        sum = sum.wrapping_add(count);
     }
+    let_go(index);
     Ok(sum)
 }
