@@ -6,4 +6,4 @@ use Rattle.store_core.proofs.library.Core.from_rows.Goals as goal
 -- rows that aren't refused are those of a good library
 pub invariant_of-result : goal.invariant_of-result
 invariant_of-result c =
-    subst Good (sym c.in-Ok.ensures.1) (restored_good c.good_is_tested.ensures c.args.id c.args.blocks c.args.rows.now c.in-Ok.ensures.0)
+    subst Good (sym c.in-Ok.ensures.1) (restored_good c.good_is_tested.ensures c.args.id c.args.blocks c.args.rows c.in-Ok.ensures.0)
