@@ -35,11 +35,11 @@ same_connected old new time =
 -- It was closed.
 pub ends_closed : {State Request : Type 0} (m : Machine State Request) (b : Beginning State) (old new : Device) (given : List ℕ)
     (keeps keeps_now : State → Type 0) (finished : List (Session Request)) (n : RunCounts) (ending : Ending) → EndsAs m b old given keeps finished n ending
-    → Elapses Unchanged Unchanged old new → new.link.connections ≡ old.link.connections → ((s : State) → keeps s → keeps_now s)
-    → EndsAs m b new given keeps_now finished n ending
-ends_closed m b old new given keeps keeps_now finished n ending e time same kept = record {
+    → Elapses Unchanged Unchanged old new → new.link.connections ≡ old.link.connections → new.handed ≡ old.handed
+    → ((s : State) → keeps s → keeps_now s) → EndsAs m b new given keeps_now finished n ending
+ends_closed m b old new given keeps keeps_now finished n ending e time same handed kept = record {
   session = e.session;
-  served = served_quiet m b old new given _ n e.served time same;
+  served = served_quiet m b old new given _ n e.served time same handed;
   unstopped = e.unstopped;
   ending_is = e.ending_is;
   kept = λ on. kept _ (e.kept on);
@@ -48,10 +48,10 @@ ends_closed m b old new given keeps keeps_now finished n ending e time same kept
 -- None came.
 pub between_quiet : {State Request : Type 0} (m : Machine State Request) (b : Beginning State) (old new : Device) (given : List ℕ)
     (keeps keeps_now : State → Type 0) (sessions : List (Session Request)) (n : RunCounts) → IsBetween m b old given keeps sessions n
-    → Elapses Unchanged Unchanged old new → new.link.connections ≡ old.link.connections → ((s : State) → keeps s → keeps_now s)
-    → IsBetween m b new given keeps_now sessions n
-between_quiet m b old new given keeps keeps_now sessions n i time same kept = record {
-  served = served_quiet m b old new given sessions n i.served time same;
+    → Elapses Unchanged Unchanged old new → new.link.connections ≡ old.link.connections → new.handed ≡ old.handed
+    → ((s : State) → keeps s → keeps_now s) → IsBetween m b new given keeps_now sessions n
+between_quiet m b old new given keeps keeps_now sessions n i time same handed kept = record {
+  served = served_quiet m b old new given sessions n i.served time same handed;
   unstopped = i.unstopped;
   kept = kept _ i.kept;
 }

@@ -142,7 +142,8 @@ module _ {State Request : Type 0} {m : Machine State Request} {b : Beginning Sta
       (steps ++ step ∷ []) (counted_more n (states ++ later) step)
   answered_goes all held_on stay few =
       let next : Held State = record { state = last_or held.state (states ++ later); unread = rest; taken = held.taken + 1 } in
-      let written : writing ≡ false = sym s.written ∙ (open-going m (step ∷ []) (stay, tt)).writing in
+      let going = open-going m (step ∷ []) (stay, tt) in
+      let written : writing ≡ false = sym s.written ∙ going.writing in
       let told : (bytes_of_pieces (pieces_of m first steps) ++ interim_bytes said) ++ s.told.0 ≡ bytes_of_pieces (pieces_of m first (steps ++ step ∷ [])) =
       ap (λ x. x ++ s.told.0) front_is ∙ ap (λ x. bytes_of_pieces front ++ x) (s.told.1.whole all) ∙ sym (bytes-push front piece)
       ∙ ap bytes_of_pieces pieces_are in
@@ -155,7 +156,8 @@ module _ {State Request : Type 0} {m : Machine State Request} {b : Beginning Sta
       ++ connection_with x ((bytes_of_pieces (pieces_of m first steps) ++ interim_bytes said) ++ s.told.0) ∷ [])) heard_is
       ∙ ap (λ x. b.before ++ (s.begun.connections ++ connection_with (texts_of (steps ++ step ∷ []) ++ rest) x ∷ [])) told)
       (subst (λ w. Reached m b (with_effect comes_to begun) true w new) written
-      (subst (λ w. Reached m b (with_effect comes_to begun) w writing new) all reached_now)))
+      (subst (λ w. Reached m b (with_effect comes_to begun) w writing new) all reached_now))
+      (s.handed going.stops))
 
   -- which call of the link failed
   abbrev pub link_behind : LinkEnd
@@ -173,4 +175,5 @@ module _ {State Request : Type 0} {m : Machine State Request} {b : Beginning Sta
       (told-last (stops_in_answer (step ∷ [])) linked whole front piece s.told.0 s.told.1 s.full)))
       (failed_by linked) end_is
       (subst (λ w. Reached m b (with_effect comes_to begun) false w new) (sym s.written)
-      (parts_suffice State Request m b (with_effect comes_to begun) whole writing new reached_now)))
+      (parts_suffice State Request m b (with_effect comes_to begun) whole writing new reached_now))
+      s.handed)

@@ -11,6 +11,7 @@ use Rattle.run_history.specs.Steps.{Cut, Piece, Step, interim_pieces, is_there, 
 use Rattle.run_history.specs.Sessions.{IsTold, IsUnfinished, LinkEnd, Saying, Session, Whole, Hearing, after_sessions, bytes_of_pieces, has_link_failed, pieces_of, texts_of}
 use Rattle.run_history.specs.Traces.{start_of}
 use Rattle.run_history.specs.Runs.{Beginning, Reached}
+use Rattle.run_history.specs.Handing.{HasHanded}
 use Rattle.run_history.specs.Laws.{under_way}
 use Rattle.run_history.specs.Serving.{RunCounts, HasServed, Held}
 use Rattle.run_history.proofs.Going.{last_changed}
@@ -46,8 +47,9 @@ module _ {State Request : Type 0} {m : Machine State Request} {b : Beginning Sta
       → Reached m b (asked_trace m b said finished steps) true false new → link ≢ Saying → (link ≡ Whole → ended ≡ true)
       → held.unread ++ bytes ≡ text → text ≢ []
       → m.cuts text (record { interim = interim_where said; takes_moment = is_there moment }) → IsUnfinished m held.taken text
+      → HasHanded m b (finished ++ under_way (steps ++ step ∷ []) Whole ∷ []) new.handed
       → HasServed m b new (given ++ option_to_list moment) (finished ++ under_way (steps ++ step ∷ []) link ∷ []) n
-  taken_cut {new} bytes link ended heard reached not_saying at_end text_is some cuts unfinished =
+  taken_cut {new} bytes link ended heard reached not_saying at_end text_is some cuts unfinished handed =
       let told_so_far = bytes_of_pieces (pieces_of m (after_sessions m (start_of b.state) finished) steps) ++ interim_bytes said in
       let asked = asked_trace m b said finished steps in
       subst (HasServed m b new (given ++ option_to_list moment) (finished ++ under_way (steps ++ step ∷ []) link ∷ []))
@@ -61,4 +63,5 @@ module _ {State Request : Type 0} {m : Machine State Request} {b : Beginning Sta
       (failed_is link)
       (λ is. or_nothing ended ∙ at_end is)
       (subst (λ t. Reached m b t false false new) (sym (effect-interim said (option_to_list moment) _))
-      (parts_suffice State Request m b asked true false new reached)))
+      (parts_suffice State Request m b asked true false new reached))
+      (λ on. handed))

@@ -5,14 +5,16 @@ use Rattle.std.proofs.lemmas.List.Elements.{All-append}
 use Rattle.disk_trait.specs.Device.{Connection, Device}
 use Rattle.run_history.specs.Machine.{Machine}
 use Rattle.run_history.specs.Steps.{Effect, IsStep, Stage, Step, effect, is_last, last_or, step_text}
-use Rattle.run_history.specs.Sessions.{AreSteps, EndIs, IsTold, LinkEnd, RestIs, Session, Whole, after_sessions, after_steps, all_moments, answers_in, bytes_of_pieces, has_link_failed, most_answers, pieces_of, scripts_of, skips_by, stops_in_answer, texts_of}
+use Rattle.run_history.specs.Sessions.{AreSteps, EndIs, IsTold, LinkEnd, RestIs, Session, Whole, after_sessions, after_steps, all_moments, answers_in, bytes_of_pieces, has_link_failed, most_answers, pieces_of, scripts_of, skips_by, stops, stops_in_answer, texts_of}
 use Rattle.run_history.specs.Traces.{Trace, start_of, states_of, trace_of, with_effect}
 use Rattle.run_history.specs.Runs.{Beginning, Reached, stops_writing}
+use Rattle.run_history.specs.Handing.{HasHanded}
 use Rattle.run_history.specs.Laws.{under_way}
 use Rattle.run_history.specs.Serving.{RunCounts, Going, HasServed, all_answers, connection_with, counts_of_run}
 use Rattle.run_history.proofs.Growth.{pieces-push, scripts-push, stage-push, steps_grow, traces_grow}
 use Rattle.run_history.proofs.Ends.{all_answers-push, all_skips-push, answers-append, end-push, end_like-push, open-push, rest-push, skips-push, stage-sessions, steps-push}
 use Rattle.run_history.proofs.Going.{counts-same, ends_with}
+use Rattle.run_history.proofs.Handed.{handed_link}
 use Rattle.request_hearing.specs.Asking.{IsUnderWay}
 
 -- the counts with what a step comes to
@@ -112,8 +114,9 @@ module _ {State Request : Type 0} {m : Machine State Request} {b : Beginning Sta
       → All m.good e.changes → d.link.connections ≡ b.before ++ (connections ++ c ∷ []) → c.heard ≡ texts_of (steps ++ step ∷ []) ++ rest
       → RestIs m taken (step ∷ []) link rest → IsTold (stops_in_answer (step ∷ [])) link c.told (pieces_of m first (steps ++ step ∷ []))
       → c.failed ≡ has_link_failed link → EndIs m (step ∷ []) link c.ended → Reached m b (with_effect e before) false (stops_writing (step ∷ [])) d
+      → (stops (step ∷ []) ≡ false → HasHanded m b (finished ++ under_way (steps ++ step ∷ []) Whole ∷ []) d.handed)
       → HasServed m b d (given ++ e.moments) (finished ++ under_way (steps ++ step ∷ []) link ∷ []) (counted_effect n e step)
-  ends_with_step d link c rest is answers good are heard rest_is told failed ended reached =
+  ends_with_step d link c rest is answers good are heard rest_is told failed ended reached handed =
       let like = end_like-push m steps step u.stay in
       ends_with m b d (given ++ e.moments) finished (under_way (steps ++ step ∷ []) link) (counted_effect n e step) connections c are u.served u.unstopped
       (record {
@@ -131,15 +134,16 @@ module _ {State Request : Type 0} {m : Machine State Request} {b : Beginning Sta
       (subst (λ w. Reached m b (trace_of m b.state (finished ++ under_way (steps ++ step ∷ []) link ∷ [])) false w d) (sym like.writing)
       (subst (λ t. Reached m b t false (stops_writing (step ∷ [])) d) (sym (trace_grown link)) reached))
       (good_grown good link)
+      (λ on. handed_link finished (steps ++ step ∷ []) Whole link (handed (sym like.stops ∙ on)))
 
   -- It leaves the connection stay.
   pub goes_with_step : (d : Device) (rest : List ℕ) → IsStep m taken state step → is_last m step ≡ false → taken + 1 < most_answers
       → answers_in e.pieces ≡ 1 → All m.good e.changes → d.link.connections ≡ b.before ++ (connections
       ++ connection_with (texts_of (steps ++ step ∷ []) ++ rest) (bytes_of_pieces (pieces_of m first (steps ++ step ∷ []))) ∷ [])
-      → Reached m b (with_effect e before) true false d
+      → Reached m b (with_effect e before) true false d → HasHanded m b (finished ++ under_way (steps ++ step ∷ []) Whole ∷ []) d.handed
       → Going m b d (given ++ e.moments) (record { state = last_or state e.changes; unread = rest; taken = taken + 1 }) finished (steps ++ step ∷ [])
       (counted_effect n e step)
-  goes_with_step d rest is stay few one good are reached = record {
+  goes_with_step d rest is stay few one good are reached handed = record {
     connections = connections;
     connections_are = are;
     served = u.served;
@@ -154,4 +158,5 @@ module _ {State Request : Type 0} {m : Machine State Request} {b : Beginning Sta
     counts = counts_grown Whole;
     reached = subst (λ t. Reached m b t true false d) (sym (trace_grown Whole)) reached;
     good = good_grown good Whole;
+    handed = handed;
   }

@@ -16,6 +16,7 @@ use Rattle.run_history.specs.Laws.{under_way}
 use Rattle.run_history.specs.Serving.{RunCounts, Going, HasServed, Held, connection_with}
 use Rattle.run_history.proofs.Growth.{trace-same}
 use Rattle.run_history.proofs.Invariant.{parts_suffice}
+use Rattle.run_history.proofs.Handed.{handed_more}
 use Rattle.run_history.proofs.Going.{after_end, counts-same, ends_heard, last_changed}
 use Rattle.tams_machine.specs.Requests.{interim_text}
 use Rattle.request_hearing.specs.Hearing.{HearsAndSays, after_hearing, interim_bytes, interim_where, with_interim}
@@ -131,7 +132,7 @@ module _ {State Request : Type 0} (m : Machine State Request) (b : Beginning Sta
       ∙ ap (λ c. b.before ++ (g.connections ++ c ∷ [])) same
       ∙ sym (last_changed (after_end link ended) b.before g.connections _ (change_last (after_end link ended) old.link.connections) old.link.connections
       g.connections_are refl))
-      unread not_saying at_end
+      unread not_saying at_end h.call.handed
 
   module _ (text rest : List ℕ) (moment : Option ℕ) (text_is : held.unread ++ bytes ≡ text ++ rest) (some : text ≢ [])
       (cuts : m.cuts text (record { interim = interim_where said; takes_moment = is_there moment }))
@@ -159,4 +160,5 @@ module _ {State Request : Type 0} (m : Machine State Request) (b : Beginning Sta
         (λ is. or_nothing ended ∙ at_end is)
         (subst (λ t. Reached m b t false false new) (sym (effect-interim said (option_to_list moment) before))
         (parts_suffice State Request m b _ (saying_held_on link) false new
-        (reached_heard m b before false bytes said (saying_held_on link) (not (has_link_failed link)) ended old new g.reached h))))
+        (reached_heard m b before false bytes said (saying_held_on link) (not (has_link_failed link)) ended old new g.reached h)))
+        (λ on. handed_more finished steps step Whole Whole new.handed g.handed (omega (arith, h.call.handed)) (omega (arith, h.call.handed))))

@@ -1,5 +1,5 @@
 -- What a service concludes from what was heard: where its run has come to, and the step that a request is.
-use Rattle.std.proofs.Common.{◌≡◌, ◌≢◌, ◌<◌, ◌≤◌, ◌+◌, ℕ, Bool, true, false, List, [], ◌∷◌, ◌++◌, length, drop, refl, sym, ap, ◌∙◌, subst, arith, length-append}
+use Rattle.std.proofs.Common.{◌≡◌, ◌≢◌, ◌<◌, ◌≤◌, ◌+◌, ◌-◌, ℕ, Bool, true, false, Result, Ok, Err, List, [], ◌∷◌, ◌++◌, length, drop, refl, sym, ap, ◌∙◌, subst, arith, length-append}
 use Rattle.std.proofs.lemmas.List.{append_assoc}
 use Rattle.httparse.specs.Grammar.{RequestHead}
 use Rattle.disk_trait.specs.Device.{Device, Left, may_leave}
@@ -7,8 +7,14 @@ use Rattle.disk_trait.specs.Calls.{Elapses, Unchanged}
 use Rattle.disk_trait.proofs.Theorems.{elapses_weaker}
 use Rattle.http_wire.specs.Agreeing.{MayTurn}
 use Rattle.http_wire.specs.Feeds.{Fed, left_of, new_feed}
-use Rattle.http_wire.specs.Heads.{more, refused, whole}
-use Rattle.http_wire.specs.Requests.{Got, IsNext, given, opened}
+use Rattle.http_wire.specs.Framing.{is_media, judge}
+use Rattle.http_wire.specs.Heads.{Front, IsHead, IsHeadBy, more, refused, whole}
+use Rattle.http_wire.specs.Lines.{head_end}
+use Rattle.http_wire.specs.Requests.{Got, IsNext, after_head, after_read, body_at, framed_body, given, opened, with_content}
+use Rattle.http_wire.specs.declared.framing.Framing.{Framing}
+use Rattle.http_wire.specs.declared.framing.Framing.TheVariants.{Chunked, Length}
+use Rattle.http_wire.specs.declared.lines.Looked.{Looked}
+use Rattle.http_wire.specs.declared.lines.Looked.TheVariants.{Ended, Still}
 use Rattle.http_wire.specs.declared.framing.WireFault.{WireFault}
 use Rattle.http_wire.specs.declared.stage.Head.{Head}
 use Rattle.http_wire.specs.declared.stage.Stage.{Stage}
@@ -21,6 +27,7 @@ use Rattle.run_history.specs.Steps.{Interim}
 use Rattle.run_history.specs.Traces.{Trace}
 use Rattle.run_history.specs.Runs.{Beginning, Reached}
 use Rattle.run_history.proofs.Invariant.{parts_suffice, quiet_calls, said_pieces}
+use Rattle.tams_machine.specs.Answers.{heard_body}
 use Rattle.tams_machine.specs.Machine.{tams_machine}
 use Rattle.tams_machine.specs.Requests.{Heads, IsCut, IsRefused, IsWholeRequest, SpellsRequest, interim_text, media, other, waiting, within}
 use Rattle.request_hearing.specs.Hearing.{HearsAndSays, GivesRequest, OpensMedia, interim_where, with_interim}
@@ -155,6 +162,41 @@ short_refused text head size n found front rest is fault next =
     let same = next_unique text (whole (opened head size) n) (refused fault) found (rw is (next_stays front rest (refused fault) next tt)) in
     absurd cc
 
+-- the head of one ends where it is said to
+ends_judged : (there : RequestHead) (at : ℕ) (rest : List ℕ) (judged : Result Framing WireFault) (head : RequestHead) (size n : ℕ)
+    → after_head there at rest judged ≡ whole (opened head size) n → at ≡ n
+ends_judged there at rest (Err fault) head size n e = cc
+ends_judged there at rest (Ok framing) head size n e = ends_framed (is_media there.method there.target) framing e
+  where
+    no_content : (found : Front (List ℕ)) → with_content there at found ≡ whole (opened head size) n → ⊥
+    no_content more e = cc
+    no_content (refused fault) e = cc
+    no_content (whole body m) e = cc
+
+    ends_framed : (is_put : Bool) (framing : Framing) → framed_body is_put there at rest framing ≡ whole (opened head size) n → at ≡ n
+    ends_framed true (Length m) e = cc
+    ends_framed true Chunked e = cc
+    ends_framed false framing e = absurd (no_content (body_at framing rest) e)
+
+ends_by : (read : Front RequestHead) (text : List ℕ) (head : RequestHead) (size n : ℕ) → IsHead text read → after_read text read ≡ whole (opened head size) n
+    → head_end text ≡ Ended n
+ends_by more text head size n stands e = cc
+ends_by (refused fault) text head size n stands e = cc
+ends_by (whole there at) text head size n stands e =
+    by_looked (head_end text) refl stands
+  where
+    same : at ≡ n
+    same = ends_judged there at (drop at text) (judge there) head size n e
+
+    by_looked : (found : Looked) → head_end text ≡ found → IsHeadBy found text (whole there at) → head_end text ≡ Ended n
+    by_looked (Still place) is found = absurd found
+    by_looked (Ended end) is found = is ∙ ap Ended (sym found.0 ∙ same)
+
+-- so many bytes of its body were heard
+heard_opened : {text : List ℕ} {head : RequestHead} {size n : ℕ} → IsNext text (whole (opened head size) n) → heard_body text ≡ length text - n
+heard_opened {text} {head} {size} {n} next =
+    rw (ends_by next.read text head size n next.head (sym next.is)) refl
+
 module _ (taken : ℕ) (all : List ℕ) (said : Bool) (new : Fed) (shown : Head) (o : OpensMedia taken all said new shown) (part : List ℕ) where
   next_with : IsNext (o.text ++ part) (whole (opened o.head shown.length) (length o.text))
   next_with = stays_decided o.text part (opened o.head shown.length) (length o.text) o.next (omega arith)
@@ -209,4 +251,8 @@ media_opened taken all said new shown o part = record {
   begun = media_heads taken all said new shown o part;
   cut = media_cut taken all said new shown o part;
   unfinished = media_unfinished taken all said new shown o part;
+  heard = omega (arith, heard_opened next_with_part, length-append o.text part);
 }
+  where
+    next_with_part : IsNext (o.text ++ part) (whole (opened o.head shown.length) (length o.text))
+    next_with_part = next_with taken all said new shown o part

@@ -6,9 +6,10 @@ use Rattle.disk_trait.specs.Device.{Connection, Device}
 use Rattle.site_edge.specs.Links.{Sends, after_say, change_last}
 use Rattle.run_history.specs.Machine.{Machine}
 use Rattle.run_history.specs.Steps.{IsStep, Reply, Stage, Step, effect, interim_pieces, is_last, step_text}
-use Rattle.run_history.specs.Sessions.{AreServed, AreSteps, Session, Whole, after_sessions, after_steps, all_moments, answers_in, bytes_of_pieces, most_answers, pieces_of, skips_by, stops_in_answer, texts_of}
+use Rattle.run_history.specs.Sessions.{AreServed, AreSteps, Session, Whole, after_sessions, after_steps, all_moments, answers_in, bytes_of_pieces, most_answers, pieces_of, skips_by, stops, stops_in_answer, texts_of}
 use Rattle.run_history.specs.Traces.{Trace, start_of, states_of, trace_of, with_piece}
 use Rattle.run_history.specs.Runs.{Beginning, Reached, stops_writing}
+use Rattle.run_history.specs.Handing.{HasHanded}
 use Rattle.run_history.specs.Laws.{under_way}
 use Rattle.run_history.specs.Serving.{RunCounts, Held, connection_with, counts_of_run, run_stops}
 use Rattle.request_hearing.specs.Hearing.{interim_bytes, interim_where, with_interim}
@@ -86,7 +87,8 @@ counted_more n states step = record {
 -- What is known of a step that answers the request that has begun. Its changes were made, its reply
 -- was said, of which `whole` says all of it was, and then the changes of the turn behind it were
 -- made. A saying failed where `linked` is false; the disk failed while the record of the last
--- change was being written where `writing` is true.
+-- change was being written where `writing` is true. Unless the disk failed, what was handed to it
+-- is what the steps hand on.
 pub record IsAnswerStep {State Request : Type 0} (m : Machine State Request) (b : Beginning State)
     (old new : Device) (given : List ℕ) (held : Held State) (said : Bool)
     (finished : List (Session Request)) (steps : List (Step Request)) (n : RunCounts)
@@ -108,3 +110,5 @@ pub record IsAnswerStep {State Request : Type 0} (m : Machine State Request) (b 
       new
   pub good : All m.good (states ++ later)
   pub written : stops_writing (step ∷ []) ≡ writing
+  pub handed : stops (step ∷ []) ≡ false
+      → HasHanded m b (finished ++ under_way (steps ++ step ∷ []) Whole ∷ []) new.handed

@@ -10,6 +10,7 @@ use Rattle.media_rows.specs.declared.refusal.Refusal.{Refusal}
 use Rattle.store_states.specs.States.{StoreState}
 use Rattle.run_history.specs.Sessions.{IsUnfinished}
 use Rattle.run_history.specs.Steps.{Cut, IsStep, Refused}
+use Rattle.tams_machine.specs.Answers.{heard_body}
 use Rattle.tams_machine.specs.Machine.{tams_machine}
 use Rattle.tams_machine.specs.Requests.{Heads, IsCut, SpellsRequest, TamsRequest, interim_text, wire_response}
 use Rattle.request_hearing.specs.Hearing.{OpensMedia, IsRefusedByWire, IsUnsaid, IsWaiting, interim_where}
@@ -49,7 +50,8 @@ abbrev pub media_request : RequestHead → Bool → List ℕ → TamsRequest
 media_request head ends body = record { head = head; body = body; ends = ends }
 
 -- What a media PUT is by a part of its body: a whole request, or the head of one, which may be cut,
--- and in front of which no whole one stands, nor a refusal.
+-- and in front of which no whole one stands, nor a refusal. All that stands behind its head is of
+-- its body.
 pub record OpenedAs (taken : ℕ) (said : Bool) (text : List ℕ) (head : RequestHead) (shown : Head)
     (part : List ℕ) : Type 0 where
   pub whole : length part ≡ shown.length
@@ -60,6 +62,7 @@ pub record OpenedAs (taken : ℕ) (said : Bool) (text : List ℕ) (head : Reques
       → IsCut (text ++ part) (record { interim = interim_where said; takes_moment = true })
   pub unfinished : (base : List ℕ) → length part < shown.length
       → IsUnfinished (tams_machine base) taken (text ++ part)
+  pub heard : heard_body (text ++ part) ≡ length part
 
 abbrev pub MediaIsOpened : Type 0
 MediaIsOpened = (taken : ℕ) (all : List ℕ) (said : Bool) (new : Fed) (shown : Head)

@@ -1,5 +1,5 @@
 -- How a run goes on: a connection begins, hears, is answered and ends.
-use Rattle.std.proofs.Common.{◌≡◌, ◌≢◌, ◌+◌, ℕ, Bool, true, false, List, [], ◌∷◌, ◌++◌, length, All, None, refl, sym, ap, ◌∙◌, subst, arith}
+use Rattle.std.proofs.Common.{◌≡◌, ◌≢◌, ◌+◌, ℕ, Bool, true, false, List, [], ◌∷◌, ◌++◌, length, All, refl, sym, ap, ◌∙◌, subst, arith}
 use Rattle.std.proofs.lemmas.Bool.{false≢true}
 use Rattle.std.proofs.lemmas.List.{append-nil, append_assoc, length-append}
 use Rattle.std.proofs.lemmas.List.Elements.{All-cons, All-nil}
@@ -9,14 +9,16 @@ use Rattle.site_edge.specs.Links.{AddsConnection, change_last, fresh}
 use Rattle.site_edge.proofs.Theorems.{change_last_push}
 use Rattle.run_history.specs.Machine.{Machine}
 use Rattle.run_history.specs.Steps.{Answered, Cut, Piece, Refused, Stage, Starved, Step, Stopped}
-use Rattle.run_history.specs.Sessions.{AreServed, Hearing, IsServed, IsTold, IsUnfinished, LinkEnd, Saying, Session, Whole, after_sessions, after_steps, all_changes, all_moments, answers_in, bytes_of_pieces, changes_of, has_link_failed, pieces_of, stops, texts_of}
-use Rattle.run_history.specs.Traces.{Trace, start_of, states_of, trace_of, with_connection, with_effect}
+use Rattle.run_history.specs.Sessions.{AreServed, Hearing, IsServed, IsTold, LinkEnd, Saying, Session, Whole, after_sessions, after_steps, all_changes, all_moments, bytes_of_pieces, changes_of, has_link_failed, pieces_of, stops, texts_of}
+use Rattle.run_history.specs.Traces.{start_of, states_of, trace_of, with_connection}
 use Rattle.run_history.specs.Runs.{Beginning, Ran, Reached, run_stops_writing, stops_writing}
+use Rattle.run_history.specs.Handing.{HasHanded}
 use Rattle.run_history.specs.Laws.{under_way}
-use Rattle.run_history.specs.Serving.{RunCounts, Going, HasServed, Held, all_answers, all_skips, counts_of_run, connection_with, run_stops}
-use Rattle.run_history.proofs.Growth.{all_changes-push, all_moments-push, pieces-push, scripts-push, stages_count, steps_grow, trace-opened, trace-same, traces_grow}
+use Rattle.run_history.specs.Serving.{RunCounts, Going, HasServed, Held, all_answers, counts_of_run, run_stops}
+use Rattle.run_history.proofs.Growth.{all_changes-push, all_moments-push, scripts-push, stages_count, trace-opened, trace-same}
+use Rattle.run_history.proofs.Handed.{handed_link, handed_opened}
 use Rattle.run_history.proofs.Invariant.{parts_suffice, peers_come, quiet_calls, runs_begin}
-use Rattle.run_history.proofs.Ends.{or_left, or_right, all_answers-push, all_skips-push, end-heard, end-push, end_like-push, open-going, rest-none, rest-push, served-push, skips-push, steps-push, writing-push}
+use Rattle.run_history.proofs.Ends.{or_left, or_right, all_answers-push, all_skips-push, end-heard, open-going, rest-none, run_stops-push, served-push, writing-push}
 
 -- ---- counts and traces
 
@@ -94,9 +96,9 @@ unwritten (s ∷ t ∷ sessions) e = unwritten (t ∷ sessions) (or_right (stops
 
 pub goes_first : {State Request : Type 0} (m : Machine State Request) (b : Beginning State) (old new : Device) (given : List ℕ)
     (sessions : List (Session Request)) (n : RunCounts) → HasServed m b old given sessions n → run_stops sessions ≡ false
-    → Elapses AddsConnection AddsConnection old new → new.link.connections ≡ old.link.connections ++ fresh ∷ []
+    → Elapses AddsConnection AddsConnection old new → new.link.connections ≡ old.link.connections ++ fresh ∷ [] → new.handed ≡ old.handed
     → Going m b new given (record { state = (after_sessions m (start_of b.state) sessions).state; unread = []; taken = 0 }) sessions [] n
-goes_first {State} {Request} m b old new given sessions n h run time connections =
+goes_first {State} {Request} m b old new given sessions n h run time connections handed =
     let opened = trace-opened m b.state sessions Whole in
     let writing = unwritten sessions run in
     record {
@@ -122,6 +124,7 @@ goes_first {State} {Request} m b old new given sessions n h run time connections
           (subst (λ w. Reached m b (with_connection (trace_of m b.state sessions)) true w new) writing
           (peers_come State Request m b (trace_of m b.state sessions) false (run_stops_writing sessions) old new h.reached time));
       good = subst (λ t. All m.good (states_of t)) (sym opened) h.good;
+      handed = subst (HasHanded m b (sessions ++ under_way [] Whole ∷ [])) (sym handed) (handed_opened sessions Whole (h.handed run));
     }
   where
     plus_none : (k : ℕ) → k + 0 ≡ k
@@ -135,8 +138,9 @@ pub ends_with : {State Request : Type 0} (m : Machine State Request) (b : Beginn
     → d.link.connections ≡ b.before ++ (connections ++ c ∷ []) → AreServed m (start_of b.state) connections finished → run_stops finished ≡ false
     → IsServed m (after_sessions m (start_of b.state) finished) c session → given ≡ b.given ++ all_moments m (start_of b.state) (finished ++ session ∷ [])
     → n ≡ counts_of_run m b.state (finished ++ session ∷ []) → Reached m b (trace_of m b.state (finished ++ session ∷ [])) false (stops_writing session.steps) d
-    → All m.good (states_of (trace_of m b.state (finished ++ session ∷ []))) → HasServed m b d given (finished ++ session ∷ []) n
-ends_with m b d given finished session n connections c are served run is given_is counts reached good = record {
+    → All m.good (states_of (trace_of m b.state (finished ++ session ∷ [])))
+    → (stops session.steps ≡ false → HasHanded m b (finished ++ session ∷ []) d.handed) → HasServed m b d given (finished ++ session ∷ []) n
+ends_with m b d given finished session n connections c are served run is given_is counts reached good handed = record {
   connections = connections ++ c ∷ [];
   connections_are = are;
   served = served-push m (start_of b.state) connections finished c session served run is;
@@ -144,6 +148,7 @@ ends_with m b d given finished session n connections c are served run is given_i
   counts = counts;
   reached = subst (λ w. Reached m b (trace_of m b.state (finished ++ session ∷ [])) false w d) (sym (writing-push finished session)) reached;
   good = good;
+  handed = λ on. handed (sym (run_stops-push finished session run) ∙ on);
 }
 
 -- the connection under way is the last one, behind those before the run and those that ended
@@ -155,32 +160,6 @@ last_changed f before connections c now then then_is now_is =
     ∙ append_assoc before connections (f c ∷ [])
 
 -- ---- what hearing leaves of a connection that is under way
-
--- more bytes
-pub goes_heard : {State Request : Type 0} (m : Machine State Request) (b : Beginning State) (old new : Device) (given : List ℕ) (held : Held State)
-    (finished : List (Session Request)) (steps : List (Step Request)) (n : RunCounts) (bytes : List ℕ) → Going m b old given held finished steps n
-    → Elapses Unchanged Unchanged old new → new.link.connections ≡ change_last (λ c. record c { heard = c.heard ++ bytes }) old.link.connections
-    → Going m b new given (record held { unread = held.unread ++ bytes }) finished steps n
-goes_heard {State} {Request} m b old new given held finished steps n bytes g time connections = record {
-  connections = g.connections;
-  connections_are =
-      last_changed (λ c. record c { heard = c.heard ++ bytes }) b.before g.connections _ _ _ g.connections_are connections
-      ∙ ap (λ heard. b.before ++ (g.connections
-      ++ connection_with heard (bytes_of_pieces (pieces_of m (after_sessions m (start_of b.state) finished) steps)) ∷ []))
-      (append_assoc (texts_of steps) held.unread bytes);
-  served = g.served;
-  unstopped = g.unstopped;
-  given_is = g.given_is;
-  steps_are = g.steps_are;
-  stay = g.stay;
-  taken = g.taken;
-  answers = g.answers;
-  few = g.few;
-  state = g.state;
-  counts = g.counts;
-  reached = quiet_calls State Request m b _ true false old new g.reached time;
-  good = g.good;
-}
 
 -- a connection that heard its peer's end, or on which hearing failed
 abbrev pub after_end : LinkEnd → Bool → Connection → Connection
@@ -196,8 +175,8 @@ pub ends_heard : {State Request : Type 0} (m : Machine State Request) (b : Begin
     (finished : List (Session Request)) (steps : List (Step Request)) (n : RunCounts) (link : LinkEnd) (ended : Bool)
     → Going m b old given held finished steps n → Elapses Unchanged Unchanged old new
     → new.link.connections ≡ change_last (after_end link ended) old.link.connections → held.unread ≡ [] → link ≢ Saying → (link ≡ Whole → ended ≡ true)
-    → HasServed m b new given (finished ++ under_way steps link ∷ []) n
-ends_heard {State} {Request} m b old new given held finished steps n link ended g time connections none not_saying whole =
+    → new.handed ≡ old.handed → HasServed m b new given (finished ++ under_way steps link ∷ []) n
+ends_heard {State} {Request} m b old new given held finished steps n link ended g time connections none not_saying whole handed =
     let going = open-going m steps g.stay in
     let pieces = pieces_of m (after_sessions m (start_of b.state) finished) steps in
     let quiet = quiet_calls State Request m b _ true false old new g.reached time in
@@ -220,70 +199,15 @@ ends_heard {State} {Request} m b old new given held finished steps n link ended 
     (subst (λ w. Reached m b (trace_of m b.state (finished ++ under_way steps link ∷ [])) false w new) (sym going.writing)
     (parts_suffice State Request m b _ true false new (subst (λ t. Reached m b t true false new) traces quiet)))
     (subst (λ t. All m.good (states_of t)) traces g.good)
-
-change_last-none : {A : Type 0} (l : List (List A)) → change_last (λ s. s ++ []) l ≡ l
-change_last-none [] = refl
-change_last-none (s ∷ []) = ap (λ x. x ∷ []) (append-nil s)
-change_last-none (s ∷ t ∷ l) = ap (λ x. s ∷ x) (change_last-none (t ∷ l))
-
--- a step that tells nothing and changes nothing
-with_nothing : {State : Type 0} (t : Trace State) → with_effect (record { pieces = []; changes = []; moments = [] }) t ≡ t
-with_nothing t = trace-same t.first _ _ _ _ (change_last-none t.scripts) (append-nil t.changes)
-
--- a cut request that had nothing
-abbrev pub cut_silently : {Request : Type 0} → List ℕ → Step Request
-cut_silently text = Cut text None None
-
--- the end of a connection within a request that had nothing yet
-pub ends_cut : {State Request : Type 0} (m : Machine State Request) (b : Beginning State) (old new : Device) (given : List ℕ) (held : Held State)
-    (finished : List (Session Request)) (steps : List (Step Request)) (n : RunCounts) (link : LinkEnd) (ended : Bool)
-    → Going m b old given held finished steps n → Elapses Unchanged Unchanged old new
-    → new.link.connections ≡ change_last (after_end link ended) old.link.connections → held.unread ≢ [] → link ≢ Saying → (link ≡ Whole → ended ≡ true)
-    → m.cuts held.unread (record { interim = None; takes_moment = false }) → IsUnfinished m held.taken held.unread
-    → HasServed m b new given (finished ++ under_way (steps ++ cut_silently held.unread ∷ []) link ∷ []) n
-ends_cut {State} {Request} m b old new given held finished steps n link ended g time connections some not_saying whole cuts unfinished =
-    let at = after_sessions m (start_of b.state) finished in
-    let step : Step Request = cut_silently held.unread in
-    let like = end_like-push m steps step g.stay in
-    let more = traces_grow State Request m b.state finished steps step Whole link in
-    let traces = more.grown ∙ with_nothing (trace_of m b.state (finished ++ under_way steps Whole ∷ [])) in
-    let pieces : pieces_of m at (steps ++ step ∷ []) ≡ pieces_of m at steps = pieces-push m at steps step ∙ append-nil (pieces_of m at steps) in
-    let quiet = quiet_calls State Request m b _ true false old new g.reached time in
-    let told : IsTold false link (bytes_of_pieces (pieces_of m at steps)) (pieces_of m at (steps ++ step ∷ [])) =
-    subst (IsTold false link (bytes_of_pieces (pieces_of m at steps))) (sym pieces) (told-whole link (pieces_of m at steps) not_saying) in
-    ends_with m b new given finished (under_way (steps ++ step ∷ []) link) n g.connections _
-    (last_changed (after_end link ended) b.before g.connections _ _ _ g.connections_are connections)
-    g.served g.unstopped
-    (record {
-      rest = [];
-      steps = steps-push m 0 held.taken at steps step g.steps_are g.stay (omega (arith, g.taken)) (some, cuts);
-      few = omega (arith, g.few, g.answers, ap answers_in pieces);
-      heard = sym (append-nil _ ∙ (steps_grow State Request m at steps step).texts);
-      rest_is = rest-push m 0 held.taken steps step link [] (omega (arith, g.taken)) ((λ _. (refl, unfinished)), (λ saying. absurd (not_saying saying)));
-      told = subst (λ s. IsTold s link (bytes_of_pieces (pieces_of m at steps)) (pieces_of m at (steps ++ step ∷ []))) (sym like.in_answer) told;
-      failed = refl;
-      ended = end-push m steps step link ended whole;
-    })
-    (g.given_is ∙ ap (λ l. b.given ++ l) (sym (more.moments ∙ append-nil _)))
-    (g.counts ∙ counts-same _ _
-    (sym (ap (λ t. all_answers t.scripts) traces))
-    (sym (ap (λ t. length t.changes) traces))
-    (all_skips-push finished (under_way steps Whole) ∙ sym (all_skips-push finished (under_way (steps ++ step ∷ []) link)
-    ∙ ap (λ k. all_skips finished + k) (skips-push steps step ∙ plus_nothing _))))
-    (subst (λ w. Reached m b (trace_of m b.state (finished ++ under_way (steps ++ step ∷ []) link ∷ [])) false w new) (sym like.writing)
-    (parts_suffice State Request m b _ true false new (subst (λ t. Reached m b t true false new) (sym traces) quiet)))
-    (subst (λ t. All m.good (states_of t)) (sym traces) g.good)
-  where
-    plus_nothing : (k : ℕ) → k + 0 ≡ k
-    plus_nothing k = omega arith
+    (λ on. subst (HasHanded m b (finished ++ under_way steps link ∷ [])) (sym handed) (handed_link finished steps Whole link g.handed))
 
 -- ---- between two connections
 
 -- a call that changes nothing of what a crash leaves, nor of the connections
 pub served_quiet : {State Request : Type 0} (m : Machine State Request) (b : Beginning State) (old new : Device) (given : List ℕ)
     (sessions : List (Session Request)) (n : RunCounts) → HasServed m b old given sessions n → Elapses Unchanged Unchanged old new
-    → new.link.connections ≡ old.link.connections → HasServed m b new given sessions n
-served_quiet {State} {Request} m b old new given sessions n h time same = record {
+    → new.link.connections ≡ old.link.connections → new.handed ≡ old.handed → HasServed m b new given sessions n
+served_quiet {State} {Request} m b old new given sessions n h time same handed = record {
   connections = h.connections;
   connections_are = same ∙ h.connections_are;
   served = h.served;
@@ -291,13 +215,14 @@ served_quiet {State} {Request} m b old new given sessions n h time same = record
   counts = h.counts;
   reached = quiet_calls State Request m b _ false (run_stops_writing sessions) old new h.reached time;
   good = h.good;
+  handed = λ on. subst (HasHanded m b sessions) (sym handed) (h.handed on);
 }
 
 -- a run begins
 pub served_none : {State Request : Type 0} (m : Machine State Request) (b : Beginning State) (d : Device) → IsDevice d → d.honest ≡ true → d.tells ≡ true
     → d.link.connections ≡ b.before → d.moment ≡ b.moment → ((p : Left) → may_leave d p → m.stands p.image b.state) → m.good b.state
-    → HasServed m b d b.given [] (record { answers = 0; changes = 0; skipped = 0 })
-served_none {State} {Request} m b d sound honest tells connections moment stands good = record {
+    → d.handed ≡ b.handed → HasServed m b d b.given [] (record { answers = 0; changes = 0; skipped = 0 })
+served_none {State} {Request} m b d sound honest tells connections moment stands good handed = record {
   connections = [];
   connections_are = connections ∙ sym (append-nil b.before);
   served = tt;
@@ -305,6 +230,7 @@ served_none {State} {Request} m b d sound honest tells connections moment stands
   counts = refl;
   reached = runs_begin State Request m b d sound honest tells connections moment stands;
   good = All-cons m.good b.state [] good (All-nil m.good);
+  handed = λ on. record { least = omega (arith, handed); most = omega (arith, handed) };
 }
 
 -- What was served is a run that has ended.

@@ -2,5 +2,6 @@ pub mod Pieces
 pub mod Pairs
 pub mod Invariant
 pub mod Growth
+pub mod Handed
 pub mod Ends
 pub mod Going

@@ -3,6 +3,7 @@ pub mod Steps
 pub mod Sessions
 pub mod Traces
 pub mod Runs
+pub mod Handing
 pub mod Laws
 pub mod Worked
 pub mod Serving

@@ -38,6 +38,9 @@ pub data Failure : Type 0 where
 -- moment that it took and the state.
 -- `may_fail failure`: the disk may fail there in a request, as the machine calls it there.
 -- `ends`: whether a request's answer ends its connection.
+-- `handed`, `turn_handed`: how many bytes the change of an answer hands to the device from a state,
+-- and that of a turn, 0 where there is none. `cut_handed text`: at most so many were handed to it
+-- of a request that was cut, of which these bytes were heard.
 -- `due`, `turn`: whether a turn at a moment has something to do, and the state after its change,
 -- none where it does nothing or its change has no room.
 -- `stands image state`: a file of these bytes stands for this state.
@@ -54,5 +57,8 @@ pub record Machine (State Request : Type 0) : Type 1 where
   pub ends : Request → Bool
   pub due : ℕ → State → Bool
   pub turn : ℕ → State → Option State
+  pub handed : Request → ℕ → State → ℕ
+  pub turn_handed : ℕ → State → ℕ
+  pub cut_handed : List ℕ → ℕ
   pub stands : List ℕ → State → Type 0
   pub good : State → Type 0

@@ -8,6 +8,7 @@ use Rattle.run_history.specs.Steps.{Piece, Step, Answered, Refused, Starved, Sto
 use Rattle.run_history.specs.Sessions.{AreServed, AreSteps, Session, Whole, after_sessions, after_steps, all_changes, all_moments, answers_in, bytes_of_pieces, most_answers, pieces_of, scripts_of, skips_in, stops, texts_of}
 use Rattle.run_history.specs.Traces.{start_of, states_of, trace_of}
 use Rattle.run_history.specs.Runs.{Beginning, Reached, run_stops_writing}
+use Rattle.run_history.specs.Handing.{HasHanded}
 use Rattle.run_history.specs.Laws.{under_way}
 
 -- ---- what connections count
@@ -64,7 +65,8 @@ run_stops (session ∷ later) = stops session.steps || run_stops later
 
 -- ---- a run between two connections, and within one
 
--- Connections were served one after another, and this is what they heard, were told and left.
+-- Connections were served one after another, and this is what they heard, were told, left and,
+-- unless the disk failed, handed to the device.
 pub record HasServed {State Request : Type 0} (m : Machine State Request) (b : Beginning State)
     (d : Device) (given : List ℕ) (sessions : List (Session Request)) (n : RunCounts) : Type 0 where
   pub connections : List Connection
@@ -74,6 +76,7 @@ pub record HasServed {State Request : Type 0} (m : Machine State Request) (b : B
   pub counts : n ≡ counts_of_run m b.state sessions
   pub reached : Reached m b (trace_of m b.state sessions) false (run_stops_writing sessions) d
   pub good : All m.good (states_of (trace_of m b.state sessions))
+  pub handed : run_stops sessions ≡ false → HasHanded m b sessions d.handed
 
 -- what is to be known of the connection that is under way: the state, the bytes that were heard and
 -- not yet taken, and the number of requests that it had
@@ -112,3 +115,4 @@ pub record Going {State Request : Type 0} (m : Machine State Request) (b : Begin
   pub reached : Reached m b (trace_of m b.state (finished ++ under_way steps Whole ∷ [])) true
       false d
   pub good : All m.good (states_of (trace_of m b.state (finished ++ under_way steps Whole ∷ [])))
+  pub handed : HasHanded m b (finished ++ under_way steps Whole ∷ []) d.handed

@@ -1,11 +1,12 @@
 -- A history worked out: a small machine over numbers, and six steps on four connections, each with
 -- what it comes to.
-use Rattle.std.specs.Prelude.{◌≡◌, ◌+◌, ◌-◌, ℕ, true, false, List, [], ◌∷◌, Option, Some, None, nat_lt, if◌then◌else◌}
+use Rattle.std.specs.Prelude.{◌≡◌, ◌+◌, ◌-◌, ℕ, true, false, List, [], ◌∷◌, length, Option, Some, None, nat_lt, if◌then◌else◌}
 use Rattle.disk_trait.specs.Device.{Connection}
 use Rattle.run_history.specs.Machine.{Machine, MachineReply, BeforeAnswer, InAnswer, InTurn}
 use Rattle.run_history.specs.Steps.{TakenRequest, CanFail, Step, Answered, Refused, Starved, Stopped, Cut, Made, Piece, Interim}
 use Rattle.run_history.specs.Steps as steps
 use Rattle.run_history.specs.Sessions.{Hearing, IsServed, Saying, Session, Whole, all_moments, scripts_of, skips_in}
+use Rattle.run_history.specs.Handing.{all_cut, all_handed}
 use Rattle.run_history.specs.Runs.{StandsNow}
 use Rattle.run_history.specs.Traces.{Trace, begun, start_of, states_of, trace_of}
 
@@ -24,8 +25,13 @@ abbrev pub demand_interim : Demand → Option (List ℕ)
 demand_interim Show = None
 demand_interim (Add n) = Some (1 ∷ [])
 
--- Its text is its reply's, its turn takes 5 from a number above 5, and a file of one number stands
--- for it.
+-- an addition hands the device a byte for each that it adds, and 10 more
+abbrev pub demand_handed : Demand → ℕ
+demand_handed Show = 0
+demand_handed (Add n) = n + 10
+
+-- Its text is its reply's, its turn takes 5 from a number above 5 and hands 20 bytes to the device,
+-- and a file of one number stands for it. A request that was cut may have handed on what was heard.
 abbrev pub adder : Machine ℕ Demand
 adder = record {
   spells = λ n text d. text ≡ (demand_reply d 0).bytes;
@@ -40,6 +46,9 @@ adder = record {
   ends = λ d. false;
   due = λ moment s. nat_lt 5 s;
   turn = λ moment s. if nat_lt 5 s then Some (s - 5) else None;
+  handed = λ d moment s. demand_handed d;
+  turn_handed = λ moment s. if nat_lt 5 s then 20 else 0;
+  cut_handed = λ text. length text;
   stands = λ image s. image ≡ s ∷ [];
   good = λ s. Unit {0};
 }
@@ -64,7 +73,8 @@ six =
     ∷ []
 
 -- What they come to from the number 3: each answer with the changes up to it, the states, the
--- moments, and what had begun, by what was told when a crash came: an interim alone, a byte of the
+-- moments, the bytes of the two additions and of the turn behind the second one, the byte of what
+-- was cut, and what had begun, by what was told when a crash came: an interim alone, a byte of the
 -- second connection's answer, all of its answers, and a byte of the last one.
 pub record SixSteps : Type 0 where
   pub scripts : scripts_of adder (start_of 3) six ≡
@@ -75,6 +85,8 @@ pub record SixSteps : Type 0 where
       ∷ []
   pub states : states_of (trace_of adder 3 six) ≡ 3 ∷ 4 ∷ 7 ∷ 2 ∷ []
   pub moments : all_moments adder (start_of 3) six ≡ 10 ∷ 11 ∷ 12 ∷ 13 ∷ 14 ∷ []
+  pub handed : all_handed adder (start_of 3) six ≡ 11 + (13 + 20)
+  pub cut : all_cut adder six ≡ 1
   pub none : begun (scripts_of adder (start_of 3) six) ((1 ∷ []) ∷ []) ≡ 0
   pub first : begun (scripts_of adder (start_of 3) six) ((1 ∷ 101 ∷ []) ∷ []) ≡ 1
   pub second : begun (scripts_of adder (start_of 3) six)
@@ -92,6 +104,8 @@ alone step = record { steps = step ∷ []; link = Whole } ∷ []
 pub record OtherSteps : Type 0 where
   pub skipped : states_of (trace_of adder 3 (alone (Answered (asks (Add 3) 1) steps.Skipped)))
       ≡ 3 ∷ 6 ∷ []
+  pub skipped_handed : all_handed adder (start_of 3)
+      (alone (Answered (asks (Add 3) 1) steps.Skipped)) ≡ 13
   pub counted : skips_in
       (Answered (asks (Add 3) 1) steps.Skipped ∷ Answered (asks Show 2) Made ∷ []) ≡ 1
   pub torn : trace_of adder 3 (alone (Stopped (asks (Add 3) 1) (BeforeAnswer true))) ≡

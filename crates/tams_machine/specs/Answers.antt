@@ -1,9 +1,13 @@
 -- What a request is answered in a state, and the state after its change and after its turn. Our own
 -- profile of the Time-addressable Media Store.
-use Rattle.std.specs.Prelude.{ℕ, Bool, List, [], ◌++◌, Option, Some, None, is_some, option_map, Result, Ok, Err, if◌then◌else◌}
+use Rattle.std.specs.Prelude.{◌+◌, ◌-◌, ℕ, Bool, List, [], ◌++◌, length, Option, Some, None, is_some, option_map, Result, Ok, Err, if◌then◌else◌}
 use Rattle.http_wire.specs.Framing.{method_kind}
+use Rattle.http_wire.specs.Lines.{head_end}
 use Rattle.http_wire.specs.Response.{body_unless}
+use Rattle.http_wire.specs.declared.lines.Looked.{Looked}
+use Rattle.http_wire.specs.declared.lines.Looked.TheVariants.{Ended, Still}
 use Rattle.media_rows.specs.declared.change.Change.{Change}
+use Rattle.media_rows.specs.declared.change.Change.TheVariants as changes
 use Rattle.media_rows.specs.declared.refusal.Refusal.{Refusal}
 use Rattle.media_rows.specs.declared.reply.Reply.{Reply}
 use Rattle.media_rows.specs.declared.reply.Reply.TheVariants as replies
@@ -94,3 +98,50 @@ turned_by s (Some change) =
 -- the state after a turn at a moment, where it changes something
 abbrev pub turn_in : ℕ → StoreState → Option StoreState
 turn_in moment s = turned_by s (turn s.archive.library moment)
+
+-- ---- the bytes that are handed to the device
+
+-- the bytes of the object that a change stores
+abbrev pub object_handed : Change → ℕ
+object_handed (changes.Store moment object start size) = size
+object_handed change = 0
+
+-- the bytes of a checkpoint before a change: where its record doesn't fit the room, the snapshot
+-- rows of the library and 10 more
+abbrev pub checkpoint_handed : StoreState → Change → ℕ
+checkpoint_handed s change =
+    if journals.fits_room (journal_of_state s) change then 0
+    else journals.snapshot_size s.archive.library + 10
+
+-- those of a change: its payload and 6 more, the object that it stores, and a checkpoint
+abbrev pub change_handed : StoreState → Change → ℕ
+change_handed s change =
+    (journals.change_size change + 6) + (object_handed change + checkpoint_handed s change)
+
+-- the same of a change, if there is one
+abbrev pub handed_if : StoreState → Option Change → ℕ
+handed_if s None = 0
+handed_if s (Some change) = change_handed s change
+
+-- those of the change of an answer to a request at a moment
+abbrev pub answer_handed : TamsRequest → ℕ → StoreState → ℕ
+answer_handed r moment s = handed_if s (outcome_of s r moment).change
+
+-- a turn's change, where one is due that fits
+abbrev pub fitting_turn : StoreState → Option Change → Option Change
+fitting_turn s None = None
+fitting_turn s (Some change) =
+    if journals.fits (journal_of_state s) change then Some change else None
+
+-- those of the change of a turn at a moment
+abbrev pub turn_handed : ℕ → StoreState → ℕ
+turn_handed moment s = handed_if s (fitting_turn s (turn s.archive.library moment))
+
+-- how many bytes of a text stand behind the head in front of it, where that is whole
+abbrev pub size_behind_head : List ℕ → Looked → ℕ
+size_behind_head text (Still place) = 0
+size_behind_head text (Ended end) = length text - end
+
+-- how many bytes of a request's body were heard
+abbrev pub heard_body : List ℕ → ℕ
+heard_body text = size_behind_head text (head_end text)

@@ -7,10 +7,11 @@ use Rattle.store_states.specs.States.{StoreState}
 use Rattle.run_history.specs.Machine.{Machine}
 use Rattle.tams_http.specs.Constants.{failure}
 use Rattle.tams_machine.specs.Requests.{Heads, IsCut, IsRefused, SpellsRequest, TamsRequest, interim_of}
-use Rattle.tams_machine.specs.Answers.{answer_in, is_turn_due, turn_in}
+use Rattle.tams_machine.specs.Answers.{answer_handed, answer_in, heard_body, is_turn_due, turn_handed, turn_in}
 
 -- The machine, over the base of its addresses. Its disk is called before an answer, within it and
--- in the turn behind it. A file stands for a state by its archive, whatever room its journal has: a
+-- in the turn behind it. Of a media PUT that was cut it may have been handed the bytes of the body
+-- that were heard. A file stands for a state by its archive, whatever room its journal has: a
 -- crash within a change that began with a checkpoint leaves the archive before it with another
 -- room.
 abbrev pub tams_machine : List ℕ → Machine StoreState TamsRequest
@@ -27,6 +28,9 @@ tams_machine base = record {
   ends = λ r. r.ends;
   due = is_turn_due;
   turn = turn_in;
+  handed = answer_handed;
+  turn_handed = turn_handed;
+  cut_handed = heard_body;
   stands = λ image s. HasArchive s.half s.archive image;
   good = λ s. IsGoodArchive s.archive;
 }

@@ -7,7 +7,6 @@ use Rattle.http_wire.specs.Feeds.{Fed, left_of, span_bytes}
 use Rattle.http_wire.specs.Heads.{whole}
 use Rattle.http_wire.specs.Requests.{IsNext, opened}
 use Rattle.http_wire.specs.declared.stage.Head.{Head}
-use Rattle.http_wire.specs.declared.stage.Stage.TheVariants as stages
 use Rattle.http_wire.proofs.Alone.{opened_head}
 use Rattle.httparse.specs.Grammar.{RequestHead}
 use Rattle.media_store.specs.Puts.{PutSeen}
@@ -16,13 +15,17 @@ use Rattle.store_states.specs.Kept.{AgreesWith, StoreView, kept_state}
 use Rattle.store_writes.specs.Writes.{Keeps}
 use Rattle.run_history.specs.Runs.{Reached}
 use Rattle.run_history.specs.Serving.{RunCounts}
+use Rattle.run_history.specs.Handing.{HasHanded}
+use Rattle.run_history.specs.Laws.{under_way}
 use Rattle.run_history.specs.Sessions.{Hearing, IsUnfinished, Whole}
+use Rattle.run_history.specs.Steps.{Cut}
 use Rattle.connection_loop.specs.declared.ending.Ending.{Ending}
 use Rattle.connection_loop.specs.declared.ending.Ending.TheVariants as endings
-use Rattle.connection_loop.specs.Turns.{SiteCalls, TurnLeads}
+use Rattle.connection_loop.specs.Turns.{SiteCalls, TurnLeads, held_with}
+use Rattle.tams_machine.specs.Answers.{heard_body}
 use Rattle.tams_machine.specs.Machine.{tams_machine}
 use Rattle.tams_machine.specs.Requests.{Heads, SpellsRequest, TamsRequest}
-use Rattle.request_hearing.specs.Asking.{asked_trace}
+use Rattle.request_hearing.specs.Asking.{Asking, asked_trace}
 use Rattle.request_hearing.specs.Hearing.{OpensMedia, interim_where}
 use Rattle.request_hearing.specs.Laws.{OpenedAs, media_request}
 use Rattle.request_hearing.proofs.Asking.{asking_taken, reached_kept}
@@ -33,9 +36,10 @@ use Rattle.tams_service.specs.Answering.{AnswersEach, AsksAt, EndsThere, IsPutti
 use Rattle.tams_service.specs.Keeping.{KeepsState}
 use Rattle.tams_service.specs.Serving.{ServiceSeen}
 use Rattle.tams_service.specs.Sites.{SiteCounts}
-use Rattle.tams_service.specs.Taking.{HoldsIf, IsFilled, TakesBody, TakesOfBody, plan_of}
+use Rattle.tams_service.specs.Taking.{HandedMost, HoldsIf, IsFilled, TakesBody, TakesOfBody, body_handed, plan_of}
 use Rattle.tams_service.specs.declared.body.Taken.TheVariants as taken
-use Rattle.tams_service.proofs.Giving.{unchanged_at}
+use Rattle.tams_service.proofs.Giving.{nothing_changed}
+use Rattle.tams_service.proofs.Handed.{handed_step, handed_then}
 use Rattle.tams_service.proofs.Keeping.{keeps_so}
 use Rattle.tams_service.proofs.Moments.{over_keeps}
 use Rattle.tams_service.proofs.Stepping.{taken_ends}
@@ -69,17 +73,28 @@ module _ (p : RunPlace) (old mid : Device) (n : RunCounts) (all text part : List
     (keeps : Keeps kept p.state.archive.held old mid) where
   -- the run has come as far
   reached_there : Reached (tams_machine p.base) p.beginning (asked_trace (tams_machine p.base) p.beginning p.said p.finished p.steps) true false mid
-  reached_there = reached_kept asks (over_keeps p.base state keeps)
+  reached_there = reached_kept asks.asking (over_keeps p.base state keeps)
 
   -- It was heard, and no call of the link failed.
-  pub part_asks : TakesOfBody part false false from to old mid → AsksAt p mid ((text ++ part) ++ to.unread) n
+  pub part_asks : TakesOfBody part false false from to old mid
+      → Asking (tams_machine p.base) p.beginning mid p.given (held_with p.state ((text ++ part) ++ to.unread) p.taken) p.said p.finished p.steps n
   part_asks takes =
-      subst (λ unread. AsksAt p mid unread n) (text_on all text from.unread takes.bytes part to.unread text_is takes.text_is)
-      (asking_taken asks takes.bytes (takes.connections tells) reached_there)
+      subst (λ unread. Asking (tams_machine p.base) p.beginning mid p.given (held_with p.state unread p.taken) p.said p.finished p.steps n)
+      (text_on all text from.unread takes.bytes part to.unread text_is takes.text_is)
+      (asking_taken asks.asking takes.bytes (takes.connections tells) reached_there)
+
+  -- No more was handed on of it than was heard.
+  cut_handed : (moment : ℕ) → heard_body (text ++ part) ≡ length part → HandedMost (length part) old mid
+      → HasHanded (tams_machine p.base) p.beginning
+      (p.finished ++ under_way (p.steps ++ Cut (text ++ part) (interim_where p.said) (Some moment) ∷ []) Whole ∷ []) mid.handed
+  cut_handed moment heard most =
+      handed_step p (Cut (text ++ part) (interim_where p.said) (Some moment)) old 0 mid.handed asks.handed asks.asking.begun.so_far.state_is
+      (omega (arith, most.never_falls)) (omega (arith, most.few, heard))
 
   module _ (none : to.unread ≡ []) (some : text ++ part ≢ []) (moment : ℕ)
       (cuts : (tams_machine p.base).cuts (text ++ part) (record { interim = interim_where p.said; takes_moment = true }))
-      (unfinished : IsUnfinished (tams_machine p.base) p.taken (text ++ part)) (last : StoreSeen) (kept_so : KeepsState last mid p.state) where
+      (unfinished : IsUnfinished (tams_machine p.base) p.taken (text ++ part)) (last : StoreSeen) (kept_so : KeepsState last mid p.state)
+      (heard : heard_body (text ++ part) ≡ length part) (most : HandedMost (length part) old mid) where
     all_heard : (bytes : List ℕ) → from.unread ++ bytes ≡ part ++ to.unread → all ++ bytes ≡ text ++ part
     all_heard bytes is =
         text_on all text from.unread bytes part to.unread text_is is ∙ ap (λ l. (text ++ part) ++ l) none ∙ append-nil (text ++ part)
@@ -87,14 +102,15 @@ module _ (p : RunPlace) (old mid : Device) (n : RunCounts) (all text part : List
     -- The peer's bytes ended behind it.
     pub ended_cut : TakesOfBody part true false from to old mid → EndsThere p mid last (moment ∷ []) n endings.Cut
     ended_cut takes =
-        taken_ends (KeepsState last mid) kept_so takes.bytes p.said true Whole (text ++ part) (Some moment) asks (takes.connections tells) reached_there
-        (λ same. cc) (λ _. refl) (all_heard takes.bytes takes.text_is) some cuts unfinished
+        taken_ends (KeepsState last mid) kept_so takes.bytes p.said true Whole (text ++ part) (Some moment) asks.asking (takes.connections tells) reached_there
+        (λ same. cc) (λ _. refl) (all_heard takes.bytes takes.text_is) some cuts unfinished (cut_handed moment heard most)
 
     -- A hearing failed behind it.
     pub unheard_cut : TakesOfBody part false true from to old mid → EndsThere p mid last (moment ∷ []) n endings.Unlinked
     unheard_cut takes =
-        taken_ends (KeepsState last mid) kept_so takes.bytes p.said false Hearing (text ++ part) (Some moment) asks (takes.connections tells) reached_there
-        (λ same. cc) (λ same. absurd cc) (all_heard takes.bytes takes.text_is) some cuts unfinished
+        taken_ends (KeepsState last mid) kept_so takes.bytes p.said false Hearing (text ++ part) (Some moment) asks.asking
+        (takes.connections tells) reached_there
+        (λ same. cc) (λ same. absurd cc) (all_heard takes.bytes takes.text_is) some cuts unfinished (cut_handed moment heard most)
 
 -- ---- the request
 
@@ -146,7 +162,8 @@ module _ (s : StoreSeen) (from : Fed) (shown : Head) (old : Device) (moment : �
     keeps_there : store.spent ≡ false → KeepsState store mid p.state
     keeps_there unspent = keeps_so s store old mid p.state keeps kept_is unspent kept_there.agrees
 
-    asks_there : (part : List ℕ) → TakesOfBody part false false from fed old mid → AsksAt p mid ((o.text ++ part) ++ fed.unread) n
+    asks_there : (part : List ℕ) → TakesOfBody part false false from fed old mid
+        → Asking (tams_machine p.base) p.beginning mid p.given (held_with p.state ((o.text ++ part) ++ fed.unread) p.taken) p.said p.finished p.steps n
     asks_there part takes = part_asks p old mid n all o.text part from fed s.kept tells.tells asks o.text_is keeps.state kept_there takes
 
     -- Its peer's bytes ended within it.
@@ -156,7 +173,7 @@ module _ (s : StoreSeen) (from : Fed) (shown : Head) (old : Device) (moment : �
         let w = opened_with body.part in
         ended_cut p old mid n all o.text body.part from fed s.kept tells.tells asks o.text_is keeps.state kept_there body.comes.1
         (some_text o.text body.part o.head shown.length (length o.text) o.next) moment (w.cut body.comes.0) (w.unfinished p.base body.comes.0) store
-        (keeps_there unspent) body.takes
+        (keeps_there unspent) w.heard (body.handed refl tells.tells) body.takes
 
     -- A hearing failed within it.
     unheard_so : TakesBody s.kept shown.length from fed put old mid taken.Unheard → store.spent ≡ false
@@ -165,7 +182,7 @@ module _ (s : StoreSeen) (from : Fed) (shown : Head) (old : Device) (moment : �
         let w = opened_with body.part in
         unheard_cut p old mid n all o.text body.part from fed s.kept tells.tells asks o.text_is keeps.state kept_there body.comes.1
         (some_text o.text body.part o.head shown.length (length o.text) o.next) moment (w.cut body.comes.0) (w.unfinished p.base body.comes.0) store
-        (keeps_there unspent) body.takes
+        (keeps_there unspent) w.heard (body.handed refl tells.tells) body.takes
 
     -- The disk failed within it.
     failed_so : (new : Device) (now : RunCounts) → TakesBody s.kept shown.length from fed put old mid taken.Failed → StopLeads mid new n now 0
@@ -173,7 +190,7 @@ module _ (s : StoreSeen) (from : Fed) (shown : Head) (old : Device) (moment : �
     failed_so new now body stops =
         let left : left_of from.stage ≡ shown.length = ap left_of o.behind.stage_is in
         stops p (o.text ++ body.part) fed.unread (request_with body.part) moment store []
-        (unchanged_at p mid ((o.text ++ body.part) ++ fed.unread) n (asks_there body.part body.takes))
+        (nothing_changed p mid ((o.text ++ body.part) ++ fed.unread) n (asks_there body.part body.takes))
         (is_begun body.part (omega (arith, body.takes.few, left))) o.interim refl
 
     -- All of it came.
@@ -200,7 +217,12 @@ module _ (s : StoreSeen) (from : Fed) (shown : Head) (old : Device) (moment : �
           → PutLeads mid new store next n now put responses moment shown.ends result
           → p.taken < 1000000 → LeadsTo p new next moment fed.unread now result
       whole_so new now next result leads few =
-          leads p (o.text ++ body.part) fed.unread (request_with body.part) (asks_there body.part body.takes) (keeps_there unspent)
+          leads p (o.text ++ body.part) fed.unread (request_with body.part)
+          (record {
+            asking = asks_there body.part body.takes;
+            handed = handed_then p old mid (body_handed (plan_of put) body.part) asks.handed (body.handed_whole refl tells.tells);
+          })
+          (keeps_there unspent)
           (record { spells = (opened_with body.part).whole body.comes; interim = o.interim; ends_is = refl }) putting few
 
 -- ---- by what came of taking its body

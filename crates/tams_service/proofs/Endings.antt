@@ -1,5 +1,5 @@
 -- Answers that end a connection whatever was asked.
-use Rattle.std.proofs.Common.{◌≡◌, ◌≢◌, ◌≤◌, ◌+◌, ℕ, Bool, true, false, List, [], ◌∷◌, ◌++◌, length, All, None, Some, if◌then◌else◌, refl, sym, ap, ◌∙◌, subst, append-nil, arith}
+use Rattle.std.proofs.Common.{◌≡◌, ◌≤◌, ◌+◌, ℕ, Bool, true, false, List, [], ◌∷◌, ◌++◌, length, All, None, Some, if◌then◌else◌, refl, sym, ap, ◌∙◌, subst, append-nil, arith}
 use Rattle.std.proofs.lemmas.Bool.{false≢true}
 use Rattle.std.proofs.lemmas.List.Elements.{All-nil}
 use Rattle.disk_trait.specs.Calls.{Elapses}
@@ -30,6 +30,7 @@ use Rattle.tams_service.specs.Answering.{AsksAt, ChangedAt, EndsThere, FailedIn,
 use Rattle.tams_service.specs.Keeping.{KeepsState}
 use Rattle.tams_service.proofs.Effects.{ask_of, effect_by, starved_effect, stopped_effect}
 use Rattle.tams_service.proofs.Effects as effects
+use Rattle.tams_service.proofs.Handed.{handed_nothing}
 use Rattle.tams_service.proofs.Keeping.{keeps_told}
 use Rattle.tams_service.proofs.Stepping.{step_ends}
 
@@ -40,22 +41,23 @@ is_good s = IsGoodArchive s.archive
 module _ (old new : Device) (n now : RunCounts) (ok : Bool) (tells : old.tells ≡ true) where
   -- ---- no memory
 
-  pub starve_leads : Elapses (Tells false (failure 500)) (Tells ok (failure 500)) old new → Said ok (failure 500) old new → now ≡ plus_answer 0 false n
-      → StarveLeads old new n now
-  starve_leads time said counts p text rest r moment store asks keeps begun =
+  pub starve_leads : Elapses (Tells false (failure 500)) (Tells ok (failure 500)) old new → Said ok (failure 500) old new → new.handed ≡ old.handed
+      → now ≡ plus_answer 0 false n → StarveLeads old new n now
+  starve_leads time said same counts p text rest r moment store asks keeps begun =
       let t = asked_trace (tams_machine p.base) p.beginning p.said p.finished p.steps in
       let answered : IsAnswerStep (tams_machine p.base) p.beginning old new p.given (held_with p.state (text ++ rest) p.taken) p.said p.finished p.steps n
       (Starved (ask_of text r moment)) (failure 500) 0 [] [] (moment ∷ []) rest ok ok false =
       record {
-        begun = asks.begun;
+        begun = asks.asking.begun;
         is = begun.taken;
         text = refl;
         effect_is = λ at here. starved_effect p text r moment begun.interim at;
         told = said.connections tells;
         full = λ linked _. linked;
-        reached = changed_none (replied t [] (failure 500) 0 (omega arith) (λ no. absurd (false≢true no)) (changed_none asks.reached) time);
+        reached = changed_none (replied t [] (failure 500) 0 (omega arith) (λ no. absurd (false≢true no)) (changed_none asks.asking.reached) time);
         good = All-nil is_good;
         written = refl;
+        handed = λ on. handed_nothing new asks same (Starved (ask_of text r moment)) refl refl;
       } in
       subst (λ k. EndsThere p new store (moment ∷ []) k endings.Starved) (sym counts)
       (step_ends answered (KeepsState store new) endings.Starved refl tt tt (λ on. keeps_told store p.state ok (failure 500) old new keeps time))
@@ -85,6 +87,7 @@ module _ (old new : Device) (n now : RunCounts) (ok : Bool) (tells : old.tells �
           reached = changed_none (replied t states (failure 503) 0 (omega arith) some changed.reached time);
           good = subst (All is_good) none changed.good;
           written = refl;
+          handed = λ on. absurd (false≢true (sym on));
         } in
         subst (λ k. EndsThere p new store (moment ∷ []) k endings.Stopped)
         (ap (λ s. plus_answer (length s) false n) (append-nil states) ∙ sym counts)
@@ -109,22 +112,23 @@ module _ (old new : Device) (n now : RunCounts) (ok : Bool) (tells : old.tells �
 
 module _ (base : List ℕ) (old new : Device) (store : StoreSeen) (n now : RunCounts) (refusal : Refusal) (response : List ℕ) (tells : old.tells ≡ true)
     (counts : now ≡ plus_answer 0 false n) (responds : Responds base refusal response)
-    (ok : Bool) (time : Elapses (Tells false response) (Tells ok response) old new) (said : Said ok response old new) where
+    (ok : Bool) (time : Elapses (Tells false response) (Tells ok response) old new) (said : Said ok response old new) (still : new.handed ≡ old.handed) where
   refused_at : (p : RunPlace) (all : List ℕ) → AsksAt p old all n
       → IsStep (tams_machine p.base) p.taken p.state (Refused all (record { interim = interim_where p.said; response = response }))
       → IsAnswerStep (tams_machine p.base) p.beginning old new p.given (held_with p.state all p.taken) p.said p.finished p.steps n
       (Refused all (record { interim = interim_where p.said; response = response })) response 0 [] [] [] [] ok ok false
   refused_at p all asks step = record {
-    begun = asks.begun;
+    begun = asks.asking.begun;
     is = step;
     text = sym (append-nil all);
     effect_is = λ at here. ap (λ k. effect_by (effects.replied p.said response k) [] []) (omega arith);
     told = said.connections tells;
     full = λ linked _. linked;
     reached = changed_none (replied (asked_trace (tams_machine p.base) p.beginning p.said p.finished p.steps) [] response 0 (omega arith)
-        (λ no. absurd (false≢true no)) (changed_none asks.reached) time);
+        (λ no. absurd (false≢true no)) (changed_none asks.asking.reached) time);
     good = All-nil is_good;
     written = refl;
+    handed = λ on. handed_nothing new asks still (Refused all (record { interim = interim_where p.said; response = response })) refl refl;
   }
 
   pub refuse_leads : RefuseLeads base old new store n now refusal (if ok then endings.Complete else endings.Unlinked)

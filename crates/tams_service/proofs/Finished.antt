@@ -1,16 +1,16 @@
 -- What the calls behind a request's change lead to: by how its reply was said, and by what the turn behind it made.
-use Rattle.std.proofs.Common.{◌≡◌, ◌≢◌, ◌+◌, ℕ, Bool, true, false, cond, not, List, [], ◌∷◌, length, Option, None, Some, refl, sym, ap, ◌∙◌, subst, arith}
+use Rattle.std.proofs.Common.{◌≡◌, ◌+◌, ℕ, Bool, true, false, cond, not, List, [], ◌∷◌, length, Option, None, Some, refl, sym, ap, ◌∙◌, subst, arith}
 use Rattle.std.specs.Prelude.{is_some, option_to_list}
 use Rattle.std.proofs.lemmas.Bool.{false≢true}
 use Rattle.disk_trait.specs.Device.{Device}
-use Rattle.change_codec.specs.Fitting.{State, fits}
+use Rattle.change_codec.specs.Fitting.{State}
 use Rattle.media_rows.specs.declared.change.Change.{Change}
 use Rattle.media_rows.specs.declared.change.Change.TheVariants.{DeleteStep, SweepStep}
 use Rattle.media_rows.specs.Apply.{turn}
 use Rattle.media_rows.specs.Moments.{is_moment}
 use Rattle.media_store.specs.declared.turns.TurnMade.{TurnMade}
 use Rattle.media_store.specs.declared.turns.TurnMade.TheVariants.{Deleted, NoRoom, Nothing, Swept}
-use Rattle.media_store.specs.Changes.{IsNextIf, MakesIf}
+use Rattle.media_store.specs.Changes.{IsNextIf, MakesIf, bytes_if}
 use Rattle.media_store.specs.Stores.{StoreSeen, journal_of}
 use Rattle.media_store.specs.Turns.{TurnIs, turn_change}
 use Rattle.store_states.specs.Kept.{AgreesWith}
@@ -67,9 +67,10 @@ module _ (old mid new : Device) (store behind next : StoreSeen) (n : RunCounts) 
   -- A read of the object's bytes failed.
   pub read_failed : not (is_told_unfailed t) ≡ true → FinishLeads old mid store behind n (plus_answer changes false n) bytes changes moment ends
       (Some endings.Stopped)
-  read_failed lost p text rest r states changed keeps request reply counts few =
+  read_failed lost p text rest r states changed keeps request reply handed counts few =
       let by = failed_is t lost in
-      reading_stopped p old mid n bytes moment ends text rest r states (is_whole t) (is_linked t) all.tells says changed request reply behind changes by.0
+      reading_stopped p old mid n bytes moment ends text rest r states (is_whole t)
+      (is_linked t) all.tells says changed request reply handed behind changes by.0
       by.1 counts
 
   -- ---- the turn behind it
@@ -86,11 +87,13 @@ module _ (old mid new : Device) (store behind next : StoreSeen) (n : RunCounts) 
     -- It was made, if one was due that fits.
     pub turn_made : (made : TurnMade) → TurnIs (journal_of behind.kept) (turn behind.kept.library moment) moment made → next.spent ≡ false
         → ((held : List (List ℕ)) → AgreesWith mid behind.kept held → MakesIf true due behind.kept next.kept held mid new) → IsNextIf behind.kept due next.kept
+        → new.handed ≡ mid.handed + bytes_if (journal_of behind.kept) due
         → FinishLeads old new store next n (plus_answer (changes + changes_by made) false n) bytes changes moment ends (ending_behind t ends)
-    turn_made made is fresh makes is_next p text rest r states changed keeps request reply counts few =
+    turn_made made is fresh makes is_next on p text rest r states changed keeps request reply handed counts few =
         let here = kept_mid _ keeps in
-        let leads = made_by p old mid n bytes moment ends text rest r states (is_whole t) (is_linked t) all.tells says changed request reply new next link
-        (same_is t whole) few changes counts behind here at keep fresh due refl (makes _ here.agrees) is_next in
+        let leads = made_by p old mid n bytes moment ends text rest r states (is_whole t)
+        (is_linked t) all.tells says changed request reply handed new next link
+        (same_is t whole) few changes counts behind here at keep fresh due refl (makes _ here.agrees) is_next on in
         subst (λ e. LeadsTo p new next moment rest (plus_answer (changes + changes_by made) false n) e) (ending_is t ends whole)
         (subst (λ k. LeadsTo p new next moment rest (plus_answer (changes + k) false n) (answered_ending (is_linked t) ends))
         (turn_counts (journal_of behind.kept) (turn behind.kept.library moment) moment made is) leads)
@@ -98,10 +101,11 @@ module _ (old mid new : Device) (store behind next : StoreSeen) (n : RunCounts) 
     -- There was no memory for it.
     pub turn_skipped : is_some (turn behind.kept.library moment) ≡ true → new ≡ mid → next ≡ behind
         → FinishLeads old new store next n (plus_answer changes true n) bytes changes moment ends (ending_behind t ends)
-    turn_skipped is_due stays same p text rest r states changed keeps request reply counts few =
+    turn_skipped is_due stays same p text rest r states changed keeps request reply handed counts few =
         let here = kept_mid _ keeps in
         let fresh : next.spent ≡ false = ap (λ (s : StoreSeen). s.spent) same ∙ unspent in
-        let leads = skipped_by p old mid n bytes moment ends text rest r states (is_whole t) (is_linked t) all.tells says changed request reply new next link
+        let leads = skipped_by p old mid n bytes moment ends text rest r states (is_whole t)
+        (is_linked t) all.tells says changed request reply handed new next link
         (same_is t whole) few changes counts behind here at keep fresh is_due stays (ap (λ (s : StoreSeen). s.kept) same) in
         subst (λ e. LeadsTo p new next moment rest (plus_answer changes true n) e) (ending_is t ends whole)
         (subst (λ k. LeadsTo p new next moment rest (plus_answer k true n) (answered_ending (is_linked t) ends)) (plus_none changes) leads)
@@ -113,12 +117,12 @@ module _ (old mid new : Device) (store behind next : StoreSeen) (n : RunCounts) 
     pub turn_failed : is_some due ≡ true
         → ((held : List (List ℕ)) → AgreesWith mid behind.kept held → MakesIf false due behind.kept next.kept held mid new)
         → FinishLeads old new store next n (plus_answer (changes + 1) false n) bytes changes moment ends (Some endings.Stopped)
-    turn_failed some makes p text rest r states changed keeps request reply counts few = by_change due refl some (makes _ (kept_mid _ keeps).agrees)
+    turn_failed some makes p text rest r states changed keeps request reply handed counts few = by_change due refl some (makes _ (kept_mid _ keeps).agrees)
       where
         by_change : (change : Option Change) → due ≡ change → is_some change ≡ true
             → MakesIf false change behind.kept next.kept (last_or p.state states).archive.held mid new
             → EndsThere p new next (moment ∷ []) (plus_answer (changes + 1) false n) endings.Stopped
         by_change None is none made = absurd (false≢true none)
         by_change (Some change) is yes_some made =
-            failed_by p old mid n bytes moment ends text rest r states (is_whole t) (is_linked t) all.tells says changed request reply new next link
+            failed_by p old mid n bytes moment ends text rest r states (is_whole t) (is_linked t) all.tells says changed request reply handed new next link
             (same_is t whole) few changes counts behind (kept_mid _ keeps) at keep change is made

@@ -9,32 +9,34 @@ use Rattle.httparse.specs.Grammar.{RequestHead}
 use Rattle.media_rows.specs.declared.change.Change.{Change}
 use Rattle.media_rows.specs.Apply.{turn}
 use Rattle.media_rows.specs.Moments.{is_moment}
-use Rattle.media_store.specs.Changes.{IsNextIf, ChangesStore, MakesIf}
+use Rattle.media_store.specs.Changes.{IsNextIf, ChangesStore, MakesIf, bytes_if}
 use Rattle.media_store.specs.Stores.{StoreSeen, journal_of}
 use Rattle.media_store.specs.Turns.{turn_change}
 use Rattle.store_states.specs.Kept.{AgreesWith}
 use Rattle.store_states.specs.States.{StoreState}
 use Rattle.run_history.specs.Machine.{InAnswer, InTurn}
+use Rattle.run_history.specs.Handing.{HasHanded}
 use Rattle.run_history.specs.Laws.{Wrote, under_way}
 use Rattle.run_history.specs.Runs.{Reached, stops_writing}
 use Rattle.run_history.specs.Traces.{Trace, state_now}
 use Rattle.run_history.specs.Serving.{RunCounts}
-use Rattle.run_history.specs.Sessions.{Saying, Whole, most_answers, stops_in_answer}
+use Rattle.run_history.specs.Sessions.{Saying, Whole, most_answers, stops, stops_in_answer}
 use Rattle.run_history.specs.Steps.{Answered, IsStep, Made, Skipped, Stage, Step, Stopped, Turned, after_answer, effect, is_made, last_or, step_text, where_done}
 use Rattle.connection_loop.specs.declared.ending.Ending.TheVariants as endings
 use Rattle.connection_loop.specs.Tallies.{plus_answer}
 use Rattle.connection_loop.specs.Turns.{ending_of, held_with}
-use Rattle.tams_machine.specs.Answers.{answer_in, is_turn_due, state_with_change, turn_in}
+use Rattle.tams_machine.specs.Answers.{answer_handed, answer_in, is_turn_due, state_with_change, turn_handed, turn_in}
 use Rattle.tams_machine.specs.Laws.{TurnsKeepGood}
 use Rattle.tams_machine.specs.Machine.{tams_machine}
 use Rattle.tams_machine.specs.Requests.{TamsRequest, ends_behind}
 use Rattle.request_hearing.specs.Asking.{IsAnswerStep, asked_trace, counted_more, replied_trace, with_states}
 use Rattle.request_hearing.proofs.Asking.{kept_calls, last_behind}
 use Rattle.request_hearing.proofs.AskingReached.{changed_none, changed_one, changed_torn, replied, state_now-replied, told_between}
-use Rattle.tams_service.specs.Answering.{ChangedAt, EndsThere, IsMachineReply, IsRequest, LeadsTo, RunPlace}
+use Rattle.tams_service.specs.Answering.{ChangedAt, EndsThere, HandedAt, IsMachineReply, IsRequest, LeadsTo, RunPlace}
 use Rattle.tams_service.specs.Keeping.{KeepsState}
 use Rattle.tams_service.specs.Saying.{Says}
 use Rattle.tams_service.proofs.Effects.{answered_effect, ask_of, made_of, reading_effect, turning_effect}
+use Rattle.tams_service.proofs.Handed.{handed_step, turn_handed_is}
 use Rattle.tams_service.proofs.Good.{good_now, is_good, last_good, turn_good}
 use Rattle.tams_service.proofs.Moments.{over_change, over_keeps, over_torn}
 use Rattle.tams_service.proofs.States.{keeps_next, last_of, turn_of}
@@ -61,7 +63,8 @@ few_more p text ends r is few goes = few_behind p.taken r.head (sym is.spells.en
 
 module _ (p : RunPlace) (old mid : Device) (n : RunCounts) (bytes : List ℕ) (moment : ℕ) (ends : Bool) (text rest : List ℕ) (r : TamsRequest)
     (states : List StoreState) (whole linked : Bool) (tells : old.tells ≡ true) (says : Says whole linked bytes old mid)
-    (changed : ChangedAt p old (text ++ rest) n states false) (request : IsRequest p text ends r) (reply : IsMachineReply p r moment bytes states) where
+    (changed : ChangedAt p old (text ++ rest) n states false) (request : IsRequest p text ends r) (reply : IsMachineReply p r moment bytes states)
+    (handed : HandedAt p old (answer_handed r moment p.state)) where
   -- the trace with the reply
   abbrev told_trace : Trace StoreState
   told_trace = replied_trace states bytes (length states) (asked_trace (tams_machine p.base) p.beginning p.said p.finished p.steps)
@@ -85,7 +88,9 @@ module _ (p : RunPlace) (old mid : Device) (n : RunCounts) (bytes : List ℕ) (m
       → effect (tams_machine p.base) at step ≡ made_of p text r moment bytes states reply request.interim later at)
       (full : linked ≡ true → stops_in_answer (step ∷ []) ≡ false → whole ≡ true)
       (reached : Reached (tams_machine p.base) p.beginning (with_states later told_trace) whole writing new)
-      (good : All is_good later) (written : stops_writing (step ∷ []) ≡ writing) where
+      (good : All is_good later) (written : stops_writing (step ∷ []) ≡ writing)
+      (handed_on : stops (step ∷ []) ≡ false
+      → HasHanded (tams_machine p.base) p.beginning (p.finished ++ under_way (p.steps ++ step ∷ []) Whole ∷ []) new.handed) where
     answered : IsAnswerStep (tams_machine p.base) p.beginning old new p.given (held_with p.state (text ++ rest) p.taken) p.said p.finished p.steps n step
         bytes (length states) states later (moment ∷ []) rest whole linked writing
     answered = record {
@@ -98,6 +103,7 @@ module _ (p : RunPlace) (old mid : Device) (n : RunCounts) (bytes : List ℕ) (m
       reached = reached;
       good = All-append is_good states later changed.good good;
       written = written;
+      handed = handed_on;
     }
 
   -- ---- the disk failed within the answer
@@ -108,7 +114,7 @@ module _ (p : RunPlace) (old mid : Device) (n : RunCounts) (bytes : List ℕ) (m
       let step = Stopped (ask_of text r moment) InAnswer in
       let a = answered mid step [] false refl (tt, request.spells) refl
       (reading_effect p text r moment bytes states reply request.interim [] refl)
-      (λ _ no. absurd (false≢true (sym no))) (changed_none reached_reply) (All-nil is_good) refl in
+      (λ _ no. absurd (false≢true (sym no))) (changed_none reached_reply) (All-nil is_good) refl (λ on. absurd (false≢true (sym on))) in
       subst (λ k. EndsThere p mid store (moment ∷ []) k endings.Stopped)
       (ap (λ k. plus_answer k false n) (ap length (append-nil states) ∙ is))
       (step_ends a (KeepsState store mid) endings.Stopped (by_link linked) tt tt (λ on. absurd (false≢true (sym on))))
@@ -127,17 +133,29 @@ module _ (p : RunPlace) (old mid : Device) (n : RunCounts) (bytes : List ℕ) (m
         → IsStep (tams_machine p.base) p.taken p.state (Answered (ask_of text r moment) turned)
         → Reached (tams_machine p.base) p.beginning (with_states later told_trace) whole false new → All is_good later
         → KeepsState next new (last_or p.state (states ++ later))
+        → new.handed ≡ mid.handed + (if is_made turned then turn_handed moment here else 0)
         → counted_more n (states ++ later) (Answered (ask_of text r moment) turned) ≡ plus_answer (changes + k) skipped n
         → LeadsTo p new next moment rest (plus_answer (changes + k) skipped n) (answered_ending linked ends)
-    turned_leads turned later k skipped behind is reached good keeps counts_are =
+    turned_leads turned later k skipped behind is reached good keeps later_handed counts_are =
         let step = Answered (ask_of text r moment) turned in
         let a = answered new step later false link is refl
-        (answered_effect p text r moment bytes states reply request.interim later turned behind) (λ on _. same ∙ on) reached good (written_of turned) in
+        (answered_effect p text r moment bytes states reply request.interim later turned behind) (λ on _. same ∙ on) reached good (written_of turned)
+        (λ on. step_handed turned later_handed) in
         subst (λ c. LeadsTo p new next moment rest c (answered_ending linked ends)) counts_are
         (answer_leads turned linked ends a request.ends_is (few_more p text ends r request few) (KeepsState next new) keeps)
       where
         written_of : (t : Turned) → stops_writing (Answered (ask_of text r moment) t ∷ []) ≡ false
         written_of t = refl
+
+        step_handed : (t : Turned) → new.handed ≡ mid.handed + (if is_made t then turn_handed moment here else 0)
+            → HasHanded (tams_machine p.base) p.beginning
+            (p.finished ++ under_way (p.steps ++ Answered (ask_of text r moment) t ∷ []) Whole ∷ []) new.handed
+        step_handed t on =
+            let more = answer_handed r moment p.state in
+            let behind_is = ap (λ s. if is_made t then turn_handed moment s else 0)
+            (last_of p.state (answer_in p.base r moment p.state).change ∙ ap (last_or p.state) reply.states_are) in
+            handed_step p (Answered (ask_of text r moment) t) old more new.handed handed changed.begun.so_far.state_is
+            (omega (arith, on, says.handed, behind_is)) (omega (arith, on, says.handed, behind_is))
 
     -- The disk failed in it, while the record of its change was being written.
     turn_stopped : (after : StoreState) → turn_in moment here ≡ Some after
@@ -148,7 +166,7 @@ module _ (p : RunPlace) (old mid : Device) (n : RunCounts) (bytes : List ℕ) (m
         let step = Stopped (ask_of text r moment) (InTurn true) in
         let a = answered new step (after ∷ []) true link (tt, (request.spells, some)) refl
         (turning_effect p text r moment bytes states reply request.interim (after ∷ []) (ap (where_done true) is)) (λ on _. same ∙ on) reached
-        (All-cons is_good after [] good (All-nil is_good)) refl in
+        (All-cons is_good after [] good (All-nil is_good)) refl (λ on. absurd (false≢true (sym on))) in
         subst (λ k. EndsThere p new next (moment ∷ []) k endings.Stopped)
         (ap (λ k. plus_answer k false n) (omega (arith, length-append states (after ∷ []), counts)))
         (step_ends a (KeepsState next new) endings.Stopped refl tt tt (λ on. absurd (false≢true (sym on))))
@@ -167,10 +185,14 @@ module _ (p : RunPlace) (old mid : Device) (n : RunCounts) (bytes : List ℕ) (m
       turn_is change is = sym (turn_of store mid here moment keeps) ∙ ap (option_map (λ c. state_with_change here c [])) is
 
       module _ (unspent : next.spent ≡ false) where
+        -- what the turn hands on
+        turn_handed_on : new.handed ≡ mid.handed + bytes_if (journal_of store.kept) due → new.handed ≡ mid.handed + turn_handed moment here
+        turn_handed_on on = on ∙ ap (λ k. mid.handed + k) (sym (turn_handed_is store mid here moment keeps))
+
         pub made_by : (change : Option Change) → due ≡ change → MakesIf true change store.kept next.kept here.archive.held mid new
-            → IsNextIf store.kept change next.kept
+            → IsNextIf store.kept change next.kept → new.handed ≡ mid.handed + bytes_if (journal_of store.kept) due
             → LeadsTo p new next moment rest (plus_answer (changes + length (option_to_list change)) false n) (answered_ending linked ends)
-        made_by None is makes same_kept =
+        made_by None is makes same_kept on =
             turned_leads Made [] 0 false (ap (where_done true) (turn_is None is)) (request.spells, tt)
             (changed_none (kept_calls (tams_machine p.base) p.beginning told_trace whole mid new reached_reply
             (subst (λ s. Elapses (Wrote (tams_machine p.base) s) (Wrote (tams_machine p.base) s) mid new) (sym state_here)
@@ -178,14 +200,16 @@ module _ (p : RunPlace) (old mid : Device) (n : RunCounts) (bytes : List ℕ) (m
             (All-nil is_good)
             (subst (λ l. KeepsState next new (last_or p.state l)) (sym (append-nil states))
             (keeps_so store next mid new here keeps same_kept unspent makes.agrees))
+            (turn_handed_on on)
             (ap (λ k. plus_answer k false n) (omega (arith, ap length (append-nil states), counts)))
-        made_by (Some change) is makes is_next =
+        made_by (Some change) is makes is_next on =
             let after = state_with_change here change [] in
             turned_leads Made (after ∷ []) 1 false (ap (where_done true) (turn_is (Some change) is)) (request.spells, tt)
             (changed_one reached_reply (over_change p.base told_trace state_here keeps.state makes))
             (All-cons is_good after [] (turn_good keep here after moment here_good at (turn_is (Some change) is)) (All-nil is_good))
             (subst (KeepsState next new) (last_behind p.state states (after ∷ []))
             (keeps_next store next mid new here change [] keeps unspent is_next (makes.agrees refl)))
+            (turn_handed_on on)
             (ap (λ k. plus_answer k false n) (omega (arith, length-append states (after ∷ []), counts)))
 
         -- There was no memory for it.
@@ -197,6 +221,7 @@ module _ (p : RunPlace) (old mid : Device) (n : RunCounts) (bytes : List ℕ) (m
             (All-nil is_good)
             (subst (λ l. KeepsState next new (last_or p.state l)) (sym (append-nil states))
             (keeps_so store next mid new here keeps same_kept unspent (subst (λ d. AgreesWith d store.kept here.archive.held) (sym stays) keeps.agrees)))
+            (omega (arith, ap (λ (d : Device). d.handed) stays))
             (ap (λ k. plus_answer k true n) (omega (arith, ap length (append-nil states), counts)))
           where
             due_there : is_turn_due moment (after_answer (tams_machine p.base) p.state (ask_of text r moment)) ≡ true

@@ -1,5 +1,5 @@
 -- An answer that was planned, and whose change was written, or may have been when the disk failed.
-use Rattle.std.proofs.Common.{◌≡◌, ◌≢◌, ◌<◌, ◌⊎◌, inl, inr, ◌++◌, ℕ, Bool, true, false, List, [], ◌∷◌, All, Option, None, Some, refl, sym, ap, ◌∙◌, subst}
+use Rattle.std.proofs.Common.{◌≡◌, ◌≢◌, ◌<◌, ◌+◌, ◌⊎◌, inl, inr, ◌++◌, ℕ, Bool, true, false, List, [], ◌∷◌, Option, None, Some, refl, sym, ap, ◌∙◌, subst, arith}
 use Rattle.std.specs.Prelude.{IfSome, option_map, option_to_list}
 use Rattle.std.proofs.lemmas.List.Elements.{All-cons, All-nil}
 use Rattle.disk_trait.specs.Device.{Device}
@@ -9,7 +9,7 @@ use Rattle.media_rows.specs.declared.change.Change.{Change}
 use Rattle.media_rows.specs.declared.object.Extent.{Extent}
 use Rattle.media_rows.specs.Apply.{applied}
 use Rattle.media_rows.specs.Media.{fits_bytes}
-use Rattle.media_store.specs.Changes.{CameThere, IsAfterChange, ChangesStore, archive_next, kept_by, kept_with, stores}
+use Rattle.media_store.specs.Changes.{CameThere, IsAfterChange, ChangesStore, archive_next, bytes_by, bytes_if, kept_by, kept_with, stores}
 use Rattle.media_store.specs.Stores.{StoreSeen}
 use Rattle.media_store.specs.Stores as media
 use Rattle.media_store.proofs.Commands.{none_came, none_stand}
@@ -21,18 +21,20 @@ use Rattle.store_states.specs.States.{StoreState, held_in, media_start}
 use Rattle.run_history.specs.Serving.{RunCounts}
 use Rattle.connection_loop.specs.declared.ending.Ending.{Ending}
 use Rattle.connection_loop.specs.declared.ending.Ending.TheVariants as endings
+use Rattle.connection_loop.specs.Turns.{held_with}
 use Rattle.tams_answers.specs.Answers.{AnswersRequest, MediaFollows, following_bytes}
 use Rattle.tams_answers.specs.declared.answers.Answer.{Answer}
 use Rattle.tams_http.specs.Answered.{response_to}
-use Rattle.tams_machine.specs.Answers.{answer_in, asked_in, journal_of_state, object_bytes, outcome_of, state_with_change}
+use Rattle.tams_machine.specs.Answers.{answer_handed, answer_in, asked_in, journal_of_state, object_bytes, outcome_of, state_with_change}
 use Rattle.tams_machine.specs.Machine.{tams_machine}
 use Rattle.tams_machine.specs.Requests.{TamsRequest, context_of, is_head_only}
-use Rattle.request_hearing.specs.Asking.{asked_trace}
+use Rattle.request_hearing.specs.Asking.{Asking, asked_trace}
 use Rattle.request_hearing.proofs.Asking.{begun_at, state_now-open}
 use Rattle.request_hearing.proofs.AskingReached.{changed_none, changed_one, changed_torn}
-use Rattle.tams_service.specs.Answering.{AsksAt, ChangedAt, EndsThere, FinishLeads, IsRequest, LeadsTo, RunPlace, StopLeads, changes_in}
+use Rattle.tams_service.specs.Answering.{AsksAt, AsksWith, ChangedAt, EndsThere, FinishLeads, HandedAt, IsRequest, LeadsTo, RunPlace, StopLeads, changes_in}
 use Rattle.tams_service.specs.Keeping.{KeepsState}
 use Rattle.tams_service.proofs.Good.{good_now, is_good, made_good}
+use Rattle.tams_service.proofs.Handed.{handed_bare, planned_handed}
 use Rattle.tams_service.proofs.Keeping.{keeps_so}
 use Rattle.tams_service.proofs.Moments.{over_change, over_torn}
 use Rattle.tams_service.proofs.States.{bare_archive, keeps_next}
@@ -54,19 +56,23 @@ pub applied_here : (store : StoreSeen) (d : Device) (s : StoreState) → KeepsSt
 applied_here store d s keeps change planned makes = ap (λ (t : StoreState). applied change t.archive.library) keeps.state ∙ makes.made
 
 -- Nothing was changed for a request before its reply.
-pub unchanged_at : (p : RunPlace) (d : Device) (unread : List ℕ) (n : RunCounts) → AsksAt p d unread n → ChangedAt p d unread n [] false
-unchanged_at p d unread n asks = record { begun = asks.begun; reached = changed_none asks.reached; good = All-nil is_good }
+pub nothing_changed : (p : RunPlace) (d : Device) (unread : List ℕ) (n : RunCounts)
+    → Asking (tams_machine p.base) p.beginning d p.given (held_with p.state unread p.taken) p.said p.finished p.steps n → ChangedAt p d unread n [] false
+nothing_changed p d unread n asking = record { begun = asking.begun; reached = changed_none asking.reached; good = All-nil is_good }
+
+pub unchanged_at : (p : RunPlace) (d : Device) (unread : List ℕ) (n : RunCounts) {more : ℕ} → AsksWith p d unread n more → ChangedAt p d unread n [] false
+unchanged_at p d unread n asks = nothing_changed p d unread n asks.asking
 
 module _ (p : RunPlace) (old new : Device) (n : RunCounts) (unread : List ℕ) (store : StoreSeen) (change : Change) (came : List ℕ) (kept : StoreView)
-    (asks : AsksAt p old unread n) (keeps : KeepsState store old p.state) (link : new.link ≡ old.link)
+    {more : ℕ} (asks : AsksWith p old unread n more) (keeps : KeepsState store old p.state) (link : new.link ≡ old.link)
     (good : is_good (state_with_change p.state change came)) where
   -- its change is durable
   pub changed_at : ChangesStore true change came store.kept kept p.state.archive.held old new
       → ChangedAt p new unread n (state_with_change p.state change came ∷ []) false
   changed_at makes = record {
-    begun = begun_at asks.begun link;
-    reached = changed_one asks.reached
-        (over_change p.base (asked_trace (tams_machine p.base) p.beginning p.said p.finished p.steps) (state_now-open asks.begun) keeps.state makes);
+    begun = begun_at asks.asking.begun link;
+    reached = changed_one asks.asking.reached
+        (over_change p.base (asked_trace (tams_machine p.base) p.beginning p.said p.finished p.steps) (state_now-open asks.asking.begun) keeps.state makes);
     good = All-cons is_good (state_with_change p.state change came) [] good (All-nil is_good);
   }
 
@@ -74,9 +80,9 @@ module _ (p : RunPlace) (old new : Device) (n : RunCounts) (unread : List ℕ) (
   pub torn_at : ChangesStore false change came store.kept kept p.state.archive.held old new
       → ChangedAt p new unread n (state_with_change p.state change came ∷ []) true
   torn_at makes = record {
-    begun = begun_at asks.begun link;
-    reached = changed_torn asks.reached
-        (over_torn p.base (asked_trace (tams_machine p.base) p.beginning p.said p.finished p.steps) (state_now-open asks.begun) keeps.state makes);
+    begun = begun_at asks.asking.begun link;
+    reached = changed_torn asks.asking.reached
+        (over_torn p.base (asked_trace (tams_machine p.base) p.beginning p.said p.finished p.steps) (state_now-open asks.asking.begun) keeps.state makes);
     good = All-cons is_good (state_with_change p.state change came) [] good (All-nil is_good);
   }
 
@@ -117,7 +123,7 @@ module _ (p : RunPlace) (old mid new : Device) (n now : RunCounts) (text rest : 
         let fits = none_came c bare in
         let torn = makes c [] step fits (λ left could. none_stand left.image (media_start store.kept.journal.half) c bare) in
         let same = bare_state p.state c r.body bare in
-        let good = made_good p.state.archive c [] answer.planned.next (good_now asks.begun)
+        let good = made_good p.state.archive c [] answer.planned.next (good_now asks.asking.begun)
         (applied_here store old p.state keeps c answer.planned step) fits in
         let changed = torn_at p old mid n (text ++ rest) store c [] (kept_by store.kept answer.planned) asks keeps link good torn in
         stops p text rest r moment last (state_with_change p.state c [] ∷ []) changed
@@ -132,7 +138,8 @@ module _ (p : RunPlace) (old mid new : Device) (n now : RunCounts) (text rest : 
   module _ (follows : MediaFollows) (makes : (c : Change) (came : List ℕ) → MakesChange (media.journal_of store.kept) c answer.planned → fits_bytes c came
       ≡ true
       → CameThere old store.kept c came → ChangesStore true c came store.kept (kept_by store.kept answer.planned) p.state.archive.held old mid)
-      (none : answer.planned.frame ≡ None → mid ≡ old) (next : StoreSeen) (kept : next.kept ≡ kept_by store.kept answer.planned)
+      (none : answer.planned.frame ≡ None → mid ≡ old) (handed_on : mid.handed ≡ old.handed + bytes_by answer.planned) (next : StoreSeen)
+      (kept : next.kept ≡ kept_by store.kept answer.planned)
       (unspent : next.spent ≡ false)
       (seen_old : held_in old.seen (media_start store.kept.journal.half) p.state.archive.library.objects ≡ p.state.archive.held)
       (media_is : answer.media ≡ None ⊎ (answer.planned.frame ≡ None))
@@ -158,6 +165,14 @@ module _ (p : RunPlace) (old mid new : Device) (n now : RunCounts) (text rest : 
             (sym (kept ∙ ap (kept_with store.kept answer.planned) still))
             ∙ ap (λ (d : Device). following_bytes (media_start next.kept.journal.half) answer.media d.seen) (sym (none still))
 
+    -- what was handed on is what the machine's change comes to
+    handed_here : HandedAt p mid (answer_handed r moment p.state)
+    handed_here =
+        let same : answer_handed r moment p.state ≡ bytes_by answer.planned =
+        handed_bare p.state change answers.bare ∙ ap (λ j. bytes_if j change) (journal_is store old p.state keeps)
+        ∙ sym (planned_handed store.kept change answer.planned makes_step) in
+        record { before = asks.handed.before; so_far = asks.handed.so_far; now = omega (arith, handed_on, asks.handed.now, same) }
+
     made_with : (c : Option Change) → change ≡ c → stores c ≡ false → MakesStep (media.journal_of store.kept) c answer.planned
         → LeadsTo p new last moment rest now result
     made_with None is bare step =
@@ -165,13 +180,14 @@ module _ (p : RunPlace) (old mid new : Device) (n now : RunCounts) (text rest : 
         (keeps_so store next old mid p.state keeps (kept ∙ ap (kept_with store.kept answer.planned) step.frame) unspent
         (subst (λ d. AgreesWith d store.kept p.state.archive.held) (sym (none step.frame)) keeps.agrees))
         request
-        (record { bytes_are = bytes_are; states_are = ap (λ o. option_to_list (option_map (λ x. state_with_change p.state x r.body) o)) is })
+        (record { bytes_are = bytes_are; states_are = ap (λ o. option_to_list (option_map (λ x. state_with_change p.state x r.body) o)) is }) handed_here
         (sym (ap changes_in step.frame)) few
     made_with (Some c) is bare step =
         let fits = none_came c bare in
         let made = makes c [] step fits (λ left could. none_stand left.image (media_start store.kept.journal.half) c bare) in
         let same = bare_state p.state c r.body bare in
-        let good = made_good p.state.archive c [] answer.planned.next (good_now asks.begun) (applied_here store old p.state keeps c answer.planned step) fits in
+        let good = made_good p.state.archive c [] answer.planned.next (good_now asks.asking.begun)
+        (applied_here store old p.state keeps c answer.planned step) fits in
         finishes p text rest r (state_with_change p.state c [] ∷ [])
         (changed_at p old mid n (text ++ rest) store c [] (kept_by store.kept answer.planned) asks keeps link good made)
         (keeps_next store next old mid p.state c [] keeps unspent
@@ -182,6 +198,7 @@ module _ (p : RunPlace) (old mid new : Device) (n now : RunCounts) (text rest : 
           bytes_are = bytes_are;
           states_are = ap (λ o. option_to_list (option_map (λ x. state_with_change p.state x r.body) o)) is ∙ ap (λ x. x ∷ []) same;
         })
+        handed_here
         (sym (ap changes_in step.frame)) few
 
     pub give_made : LeadsTo p new last moment rest now result

@@ -1,5 +1,5 @@
 -- What a turn leads to by what was heard, where nothing is to be answered; and a request that has begun behind it.
-use Rattle.std.proofs.Common.{◌≡◌, ◌≢◌, ℕ, Bool, true, false, List, [], ◌∷◌, ◌++◌, Some, None, refl, sym, ◌∙◌, subst, append-nil}
+use Rattle.std.proofs.Common.{◌≡◌, ◌≢◌, ℕ, Bool, true, false, List, [], ◌∷◌, ◌++◌, Some, None, refl, sym, ◌∙◌, subst, append-nil, arith}
 use Rattle.disk_trait.specs.Device.{Device}
 use Rattle.http_wire.specs.Feeds.{Fed}
 use Rattle.media_store.specs.Stores.{StoreSeen}
@@ -44,7 +44,10 @@ module _ (base : List ℕ) (b : Beginning StoreState) (old new : Device) (given 
 
   -- A request has begun.
   pub asks_here : HearsAndSays bytes said true true false old new → AsksAt here new (fed.unread ++ bytes) n
-  asks_here h = asking_first bytes said going h tells
+  asks_here h = record {
+    asking = asking_first bytes said going h tells;
+    handed = record { before = old.handed; so_far = going.handed; now = omega (arith, h.call.handed) };
+  }
 
   -- The peer's bytes ended behind a request.
   pub ended_leads : HearsAndSays bytes said true true true old new → fed.unread ++ bytes ≡ [] → (later : Fed) → IsWaiting (fed.unread ++ bytes) said later

@@ -1,3 +1,4 @@
+pub mod Handed
 mod Counting
 mod Sayings
 mod Fronts

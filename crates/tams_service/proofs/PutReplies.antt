@@ -1,5 +1,5 @@
 -- The machine's reply to a media PUT of which all bytes came, by what is known of it.
-use Rattle.std.proofs.Common.{◌≡◌, ◌≢◌, ◌++◌, ◌==◌, ◌&&◌, ℕ, true, List, [], ◌∷◌, length, take, drop, Option, Some, None, Result, Ok, Err, refl, sym, ap, ◌∙◌, subst, arith}
+use Rattle.std.proofs.Common.{◌≡◌, ◌≢◌, ◌++◌, ◌==◌, ◌&&◌, ◌+◌, ℕ, Bool, true, false, List, [], ◌∷◌, length, take, drop, Option, Some, None, Result, Ok, Err, refl, sym, ap, ◌∙◌, subst, arith}
 use Rattle.std.specs.Prelude.{IsTrue, bytes_eq, option_map, option_to_list}
 use Rattle.std.proofs.lemmas.Bool.{eq-eqb}
 use Rattle.std.proofs.lemmas.List.{take_all}
@@ -17,9 +17,11 @@ use Rattle.media_rows.specs.Library.{Library}
 use Rattle.media_rows.specs.Media.{answer_to, fits_bytes, puts}
 use Rattle.media_rows.specs.Objects.{blocks_of, free_place, object_of}
 use Rattle.change_codec.specs.Fitting.{State}
+use Rattle.media_store.specs.Changes.{bytes_by, bytes_of_change}
 use Rattle.media_store.specs.Puts.{PutSeen, StoresAs, bytes_at_extent, put_reply}
 use Rattle.media_store.specs.Stores.{StoreSeen}
 use Rattle.media_store.specs.Stores as media
+use Rattle.media_store.proofs.Planning.{planned_bytes}
 use Rattle.object_blobs.specs.Extents.{extent_start}
 use Rattle.store_plans.specs.declared.outcome.Planned.{Planned}
 use Rattle.store_plans.specs.declared.puts.PutPlan.{PutPlan}
@@ -31,7 +33,7 @@ use Rattle.store_states.specs.States.{StoreState, held_in, media_start}
 use Rattle.tams_http.specs.Answered.{response_to}
 use Rattle.tams_http.specs.declared.ask.Ask.{Ask}
 use Rattle.tams_http.specs.declared.ask.Ask.TheVariants.{PutMedia}
-use Rattle.tams_machine.specs.Answers.{answer_in, asked_in, object_bytes, outcome_by, outcome_of, state_with_change}
+use Rattle.tams_machine.specs.Answers.{answer_handed, answer_in, asked_in, change_handed, handed_if, object_bytes, outcome_by, outcome_of, state_with_change}
 use Rattle.tams_machine.specs.Requests.{TamsRequest, context_of}
 use Rattle.tams_answers.specs.Media.{IsMediaBegun, IsMediaRefused, MediaAnswers, response_by}
 use Rattle.tams_answers.specs.declared.media.Responses.{Responses}
@@ -111,6 +113,11 @@ module _ (p : RunPlace) (r : TamsRequest) (moment : ℕ) (store : StoreSeen) (d 
       reply_is p r moment (unchanged reply) response (ap (outcome_by p.state r.body moment) asked) (response_here response reply refused.response_is)
       (λ any. ap (λ a. object_bytes p.state.archive a any) asked)
 
+  -- and nothing is handed on.
+  pub no_put_handed : (response : List ℕ) → IsMediaRefused p.base store.kept.library.id r store.kept response → answer_handed r moment p.state ≡ 0
+  no_put_handed response refused =
+      ap (λ asked. handed_if p.state (outcome_by p.state r.body moment asked).change) (asked_here (Err refused.why) refused.asked)
+
   module _ (put : PutSeen) (responses : Responses) (full : IsFull p r moment store.kept put responses d.seen) where
     abbrev journal : State
     journal = media.journal_of store.kept
@@ -139,10 +146,14 @@ module _ (p : RunPlace) (r : TamsRequest) (moment : ℕ) (store : StoreSeen) (d 
         (λ any. ap (λ a. object_bytes p.state.archive a any) asks_put)
 
     -- They are refused.
+    refused_is : (why : Refusal) → put.plan ≡ Refused why → outcome_of p.state r moment ≡ unchanged (replies.Refused why)
+    refused_is why is = outcome_is ∙ subst (PlansPut journal p.state.archive full.object r.body moment) is plans
+
     pub refused_reply : (why : Refusal) → put.plan ≡ Refused why → IsMachineReply p r moment (response ++ []) []
-    refused_reply why is =
-        put_reply_is (unchanged (replies.Refused why))
-        (outcome_is ∙ subst (PlansPut journal p.state.archive full.object r.body moment) is plans) (ap (put_reply put) is)
+    refused_reply why is = put_reply_is (unchanged (replies.Refused why)) (refused_is why is) (ap (put_reply put) is)
+
+    pub refused_handed : (why : Refusal) → put.plan ≡ Refused why → answer_handed r moment p.state ≡ 0
+    refused_handed why is = ap (λ (o : Outcome). handed_if p.state o.change) (refused_is why is)
 
     -- The object has bytes, with which they were compared.
     module _ (extent : Extent) (is : put.plan ≡ Kept extent)
@@ -165,12 +176,20 @@ module _ (p : RunPlace) (r : TamsRequest) (moment : ℕ) (store : StoreSeen) (d 
           (sym (stored_length p.state.archive full.object extent good at))
           ∙ ap (λ b. (length bytes == put.size) && bytes_eq (take (length r.body) b) r.body) (sym bytes_are) ∙ compared put.size bytes r.body full.size
 
+      kept_is : outcome_of p.state r moment ≡ stored_put put.same
+      kept_is =
+          outcome_is
+          ∙ ap (fitted journal) (subst (PlansPut journal p.state.archive full.object r.body moment) is plans ∙ ap stored_put (sym same_is))
+
       pub kept_reply : IsMachineReply p r moment (response ++ []) []
-      kept_reply =
-          put_reply_is (stored_put put.same)
-          (outcome_is
-          ∙ ap (fitted journal) (subst (PlansPut journal p.state.archive full.object r.body moment) is plans ∙ ap stored_put (sym same_is)))
-          (ap (put_reply put) is)
+      kept_reply = put_reply_is (stored_put put.same) kept_is (ap (put_reply put) is)
+
+      pub kept_handed : answer_handed r moment p.state ≡ 0
+      kept_handed = ap (λ (o : Outcome). handed_if p.state o.change) kept_is ∙ no_change put.same
+        where
+          no_change : (same : Bool) → handed_if p.state (stored_put same).change ≡ 0
+          no_change true = refl
+          no_change false = refl
 
     -- They were written.
     module _ (extent : Extent) (planned : Planned) (is : put.plan ≡ Write extent planned) where
@@ -214,6 +233,15 @@ module _ (p : RunPlace) (r : TamsRequest) (moment : ℕ) (store : StoreSeen) (d 
       write_reply =
           subst (λ c. IsMachineReply p r moment (response ++ []) (option_to_list (option_map (λ x. state_with_change p.state x r.body) c))) change_is
           (put_reply_is (fitted journal answered) outcome_is (ap (put_reply put) is ∙ plan_is.reply))
+
+      -- its bytes are those of the request, and those of its plan
+      pub write_handed : answer_handed r moment p.state ≡ length r.body + bytes_by planned
+      write_handed =
+          let made : answer_handed r moment p.state ≡ change_handed p.state change =
+          ap (λ (o : Outcome). handed_if p.state o.change) outcome_is ∙ ap (handed_if p.state) change_is in
+          let bytes = planned_bytes store.kept change planned takes.makes in
+          let same = ap (λ j. bytes_of_change j change) (journal_is store d p.state keeps) in
+          omega (arith, made, bytes, same, takes.sized)
 
       -- a read gives the bytes of the request
       pub came_is : bytes_at_extent store.kept extent d.seen ≡ r.body

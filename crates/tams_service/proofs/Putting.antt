@@ -1,12 +1,12 @@
 -- A put whose bytes all came is ended, and answered: what that leads to.
-use Rattle.std.proofs.Common.{◌≡◌, ◌<◌, ◌++◌, ℕ, Bool, true, false, List, [], ◌∷◌, Option, None, Some, inl, refl, sym, ap, ◌∙◌, subst}
+use Rattle.std.proofs.Common.{◌≡◌, ◌<◌, ◌+◌, ◌++◌, ℕ, Bool, true, false, List, [], ◌∷◌, Option, None, Some, inl, refl, sym, ap, ◌∙◌, subst, arith}
 use Rattle.disk_trait.specs.Calls.{SameDevice}
 use Rattle.disk_trait.specs.Device.{Device, IsDevice}
 use Rattle.media_rows.specs.declared.change.Change.{Change}
 use Rattle.media_rows.specs.declared.change.Change.TheVariants as changes
 use Rattle.media_rows.specs.declared.object.Extent.{Extent}
 use Rattle.media_store.specs.Changes.{IsAfterChange, ChangesStore, archive_next, kept_by, kept_with}
-use Rattle.media_store.specs.Puts.{EndsPut, PutSeen, StoresAs, kept_after_put, put_reply}
+use Rattle.media_store.specs.Puts.{EndsPut, PutSeen, StoresAs, handed_at_end, kept_after_put, handed_of_piece, put_reply}
 use Rattle.media_store.specs.Stores.{StoreSeen, size_of}
 use Rattle.media_store.proofs.Planning.{planned_next}
 use Rattle.store_plans.specs.declared.outcome.Planned.{Planned}
@@ -18,22 +18,22 @@ use Rattle.store_writes.specs.Writes.{Keeps}
 use Rattle.run_history.specs.Serving.{RunCounts}
 use Rattle.connection_loop.specs.declared.ending.Ending.{Ending}
 use Rattle.connection_loop.specs.declared.ending.Ending.TheVariants as endings
-use Rattle.tams_machine.specs.Answers.{state_with_change}
+use Rattle.tams_machine.specs.Answers.{answer_handed, state_with_change}
 use Rattle.tams_machine.specs.Requests.{TamsRequest}
 use Rattle.request_hearing.proofs.Asking.{asking_kept}
 use Rattle.tams_answers.specs.Answers.{following_bytes}
 use Rattle.tams_answers.specs.Media.{MediaAnswers, response_by}
 use Rattle.tams_answers.specs.declared.media.Responses.{Responses}
-use Rattle.tams_service.specs.Answering.{AsksAt, ChangedAt, EndsThere, FinishLeads, IsMachineReply, IsRequest, LeadsTo, RunPlace, PutLeads, StopLeads, TellsAllOf, written_by}
+use Rattle.tams_service.specs.Answering.{AsksWith, ChangedAt, EndsThere, FinishLeads, HandedAt, IsMachineReply, IsRequest, LeadsTo, RunPlace, PutLeads, StopLeads, TellsAllOf, written_by}
 use Rattle.tams_service.specs.declared.answering.Reply.{Reply}
 use Rattle.tams_service.specs.Keeping.{KeepsState}
 use Rattle.tams_service.specs.Serving.{needs_by, needs_in}
 use Rattle.tams_service.specs.Taking.{plan_of}
-use Rattle.tams_service.proofs.Giving.{changed_at, torn_at, unchanged_at}
+use Rattle.tams_service.proofs.Giving.{changed_at, nothing_changed, torn_at, unchanged_at}
 use Rattle.tams_service.proofs.Good.{good_now, is_good}
 use Rattle.tams_service.proofs.Keeping.{bytes_seen, keeps_so}
 use Rattle.tams_service.proofs.Moments.{over_keeps}
-use Rattle.tams_service.proofs.PutReplies.{IsFull, came_is, change, changes_so, full_put, kept_reply, no_put_reply, refused_reply, stores_as, takes, write_good, write_reply}
+use Rattle.tams_service.proofs.PutReplies.{IsFull, came_is, change, changes_so, full_put, kept_handed, kept_reply, no_put_handed, no_put_reply, refused_handed, refused_reply, stores_as, takes, write_good, write_handed, write_reply}
 use Rattle.tams_service.proofs.States.{keeps_next}
 
 -- There is no put.
@@ -46,21 +46,22 @@ none_leads old new n now store next responses moment ends result finishes p text
         → plan_of None ≡ plan_of begun → LeadsTo p new next moment rest now result
     by_begun None refused same =
         finishes p text rest r [] (unchanged_at p old (text ++ rest) n asks) keeps request (no_put_reply p r moment store old keeps responses.reply refused)
-        refl few
+        (subst (HandedAt p old) (sym (no_put_handed p r moment store old keeps responses.reply refused)) asks.handed) refl few
     by_begun (Some begun) answers same = let no : None ≡ Some begun.plan = same in absurd cc
 
 module _ (p : RunPlace) (old mid : Device) (n : RunCounts) (text rest : List ℕ) (store : StoreSeen) (r : TamsRequest) (moment : ℕ) (put : PutSeen)
-    (responses : Responses) (sound : IsDevice old) (all : TellsAllOf old) (asks : AsksAt p old (text ++ rest) n) (keeps : KeepsState store old p.state)
+    (responses : Responses) (sound : IsDevice old) (all : TellsAllOf old) {more : ℕ} (asks : AsksWith p old (text ++ rest) n more)
+    (keeps : KeepsState store old p.state)
     (full : IsFull p r moment store.kept put responses old.seen) (link : mid.link ≡ old.link) where
   has : held_in old.seen (media_start store.kept.journal.half) p.state.archive.library.objects ≡ p.state.archive.held
   has = bytes_seen store old p.state sound all.honest all.shows all.tells keeps
 
   good : is_good p.state
-  good = good_now asks.begun
+  good = good_now asks.asking.begun
 
   -- calls that keep what is kept change nothing
   unchanged_over : Keeps store.kept p.state.archive.held old mid → ChangedAt p mid (text ++ rest) n [] false
-  unchanged_over kept = unchanged_at p mid (text ++ rest) n (asking_kept asks (over_keeps p.base keeps.state kept) link)
+  unchanged_over kept = nothing_changed p mid (text ++ rest) n (asking_kept asks.asking (over_keeps p.base keeps.state kept) link)
 
   -- the change that is made, with the bytes of the request
   makes_so : (ok : Bool) (extent : Extent) (planned : Planned) (is : put.plan ≡ Write extent planned)
@@ -106,24 +107,40 @@ module _ (p : RunPlace) (old mid : Device) (n : RunCounts) (text rest : List ℕ
   module _ (makes : (c : Change) → StoresAs store.kept c put.plan → EndsPut true put.plan c store.kept p.state.archive.held old mid) (new : Device)
       (now : RunCounts) (next last : StoreSeen) (kept_is : next.kept ≡ kept_after_put store.kept put.plan) (unspent : next.spent ≡ false) (ends : Bool)
       (request : IsRequest p text ends r) (count : ℕ) (count_is : count ≡ written_by put.plan) (few : p.taken < 1000000) (result : Option Ending)
-      (finishes : FinishLeads mid new next last n now (response_by responses (put_reply put put.plan) ++ []) count moment ends result) where
+      (finishes : FinishLeads mid new next last n now (response_by responses (put_reply put put.plan) ++ []) count moment ends result)
+      (before : more ≡ handed_of_piece put.plan r.body) (handed_on : mid.handed ≡ old.handed + handed_at_end put.plan) where
+    -- what was handed on is what the machine's change comes to
+    handed_here : (plan : PutPlan) → put.plan ≡ plan → answer_handed r moment p.state ≡ handed_of_piece plan r.body + handed_at_end plan
+        → HandedAt p mid (answer_handed r moment p.state)
+    handed_here plan is same =
+        let pieces = ap (λ q. handed_of_piece q r.body) is in
+        let rest = ap handed_at_end is in
+        record {
+          before = asks.handed.before;
+          so_far = asks.handed.so_far;
+          now = omega (arith, asks.handed.now, before, handed_on, same, pieces, rest);
+        }
+
     ended_quiet : Keeps store.kept p.state.archive.held old mid → next.kept ≡ store.kept
-        → IsMachineReply p r moment (response_by responses (put_reply put put.plan) ++ []) [] → count ≡ 0
+        → IsMachineReply p r moment (response_by responses (put_reply put put.plan) ++ []) [] → HandedAt p mid (answer_handed r moment p.state) → count ≡ 0
         → LeadsTo p new last moment rest now result
-    ended_quiet kept same reply none =
-        finishes p text rest r [] (unchanged_over kept) (keeps_so store next old mid p.state keeps same unspent kept.agrees) request reply (sym none) few
+    ended_quiet kept same reply handed none =
+        finishes p text rest r [] (unchanged_over kept) (keeps_so store next old mid p.state keeps same unspent kept.agrees) request reply handed (sym none)
+        few
 
     ended_by : (plan : PutPlan) → put.plan ≡ plan → LeadsTo p new last moment rest now result
     ended_by (Refused why) is =
         let any = changes.DeleteStep moment in
         ended_quiet
         (subst (λ plan. EndsPut true plan any store.kept p.state.archive.held old mid) is (makes any (subst (StoresAs store.kept any) (sym is) tt)))
-        (kept_is ∙ ap (kept_after_put store.kept) is) (refused_reply p r moment store old keeps put responses full why is) (count_is ∙ ap written_by is)
+        (kept_is ∙ ap (kept_after_put store.kept) is) (refused_reply p r moment store old keeps put responses full why is)
+        (handed_here (Refused why) is (refused_handed p r moment store old keeps put responses full why is)) (count_is ∙ ap written_by is)
     ended_by (Kept extent) is =
         let any = changes.DeleteStep moment in
         ended_quiet
         (subst (λ plan. EndsPut true plan any store.kept p.state.archive.held old mid) is (makes any (subst (StoresAs store.kept any) (sym is) tt)))
         (kept_is ∙ ap (kept_after_put store.kept) is) (kept_reply p r moment store old keeps put responses full extent is has good)
+        (handed_here (Kept extent) is (kept_handed p r moment store old keeps put responses full extent is has good))
         (count_is ∙ ap written_by is)
     ended_by (Write extent planned) is =
         let c = change p r moment store old keeps put responses full extent planned is in
@@ -136,7 +153,9 @@ module _ (p : RunPlace) (old mid : Device) (n : RunCounts) (text rest : List ℕ
         (subst (IsAfterChange store.kept c) (sym kept)
         (planned_next store.kept c planned (takes p r moment store old keeps put responses full extent planned is).makes))
         (subst (λ k. AgreesWith mid k (archive_next store.kept p.state.archive.held c r.body).held) (sym kept) (made.agrees refl)))
-        request (write_reply p r moment store old keeps put responses full extent planned is) (sym (count_is ∙ ap written_by is)) few
+        request (write_reply p r moment store old keeps put responses full extent planned is)
+        (handed_here (Write extent planned) is (write_handed p r moment store old keeps put responses full extent planned is))
+        (sym (count_is ∙ ap written_by is)) few
 
 -- ---- what the end of a put leads to
 
@@ -155,15 +174,16 @@ module _ (old mid new : Device) (n now : RunCounts) (store last : StoreSeen) (pu
       stops count_is put.plan refl
 
   -- It was ended, and the reply was said.
-  pub made_leads : ok ≡ true → (next : StoreSeen) → next.kept ≡ kept_after_put store.kept put.plan → next.spent ≡ false → (result : Option Ending)
+  pub made_leads : ok ≡ true → (next : StoreSeen) → next.kept ≡ kept_after_put store.kept put.plan → next.spent ≡ false
+      → mid.handed ≡ old.handed + handed_at_end put.plan → (result : Option Ending)
       → FinishLeads mid new next last n now (response_by responses (put_reply put put.plan) ++ []) count moment ends result
       → PutLeads old new store last n now (Some put) responses moment ends result
-  made_leads made next kept_is unspent result finishes p text rest r asks keeps request is few =
+  made_leads made next kept_is unspent handed result finishes p text rest r asks keeps request is few =
       let held = p.state.archive.held in
       let full = full_put p r moment store.kept put responses old.seen is in
       ended_by p old mid n text rest store r moment put responses sound all asks keeps full link
       (λ c stores. subst (λ b. EndsPut b put.plan c store.kept held old mid) made (makes held c keeps.agrees stores)) new now next last kept_is unspent
-      ends request count count_is few result finishes put.plan refl
+      ends request count count_is few result finishes refl handed put.plan refl
 
 -- ---- by the calls
 

@@ -68,8 +68,8 @@ said_nothing c = rw (append-nil c.told, or_nothing c.failed) refl
 
 -- one call
 pub says_once : (ok : Bool) (bytes : List ℕ) (old new : Device) → Elapses (Tells false bytes) (Tells ok bytes) old new → Said ok bytes old new
-    → Says ok ok bytes old new
-says_once ok bytes old new time said = record { time = time; connections = said.connections }
+    → new.handed ≡ old.handed → Says ok ok bytes old new
+says_once ok bytes old new time said handed = record { time = time; connections = said.connections; handed = handed }
 
 -- one call behind which no more is said
 pub says_at_most : (bytes more : List ℕ) (linked : Bool) (old new : Device) → Says false linked bytes old new → Says false linked (bytes ++ more) old new
@@ -79,6 +79,7 @@ says_at_most bytes more linked old new says = record {
   connections = λ tells.
       let told = says.connections tells in
       (told.0, sends_front false bytes more told.0 told.1, told.2);
+  handed = says.handed;
 }
 
 -- bytes that were said whole, and others behind them
@@ -100,14 +101,15 @@ says_twice whole linked a b old mid new same one two = record {
             ∙ change_last-twice (after_say linked second.0) (after_say true first.0) (after_say linked (first.0 ++ second.0)) old.link.connections
             (said_twice linked first.0 second.0),
       );
+  handed = two.handed ∙ one.handed;
 }
 
 -- ---- reads
 
 -- a read before them
 pub reads_then : (whole linked : Bool) (bytes : List ℕ) (old mid new : Device) → SameDevice old mid → mid.link ≡ old.link → Elapses Unchanged Unchanged old mid
-    → Says whole linked bytes mid new → Says whole linked bytes old new
-reads_then whole linked bytes old mid new same link time says = record {
+    → mid.handed ≡ old.handed → Says whole linked bytes mid new → Says whole linked bytes old new
+reads_then whole linked bytes old mid new same link time handed says = record {
   time = elapses_weaker _ _ _ _ old new (elapses_twice _ _ _ _ old mid new time says.time)
       (λ q p could steps. elim steps [
         | inl so_far ↦ tells_nothing bytes q p so_far
@@ -117,17 +119,20 @@ reads_then whole linked bytes old mid new same link time says = record {
   connections = λ tells.
       let told = says.connections (same.tells ∙ tells) in
       (told.0, told.1, told.2 ∙ ap (λ (l : Link). change_last (after_say linked told.0) l.connections) link);
+  handed = says.handed ∙ handed;
 }
 
 -- a read that failed, behind which nothing is said
-pub reads_alone : (bytes : List ℕ) (old new : Device) → new.link ≡ old.link → Elapses Unchanged Unchanged old new → Says false true bytes old new
-reads_alone bytes old new link time = record {
+pub reads_alone : (bytes : List ℕ) (old new : Device) → new.link ≡ old.link → Elapses Unchanged Unchanged old new → new.handed ≡ old.handed
+    → Says false true bytes old new
+reads_alone bytes old new link time handed = record {
   time = elapses_weaker _ _ _ _ old new time (λ q p could same. tells_nothing bytes q p same) (λ q p could left same. tells_nothing bytes q p same);
   connections = λ tells. (
     [],
     sends_none bytes,
     ap (λ (l : Link). l.connections) link ∙ sym (change_last-itself (after_say true []) old.link.connections said_nothing),
   );
+  handed = handed;
 }
 
 -- no call at all
@@ -136,6 +141,7 @@ says_none d = record {
   time = elapses_weaker _ _ _ _ d d (no_time Unchanged d (λ p. refl)) (λ q p could same. tells_nothing [] q p same)
       (λ q p could left same. none_told q p same);
   connections = λ tells. ([], all_of_none, sym (change_last-itself (after_say true []) d.link.connections said_nothing));
+  handed = refl;
 }
   where
     all_of_none : Sends true [] []

@@ -9,6 +9,7 @@ use Rattle.run_history.specs.Steps.{Answered, TakenRequest, Cut, Stage, Step, Tu
 use Rattle.run_history.specs.Sessions.{EndIs, IsUnfinished, LinkEnd, RestIs, Saying, Session, Whole, has_link_failed, most_answers, stops}
 use Rattle.run_history.specs.Traces.{start_of}
 use Rattle.run_history.specs.Runs.{Beginning, Reached}
+use Rattle.run_history.specs.Handing.{HasHanded}
 use Rattle.run_history.specs.Laws.{under_way}
 use Rattle.run_history.specs.Serving.{RunCounts, Going, Held}
 use Rattle.run_history.proofs.Ends.{EndLike, end_like-push, open-going, stage-sessions}
@@ -126,10 +127,11 @@ module _ {State Request : Type 0} {m : Machine State Request} {b : Beginning Sta
       → Reached m b (asked_trace m b said finished steps) true false new
       → link ≢ Saying → (link ≡ Whole → ended ≡ true) → held.unread ++ bytes ≡ text → text ≢ []
       → m.cuts text (record { interim = interim_where said; takes_moment = is_there moment }) → IsUnfinished m held.taken text
+      → HasHanded m b (finished ++ under_way (steps ++ Cut text (interim_where said) moment ∷ []) Whole ∷ []) new.handed
       → EndsAs m b new (given ++ option_to_list moment) keeps finished n (if has_link_failed link then endings.Unlinked else endings.Cut)
-  taken_ends bytes said ended link text moment a heard reached not_saying at_end text_is some cuts unfinished = record {
+  taken_ends bytes said ended link text moment a heard reached not_saying at_end text_is some cuts unfinished handed = record {
     session = under_way (steps ++ Cut text (interim_where said) moment ∷ []) link;
-    served = taken_cut a text moment bytes link ended heard reached not_saying at_end text_is some cuts unfinished;
+    served = taken_cut a text moment bytes link ended heard reached not_saying at_end text_is some cuts unfinished handed;
     unstopped = a.begun.so_far.unstopped;
     ending_is =
         sym (ending-like steps (Cut text (interim_where said) moment) link (end_like-push m steps (Cut text (interim_where said) moment) a.begun.so_far.stay));

@@ -1,6 +1,7 @@
 -- A body, taken piece by piece.
 use Rattle.std.proofs.Common.{◌≡◌, ◌<◌, ◌≤◌, ◌+◌, ◌-◌, ◌∙◌, ℕ, true, false, List, [], ◌∷◌, ◌++◌, length, take, Option, None, Some, refl, sym, ap, subst, arith}
 use Rattle.std.specs.Prelude.{IfSome}
+use Rattle.std.proofs.lemmas.Bool.{false≢true}
 use Rattle.std.proofs.lemmas.List.{length-append, length-take-le}
 use Rattle.disk_trait.specs.Device.{Device, IsDevice}
 use Rattle.http_wire.specs.Feeds.{Fed, left_of}
@@ -12,10 +13,11 @@ use Rattle.media_store.specs.Stores.{StoreSeen}
 use Rattle.request_hearing.specs.Hearing.{HearsBody}
 use Rattle.request_hearing.specs.declared.heard.Body.TheVariants as bodies
 use Rattle.tams_service.specs.Sites.{SiteCounts}
-use Rattle.tams_service.specs.Taking.{HandsOn, HoldsIf, HoldsPart, IsPutBegun, IsFilled, TakesBody, TakesNext, TakesOfBody, plan_of}
+use Rattle.tams_service.specs.Taking.{HandedMost, HandsOn, HoldsIf, HoldsPart, IsPutBegun, IsFilled, TakesBody, TakesNext, TakesOfBody, body_handed, plan_of}
 use Rattle.tams_service.specs.declared.body.Piece.TheVariants as pieces
 use Rattle.tams_service.specs.declared.body.Taken.TheVariants as taken
 use Rattle.tams_service.proofs.Counting.{counts_none, counts_twice}
+use Rattle.tams_service.proofs.Handed.{body_few, body_none, body_twice}
 use Rattle.tams_service.proofs.Holding.{holds_more, holds_none, stored_same, takes_from}
 use Rattle.tams_service.proofs.Keeps.{keeps_none, keeps_twice}
 use Rattle.tams_service.proofs.Parts.{left_less, takes_none, takes_piece, takes_then, takes_twice}
@@ -39,6 +41,7 @@ pub record HasTaken (kept : StoreView) (store : StoreSeen) (size left : ℕ) (fr
   pub has : IfSome next (HasPart kept size part)
   pub holds : first.honest ≡ true → first.shows ≡ true → first.tells ≡ true → (held : List (List ℕ)) → AgreesWith first kept held
       → HoldsIf kept next part last.seen
+  pub handed : first.tells ≡ true → last.handed ≡ first.handed + body_handed (plan_of next) part
 
 -- ---- a piece
 
@@ -56,8 +59,9 @@ hands_from kept piece (Some put) next before mid now seen same on = record {
 -- one that was heard and handed on
 pub takes_next : (kept : StoreView) (old new : Fed) (out : List ℕ) (count : ℕ) (put next : Option PutSeen) (before mid now : Device)
     → HearsBody old new out before mid (bodies.Piece count) → HandsOn kept (take count out) put next mid now → now.link ≡ mid.link
+    → (mid.tells ≡ true → now.handed ≡ mid.handed + body_handed (plan_of put) (take count out))
     → TakesNext kept old new put next before now (pieces.Of count)
-takes_next kept old new out count put next before mid now hears on link = record {
+takes_next kept old new out count put next before mid now hears on link handed = record {
   part = take count out;
   takes = takes_then (take count out) false false old new before mid now
       (takes_piece old new hears.bytes out count true false before mid hears.comes hears.leaves) link;
@@ -66,6 +70,8 @@ takes_next kept old new out count put next before mid now hears on link = record
     length-take-le count out hears.comes.within,
     hands_from kept (take count out) put next before mid now hears.leaves.call.seen hears.leaves.call.same.shows on,
   );
+  handed = λ stored tells.
+      handed (hears.leaves.call.same.tells ∙ tells) ∙ ap (λ k. k + body_handed (plan_of put) (take count out)) hears.leaves.call.handed;
 }
 
 -- ---- none at first
@@ -91,6 +97,7 @@ taken_first store size fed put d unspent begun = record {
   plan = refl;
   has = has_none store.kept size put begun;
   holds = λ honest shows tells held agrees. holds_first store.kept size put d.seen begun;
+  handed = λ tells. omega (arith, body_none (plan_of put));
 }
 
 -- ---- the next piece
@@ -181,6 +188,25 @@ module _ (kept : StoreView) (store : StoreSeen) (size left : ℕ) (from now fed 
             (so_far.counts.same.tells ∙ tells) held stands.agrees
             (keeps_on kept store size left from now put next first last new so_far keeps held agrees).agrees next later so_far.has
             (so_far.holds honest shows tells held agrees) on;
+        handed = λ tells.
+            let before = so_far.handed tells in
+            let now = piece.handed refl (so_far.counts.same.tells ∙ tells) in
+            let sum = body_twice (plan_of next) so_far.part piece.part in
+            let plan = ap (λ q. body_handed q (so_far.part ++ piece.part)) (plan_more kept piece.part next later last new on) in
+            omega (arith, before, now, sum, plan);
+      }
+
+  -- no more was handed on than was taken
+  handed_by_now : (piece : List ℕ) → (last.tells ≡ true → new.handed ≡ last.handed + body_handed (plan_of next) piece) → first.tells ≡ true
+      → HandedMost (length (so_far.part ++ piece)) first new
+  handed_by_now piece on tells =
+      let before = so_far.handed tells in
+      let now = on (so_far.counts.same.tells ∙ tells) in
+      let few = body_few (plan_of next) so_far.part in
+      let few_more = body_few (plan_of next) piece in
+      record {
+        never_falls = omega (arith, before, now);
+        few = omega (arith, before, now, few, few_more, length-append so_far.part piece);
       }
 
   -- The peer's bytes ended.
@@ -190,6 +216,8 @@ module _ (kept : StoreView) (store : StoreSeen) (size left : ℕ) (from now fed 
     takes = takes_twice so_far.part piece.part true false from now fed first last new so_far.counts.same so_far.takes piece.takes;
     comes = (omega (arith, length-append so_far.part piece.part, ap length piece.comes.0, so_far.sum, some), piece.comes.1);
     holds = λ no. absurd cc;
+    handed = λ stored. handed_by_now piece.part (piece.handed refl);
+    handed_whole = λ no. absurd cc;
   }
 
   -- A hearing failed.
@@ -200,6 +228,8 @@ module _ (kept : StoreView) (store : StoreSeen) (size left : ℕ) (from now fed 
     takes = takes_twice so_far.part piece.part false true from now fed first last new so_far.counts.same so_far.takes piece.takes;
     comes = (omega (arith, length-append so_far.part piece.part, ap length piece.comes.0, so_far.sum, some), piece.comes.1);
     holds = λ no. absurd cc;
+    handed = λ stored. handed_by_now piece.part (piece.handed refl);
+    handed_whole = λ no. absurd cc;
   }
 
   -- The disk failed.
@@ -209,6 +239,8 @@ module _ (kept : StoreView) (store : StoreSeen) (size left : ℕ) (from now fed 
     takes = takes_twice so_far.part piece.part false false from now fed first last new so_far.counts.same so_far.takes piece.takes;
     comes = λ none. piece.comes (later_none so_far.part piece.part none);
     holds = λ no. absurd cc;
+    handed = λ stored. absurd (false≢true stored);
+    handed_whole = λ no. absurd cc;
   }
     where
       later_none : (xs ys : List ℕ) → xs ++ ys ≡ [] → ys ≡ []
@@ -229,7 +261,17 @@ module _ (kept : StoreView) (store : StoreSeen) (size left : ℕ) (from now : Fe
   all_there = omega (arith, so_far.sum, none)
 
   pub taken_whole : TakesBody kept size from now next first last taken.Whole
-  taken_whole = record { part = so_far.part; takes = so_far.takes; comes = all_there; holds = λ whole. so_far.holds }
+  taken_whole = record {
+    part = so_far.part;
+    takes = so_far.takes;
+    comes = all_there;
+    holds = λ whole. so_far.holds;
+    handed = λ stored tells.
+        let now = so_far.handed tells in
+        let few = body_few (plan_of next) so_far.part in
+        record { never_falls = omega (arith, now); few = omega (arith, now, few) };
+    handed_whole = λ whole. so_far.handed;
+  }
 
   pub taken_filled : IfSome next (IsFilled kept size)
   taken_filled = filled_by kept size so_far.part next all_there so_far.has

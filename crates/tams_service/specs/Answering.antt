@@ -16,12 +16,14 @@ use Rattle.media_store.specs.declared.turns.TurnMade.TheVariants.{Deleted, NoRoo
 use Rattle.store_states.specs.States.{StoreState}
 use Rattle.run_history.specs.Runs.{Beginning, Reached}
 use Rattle.run_history.specs.Serving.{RunCounts}
-use Rattle.run_history.specs.Sessions.{Session}
+use Rattle.run_history.specs.Handing.{HasHanded}
+use Rattle.run_history.specs.Laws.{under_way}
+use Rattle.run_history.specs.Sessions.{Session, Whole}
 use Rattle.run_history.specs.Steps.{Step, last_or}
 use Rattle.connection_loop.specs.declared.ending.Ending.{Ending}
 use Rattle.connection_loop.specs.declared.ending.Ending.TheVariants.{Complete, Starved, Stopped, Unlinked}
 use Rattle.connection_loop.specs.Turns.{EndsAs, TurnLeads, held_with}
-use Rattle.tams_machine.specs.Answers.{answer_in}
+use Rattle.tams_machine.specs.Answers.{answer_handed, answer_in}
 use Rattle.tams_machine.specs.Machine.{tams_machine}
 use Rattle.tams_machine.specs.Requests.{Heads, SpellsRequest, TamsRequest, wire_response}
 use Rattle.request_hearing.specs.Asking.{Asking, Open, asked_trace, with_states}
@@ -36,7 +38,7 @@ use Rattle.store_states.specs.Kept.{StoreView}
 use Rattle.tams_answers.specs.Answers.{AnswersRequest}
 use Rattle.tams_answers.specs.Media.{MediaAnswers}
 use Rattle.tams_answers.specs.declared.media.Responses.{Responses}
-use Rattle.tams_service.specs.Taking.{HoldsIf, plan_of}
+use Rattle.tams_service.specs.Taking.{HoldsIf, body_handed, plan_of}
 use Rattle.tams_answers.specs.declared.answers.Answer.{Answer}
 use Rattle.tams_service.specs.Serving.{ServiceSeen}
 use Rattle.tams_service.specs.declared.saying.Told.{Told}
@@ -63,11 +65,26 @@ pub record RunPlace : Type 0 where
   pub state : StoreState
   pub said : Bool
 
--- A request has begun there, these bytes are unread, and the run counts so much.
+-- By now the device was handed what the steps so far come to, and so many bytes for the request
+-- that has begun.
+pub record HandedAt (p : RunPlace) (d : Device) (more : ℕ) : Type 0 where
+  pub before : ℕ
+  pub so_far : HasHanded (tams_machine p.base) p.beginning
+      (p.finished ++ under_way p.steps Whole ∷ []) before
+  pub now : d.handed ≡ before + more
+
+-- A request has begun there, these bytes are unread, and the run counts so much. So many bytes were
+-- handed to the device for it.
+pub record AsksWith (p : RunPlace) (d : Device) (unread : List ℕ) (n : RunCounts)
+    (more : ℕ) : Type 0
+  where
+    pub asking : Asking (tams_machine p.base) p.beginning d p.given
+        (held_with p.state unread p.taken) p.said p.finished p.steps n
+    pub handed : HandedAt p d more
+
+-- the same, and none was
 abbrev pub AsksAt : RunPlace → Device → List ℕ → RunCounts → Type 0
-AsksAt p d unread n =
-    Asking (tams_machine p.base) p.beginning d p.given (held_with p.state unread p.taken) p.said
-    p.finished p.steps n
+AsksAt p d unread n = AsksWith p d unread n 0
 
 -- The same, and these changes of the request were made before its reply. The record of the last one
 -- may have been being written when the disk failed, where `writing` is true.
@@ -134,7 +151,7 @@ abbrev pub changes_in : Option (List ℕ) → ℕ
 changes_in None = 0
 changes_in (Some payload) = 1
 
--- From a request whose changes were made and whose reply has these bytes.
+-- From a request whose changes were made and handed on, and whose reply has these bytes.
 abbrev pub FinishLeads : Device → Device → StoreSeen → StoreSeen → RunCounts → RunCounts → List ℕ
     → ℕ
     → ℕ → Bool → Option Ending → Type 0
@@ -142,7 +159,8 @@ FinishLeads old new store next n now bytes changes moment ends result =
     (p : RunPlace) (text rest : List ℕ) (r : TamsRequest) (states : List StoreState)
     → ChangedAt p old (text ++ rest) n states false
     → KeepsState store old (last_or p.state states)
-    → IsRequest p text ends r → IsMachineReply p r moment bytes states → length states ≡ changes
+    → IsRequest p text ends r → IsMachineReply p r moment bytes states
+    → HandedAt p old (answer_handed r moment p.state) → length states ≡ changes
     → p.taken < 1000000 → LeadsTo p new next moment rest now result
 
 -- what a plan makes of a store has the id of the store
@@ -182,12 +200,13 @@ pub record IsPutting (p : RunPlace) (r : TamsRequest) (moment : ℕ) (kept : Sto
   pub size : IfSome put (λ q. q.size ≡ length r.body)
   pub holds : HoldsIf kept put r.body seen
 
--- From a media PUT whose bytes are all there.
+-- From a media PUT whose bytes are all there, and were handed on.
 abbrev pub PutLeads : Device → Device → StoreSeen → StoreSeen → RunCounts → RunCounts
     → Option PutSeen
     → Responses → ℕ → Bool → Option Ending → Type 0
 PutLeads old new store next n now put responses moment ends result =
-    (p : RunPlace) (text rest : List ℕ) (r : TamsRequest) → AsksAt p old (text ++ rest) n
+    (p : RunPlace) (text rest : List ℕ) (r : TamsRequest)
+    → AsksWith p old (text ++ rest) n (body_handed (plan_of put) r.body)
     → KeepsState store old p.state → IsRequest p text ends r
     → IsPutting p r moment store.kept put responses old.seen → p.taken < 1000000
     → LeadsTo p new next moment rest now result

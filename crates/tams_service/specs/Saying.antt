@@ -26,8 +26,9 @@ is_told_unfailed Unlinked = true
 is_told_unfailed Failed = false
 
 -- The last connection was told these bytes, or a part of them where `whole` is false. A saying on
--- it failed where `linked` is false.
+-- it failed where `linked` is false. Nothing was handed to the device.
 pub record Says (whole linked : Bool) (bytes : List ℕ) (old new : Device) : Type 0 where
   pub time : Elapses (Tells false bytes) (Tells whole bytes) old new
   pub connections : old.tells ≡ true → (sent : List ℕ) × Sends whole bytes sent
       × (new.link.connections ≡ change_last (after_say linked sent) old.link.connections)
+  pub handed : new.handed ≡ old.handed

@@ -1,13 +1,13 @@
 -- What taking the body of a media PUT comes to: the bytes that were heard, the part of the body
 -- that was taken of them and of the unread ones, and what the put has of it.
-use Rattle.std.specs.Prelude.{◌≡◌, ◌≢◌, ◌<◌, ◌≤◌, ◌==◌, ◌&&◌, ℕ, Bool, true, false, not, List, [], ◌++◌, length, take, bytes_eq, Option, Some, None, option_map, IfSome}
+use Rattle.std.specs.Prelude.{◌≡◌, ◌≢◌, ◌<◌, ◌≤◌, ◌+◌, ◌==◌, ◌&&◌, ℕ, Bool, true, false, not, List, [], ◌++◌, length, take, bytes_eq, Option, Some, None, option_map, IfSome}
 use Rattle.disk_trait.specs.Device.{Device}
 use Rattle.site_edge.specs.Links.{change_last}
 use Rattle.http_wire.specs.Feeds.{Fed, left_of, less_by}
 use Rattle.store_states.specs.Kept.{AgreesWith, StoreView}
 use Rattle.store_plans.specs.declared.puts.PutPlan.{PutPlan}
 use Rattle.store_plans.specs.declared.puts.PutPlan.TheVariants.{Kept, Refused, Write}
-use Rattle.media_store.specs.Puts.{PutMovesOn, IsPutOf, PutSeen, TakesPiece, bytes_at_extent, may_be_same}
+use Rattle.media_store.specs.Puts.{PutMovesOn, IsPutOf, PutSeen, TakesPiece, bytes_at_extent, may_be_same, handed_of_piece}
 use Rattle.request_hearing.specs.Hearing.{after_hearing}
 use Rattle.tams_service.specs.declared.body.Piece.{Piece}
 use Rattle.tams_service.specs.declared.body.Piece.TheVariants as pieces
@@ -69,6 +69,16 @@ pub record IsFilled (kept : StoreView) (size : ℕ) (put : PutSeen) : Type 0 whe
 abbrev pub plan_of : Option PutSeen → Option PutPlan
 plan_of put = option_map (λ p. p.plan) put
 
+-- how many bytes of a part of its body are handed to the device
+abbrev pub body_handed : Option PutPlan → List ℕ → ℕ
+body_handed None part = 0
+body_handed (Some plan) part = handed_of_piece plan part
+
+-- at most so many bytes more were handed to a device
+pub record HandedMost (most : ℕ) (before now : Device) : Type 0 where
+  pub never_falls : before.handed ≤ now.handed
+  pub few : now.handed ≤ before.handed + most
+
 -- What a put has of the first bytes of its object over a device that shows these: those that it
 -- writes stand at the object's place, and of those that it compares it has whether they are the
 -- same.
@@ -93,7 +103,8 @@ BodyIs Ended size part unread = (length part < size) × (unread ≡ [])
 BodyIs Unheard size part unread = (length part < size) × (unread ≡ [])
 BodyIs Failed size part unread = part ≢ []
 
--- What taking a body of so many bytes comes to. Where all of it was taken, the put has it.
+-- What taking a body of so many bytes comes to. Where all of it was taken, the put has it. Unless the
+-- disk failed, no more than was taken was handed to the device.
 pub record TakesBody (kept : StoreView) (size : ℕ) (old new : Fed) (put : Option PutSeen)
     (before now : Device) (result : Taken) : Type 0 where
   pub part : List ℕ
@@ -101,6 +112,10 @@ pub record TakesBody (kept : StoreView) (size : ℕ) (old new : Fed) (put : Opti
   pub comes : BodyIs result size part new.unread
   pub holds : result ≡ Whole → before.honest ≡ true → before.shows ≡ true → before.tells ≡ true
       → (held : List (List ℕ)) → AgreesWith before kept held → HoldsIf kept put part now.seen
+  pub handed : is_taken_unfailed result ≡ true → before.tells ≡ true
+      → HandedMost (length part) before now
+  pub handed_whole : result ≡ Whole → before.tells ≡ true
+      → now.handed ≡ before.handed + body_handed (plan_of put) part
 
 -- ---- a piece
 
@@ -154,3 +169,5 @@ pub record TakesNext (kept : StoreView) (old new : Fed) (put next : Option PutSe
   pub part : List ℕ
   pub takes : TakesOfBody part (piece_end result) (not (piece_heard result)) old new before now
   pub comes : PieceIs result kept part new.unread put next before now
+  pub handed : piece_stored result ≡ true → before.tells ≡ true
+      → now.handed ≡ before.handed + body_handed (plan_of put) part

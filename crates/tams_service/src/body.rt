@@ -10,7 +10,7 @@ ghost use Rattle.media_store.specs.Puts.{IsPutOf};
 ghost use Rattle.media_store.specs.Stores.{size_of};
 ghost use Rattle.media_store.specs.declared.puts.TheConstants.{PIECE};
 ghost use Rattle.tams_service.specs.Sites.{SiteCounts};
-ghost use Rattle.tams_service.specs.Taking.{HandsOn, IsPutBegun, IsFilled, TakesBody, TakesNext, is_heard, is_taken_unfailed, piece_heard, piece_stored, plan_of};
+ghost use Rattle.tams_service.specs.Taking.{HandsOn, IsPutBegun, IsFilled, TakesBody, TakesNext, body_handed, is_heard, is_taken_unfailed, piece_heard, piece_stored, plan_of};
 ghost use Rattle.tams_service.specs.declared.body.Taken.TheVariants as taken;
 
 use disk_trait::Failed;
@@ -138,6 +138,8 @@ fn hand_on<X: Site>(
     ensures calls { DiskCalls (is_ok result) (X.device site.old) (X.device site.new) }
     ensures hands { OnOk result (HandsOn store.old.kept piece.now put.old put.new
         (X.device site.old) (X.device site.new)) }
+    ensures handed { (X.device site.old).tells ≡ true → OnOk result ((X.device site.new).handed
+        ≡ (X.device site.old).handed + body_handed (plan_of put.old) piece.now) }
     ensures keeps { (held : List (List ℕ)) → AgreesWith (X.device site.old) store.old.kept held
         → Keeps store.old.kept held (X.device site.old) (X.device site.new) }
     ensures kept { store.new.kept ≡ store.old.kept }

@@ -11,10 +11,10 @@ use Rattle.tams_machine.specs.Machine.{tams_machine}
 use Rattle.tams_top.specs.Histories.{IsSettled, beginning}
 
 pub begun_served : (base : List ℕ) (old new : Device) (from : StoreState) (given : List ℕ) → IsDevice old → old.honest ≡ true → old.tells ≡ true
-    → IsSettled old → StandsFor old.seen from → Elapses Unchanged Unchanged old new → new.link ≡ old.link
+    → IsSettled old → StandsFor old.seen from → Elapses Unchanged Unchanged old new → new.link ≡ old.link → new.handed ≡ old.handed
     → HasServed (tams_machine base) (beginning from old given) new given [] nothing_counted
-begun_served base old new from given sound honest tells settled stands time link =
+begun_served base old new from given sound honest tells settled stands time link handed =
     let first = served_none (tams_machine base) (beginning from old given) old sound honest tells refl refl
     (λ p could. record { room = from.room; stands = subst (λ (image : List ℕ). StandsFor image from) (sym (settled p could)) stands })
-    (states_are_good old.seen from stands) in
-    served_quiet (tams_machine base) (beginning from old given) old new given [] nothing_counted first time (ap (λ (l : Link). l.connections) link)
+    (states_are_good old.seen from stands) refl in
+    served_quiet (tams_machine base) (beginning from old given) old new given [] nothing_counted first time (ap (λ (l : Link). l.connections) link) handed

@@ -37,7 +37,7 @@ pub no_peer : (base : List ℕ) (old new : Device) (clock : Bool) (begun : List 
     → EndsWithoutPeer new o → (from : StoreState) → BeginsFrom from old clock → NoPeer base (beginning from old begun) new begun o
 no_peer base old new clock begun o sound untouched ends from start =
     let begins =
-    begun_served base old new from begun sound start.tells.honest start.tells.tells start.settled start.stands untouched.time untouched.link in
+    begun_served base old new from begun sound start.tells.honest start.tells.tells start.settled start.stands untouched.time untouched.link untouched.handed in
     record {
       runs = record {
         ran = record {
@@ -51,6 +51,7 @@ no_peer base old new clock begun o sound untouched ends from start =
         };
         moments = All-nil IsMoment;
         bytes = (tt, tt);
+        handed = begins.handed;
       };
       ends = ends;
     }

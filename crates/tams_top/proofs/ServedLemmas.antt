@@ -48,7 +48,7 @@ runs_as law base b d begun given sessions n h sound honest shows tells first mor
     let same : b.given ++ more.more ≡ b.given ++ moments = ap (λ l. l ++ more.more) first ∙ sym more.given_is ∙ h.given_is in
     let ran = has_run (tams_machine base) b d given sessions n h sound honest shows tells in
     let given_are : All IsMoment moments = subst (All IsMoment) (append_cancel_left b.given more.more moments same) more.moments in
-    record { ran = ran; moments = given_are; bytes = law base b.state sessions ran.good (times moments given_are) }
+    record { ran = ran; moments = given_are; bytes = law base b.state sessions ran.good (times moments given_are); handed = h.handed }
 
 -- ---- one connection
 
@@ -132,7 +132,8 @@ module _ (base : List ℕ) (old opened new : Device) (clock : Bool) (begun given
   between : (from : StoreState) → BeginsFrom from old clock
       → IsBetween (tams_machine base) (beginning from old begun) opened begun keeps_first [] nothing_counted
   between from start = record {
-    served = begun_served base old opened from begun sound_old start.tells.honest start.tells.tells start.settled start.stands reads.time reads.calls.link;
+    served = begun_served base old opened from begun sound_old start.tells.honest start.tells.tells start.settled start.stands reads.time reads.calls.link
+        reads.handed;
     unstopped = refl;
     kept = keeps from start;
   }

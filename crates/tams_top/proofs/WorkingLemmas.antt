@@ -19,7 +19,7 @@ use Rattle.media_rows.specs.Moments.{is_moment}
 use Rattle.media_store.specs.declared.fault.StoreFault.{StoreFault}
 use Rattle.media_store.specs.declared.fault.StoreFault.TheVariants.{Disk, Memory}
 use Rattle.media_store.specs.declared.turns.TurnMade.TheVariants.{Deleted, NoRoom, Nothing, Swept}
-use Rattle.media_store.specs.Changes.{IsAfterChange, IsNextIf, ChangesStore, MakesIf}
+use Rattle.media_store.specs.Changes.{IsAfterChange, IsNextIf, ChangesStore, MakesIf, bytes_if}
 use Rattle.media_store.specs.declared.turns.TurnMade.{TurnMade}
 use Rattle.media_store.specs.Faults.{OnCalls, OnDisk, OnMemory, not_disk_fault}
 use Rattle.media_store.specs.Stores.{StoreSeen, journal_of, size_of}
@@ -34,17 +34,18 @@ use Rattle.store_opening.specs.Opening.{IsKept, bytes_in_image}
 use Rattle.store_states.specs.Kept.{AgreesWith, kept_state}
 use Rattle.store_states.specs.Laws.{IsOneState}
 use Rattle.store_states.specs.States.{StoreState}
-use Rattle.tams_machine.specs.Answers.{state_with_change, turn_in}
+use Rattle.tams_machine.specs.Answers.{state_with_change, turn_handed, turn_in}
 use Rattle.tams_machine.specs.Laws.{TurnsKeepGood}
 use Rattle.tams_machine.specs.Machine.{tams_machine}
 use Rattle.tams_machine.specs.Requests.{TamsRequest}
 use Rattle.tams_service.specs.Keeping.{KeepsState}
+use Rattle.tams_service.proofs.Handed.{turn_handed_is}
 use Rattle.tams_service.proofs.Good.{is_good, last_good, turn_good}
 use Rattle.tams_service.proofs.Moments.{over_change, over_keeps, over_torn}
 use Rattle.tams_service.proofs.States.{keeps_next, turn_of}
 use Rattle.tams_top.specs.Histories.{BeginsFrom, beginning}
 use Rattle.tams_top.specs.Running.{StandsForOne, Untouched, WorkCause, WorkEnds, no_disk_fault, opening_outcome, status_of}
-use Rattle.tams_top.specs.Working.{HasWorked, HaveTurned, TurnsEnd, WorkedOff, turns_trace, work_outcome}
+use Rattle.tams_top.specs.Working.{HasWorked, HaveTurned, TurnsEnd, WorkedOff, turns_handed, turns_trace, work_outcome}
 use Rattle.tams_top.specs.Within.Turning.{IsWorking, SoMany, WorksOn}
 use Rattle.tams_top.proofs.BeginningLemmas.{begun_served}
 use Rattle.tams_top.proofs.RunningLemmas.{Answers, no_store, untouched_by}
@@ -60,7 +61,7 @@ pub working_begins : (old opened : Device) (clock : Bool) (begun : List ℕ) (st
     → BeginsFrom from old clock → KeepsState store opened from → IsWorking (beginning from old begun) [] [] opened begun store
 working_begins old opened clock begun store sound untouched from start keeps =
     let begins =
-    begun_served [] old opened from begun sound start.tells.honest start.tells.tells start.settled start.stands untouched.time untouched.link in
+    begun_served [] old opened from begun sound start.tells.honest start.tells.tells start.settled start.stands untouched.time untouched.link untouched.handed in
     record {
       turned = refl;
       given_is = sym (append-nil begun);
@@ -68,6 +69,7 @@ working_begins old opened clock begun store sound untouched from start keeps =
       reached = begins.reached;
       good = begins.good;
       keeps = keeps;
+      handed = omega (arith, untouched.handed);
     }
 
 -- no turn was made
@@ -75,7 +77,7 @@ pub no_turns : (old new : Device) (clock : Bool) (begun : List ℕ) (end : Resul
     → BeginsFrom from old clock → TurnsEnd from 0 [] false end → HasWorked (beginning from old begun) new begun end
 no_turns old new clock begun end sound untouched from start ends =
     let begins =
-    begun_served [] old new from begun sound start.tells.honest start.tells.tells start.settled start.stands untouched.time untouched.link in
+    begun_served [] old new from begun sound start.tells.honest start.tells.tells start.settled start.stands untouched.time untouched.link untouched.handed in
     record {
       moments = [];
       states = [];
@@ -88,6 +90,7 @@ no_turns old new clock begun end sound untouched from start ends =
       stands = rw untouched.seen (record { room = from.room; stands = start.stands });
       good = begins.good;
       ends = ends;
+      handed = λ held. omega (arith, untouched.handed);
     }
 
 -- ---- moments and states, one more
@@ -98,6 +101,14 @@ have_more s [] [] t next turned is = (is, refl)
 have_more s [] (after ∷ states) t next turned is = absurd cc
 have_more s (moment ∷ moments) [] t next turned is = absurd turned
 have_more s (moment ∷ moments) (after ∷ states) t next turned is = (turned.0, have_more after moments states t next turned.1 is)
+
+-- and of what they hand on
+handed_more : (s : StoreState) (moments : List ℕ) (states : List StoreState) (t : ℕ) (next : StoreState) → HaveTurned s moments states
+    → turns_handed s (moments ++ t ∷ []) (states ++ next ∷ []) ≡ turns_handed s moments states + turn_handed t (last_or s states)
+handed_more s [] [] t next turned = omega arith
+handed_more s [] (after ∷ states) t next turned = absurd cc
+handed_more s (moment ∷ moments) [] t next turned = absurd turned
+handed_more s (moment ∷ moments) (after ∷ states) t next turned = omega (arith, handed_more after moments states t next turned.1)
 
 last_more : (s : StoreState) (states : List StoreState) (next : StoreState) → last_or s (states ++ next ∷ []) ≡ next
 last_more s states next = state_now-change (turns_trace s states) next
@@ -144,8 +155,8 @@ module _ (b : Beginning StoreState) (moments : List ℕ) (states : List StoreSta
   -- a run that ends behind turns so far
   ended : (end : Result ℕ StoreFault) (idle : List ℕ) (now : Device) (later : List ℕ) → later ≡ given ++ idle → All IsMoment (moments ++ idle)
       → Reached (tams_machine []) b (turns_trace b.state states) false false now → IsDevice now → now.honest ≡ true → now.shows ≡ true
-      → now.tells ≡ true → TurnsEnd here (length moments) idle false end → HasWorked b now later end
-  ended end idle now later later_is all reached sound honest shows tells ends = record {
+      → now.tells ≡ true → TurnsEnd here (length moments) idle false end → now.handed ≡ mid.handed → HasWorked b now later end
+  ended end idle now later later_is all reached sound honest shows tells ends still = record {
     moments = moments;
     states = states;
     turned = w.turned;
@@ -157,7 +168,12 @@ module _ (b : Beginning StoreState) (moments : List ℕ) (states : List StoreSta
     stands = (reached.now (as_read now) (sound.itself honest shows tells)).stands;
     good = w.good;
     ends = ends;
+    handed = λ held. still ∙ w.handed;
   }
+
+  -- what its change hands on
+  turn_handed_on : new.handed ≡ mid.handed + bytes_if (journal_of store.kept) due → new.handed ≡ mid.handed + turn_handed t here
+  turn_handed_on on = on ∙ ap (λ k. mid.handed + k) (sym (turn_handed_is store mid here t w.keeps))
 
   -- It changed something.
   module _ (change : Change) (is : due ≡ Some change) where
@@ -174,8 +190,9 @@ module _ (b : Beginning StoreState) (moments : List ℕ) (states : List StoreSta
         (All-cons is_good after [] (turn_good keep here after t good_here is_at goes) (All-nil is_good)))
 
     pub works_on : next.spent ≡ false → ChangesStore true change [] store.kept next.kept here.archive.held mid new → IsAfterChange store.kept change next.kept
+        → new.handed ≡ mid.handed + bytes_if (journal_of store.kept) due
         → IsWorking b (moments ++ t ∷ []) (states ++ after ∷ []) new (given ++ t ∷ []) next
-    works_on unspent makes is_next = record {
+    works_on unspent makes is_next on = record {
       turned = have_more b.state moments states t after w.turned goes;
       given_is = moments_more given b.given moments t w.given_is;
       are_moments = moments_are;
@@ -184,13 +201,13 @@ module _ (b : Beginning StoreState) (moments : List ℕ) (states : List StoreSta
       good = good_more;
       keeps = subst (KeepsState next new) (sym (last_more b.state states after))
           (keeps_next store next mid new here change [] w.keeps unspent is_next (makes.agrees refl));
+      handed = omega (arith, turn_handed_on on, w.handed, handed_more b.state moments states t after w.turned);
     }
 
     -- The disk failed in it, so that its change may stand or not.
     pub works_torn : ChangesStore false change [] store.kept next.kept here.archive.held mid new → IsDevice new → new.honest ≡ true → new.shows ≡ true
-        → new.tells ≡ true → (later : List ℕ) → later ≡ given ++ t ∷ [] → (end : Result ℕ StoreFault)
-        → TurnsEnd (last_or b.state (states ++ after ∷ [])) (length (moments ++ t ∷ [])) [] true end → HasWorked b new later end
-    works_torn makes sound honest shows tells later later_is end ends =
+        → new.tells ≡ true → (later : List ℕ) → later ≡ given ++ t ∷ [] → HasWorked b new later (Err Disk)
+    works_torn makes sound honest shows tells later later_is =
         let reached =
         torn_changes StoreState TamsRequest (tams_machine []) b (turns_trace b.state states) after false mid new w.reached
         (over_torn [] (turns_trace b.state states) refl w.keeps.state makes) in
@@ -205,16 +222,18 @@ module _ (b : Beginning StoreState) (moments : List ℕ) (states : List StoreSta
           right = reached.right;
           stands = (reached.now (as_read new) (sound.itself honest shows tells)).stands;
           good = good_more;
-          ends = ends;
+          ends = refl;
+          handed = λ held. absurd (held refl);
         }
 
   -- It changed nothing.
   pub works_no_more : due ≡ None → MakesIf true None store.kept next.kept here.archive.held mid new → IsDevice new → new.honest ≡ true → new.shows ≡ true
-      → new.tells ≡ true → (later : List ℕ) → later ≡ given ++ t ∷ [] → (turns : ℕ) → length moments ≡ turns → HasWorked b new later (Ok turns)
-  works_no_more is keeps sound honest shows tells later later_is turns number =
+      → new.tells ≡ true → (later : List ℕ) → later ≡ given ++ t ∷ [] → (turns : ℕ) → length moments ≡ turns
+      → new.handed ≡ mid.handed + bytes_if (journal_of store.kept) due → HasWorked b new later (Ok turns)
+  works_no_more is keeps sound honest shows tells later later_is turns number on =
       ended (Ok turns) (t ∷ []) new later later_is moments_are
       (kept_calls (tams_machine []) b (turns_trace b.state states) false mid new w.reached (over_keeps [] w.keeps.state keeps)) sound honest shows tells
-      (sym number, refl, inl (t, refl, turn_is None is))
+      (sym number, refl, inl (t, refl, turn_is None is)) (omega (arith, on, ap (bytes_if (journal_of store.kept)) is))
 
   -- There was no memory for it.
   pub works_starved : new ≡ mid → is_some (turn store.kept.library t) ≡ true → IsDevice new → new.honest ≡ true → new.shows ≡ true → new.tells ≡ true
@@ -223,7 +242,7 @@ module _ (b : Beginning StoreState) (moments : List ℕ) (states : List StoreSta
   works_starved stays some sound honest shows tells later later_is =
       ended (Err Memory) (t ∷ []) new later later_is moments_are
       (subst (Reached (tams_machine []) b (turns_trace b.state states) false false) (sym stays) w.reached) sound honest shows tells
-      (refl, inr (t, refl, ap (λ (s : StoreState). is_some (turn s.archive.library t)) w.keeps.state ∙ some))
+      (refl, inr (t, refl, ap (λ (s : StoreState). is_some (turn s.archive.library t)) w.keeps.state ∙ some)) (ap (λ (d : Device). d.handed) stays)
 
 -- Turns can't be counted any more.
 pub works_to_last : (b : Beginning StoreState) (d : Device) (given : List ℕ) (store : StoreSeen) (turns : ℕ) → turns ≡ 2 ^ 64 - 1 → SoMany b d given store turns
@@ -242,6 +261,7 @@ works_to_last b d given store turns most many sound honest shows tells =
       stands = (w.reached.now (as_read d) (sound.itself honest shows tells)).stands;
       good = w.good;
       ends = (sym many.number, refl, inr (refl, many.number ∙ most));
+      handed = λ held. w.handed;
     }
 
 -- ---- turns one after another
@@ -275,8 +295,9 @@ module _ (old now new : Device) (told tells later : Bool) (begun given given_now
       → (now.honest ≡ true → now.shows ≡ true → (held : List (List ℕ)) → AgreesWith now store.kept held
       → MakesIf true change_due store.kept next.kept held now new)
       → IsNextIf store.kept change_due next.kept → DiskCalls true now new
+      → (now.tells ≡ true → new.handed ≡ now.handed + bytes_if (journal_of store.kept) change_due)
       → WorksOn old new told later begun given_now first next (turns + 1) (counter + 1)
-  works_more change is unspent makes is_next calls =
+  works_more change is unspent makes is_next calls handed =
       let made = rw is at makes in
       let behind = rw is at is_next in
       record {
@@ -290,7 +311,7 @@ module _ (old now new : Device) (told tells later : Bool) (begun given given_now
             let here = told_now all in
             let on =
             works_on b many.moments many.states now new given store next t many.working at keep change is unspent
-            (made here.honest here.shows _ many.working.keeps.agrees) behind in
+            (made here.honest here.shows _ many.working.keeps.agrees) behind (handed here.tells) in
             record {
               moments = many.moments ++ t ∷ [];
               states = many.states ++ state_with_change (last_or b.state many.states) change [] ∷ [];
@@ -310,12 +331,14 @@ module _ (old now new : Device) (told tells later : Bool) (begun given given_now
     pub works_done : change_due ≡ None
         → (now.honest ≡ true → now.shows ≡ true → (held : List (List ℕ)) → AgreesWith now store.kept held
         → MakesIf true change_due store.kept next.kept held now new)
-        → DiskCalls true now new → HasWorked b new given_now (Ok turns)
-    works_done is makes calls =
+        → DiskCalls true now new → (now.tells ≡ true → new.handed ≡ now.handed + bytes_if (journal_of store.kept) change_due)
+        → HasWorked b new given_now (Ok turns)
+    works_done is makes calls handed =
         let here = told_now all in
         let keeps = rw is at (makes here.honest here.shows _ many.working.keeps.agrees) in
         works_no_more b many.moments many.states now new given store next t many.working at keep is keeps sound
         (calls.same.honest ∙ here.honest) (calls.same.shows ∙ here.shows) (calls.same.tells ∙ here.tells) given_now (gives all.clock_tells) turns many.number
+        (handed here.tells)
 
     pub works_without : new ≡ now → is_some (turn store.kept.library t) ≡ true → HasWorked b new given_now (Err Memory)
     works_without stays some =
@@ -338,7 +361,7 @@ module _ (old now new : Device) (told tells later : Bool) (begun given given_now
         by_change (Some change) is there made =
             let here = told_now all in
             works_torn b many.moments many.states now new given store next t many.working at keep change is made sound
-            (calls.same.honest ∙ here.honest) (calls.same.shows ∙ here.shows) (calls.same.tells ∙ here.tells) given_now (gives all.clock_tells) (Err Disk) refl
+            (calls.same.honest ∙ here.honest) (calls.same.shows ∙ here.shows) (calls.same.tells ∙ here.tells) given_now (gives all.clock_tells)
 
     pub works_fails : (fault : StoreFault) (Starves : Type 0) → OnMemory {X = TurnMade} (Err fault) Starves
         → (Starves → (new ≡ now) × (is_some (turn store.kept.library t) ≡ true))

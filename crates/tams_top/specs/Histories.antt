@@ -1,11 +1,12 @@
 -- What a run over a file that stands for a state heard, told and left, by one history of its
 -- connections over the machine of the media store, with the base of its words.
-use Rattle.std.specs.Prelude.{◌≡◌, ◌⊎◌, ℕ, Bool, true, List, [], ◌∷◌, All, nat_lt, if◌then◌else◌}
+use Rattle.std.specs.Prelude.{◌≡◌, ◌⊎◌, ℕ, Bool, true, false, List, [], ◌∷◌, All, nat_lt, if◌then◌else◌}
 use Rattle.disk_trait.specs.Calls.{LeavesOnly}
 use Rattle.disk_trait.specs.Device.{Device}
 use Rattle.site_edge.specs.Clocks.{IsMoment}
+use Rattle.run_history.specs.Handing.{HasHanded}
 use Rattle.run_history.specs.Runs.{Beginning, Ran}
-use Rattle.run_history.specs.Serving.{RunCounts, counts_of_run}
+use Rattle.run_history.specs.Serving.{RunCounts, counts_of_run, run_stops}
 use Rattle.run_history.specs.Sessions.{Session, all_moments}
 use Rattle.run_history.specs.Traces.{start_of, states_of, trace_of}
 use Rattle.connection_loop.specs.declared.ending.Ending.{Ending}
@@ -33,6 +34,7 @@ beginning from old given = record {
   before = old.link.connections;
   given = given;
   moment = old.moment;
+  handed = old.handed;
 }
 
 -- The premises of the headline: the outside is as the model says, nothing is pending, and the file
@@ -43,12 +45,15 @@ pub record BeginsFrom (from : StoreState) (old : Device) (clock : Bool) : Type 0
   pub stands : StandsFor old.seen from
 
 -- A run is one history of these connections. Each moment that it took is one, and what is stored in
--- one of its states keeps its bytes in each later one.
+-- one of its states keeps its bytes in each later one. Unless the disk failed, the device was handed
+-- the bytes of its changes, and of each media PUT that was cut at most those of its body that were
+-- heard.
 pub record RunsAs (base : List ℕ) (b : Beginning StoreState) (sessions : List (Session TamsRequest))
     (new : Device) (given : List ℕ) : Type 0 where
   pub ran : Ran (tams_machine base) b sessions new given
   pub moments : All IsMoment (all_moments (tams_machine base) (start_of b.state) sessions)
   pub bytes : KeepBytes (states_of (trace_of (tams_machine base) b.state sessions))
+  pub handed : run_stops sessions ≡ false → HasHanded (tams_machine base) b sessions new.handed
 
 -- ---- outcomes by numbers
 

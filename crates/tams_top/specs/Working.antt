@@ -1,6 +1,6 @@
 -- What a run of `work` makes of a file that stands for a state: turns, each at a moment of its own,
 -- until one changes nothing.
-use Rattle.std.specs.Prelude.{◌≡◌, ◌-◌, ◌^◌, ◌⊎◌, ℕ, Bool, true, false, List, [], ◌∷◌, ◌++◌, length, All, Some, None, Result, Ok, Err}
+use Rattle.std.specs.Prelude.{◌≡◌, ◌≢◌, ◌+◌, ◌-◌, ◌^◌, ◌⊎◌, ℕ, Bool, true, false, List, [], ◌∷◌, ◌++◌, length, All, Some, None, Result, Ok, Err}
 use Rattle.disk_trait.specs.Device.{Device}
 use Rattle.site_edge.specs.Clocks.{IsMoment}
 use Rattle.library_laws.specs.MediaLaws.{IsGoodArchive}
@@ -10,7 +10,7 @@ use Rattle.run_history.specs.Traces.{Trace}
 use Rattle.media_store.specs.declared.fault.StoreFault.{StoreFault}
 use Rattle.media_store.specs.declared.fault.StoreFault.TheVariants as faults
 use Rattle.store_states.specs.States.{StoreState}
-use Rattle.tams_machine.specs.Answers.{is_turn_due, turn_in}
+use Rattle.tams_machine.specs.Answers.{is_turn_due, turn_handed, turn_in}
 use Rattle.tams_machine.specs.Machine.{tams_machine}
 use Rattle.tams_top.specs.declared.outcome.Outcome.{Outcome}
 use Rattle.tams_top.specs.declared.outcome.Outcome.TheVariants.{Worked, DiskFault, NoMemory}
@@ -21,6 +21,13 @@ HaveTurned s [] states = states ≡ []
 HaveTurned s (moment ∷ moments) [] = ⊥
 HaveTurned s (moment ∷ moments) (next ∷ states) =
     (turn_in moment s ≡ Some next) × HaveTurned next moments states
+
+-- how many bytes turns at these moments hand to the device that leave these states
+abbrev pub turns_handed : StoreState → List ℕ → List StoreState → ℕ
+turns_handed s [] states = 0
+turns_handed s (moment ∷ moments) [] = 0
+turns_handed s (moment ∷ moments) (next ∷ states) =
+    turn_handed moment s + turns_handed next moments states
 
 -- What turns come to that left these states. They tell nobody anything.
 abbrev pub turns_trace : StoreState → List StoreState → Trace StoreState
@@ -41,8 +48,8 @@ TurnsEnd last number idle torn (Err faults.Memory) = (torn ≡ false)
 
 -- A run has ended that made turns: the moments of those that changed something and the states
 -- behind them, and then the moment of one that changed nothing, where there was one. Each crash
--- since the beginning left the first state or one of these. The machine's turns are the same over
--- any base.
+-- since the beginning left the first state or one of these. Unless the disk failed, the device was
+-- handed the bytes of these turns. The machine's turns are the same over any base.
 pub record HasWorked (b : Beginning StoreState) (new : Device) (given : List ℕ)
     (end : Result ℕ StoreFault) : Type 0 where
   pub moments : List ℕ
@@ -56,6 +63,8 @@ pub record HasWorked (b : Beginning StoreState) (new : Device) (given : List ℕ
   pub stands : StandsNow (tams_machine []) new.seen (turns_trace b.state states) torn
   pub good : All (λ s. IsGoodArchive s.archive) (b.state ∷ states)
   pub ends : TurnsEnd (last_or b.state states) (length moments) idle torn end
+  pub handed : end ≢ Err faults.Disk
+      → new.handed ≡ b.handed + turns_handed b.state moments states
 
 -- the outcome of turns by how they ended
 abbrev pub work_outcome : Result ℕ StoreFault → Outcome

@@ -140,7 +140,8 @@ pub fn run<X: Site, C: Clock, N: Sink>(
         (formatted_state record { blocks = blocks; half = half; id = id }) }
 
     // Over a file that stands for a state, one history from it gives all that a run of `replay` or `serve`
-    // heard, told and left, whatever failed; the outcome by it has the status, and its line is put.
+    // heard, told and left, whatever failed, and how many bytes it handed to its device, unless that failed;
+    // the outcome by it has the status, and its line is put.
     ensures replayed { (base : List ℕ) (from : StoreState)
         → IsReplayFrom base from words.now (X.device site.old) (C.tells clock.new)
         → (outcome : Outcome) × (result ≡ status_of outcome)
@@ -152,7 +153,7 @@ pub fn run<X: Site, C: Clock, N: Sink>(
         × ServedAll base (beginning from (X.device site.old) (C.given clock.old))
         (X.device site.old) (X.device site.new) (C.given clock.new) connections outcome }
 
-    // And so does one history of its turns all that a run of `work` left.
+    // And so does one history of its turns all that a run of `work` left and handed to its device.
     ensures worked { (from : StoreState)
         → IsWorkFrom from words.now (X.device site.old) (C.tells clock.new)
         → (outcome : Outcome) × (result ≡ status_of outcome)

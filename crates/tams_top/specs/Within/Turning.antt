@@ -1,5 +1,5 @@
 -- Turns under way, which proofs alone need.
-use Rattle.std.specs.Prelude.{◌≡◌, ◌≤◌, ℕ, Bool, true, false, List, [], ◌∷◌, ◌++◌, length, All}
+use Rattle.std.specs.Prelude.{◌≡◌, ◌≤◌, ◌+◌, ℕ, Bool, true, false, List, [], ◌∷◌, ◌++◌, length, All}
 use Rattle.disk_trait.specs.Calls.{DiskCalls}
 use Rattle.disk_trait.specs.Device.{Device}
 use Rattle.site_edge.specs.Clocks.{IsMoment}
@@ -11,7 +11,7 @@ use Rattle.run_history.specs.Steps.{last_or}
 use Rattle.store_states.specs.States.{StoreState}
 use Rattle.tams_machine.specs.Machine.{tams_machine}
 use Rattle.tams_service.specs.Keeping.{KeepsState}
-use Rattle.tams_top.specs.Working.{HaveTurned, turns_trace}
+use Rattle.tams_top.specs.Working.{HaveTurned, turns_handed, turns_trace}
 
 -- Turns at these moments changed something, left these states, and may go on.
 pub record IsWorking (b : Beginning StoreState) (moments : List ℕ) (states : List StoreState)
@@ -22,6 +22,7 @@ pub record IsWorking (b : Beginning StoreState) (moments : List ℕ) (states : L
   pub reached : Reached (tams_machine []) b (turns_trace b.state states) false false d
   pub good : All (λ s. IsGoodArchive s.archive) (b.state ∷ states)
   pub keeps : KeepsState store d (last_or b.state states)
+  pub handed : d.handed ≡ b.handed + turns_handed b.state moments states
 
 -- the same of so many turns
 pub record SoMany (b : Beginning StoreState) (d : Device) (given : List ℕ) (store : StoreSeen)

@@ -31,11 +31,11 @@ returns-in-Ok-true-clause-leads g c = λ all b sessions between.
     let kept = g.V.Service.kept _ _ came state between.kept (same_connected _ came call.time) in
     let begins =
     goes_first machine b (g.X.Disk.device c.args.site.now) came _ sessions _ between.served between.unstopped call.time
-    (next.connections all.tells) in
+    (next.connections all.tells) call.handed in
     let ended =
     (rw c.begin.ensures.setting at c.serve_connection-ending.ensures.served) (tells_later _ _ _ call.same all) b sessions state (rw c.begin.ensures.store kept)
     (rw (c.begin.ensures.unread, c.begin.ensures.taken) begins) in
-    ends_closed machine b served closed _ _ _ sessions _ _ ended c.close_peer.ensures.call.time c.close_peer.ensures.closed.connections
+    ends_closed machine b served closed _ _ _ sessions _ _ ended c.close_peer.ensures.call.time c.close_peer.ensures.closed.connections c.close_peer.ensures.call.handed
     (λ s keeps. g.V.Service.kept _ served closed s keeps (same_unchanged served closed c.close_peer.ensures.call.time))
 
 pub returns-in-Ok-false-clause-calls : goal.returns-in-Ok-false-clause-calls
@@ -56,7 +56,8 @@ returns-in-Ok-false-clause-leads g c = λ all b sessions between.
     let next = rw c.in-Ok-false.field-0-test at c.in-Ok-false.ensures.next in
     let old = g.X.Disk.device c.args.site.now in
     let new = g.X.Disk.device c.next_peer.new.self in (
-      between_quiet (g.V.Service.machine (g.V.Service.setting c.args.service.now)) b old new _ _ _ sessions _ between call.time (next.connections all.tells)
+      between_quiet (g.V.Service.machine (g.V.Service.setting c.args.service.now)) b old new _ _ _ sessions _ between call.time
+          (next.connections all.tells) call.handed
           (λ s keeps. g.V.Service.kept _ old new s keeps (same_unchanged old new call.time)),
       next.closed all.tells ∙ or_true _,
     )
@@ -68,7 +69,7 @@ returns-in-Err-clause-leads g c = λ all b sessions between.
     let old = g.X.Disk.device c.args.site.now in
     let new = g.X.Disk.device c.next_peer.new.self in
     between_quiet (g.V.Service.machine (g.V.Service.setting c.args.service.now)) b old new _ _ _ sessions _ between call.time
-    (c.in-Err.ensures.next.connections all.tells)
+    (c.in-Err.ensures.next.connections all.tells) call.handed
     (λ s keeps. g.V.Service.kept _ old new s keeps (same_unchanged old new call.time))
 
 -- No moment was given where no connection came.

@@ -1,4 +1,4 @@
-use Rattle.std.proofs.Common.{◌≡◌, true, false, not, sym, ap, ◌∙◌}
+use Rattle.std.proofs.Common.{◌≡◌, false, not, sym, ap, ◌∙◌}
 use Rattle.media_rows.specs.Apply.{turn}
 use Rattle.media_store.specs.Stores.{journal_of}
 use Rattle.media_store.specs.Turns.{turn_change}
@@ -26,7 +26,8 @@ returns-in-Ok-clause-leads g c = λ all.
     c.args.store.now c.say_answer-told.new.store c.turn.new.self c.args.tally.now _ c.args.reply.now.changes c.args.now c.args.reply.now.ends
     c.say_answer-told.result all (said.says all.shows) whole said.kept (said.spent ∙ whole) said.keeps c.in-Ok.ensures.calls.link c.requires.moment
     c.turns_keep.ensures.good c.in-Ok.made c.in-Ok.ensures.made c.in-Ok.ensures.spent
-    (c.in-Ok.ensures.makes (said.calls.same.honest ∙ all.honest) (said.calls.same.shows ∙ all.shows)) c.in-Ok.ensures.next)
+    (c.in-Ok.ensures.makes (said.calls.same.honest ∙ all.honest) (said.calls.same.shows ∙ all.shows)) c.in-Ok.ensures.next
+    (c.in-Ok.ensures.handed (said.calls.same.tells ∙ all.tells)))
 
 -- It was skipped.
 pub returns-in-Err-Memory-clause-leads : goal.returns-in-Err-Memory-clause-leads

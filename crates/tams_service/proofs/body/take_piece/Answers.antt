@@ -4,7 +4,7 @@ use Rattle.tams_service.proofs.body.take_piece.Goals as goal
 
 pub returns-in-Ok-clause-takes : goal.returns-in-Ok-clause-takes
 returns-in-Ok-clause-takes g c =
-    takes_next _ _ _ _ _ _ _ _ _ _ c.in-Piece.ensures c.in-Ok.ensures.hands c.in-Ok.ensures.calls.link
+    takes_next _ _ _ _ _ _ _ _ _ _ c.in-Piece.ensures c.in-Ok.ensures.hands c.in-Ok.ensures.calls.link c.in-Ok.ensures.handed
 
 pub returns-in-Ok-clause-keeps : goal.returns-in-Ok-clause-keeps
 returns-in-Ok-clause-keeps g c = λ held agrees.

@@ -39,7 +39,7 @@ returns-in-Ok-clause-leads g c = λ all.
     (made_leads old mid (g.X.Disk.device c.finish-in-Ok.new.site) c.args.tally.now c.finish-in-Ok.new.tally c.args.store.now c.finish-in-Ok.new.store
     c.in-Some.put c.args.responses.now c.args.now c.args.ends true (g.met.X.Disk.sound c.args.site.now) all ended.calls.link c.changes_of-changes.result
     c.changes_of-changes.ensures
-    (ended.makes all.honest all.shows all.tells) refl c.put_end.new.self ended.kept ended.spent c.finish-in-Ok.result
+    (ended.makes all.honest all.shows all.tells) refl c.put_end.new.self ended.kept ended.spent (ended.handed all.tells) c.finish-in-Ok.result
     (finishes_with mid (g.X.Disk.device c.finish-in-Ok.new.site) c.put_end.new.self c.finish-in-Ok.new.store c.args.tally.now c.finish-in-Ok.new.tally
     c.args.now c.finish-in-Ok.result c.reply_with-reply-in-Ok.result _ _ c.changes_of-changes.result c.args.ends
     (c.finish-in-Ok.ensures.leads (tells_on old mid ended.calls.same all))

@@ -1,4 +1,4 @@
-use Rattle.std.proofs.Common.{◌≡◌, ◌∙◌, true, false, None, ap}
+use Rattle.std.proofs.Common.{◌≡◌, ◌∙◌, None, ap}
 use Rattle.std.proofs.lemmas.Bool.{false≢true}
 use Rattle.media_store.specs.Pieces.{IsExtent}
 use Rattle.store_states.specs.Kept.{StoreView}
@@ -29,7 +29,8 @@ returns-clause-leads g c = λ all p text rest r asks keeps request answers few.
     give_made p (g.X.Disk.device c.args.site.now) (g.X.Disk.device c.commit.new.disk) (g.X.Disk.device c.finish.new.site) c.args.tally.now
     c.finish.new.tally text rest c.args.store.now r c.args.now c.args.answer asks keeps answers c.in-Ok.ensures.calls.link c.media_follows.ensures
     (λ change came makes fits there. c.in-Ok.ensures.makes all.honest all.shows p.state.archive.held change came keeps.agrees makes fits there)
-    (λ none. ap (λ d. g.X.Disk.device d) (c.in-Ok.ensures.unchanged none).0) c.commit.new.self c.in-Ok.ensures.kept c.in-Ok.ensures.spent
+    (λ none. ap (λ d. g.X.Disk.device d) (c.in-Ok.ensures.unchanged none).0)
+    (c.in-Ok.ensures.handed all.tells) c.commit.new.self c.in-Ok.ensures.kept c.in-Ok.ensures.spent
     (bytes_seen c.args.store.now (g.X.Disk.device c.args.site.now) p.state (g.met.X.Disk.sound c.args.site.now) all.honest all.shows all.tells keeps)
     (media_or_none (IsExtent c.args.store.now.kept.library) (c.args.answer.planned.frame ≡ None) c.args.answer.media c.requires.media)
     c.finish.new.store c.args.ends request few c.finish.result

@@ -23,10 +23,10 @@ loop-preserved g c =
     elim c.in-Deleted.is [
       | inl is ↦
           more (DeleteStep c.now.result) (deleted journal due c.now.result (subst (TurnIs journal due c.now.result) is made.made)) made.spent made.makes
-          made.next made.calls
+          made.next made.calls made.handed
       | inr is ↦
           more (SweepStep c.now.result) (swept journal due c.now.result (subst (TurnIs journal due c.now.result) is made.made)) made.spent made.makes
-          made.next made.calls
+          made.next made.calls made.handed
     ]
 
 -- One changed nothing.
@@ -40,8 +40,8 @@ returns-in-Nothing-clause-worked g c = λ all b w.
     c.args.store.now c.loop.store c.turn.new.self c.loop.turns c.loop.counter c.now.result c.loop.invariant c.now.ensures.moment
     c.now.ensures.told_before c.now.ensures.given c.turns_keep.ensures.good b w all (g.met.D.Disk.sound c.turn.new.disk) in
     elim c.in-Nothing.is [
-      | inl is ↦ done (nothing journal due c.now.result (subst (TurnIs journal due c.now.result) is made.made)) made.makes made.calls
-      | inr is ↦ done (no_room journal due c.now.result (subst (TurnIs journal due c.now.result) is made.made)) made.makes made.calls
+      | inl is ↦ done (nothing journal due c.now.result (subst (TurnIs journal due c.now.result) is made.made)) made.makes made.calls made.handed
+      | inr is ↦ done (no_room journal due c.now.result (subst (TurnIs journal due c.now.result) is made.made)) made.makes made.calls made.handed
     ]
 
 -- One failed.
