@@ -103,8 +103,8 @@ BodyIs Ended size part unread = (length part < size) × (unread ≡ [])
 BodyIs Unheard size part unread = (length part < size) × (unread ≡ [])
 BodyIs Failed size part unread = part ≢ []
 
--- What taking a body of so many bytes comes to. Where all of it was taken, the put has it. Unless the
--- disk failed, no more than was taken was handed to the device.
+-- What taking a body of so many bytes comes to. Where all of it was taken, the put has it. Unless
+-- the disk failed, no more than was taken was handed to the device.
 pub record TakesBody (kept : StoreView) (size : ℕ) (old new : Fed) (put : Option PutSeen)
     (before now : Device) (result : Taken) : Type 0 where
   pub part : List ℕ

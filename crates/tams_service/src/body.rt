@@ -2,7 +2,7 @@
 ghost use Rattle.std.specs.Prelude.{◌≡◌, ◌≤◌, ◌<◌, ◌+◌, ℕ, List, Some, true, not, length, IfSome, IsFalse, OnOk, is_ok};
 ghost use Rattle.std.specs.Result.{is_err};
 ghost use Rattle.disk_trait.specs.Calls.{DiskCalls};
-ghost use Rattle.http_wire.specs.Feeds.{feed_room, left_of};
+ghost use Rattle.http_wire.specs.Feeds.{left_of};
 ghost use Rattle.http_wire.specs.declared.stage.Stage.TheVariants as stages;
 ghost use Rattle.store_states.specs.Kept.{AgreesWith};
 ghost use Rattle.store_writes.specs.Writes.{Keeps};
@@ -58,7 +58,6 @@ pub(crate) fn take_body<X: Site>(
     requires device { size_of store.old.kept ≤ (X.device site.old).size }
     requires under_way { (X.device site.old).link.under_way ≡ true }
     requires stage { hearing.old.stage ≡ stages.Media size }
-    requires last { length hearing.old.last < feed_room }
     requires put { IfSome put.old (IsPutBegun store.old.kept size) }
     requires room { length room.old ≡ PIECE }
     ensures calls { SiteCounts (is_heard result) (is_taken_unfailed result) (X.device site.old) (X.device site.new) }
@@ -99,7 +98,6 @@ fn take_piece<X: Site>(
     requires device { size_of store.old.kept ≤ (X.device site.old).size }
     requires under_way { (X.device site.old).link.under_way ≡ true }
     requires left { 0 < left_of hearing.old.stage }
-    requires last { length hearing.old.last < feed_room }
     requires of_store { IfSome put.old (IsPutOf store.old.kept) }
     requires inside { IfSome put.old (λ p. p.handed + left_of hearing.old.stage ≤ p.size) }
     requires room { length room.old ≡ PIECE }

@@ -1,7 +1,6 @@
 //! PUTs of objects' bytes.
 ghost use Rattle.std.specs.Prelude.{◌≡◌, ◌≤◌, ◌<◌, ◌+◌, ◌^◌, ℕ, List, Bool, true, None, length, IfSome, IsFalse, IsNone, IsSome, IsTrue};
 ghost use Rattle.http_wire.specs.Agreeing.{MayTurn};
-ghost use Rattle.http_wire.specs.Feeds.{feed_room};
 ghost use Rattle.http_wire.specs.declared.stage.Stage.TheVariants as stages;
 ghost use Rattle.media_rows.specs.Moments.{is_moment};
 ghost use Rattle.media_store.specs.Stores.{size_of};
@@ -99,7 +98,6 @@ fn take_put<X: Site>(
     requires under_way { (X.device site.old).link.under_way ≡ true }
     requires stage { hearing.old.stage ≡ stages.Media head.now.length }
     requires ended { hearing.old.ended ≡ head.now.ends }
-    requires last { length hearing.old.last < feed_room }
     requires put { IfSome plan.put (IsPutBegun store.old.kept head.now.length) }
     requires id { IfSome plan.put (EndKeepsId store.old.kept) }
     requires moment { IsTrue (is_moment now) }

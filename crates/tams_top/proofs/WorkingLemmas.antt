@@ -61,7 +61,8 @@ pub working_begins : (old opened : Device) (clock : Bool) (begun : List ℕ) (st
     → BeginsFrom from old clock → KeepsState store opened from → IsWorking (beginning from old begun) [] [] opened begun store
 working_begins old opened clock begun store sound untouched from start keeps =
     let begins =
-    begun_served [] old opened from begun sound start.tells.honest start.tells.tells start.settled start.stands untouched.time untouched.link untouched.handed in
+    begun_served [] old opened from begun sound start.tells.honest start.tells.tells start.settled start.stands untouched.time untouched.link
+    untouched.handed in
     record {
       turned = refl;
       given_is = sym (append-nil begun);

@@ -45,9 +45,9 @@ pub record BeginsFrom (from : StoreState) (old : Device) (clock : Bool) : Type 0
   pub stands : StandsFor old.seen from
 
 -- A run is one history of these connections. Each moment that it took is one, and what is stored in
--- one of its states keeps its bytes in each later one. Unless the disk failed, the device was handed
--- the bytes of its changes, and of each media PUT that was cut at most those of its body that were
--- heard.
+-- one of its states keeps its bytes in each later one. Unless the disk failed, the device was
+-- handed the bytes of its changes, and of each media PUT that was cut at most those of its body
+-- that were heard.
 pub record RunsAs (base : List ℕ) (b : Beginning StoreState) (sessions : List (Session TamsRequest))
     (new : Device) (given : List ℕ) : Type 0 where
   pub ran : Ran (tams_machine base) b sessions new given

@@ -35,7 +35,8 @@ returns-in-Ok-true-clause-leads g c = λ all b sessions between.
     let ended =
     (rw c.begin.ensures.setting at c.serve_connection-ending.ensures.served) (tells_later _ _ _ call.same all) b sessions state (rw c.begin.ensures.store kept)
     (rw (c.begin.ensures.unread, c.begin.ensures.taken) begins) in
-    ends_closed machine b served closed _ _ _ sessions _ _ ended c.close_peer.ensures.call.time c.close_peer.ensures.closed.connections c.close_peer.ensures.call.handed
+    ends_closed machine b served closed _ _ _ sessions _ _ ended c.close_peer.ensures.call.time
+    c.close_peer.ensures.closed.connections c.close_peer.ensures.call.handed
     (λ s keeps. g.V.Service.kept _ served closed s keeps (same_unchanged served closed c.close_peer.ensures.call.time))
 
 pub returns-in-Ok-false-clause-calls : goal.returns-in-Ok-false-clause-calls

@@ -1,5 +1,4 @@
-use Rattle.std.proofs.Common.{ap, arith}
-use Rattle.http_wire.specs.Feeds.{Fed}
+use Rattle.std.proofs.Common.{arith}
 use Rattle.tams_service.proofs.Taken.{keeps_so, left_now, put_inside, put_of, taken_ended, taken_failed, taken_filled, taken_first, taken_more, taken_unheard, taken_whole}
 use Rattle.tams_service.proofs.body.take_body.Goals as goal
 
@@ -10,9 +9,6 @@ pub take_piece-requires-clause-left : goal.take_piece-requires-clause-left
 take_piece-requires-clause-left g c =
     let left = left_now _ _ _ _ _ _ _ _ _ _ c.pieces.invariant c.requires.stage in
     omega (arith, left, c.pieces-test.true)
-
-pub take_piece-requires-clause-last : goal.take_piece-requires-clause-last
-take_piece-requires-clause-last g c = rw (ap (λ (f : Fed). f.last) c.pieces.invariant.takes.feed) c.requires.last
 
 pub take_piece-requires-clause-of_store : goal.take_piece-requires-clause-of_store
 take_piece-requires-clause-of_store g c = rw c.pieces.invariant.kept_is (put_of _ _ _ _ c.pieces.invariant.has)

@@ -43,5 +43,6 @@ returns-in-Unlinked-clause-ends g c =
     c.serve_next-next.new.tally c.runs_keep_bytes.ensures (g.met.X.Disk.sound c.args.site.now)
     (g.met.X.Disk.sound c.serve_next-next.new.site) c.in-Ok.ensures.reads
     c.in-Unlinked.ensures.calls.same c.in-Ok.ensures.answer
-    (λ from start. c.in-Ok.ensures.keeps start.tells.shows start.settled from start.stands) c.serve_next-next.ensures.moments _ Unlinked c.in-Unlinked.ensures.calls
+    (λ from start. c.in-Ok.ensures.keeps start.tells.shows start.settled from start.stands)
+    c.serve_next-next.ensures.moments _ Unlinked c.in-Unlinked.ensures.calls
     (λ all b sessions between. (rw c.in-Ok.ensures.afresh.1 at c.in-Unlinked.ensures.leads) all b sessions (rw c.new-tally.ensures between)))
