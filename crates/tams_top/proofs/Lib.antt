@@ -1,5 +1,6 @@
 mod BeginningLemmas
 mod CheckLemmas
+mod CommandLemmas
 mod CompletenessLemmas
 mod EndingLemmas
 mod FormattingLemmas

@@ -1,7 +1,7 @@
 -- Words spell at most one command.
-use Rattle.std.proofs.Common.{◌≡◌, ◌≤◌, ◌<◌, ◌^◌, ◌∙◌, ◌∷◌, [], ℕ, List, length, get_or, All, Option, Some, None, Result, Ok, Err, IfOk, IfSome, codes, subst, sym, ap, arith}
+use Rattle.std.proofs.Common.{◌≡◌, ◌<◌, ◌^◌, ◌∙◌, ◌∷◌, [], ℕ, List, get_or, Some, codes, subst, sym, ap, arith}
 use Rattle.std.proofs.lemmas.Fmt.{decimal_injective}
-use Rattle.tams_top.specs.Words.{FormIs, HasForm, IsNumber, IsNumberOrZero, IsPlainWord, IsFormat, IsCheck, IsWork, IsReplay, IsServe, IsWorkload, IsCommand}
+use Rattle.tams_top.specs.Words.{HasForm, IsNumber, IsNumberOrZero, IsFormat, IsCheck, IsWork, IsReplay, IsServe, IsWorkload, IsCommand}
 use Rattle.tams_top.specs.Words.IsNumberOrZero.{Zero, Other}
 use Rattle.media_rows.specs.Ids.{id_of}
 use Rattle.tams_top.proofs.WordLemmas.{begins_as_number}
@@ -108,27 +108,3 @@ not_workload number count none (Work p) x = let f : IsWork (codes "workload" ∷
 not_workload number count none (Replay p b) x = let f : IsReplay (codes "workload" ∷ number ∷ count ∷ []) p b = x in let e = f.words_are in cc
 not_workload number count none (Serve p m b k) x =
     let f : IsServe (codes "workload" ∷ number ∷ count ∷ []) p m b k = x in let e = f.words_are in cc
-
--- what was read by its form is a command
-pub found_in : {E : Type 0} (words : List (List ℕ)) (r : Result (Option Invocation) E) → All IsPlainWord words → IfOk r (FormIs words)
-    → IfOk r (λ found. IfSome found (IsCommand words))
-found_in words (Ok (Some command)) plain form = record { plain = plain; form = form }
-found_in words (Ok None) plain form = tt
-found_in words (Err e) plain form = tt
-
--- a list of five words is the words at its places
-pub five_words : (words : List (List ℕ)) (a b c d e : List ℕ) → 5 ≤ length words → length words < 6 → a ≡ get_or words 0 a → b ≡ get_or words 1 b
-    → c ≡ get_or words 2 c → d ≡ get_or words 3 d → e ≡ get_or words 4 e → a ∷ b ∷ c ∷ d ∷ e ∷ [] ≡ words
-five_words [] a b c d e least most p q r s t = absurd (omega arith)
-five_words (v ∷ []) a b c d e least most p q r s t = absurd (omega arith)
-five_words (v ∷ w ∷ []) a b c d e least most p q r s t = absurd (omega arith)
-five_words (v ∷ w ∷ x ∷ []) a b c d e least most p q r s t = absurd (omega arith)
-five_words (v ∷ w ∷ x ∷ y ∷ []) a b c d e least most p q r s t = absurd (omega arith)
-five_words (v ∷ w ∷ x ∷ y ∷ z ∷ []) a b c d e least most p q r s t =
-    let first : a ≡ v = p in
-    let second : b ≡ w = q in
-    let third : c ≡ x = r in
-    let fourth : d ≡ y = s in
-    let fifth : e ≡ z = t in
-    cc
-five_words (v ∷ w ∷ x ∷ y ∷ z ∷ more ∷ rest) a b c d e least most p q r s t = absurd (omega arith)

@@ -1,5 +1,5 @@
 -- The words of a command line, without the program's name, and the commands that they spell.
-use Rattle.std.specs.Prelude.{◌≡◌, ◌≢◌, ◌≤◌, ◌*◌, ◌-◌, ◌⊎◌, ℕ, List, [], ◌∷◌, length, slice_index, codes, Option, Some, None, nat_eq, IsTrue, All}
+use Rattle.std.specs.Prelude.{◌≡◌, ◌≢◌, IsUtf8, ◌≤◌, ◌*◌, ◌-◌, ◌⊎◌, ℕ, List, [], ◌∷◌, length, slice_index, codes, Option, Some, None, nat_eq, IsTrue, All}
 use Rattle.std.specs.List.{starts_with}
 use Rattle.std.specs.Fmt.{decimal}
 use Rattle.media_rows.specs.Ids.{id_of}
@@ -8,8 +8,9 @@ use Rattle.tams_top.specs.declared.words.Invocation.TheVariants.{Format, Check, 
 use Rattle.tams_top.specs.declared.words.Wanted.{Wanted}
 use Rattle.tams_top.specs.declared.words.Wanted.TheVariants.{Nothing, Plain, Fresh, Listen}
 
--- a word that is not empty and does not begin with `-`
+-- a word of text that is not empty and does not begin with `-`
 pub record IsPlainWord (word : List ℕ) : Type 0 where
+  pub text : IsUtf8 word
   pub some : 1 ≤ length word
   pub first : slice_index word 0 ≢ 45
 

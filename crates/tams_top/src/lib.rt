@@ -3,6 +3,7 @@
 #![tactic(auto)]
 
 mod checking;
+mod commands;
 mod formatting;
 mod generating;
 mod outcome;
@@ -13,6 +14,7 @@ mod top;
 mod words;
 mod working;
 
+pub use crate::commands::command_line;
 pub use crate::premises::site_over;
 pub use crate::top::run;
 pub use crate::words::{Invocation, Wanted, devices};

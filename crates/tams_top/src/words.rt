@@ -1,8 +1,15 @@
-//! The words of the command line, and what the program opens for them.
-ghost use Rattle.std.specs.Prelude.{◌∷◌, [], ◌↔◌, ℕ, All, codes, IfOk, IfSome, IsNone, IsTrue};
+//! The words of the command line, which `clap` reads, and what the program opens for them.
+ghost use Rattle.std.specs.Prelude.{◌≡◌, ◌∷◌, [], ◌↔◌, ℕ, All, codes, map};
+ghost use Rattle.std.specs.Prelude.{true, IfOk, IfSome, IsNone, IsSome, IsTrue};
+ghost use Rattle.clap.specs.Words.{found_of, rows_of, subcommand_of, subcommand_rows_of, takes};
+ghost use Rattle.tams_top.specs.Commands.{IsNamed, tams_app, text_of, value_in, words_of};
 ghost use Rattle.tams_top.specs.Words.{IsPlainWord, IsNumber, IsNumberOrZero, IsBaseByte, HasScheme, IsBase, FormIs, IsCommand, WantedFor};
 ghost use Rattle.tams_top.specs.declared.words.Invocation.{Invocation};
+ghost use Rattle.tams_top.specs.declared.commands.CommandName.{CommandName};
 
+use crate::commands::{CommandName, command_line};
+use clap::ArgMatches;
+use clap::error::ErrorKind;
 use connection_loop::MOST_CONNECTIONS;
 use disk_trait::{Memory, Text, TextList, same_bytes};
 use generated_workload::{MOST_COUNT, MOST_NUMBER};
@@ -89,59 +96,132 @@ pub(crate) fn read_words(alloc: Global, words: &TextList) -> Result<Option<Invoc
     ensures none { IfOk result
         (λ c. IsNone c → (command : Invocation) → IsCommand words.now command → ⊥) }
 {
-    let items = words.items();
-    if !are_plain(items) {
+    let Some(texts) = plain_texts(alloc, words.items())? else {
+        return Ok(None);
+    };
+    read_texts(alloc, texts.as_slice())
+}
+
+/// The command that plain words spell.
+fn read_texts(alloc: Global, words: &[&str]) -> Result<Option<Invocation>, Memory>
+    requires plain { All IsPlainWord (map (λ w. w.now) words.now) }
+    ensures { IfOk result (FormIs (map (λ w. w.now) words.now)) }
+{
+    let Some(name) = read_name(words) else {
+        return Ok(None);
+    };
+    let Some(matches) = read_matches(alloc, words)? else {
+        return Ok(None);
+    };
+    if words.len() != name.count() {
         return Ok(None);
     }
-    match items {
-        [name, path, third, fourth, fifth] => { read_five(alloc, name, path, third, fourth, fifth) }
-        [name, second, third] => read_three(alloc, name, second, third),
-        [name, path] => read_two(alloc, name, path),
-        _ => Ok(None),
+    let Some((_, values)) = matches.subcommand() else {
+        return Ok(None);
+    };
+    read_values(alloc, name, values)
+}
+
+/// The command that the first word names.
+fn read_name(words: &[&str]) -> Option<CommandName>
+    ensures found { IfSome result (IsNamed (map (λ w. w.now) words.now)) }
+    ensures none { IsNone result
+        → (name : CommandName) → IsNamed (map (λ w. w.now) words.now) name → ⊥ }
+{
+    match words.first() {
+        Some(word) => CommandName::read(word),
+        None => None,
     }
 }
 
-/// The command that five words spell by their forms.
-fn read_five(
-    alloc: Global,
-    name: &Text,
-    path: &Text,
-    third: &Text,
-    fourth: &Text,
-    fifth: &Text,
-) -> Result<Option<Invocation>, Memory>
-    ensures { IfOk result (FormIs (name.now ∷ path.now ∷ third.now ∷ fourth.now ∷ fifth.now ∷ [])) }
+/// What `clap` reads of these words, if it takes them.
+fn read_matches<'a>(alloc: Global, words: &'a [&'a str]) -> Result<Option<ArgMatches<'a>>, Memory>
+    ensures found { IfOk result (λ read. IfSome read (λ matches. subcommand_rows_of matches
+        ≡ subcommand_of tams_app (map (λ w. w.now) words.now))) }
+    ensures none { IfOk result (λ read. IsNone read
+        → takes tams_app (map (λ w. w.now) words.now) ≡ true → ⊥) }
 {
-    if same_bytes(name.bytes(), b"format") {
-        read_format(alloc, path, third, fourth, fifth)
-    } else if same_bytes(name.bytes(), b"serve") {
-        read_serve(alloc, path, third, fourth, fifth)
-    } else {
-        Ok(None)
+    match command_line(alloc)?.try_get_matches_from(words) {
+        Ok(matches) => Ok(Some(matches)),
+        Err(error) => match error.kind() {
+            ErrorKind::OutOfMemory => Err(Memory),
+            _ => Ok(None),
+        },
     }
+}
+
+/// The command of this name that the values of its words spell by their forms.
+fn read_values(
+    alloc: Global,
+    name: CommandName,
+    values: &ArgMatches<'_>,
+) -> Result<Option<Invocation>, Memory>
+    ensures { IfOk result (FormIs (text_of name
+        ∷ map (value_in (rows_of (found_of values.now))) (words_of name))) }
+{
+    match name {
+        CommandName::Format => {
+            let path = value(values, "PATH");
+            let blocks = value(values, "BLOCKS");
+            let half = value(values, "HALF");
+            read_format(alloc, path, blocks, half, value(values, "STORE_ID"))
+        }
+        CommandName::Check => Ok(Some(Invocation::Check {
+            path: text(alloc, value(values, "PATH"))?,
+        })),
+        CommandName::Work => Ok(Some(Invocation::Work {
+            path: text(alloc, value(values, "PATH"))?,
+        })),
+        CommandName::Replay => read_replay(alloc, value(values, "PATH"), value(values, "BASE")),
+        CommandName::Serve => {
+            let path = value(values, "PATH");
+            let port = value(values, "PORT");
+            let base = value(values, "BASE");
+            read_serve(alloc, path, port, base, value(values, "CONNECTIONS"))
+        }
+        CommandName::Workload => {
+            Ok(read_workload(value(values, "NUMBER"), value(values, "COUNT")))
+        }
+    }
+}
+
+/// What was matched to this word of a command, and an empty text where nothing was.
+fn value<'a>(values: &ArgMatches<'a>, id: &str) -> &'a str
+    ensures { result.now ≡ value_in (rows_of (found_of values.now)) id.now }
+{
+    match values.get_str(id) {
+        Some(text) => text,
+        None => "",
+    }
+}
+
+fn text(alloc: Global, word: &str) -> Result<Text, Memory>
+    ensures { IfOk result (λ text. text ≡ word.now) }
+{
+    Text::from_bytes(alloc, word.as_bytes())
 }
 
 /// The command that the four words behind `format` spell by their forms.
 fn read_format(
     alloc: Global,
-    path: &Text,
-    blocks: &Text,
-    half: &Text,
-    id: &Text,
+    path: &str,
+    blocks: &str,
+    half: &str,
+    id: &str,
 ) -> Result<Option<Invocation>, Memory>
     ensures { IfOk result
         (FormIs (codes "format" ∷ path.now ∷ blocks.now ∷ half.now ∷ id.now ∷ [])) }
 {
-    let Some(blocks) = read_number(blocks.bytes(), MOST_BLOCKS) else {
+    let Some(blocks) = read_number(blocks.as_bytes(), MOST_BLOCKS) else {
         return Ok(None);
     };
-    let Some(half) = read_number(half.bytes(), MOST_HALF) else {
+    let Some(half) = read_number(half.as_bytes(), MOST_HALF) else {
         return Ok(None);
     };
-    let Some(id) = read_id(id.bytes()) else {
+    let Some(id) = read_id(id.as_bytes()) else {
         return Ok(None);
     };
-    let path = path.copy(alloc)?;
+    let path = text(alloc, path)?;
     Ok(Some(Invocation::Format {
         path,
         blocks,
@@ -153,101 +233,86 @@ fn read_format(
 /// The command that the four words behind `serve` spell by their forms.
 fn read_serve(
     alloc: Global,
-    path: &Text,
-    port: &Text,
-    base: &Text,
-    connections: &Text,
+    path: &str,
+    port: &str,
+    base: &str,
+    connections: &str,
 ) -> Result<Option<Invocation>, Memory>
     ensures { IfOk result
         (FormIs (codes "serve" ∷ path.now ∷ port.now ∷ base.now ∷ connections.now ∷ [])) }
 {
-    let Some(port) = read_number(port.bytes(), LAST_PORT) else {
+    let Some(port) = read_number(port.as_bytes(), LAST_PORT) else {
         return Ok(None);
     };
-    let Some(connections) = read_number(connections.bytes(), MOST_CONNECTIONS) else {
+    let Some(connections) = read_number(connections.as_bytes(), MOST_CONNECTIONS) else {
         return Ok(None);
     };
-    if !is_base(base.bytes()) {
+    if !is_base(base.as_bytes()) {
         return Ok(None);
     }
     Ok(Some(Invocation::Serve {
-        path: path.copy(alloc)?,
+        path: text(alloc, path)?,
         port: port as u16,
-        base: base.copy(alloc)?,
+        base: text(alloc, base)?,
         connections,
     }))
 }
 
-/// The command that three words spell by their forms.
-fn read_three(
-    alloc: Global,
-    name: &Text,
-    second: &Text,
-    third: &Text,
-) -> Result<Option<Invocation>, Memory>
-    ensures { IfOk result (FormIs (name.now ∷ second.now ∷ third.now ∷ [])) }
-{
-    if same_bytes(name.bytes(), b"replay") {
-        read_replay(alloc, second, third)
-    } else if same_bytes(name.bytes(), b"workload") {
-        Ok(read_workload(second, third))
-    } else {
-        Ok(None)
-    }
-}
-
 /// The command that the two words behind `replay` spell by their forms.
-fn read_replay(alloc: Global, path: &Text, base: &Text) -> Result<Option<Invocation>, Memory>
+fn read_replay(alloc: Global, path: &str, base: &str) -> Result<Option<Invocation>, Memory>
     ensures { IfOk result (FormIs (codes "replay" ∷ path.now ∷ base.now ∷ [])) }
 {
-    if !is_base(base.bytes()) {
+    if !is_base(base.as_bytes()) {
         return Ok(None);
     }
     Ok(Some(Invocation::Replay {
-        path: path.copy(alloc)?,
-        base: base.copy(alloc)?,
+        path: text(alloc, path)?,
+        base: text(alloc, base)?,
     }))
 }
 
 /// The command that the two words behind `workload` spell by their forms.
-fn read_workload(number: &Text, count: &Text) -> Option<Invocation>
+fn read_workload(number: &str, count: &str) -> Option<Invocation>
     ensures { FormIs (codes "workload" ∷ number.now ∷ count.now ∷ []) result }
 {
-    let Some(number) = read_number_or_zero(number.bytes(), MOST_NUMBER) else {
+    let Some(number) = read_number_or_zero(number.as_bytes(), MOST_NUMBER) else {
         return None;
     };
-    let Some(count) = read_number(count.bytes(), MOST_COUNT) else {
+    let Some(count) = read_number(count.as_bytes(), MOST_COUNT) else {
         return None;
     };
     Some(Invocation::Workload { number, count })
 }
 
-/// The command that two words spell by their forms.
-fn read_two(alloc: Global, name: &Text, path: &Text) -> Result<Option<Invocation>, Memory>
-    ensures { IfOk result (FormIs (name.now ∷ path.now ∷ [])) }
+/// The words as texts, if each is one that is not empty and does not begin with `-`.
+fn plain_texts<'a>(alloc: Global, words: &'a [Text]) -> Result<Option<Vec<&'a str>>, Memory>
+    ensures same { IfOk result (λ found. IfSome found (λ texts.
+        map (λ t. t.now) texts.items ≡ words.now)) }
+    ensures plain { IfOk result (λ found. IfSome found (λ texts.
+        All IsPlainWord (map (λ t. t.now) texts.items))) }
+    ensures none { IfOk result (λ found. IsNone found → All IsPlainWord words.now → ⊥) }
 {
-    if same_bytes(name.bytes(), b"check") {
-        let path = path.copy(alloc)?;
-        Ok(Some(Invocation::Check { path }))
-    } else if same_bytes(name.bytes(), b"work") {
-        let path = path.copy(alloc)?;
-        Ok(Some(Invocation::Work { path }))
-    } else {
-        Ok(None)
+    let mut texts = Vec::new(alloc);
+    for word in words {
+        let Some(text) = plain_text(word.bytes()) else {
+            return Ok(None);
+        };
+        texts.push(text)?;
     }
+    Ok(Some(texts))
 }
 
-/// Whether no word is empty or begins with `-`.
-fn are_plain(words: &[Text]) -> bool
-    ensures { IsTrue result ↔ All IsPlainWord words.now }
+fn plain_text(word: &[u8]) -> Option<&str>
+    ensures same { IfSome result (λ text. text.now ≡ word.now) }
+    ensures plain { IsSome result ↔ IsPlainWord word.now }
 {
-    words.iter().all(|word| is_plain(word.bytes()))
-}
-
-fn is_plain(word: &[u8]) -> bool
-    ensures { IsTrue result ↔ IsPlainWord word.now }
-{
-    !word.is_empty() && word[0] != b'-'
+    if word.is_empty() || word[0] == b'-' {
+        return None;
+    }
+    match str::from_utf8(word) {
+        Ok(text) => Some(text),
+        Err(_) => None,
+    }
 }
 
 /// The number that a word is, if it is one from 1 to the most.
