@@ -9,7 +9,7 @@ use Rattle.clap.specs.Walk.{Held, Step, Walk, after_step, idle, positional, to_p
 use Rattle.clap.specs.Simple.{argument_words, built, entered, help_shape, label_of, names_of, rows_at}
 use Rattle.clap.specs.Takes.{default_passes, entered_passes, is_valid, step_passes, word_passes, level_passes, positional_passes, settle_passes, turn_passes, walk_passes}
 use Rattle.clap.proofs.OnLiterals.{clap_on_literals}
-use Rattle.tams_top.specs.Commands.{IsNamed, tams_app, text_of, value_in, words_of}
+use Rattle.tams_top.specs.Commands.{IsNamed, tams_app, text_of, word_value, words_of}
 use Rattle.tams_top.specs.Words.{FormIs, HasForm, IsPlainWord, IsFormat, IsCheck, IsWork, IsReplay, IsServe, IsWorkload}
 use Rattle.tams_top.specs.declared.words.Invocation.{Invocation}
 use Rattle.tams_top.specs.declared.words.Invocation.TheVariants.{Format, Check, Work, Replay, Serve, Workload}
@@ -139,7 +139,7 @@ level s words plain places taken =
 -- the words are those of a command: `clap` takes them, and gives each under its name
 record Reads (name : CommandName) (rest : List Text) : Type 0 where
   pub taken : takes tams_app (text_of name ∷ rest) ≡ true
-  pub values : (rows : List Row) → option_map (λ p. p.1) (subcommand_of tams_app (text_of name ∷ rest)) ≡ Some rows → map (value_in rows) (words_of name) ≡ rest
+  pub values : (rows : List Row) → option_map (λ p. p.1) (subcommand_of tams_app (text_of name ∷ rest)) ≡ Some rows → map (word_value rows) (words_of name) ≡ rest
   pub found : option_map (λ p. p.1) (subcommand_of tams_app (text_of name ∷ rest)) ≡ None → ⊥
 
 -- the program's own walk ends at the command's name
@@ -169,7 +169,7 @@ some_of a b e = ap (λ o. unwrap_or o a) e
 
 reads : (name : CommandName) (rest : List Text) (s : Shape) → Names tams_app (text_of name ∷ rest) (text_of name) rest s
     → list_all begins_plain rest ≡ true → has_places s 1 nothing_held rest ≡ true → is_taken s (plain_end s.rules 1 nothing_held rest) ≡ true
-    → map (value_in (finished s.rules (plain_end s.rules 1 nothing_held rest))) (words_of name) ≡ rest → Reads name rest
+    → map (word_value (finished s.rules (plain_end s.rules 1 nothing_held rest))) (words_of name) ≡ rest → Reads name rest
 reads name rest s n plain places taken values =
     let words = text_of name ∷ rest in
     let w = walks s 1 nothing_held rest plain places in
@@ -180,7 +180,7 @@ reads name rest s n plain places taken values =
           let own = ap (option_map (λ (p : Text × List Row). p.1)) (sym enters) ∙ is in
           let same = some_of _ rows own in
           let ends = ap (finished s.rules) (sym w.end) ∙ same in
-          ap (λ (r : List Row). map (value_in r) (words_of name)) (sym ends) ∙ values;
+          ap (λ (r : List Row). map (word_value r) (words_of name)) (sym ends) ∙ values;
       found = λ e.
           let none = ap (option_map (λ (p : Text × List Row). p.1)) (sym enters) ∙ e in
           true≢false (ap (λ (o : Option (List Row)). is_some o) none);
@@ -278,7 +278,7 @@ words_taken words n has = ap (takes tams_app) has.named.words_are ∙ (rest_read
 
 -- the values are the words
 pub values_are : (words : List Text) (n : CommandName) (rows : List Row) → HasWords words n
-    → option_map (λ p. p.1) (subcommand_of tams_app words) ≡ Some rows → text_of n ∷ map (value_in rows) (words_of n) ≡ words
+    → option_map (λ p. p.1) (subcommand_of tams_app words) ≡ Some rows → text_of n ∷ map (word_value rows) (words_of n) ≡ words
 values_are words n rows has is =
     let r = rest_reads words n has in
     let own = ap (λ ws. option_map (λ (p : Text × List Row). p.1) (subcommand_of tams_app ws)) (sym has.named.words_are) ∙ is in

@@ -74,5 +74,5 @@ pub record IsNamed (words : List Text) (name : CommandName) : Type 0 where
   pub words_are : words ≡ text_of name ∷ rest
 
 -- what `clap` found for a word of a command, and no byte where it found nothing
-abbrev pub value_in : List Row → Text → Text
-value_in rows id = unwrap_or (first_of id rows) []
+abbrev pub word_value : List Row → Text → Text
+word_value rows id = unwrap_or (first_of id rows) []

@@ -2,7 +2,7 @@
 ghost use Rattle.std.specs.Prelude.{◌≡◌, ◌∷◌, [], ◌↔◌, ℕ, All, codes, map};
 ghost use Rattle.std.specs.Prelude.{true, IfOk, IfSome, IsNone, IsSome, IsTrue};
 ghost use Rattle.clap.specs.Words.{found_of, rows_of, subcommand_of, subcommand_rows_of, takes};
-ghost use Rattle.tams_top.specs.Commands.{IsNamed, tams_app, text_of, value_in, words_of};
+ghost use Rattle.tams_top.specs.Commands.{IsNamed, tams_app, text_of, word_value, words_of};
 ghost use Rattle.tams_top.specs.Words.{IsPlainWord, IsNumber, IsNumberOrZero, IsBaseByte, HasScheme, IsBase, FormIs, IsCommand, WantedFor};
 ghost use Rattle.tams_top.specs.declared.words.Invocation.{Invocation};
 ghost use Rattle.tams_top.specs.declared.commands.CommandName.{CommandName};
@@ -157,7 +157,7 @@ fn read_values(
     values: &ArgMatches<'_>,
 ) -> Result<Option<Invocation>, Memory>
     ensures { IfOk result (FormIs (text_of name
-        ∷ map (value_in (rows_of (found_of values.now))) (words_of name))) }
+        ∷ map (word_value (rows_of (found_of values.now))) (words_of name))) }
 {
     match name {
         CommandName::Format => {
@@ -187,7 +187,7 @@ fn read_values(
 
 /// What was matched to this word of a command, and an empty text where nothing was.
 fn value<'a>(values: &ArgMatches<'a>, id: &str) -> &'a str
-    ensures { result.now ≡ value_in (rows_of (found_of values.now)) id.now }
+    ensures { result.now ≡ word_value (rows_of (found_of values.now)) id.now }
 {
     match values.get_str(id) {
         Some(text) => text,
