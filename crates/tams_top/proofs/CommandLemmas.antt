@@ -139,7 +139,8 @@ level s words plain places taken =
 -- the words are those of a command: `clap` takes them, and gives each under its name
 record Reads (name : CommandName) (rest : List Text) : Type 0 where
   pub taken : takes tams_app (text_of name ∷ rest) ≡ true
-  pub values : (rows : List Row) → option_map (λ p. p.1) (subcommand_of tams_app (text_of name ∷ rest)) ≡ Some rows → map (word_value rows) (words_of name) ≡ rest
+  pub values : (rows : List Row) → option_map (λ p. p.1) (subcommand_of tams_app (text_of name ∷ rest)) ≡ Some rows → map (word_value rows) (words_of name)
+      ≡ rest
   pub found : option_map (λ p. p.1) (subcommand_of tams_app (text_of name ∷ rest)) ≡ None → ⊥
 
 -- the program's own walk ends at the command's name
