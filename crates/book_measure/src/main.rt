@@ -11,7 +11,7 @@ mod places;
 mod segments;
 
 use crate::flows::{looks, opened, puts};
-use crate::objects::{Call, calls, references};
+use crate::objects::{BookCall, calls, references};
 use crate::segments::{adds, pages};
 use disk_trait::Memory;
 use std::alloc::Global;
@@ -55,10 +55,10 @@ fn measured(alloc: Global, what: &str, size: u64, times: u64) -> Result<u64, Mem
         "put" => puts(alloc, size, times),
         "look" => looks(alloc, size, times),
         "open" => opened(alloc, size, times),
-        "allocate" => calls(alloc, Call::Allocate, size, times),
-        "mark-stored" => calls(alloc, Call::MarkStored, size, times),
-        "first-idle" => calls(alloc, Call::FirstIdle, size, times),
-        "find" => calls(alloc, Call::Find, size, times),
+        "allocate" => calls(alloc, BookCall::Allocate, size, times),
+        "mark-stored" => calls(alloc, BookCall::MarkStored, size, times),
+        "first-idle" => calls(alloc, BookCall::FirstIdle, size, times),
+        "find" => calls(alloc, BookCall::Find, size, times),
         "refer" => references(alloc, false, size, times),
         "unrefer" => references(alloc, true, size, times),
         _ => Ok(0),

@@ -16,7 +16,7 @@ const LATE: u64 = 1_000_000;
 
 /// A call on a book whose objects have no bytes yet.
 #[derive(Clone, Copy)]
-pub(crate) enum Call {
+pub(crate) enum BookCall {
     Allocate,
     MarkStored,
     FirstIdle,
@@ -138,7 +138,7 @@ fn look(alloc: Global, book: &ObjectBook, place: u64) -> Result<u64, Memory> {
 /// What a call gives.
 fn answer(
     alloc: Global,
-    call: Call,
+    call: BookCall,
     book: &ObjectBook,
     size: u64,
     place: u64,
@@ -146,15 +146,15 @@ fn answer(
     requires { IsTrue (are_below size book.now) }
 {
     match call {
-        Call::Allocate => after_allocate(alloc, book, size, place),
-        Call::MarkStored => after_mark_stored(alloc, book, place),
-        Call::FirstIdle => Ok(serial_of(book.first_idle(LATE))),
-        Call::Find => look(alloc, book, place),
+        BookCall::Allocate => after_allocate(alloc, book, size, place),
+        BookCall::MarkStored => after_mark_stored(alloc, book, place),
+        BookCall::FirstIdle => Ok(serial_of(book.first_idle(LATE))),
+        BookCall::Find => look(alloc, book, place),
     }
 }
 
 /// What the answers of calls on one book add up to.
-pub(crate) fn calls(alloc: Global, call: Call, size: u64, times: u64) -> Result<u64, Memory> {
+pub(crate) fn calls(alloc: Global, call: BookCall, size: u64, times: u64) -> Result<u64, Memory> {
     let book = bare_book(alloc, size)?;
     let mut places = Places::new(size);
     let mut sum = 0_u64;

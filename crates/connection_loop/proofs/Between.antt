@@ -12,8 +12,8 @@ use Rattle.run_history.specs.Runs.{Beginning}
 use Rattle.run_history.specs.Serving.{RunCounts, is_cut, starves}
 use Rattle.run_history.proofs.Ends.{run_stops-push}
 use Rattle.run_history.proofs.Going.{served_quiet}
-use Rattle.connection_loop.specs.declared.ending.Ending.{Ending}
-use Rattle.connection_loop.specs.declared.ending.Ending.TheVariants.{Complete, Cut, Unlinked, Starved, Stopped}
+use Rattle.connection_loop.specs.declared.ending.ConnectionEnd.{ConnectionEnd}
+use Rattle.connection_loop.specs.declared.ending.ConnectionEnd.TheVariants.{Complete, Cut, Unlinked, Starved, Stopped}
 use Rattle.connection_loop.specs.declared.connection.Next.TheVariants as next
 use Rattle.connection_loop.specs.declared.run.RunEnd.TheVariants as run
 use Rattle.connection_loop.specs.Turns.{EndsAs, GivesMore, IsBetween, LinkCount, SameImages, SiteCalls, TellsAll, disk_held, ending_of, is_stopped}
@@ -34,7 +34,7 @@ same_connected old new time =
 
 -- It was closed.
 pub ends_closed : {State Request : Type 0} (m : Machine State Request) (b : Beginning State) (old new : Device) (given : List ℕ)
-    (keeps keeps_now : State → Type 0) (finished : List (Session Request)) (n : RunCounts) (ending : Ending) → EndsAs m b old given keeps finished n ending
+    (keeps keeps_now : State → Type 0) (finished : List (Session Request)) (n : RunCounts) (ending : ConnectionEnd) → EndsAs m b old given keeps finished n ending
     → Elapses Unchanged Unchanged old new → new.link.connections ≡ old.link.connections → new.handed ≡ old.handed
     → ((s : State) → keeps s → keeps_now s) → EndsAs m b new given keeps_now finished n ending
 ends_closed m b old new given keeps keeps_now finished n ending e time same handed kept = record {
@@ -57,7 +57,7 @@ between_quiet m b old new given keeps keeps_now sessions n i time same handed ke
 }
 
 -- the calls for a connection that came, was served and was closed
-pub ended_calls : (ending : Ending) (within ended within_too ended_too : Left → Left → Type 0) (old came served new : Device)
+pub ended_calls : (ending : ConnectionEnd) (within ended within_too ended_too : Left → Left → Type 0) (old came served new : Device)
     → LinkCall within ended true old came → IsCounted true old.link.peer_faults came.link.peer_faults → SiteCalls (Some ending) came served
     → LinkCall within_too ended_too true served new → Closed served new → NextCalls (next.Ended ending) old new
 ended_calls ending within ended within_too ended_too old came served new waits peers calls closes closed = record {
@@ -103,11 +103,11 @@ stopped-ending session = by_flags (stops session.steps) (starves session.steps) 
     by_flags false false false true = refl
     by_flags false false false false = refl
 
-stops-by : {Request : Type 0} (session : Session Request) (ending : Ending) (b : Bool) → ending ≡ ending_of session → is_stopped ending ≡ b
+stops-by : {Request : Type 0} (session : Session Request) (ending : ConnectionEnd) (b : Bool) → ending ≡ ending_of session → is_stopped ending ≡ b
     → stops session.steps ≡ b
 stops-by session ending b is by = sym (ap is_stopped is ∙ stopped-ending session) ∙ by
 
-link_least : (ending : Ending) (before now : ℕ) → LinkCount (Some ending) before now → before ≤ now
+link_least : (ending : ConnectionEnd) (before now : ℕ) → LinkCount (Some ending) before now → before ≤ now
 link_least Complete before now count = omega (arith, count)
 link_least Cut before now count = omega (arith, count)
 link_least Unlinked before now count = count.0
@@ -118,7 +118,7 @@ link_least Stopped before now count = count
 rose_over : (a b c d : ℕ) → a ≤ b → b ≤ c → c ≤ d → Rose b c → Rose a d
 rose_over a b c d one two three rose = λ small. grind (arith, one, two, three, rose, small)
 
-link_rose : (ending : Ending) (before now : ℕ) → LinkCount (Some ending) before now → ending ≡ Unlinked → Rose before now
+link_rose : (ending : ConnectionEnd) (before now : ℕ) → LinkCount (Some ending) before now → ending ≡ Unlinked → Rose before now
 link_rose Complete before now count e = absurd cc
 link_rose Cut before now count e = absurd cc
 link_rose Unlinked before now count e = count.1
@@ -126,7 +126,7 @@ link_rose Starved before now count e = absurd cc
 link_rose Stopped before now count e = absurd cc
 
 -- connections and one more, with what each left of the count of link faults
-counted_more : {Request : Type 0} (a b c : ℕ) (sessions : List (Session Request)) (session : Session Request) (ending : Ending)
+counted_more : {Request : Type 0} (a b c : ℕ) (sessions : List (Session Request)) (session : Session Request) (ending : ConnectionEnd)
     → AreCounted a b sessions → a ≤ b → ending ≡ ending_of session → LinkCount (Some ending) b c → AreCounted a c (sessions ++ session ∷ [])
 counted_more a b c [] session ending so_far least is count =
     ((λ e. rose_over a b c c least (link_least ending b c count) (omega arith) (link_rose ending b c count (is ∙ e))), tt)
@@ -142,7 +142,7 @@ counted_later a b c (s ∷ sessions) so_far least more =
 
 -- a connection more
 pub between_more : {State Request : Type 0} (m : Machine State Request) (b : Beginning State) (first now d : Device) (given : List ℕ)
-    (keeps : State → Type 0) (sessions : List (Session Request)) (n : RunCounts) (ending : Ending) (counter : ℕ)
+    (keeps : State → Type 0) (sessions : List (Session Request)) (n : RunCounts) (ending : ConnectionEnd) (counter : ℕ)
     → EndsAs m b d given keeps sessions n ending → is_stopped ending ≡ false → length sessions ≡ counter
     → AreCounted first.link.faults now.link.faults sessions
     → first.link.faults ≤ now.link.faults → LinkCount (Some ending) now.link.faults d.link.faults
@@ -162,7 +162,7 @@ between_more m b first now d given keeps sessions n ending counter e on count co
 
 -- the disk failed in it
 pub ended_stopped : {State Request : Type 0} (m : Machine State Request) (b : Beginning State) (first now d : Device) (given : List ℕ)
-    (keeps : State → Type 0) (sessions : List (Session Request)) (n : RunCounts) (ending : Ending) (counter connections : ℕ)
+    (keeps : State → Type 0) (sessions : List (Session Request)) (n : RunCounts) (ending : ConnectionEnd) (counter connections : ℕ)
     → EndsAs m b d given keeps sessions n ending → is_stopped ending ≡ true → length sessions ≡ counter → counter < connections
     → AreCounted first.link.faults now.link.faults sessions → first.link.faults ≤ now.link.faults → LinkCount (Some ending) now.link.faults d.link.faults
     → HasEnded m b first d given n connections run.Stopped
@@ -177,21 +177,21 @@ ended_stopped m b first now d given keeps sessions n ending counter connections 
 }
 
 -- the calls of a run that goes on, and those for the next connection
-held_by : (ending : Ending) → is_stopped ending ≡ false → disk_held (Some ending) ≡ true
+held_by : (ending : ConnectionEnd) → is_stopped ending ≡ false → disk_held (Some ending) ≡ true
 held_by Complete e = refl
 held_by Cut e = refl
 held_by Unlinked e = refl
 held_by Starved e = refl
 held_by Stopped e = absurd (false≢true (sym e))
 
-failed_by : (ending : Ending) → is_stopped ending ≡ true → disk_held (Some ending) ≡ false
+failed_by : (ending : ConnectionEnd) → is_stopped ending ≡ true → disk_held (Some ending) ≡ false
 failed_by Complete e = absurd (false≢true e)
 failed_by Cut e = absurd (false≢true e)
 failed_by Unlinked e = absurd (false≢true e)
 failed_by Starved e = absurd (false≢true e)
 failed_by Stopped e = refl
 
-pub calls_on : (ending : Ending) (a b c : Device) → RunCalls run.Complete a b → NextCalls (next.Ended ending) b c → is_stopped ending ≡ false
+pub calls_on : (ending : ConnectionEnd) (a b c : Device) → RunCalls run.Complete a b → NextCalls (next.Ended ending) b c → is_stopped ending ≡ false
     → RunCalls run.Complete a c
 calls_on ending a b c first second on = record {
   same = same_device_twice a b c first.same second.same;
@@ -202,7 +202,7 @@ calls_on ending a b c first second on = record {
   closed = λ idle. second.closed (first.closed idle);
 }
 
-pub calls_stopped : (ending : Ending) (a b c : Device) → RunCalls run.Complete a b → NextCalls (next.Ended ending) b c → is_stopped ending ≡ true
+pub calls_stopped : (ending : ConnectionEnd) (a b c : Device) → RunCalls run.Complete a b → NextCalls (next.Ended ending) b c → is_stopped ending ≡ true
     → RunCalls run.Stopped a c
 calls_stopped ending a b c first second on = record {
   same = same_device_twice a b c first.same second.same;
@@ -262,7 +262,7 @@ served_first m setting d tells given keeps n size none = record {
 pub served_more : {State Request Setting : Type 0} (machine : Setting → Machine State Request) (setting_first setting setting_next : Setting)
     (first now last : Device) (tells_first tells_now tells_next : Bool)
     (given_first given more : List ℕ) (keeps_first keeps keeps_next : State → Type 0) (n_first n n_next : RunCounts)
-    (size_first size size_next counter : ℕ) (ending : Ending)
+    (size_first size size_next counter : ℕ) (ending : ConnectionEnd)
     → HasServedSo (machine setting_first) setting_first setting first now tells_first tells_now given_first given keeps_first keeps n_first n size_first size
     counter
     → NextCalls (next.Ended ending) now last → is_stopped ending ≡ false → size_next ≤ size → setting_next ≡ setting → (tells_next ≡ true → tells_now ≡ true)

@@ -12,8 +12,8 @@ use Rattle.run_history.specs.Steps.{Step}
 use Rattle.run_history.specs.Sessions.{Session}
 use Rattle.run_history.specs.Runs.{Beginning}
 use Rattle.run_history.specs.Serving.{RunCounts, Going}
-use Rattle.connection_loop.specs.declared.ending.Ending.{Ending}
-use Rattle.connection_loop.specs.declared.ending.Ending.TheVariants.{Complete, Cut, Unlinked, Starved, Stopped}
+use Rattle.connection_loop.specs.declared.ending.ConnectionEnd.{ConnectionEnd}
+use Rattle.connection_loop.specs.declared.ending.ConnectionEnd.TheVariants.{Complete, Cut, Unlinked, Starved, Stopped}
 use Rattle.connection_loop.specs.Turns.{GivesMore, GoesOn, LinkCount, SiteCalls, TellsAll, disk_held, held_with}
 use Rattle.connection_loop.specs.Loops.{HasTurned}
 
@@ -36,7 +36,7 @@ no_calls d = record {
 }
 
 -- calls that go on and others behind them
-pub link_more : (ending : Option Ending) (a b c : ℕ) → b ≡ a → LinkCount ending b c → LinkCount ending a c
+pub link_more : (ending : Option ConnectionEnd) (a b c : ℕ) → b ≡ a → LinkCount ending b c → LinkCount ending a c
 link_more None a b c same count = count ∙ same
 link_more (Some Complete) a b c same count = count ∙ same
 link_more (Some Cut) a b c same count = count ∙ same
@@ -44,7 +44,7 @@ link_more (Some Starved) a b c same count = omega (arith, same, count)
 link_more (Some Stopped) a b c same count = omega (arith, same, count)
 link_more (Some Unlinked) a b c same count = (omega (arith, same, count.0), λ small. let rose = count.1 in omega (arith, same, rose))
 
-pub calls_more : (ending : Option Ending) (a b c : Device) → SiteCalls None a b → SiteCalls ending b c → SiteCalls ending a c
+pub calls_more : (ending : Option ConnectionEnd) (a b c : Device) → SiteCalls None a b → SiteCalls ending b c → SiteCalls ending a c
 calls_more ending a b c first second = record {
   same = same_device_twice a b c first.same second.same;
   faults = counted_twice (disk_held ending) a.faults b.faults c.faults first.faults second.faults;

@@ -12,7 +12,7 @@ use Rattle.connection_loop.specs.declared.connection.Next.TheVariants.{NoMore, U
 use Rattle.connection_loop.specs.declared.run.RunEnd.{RunEnd}
 use Rattle.connection_loop.specs.declared.run.RunEnd.TheVariants.{Complete}
 use Rattle.connection_loop.specs.declared.run.RunEnd.TheVariants as run
-use Rattle.connection_loop.specs.declared.ending.Ending.TheVariants as endings
+use Rattle.connection_loop.specs.declared.ending.ConnectionEnd.TheVariants as endings
 use Rattle.connection_loop.specs.Turns.{EndsAs, GivesMore, GoesOn, IsBetween, LinkCount, SiteCalls, TellsAll, disk_held, ending_of, held_with}
 
 -- Turns of a connection so far: no call failed, each turn was counted, and the connection has come

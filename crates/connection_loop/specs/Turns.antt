@@ -9,8 +9,8 @@ use Rattle.run_history.specs.Sessions.{Session, after_sessions, has_link_failed,
 use Rattle.run_history.specs.Traces.{start_of}
 use Rattle.run_history.specs.Runs.{Beginning}
 use Rattle.run_history.specs.Serving.{RunCounts, Going, HasServed, Held, is_cut, run_stops, starves}
-use Rattle.connection_loop.specs.declared.ending.Ending.{Ending}
-use Rattle.connection_loop.specs.declared.ending.Ending.TheVariants.{Complete, Cut, Unlinked, Starved, Stopped}
+use Rattle.connection_loop.specs.declared.ending.ConnectionEnd.{ConnectionEnd}
+use Rattle.connection_loop.specs.declared.ending.ConnectionEnd.TheVariants.{Complete, Cut, Unlinked, Starved, Stopped}
 
 -- The outside is as the model says: the disk is honest, the site shows its bytes and tells its
 -- links, and the clock tells its moments.
@@ -32,7 +32,7 @@ pub record SameImages (old new : Device) : Type 0 where
       → (q : Left) × may_leave old q × (p.image ≡ q.image)
 
 -- how a connection ended, by its history
-abbrev pub ending_of : {Request : Type 0} → Session Request → Ending
+abbrev pub ending_of : {Request : Type 0} → Session Request → ConnectionEnd
 ending_of session =
     if stops session.steps then Stopped
     else if starves session.steps then Starved
@@ -41,7 +41,7 @@ ending_of session =
     else Complete
 
 -- whether a connection's end is the run's
-abbrev pub is_stopped : Ending → Bool
+abbrev pub is_stopped : ConnectionEnd → Bool
 is_stopped Complete = false
 is_stopped Cut = false
 is_stopped Unlinked = false
@@ -56,7 +56,7 @@ held_with s unread taken = record { state = s; unread = unread; taken = taken }
 -- failed.
 pub record EndsAs {State Request : Type 0} (m : Machine State Request) (b : Beginning State)
     (d : Device) (given : List ℕ) (keeps : State → Type 0)
-    (finished : List (Session Request)) (n : RunCounts) (ending : Ending) : Type 0 where
+    (finished : List (Session Request)) (n : RunCounts) (ending : ConnectionEnd) : Type 0 where
   pub session : Session Request
   pub served : HasServed m b d given (finished ++ session ∷ []) n
   pub unstopped : run_stops finished ≡ false
@@ -75,7 +75,7 @@ pub record GoesOn {State Request : Type 0} (m : Machine State Request) (b : Begi
 
 -- what a turn leads to: the connection goes on, or it has ended
 abbrev pub TurnLeads : {State Request : Type 0} → Machine State Request → Beginning State → Device
-    → List ℕ → List ℕ → ℕ → (State → Type 0) → List (Session Request) → RunCounts → Option Ending
+    → List ℕ → List ℕ → ℕ → (State → Type 0) → List (Session Request) → RunCounts → Option ConnectionEnd
     → Type 0
 TurnLeads m b d given unread taken keeps finished n None =
     GoesOn m b d given unread taken keeps finished n
@@ -84,7 +84,7 @@ TurnLeads m b d given unread taken keeps finished n (Some ending) =
 
 -- What a connection that goes on or ended in some way leaves of the count of link faults. Where it
 -- ended for want of memory or with a disk fault, its last answer may have failed to be said.
-abbrev pub LinkCount : Option Ending → ℕ → ℕ → Type 0
+abbrev pub LinkCount : Option ConnectionEnd → ℕ → ℕ → Type 0
 LinkCount None before now = now ≡ before
 LinkCount (Some Complete) before now = now ≡ before
 LinkCount (Some Cut) before now = now ≡ before
@@ -93,7 +93,7 @@ LinkCount (Some Starved) before now = before ≤ now
 LinkCount (Some Stopped) before now = before ≤ now
 
 -- no call of the disk failed
-abbrev pub disk_held : Option Ending → Bool
+abbrev pub disk_held : Option ConnectionEnd → Bool
 disk_held None = true
 disk_held (Some Complete) = true
 disk_held (Some Cut) = true
@@ -102,7 +102,7 @@ disk_held (Some Starved) = true
 disk_held (Some Stopped) = false
 
 -- what the calls of a connection leave of a site by how it ended
-pub record SiteCalls (ending : Option Ending) (old new : Device) : Type 0 where
+pub record SiteCalls (ending : Option ConnectionEnd) (old new : Device) : Type 0 where
   pub same : SameDevice old new
   pub faults : IsCounted (disk_held ending) old.faults new.faults
   pub link_faults : LinkCount ending old.link.faults new.link.faults

@@ -6,7 +6,7 @@ ghost use Rattle.run_history.specs.Serving.{Going};
 ghost use Rattle.connection_loop.specs.Turns.{EndsAs, GivesMore, IsBetween, SiteCalls, TellsAll, held_with};
 ghost use Rattle.connection_loop.specs.Loops.{NextCalls, NextLeads};
 
-use crate::{Ending, MOST_ANSWERS, Service, Tally};
+use crate::{ConnectionEnd, MOST_ANSWERS, RunTally, Service};
 use site_edge::{Clock, LinkFailed, Site};
 use std::alloc::Global;
 
@@ -18,7 +18,7 @@ pub enum Next {
     /// Waiting for one failed.
     Unlinked,
     /// One came, was served and has ended.
-    Ended(Ending),
+    Ended(ConnectionEnd),
 }
 
 /// Serves the connection that is under way to its end.
@@ -27,8 +27,8 @@ fn serve_connection<V: Service, X: Site, C: Clock>(
     service: &mut V,
     site: &mut X,
     clock: &mut C,
-    tally: &mut Tally,
-) -> Ending
+    tally: &mut RunTally,
+) -> ConnectionEnd
     requires ready { V.ready service.old }
     requires none { V.taken service.old ≡ 0 }
     requires turns { V.turns service.old ≡ 0 }
@@ -64,7 +64,7 @@ pub fn serve_next<V: Service, X: Site, C: Clock>(
     service: &mut V,
     site: &mut X,
     clock: &mut C,
-    tally: &mut Tally,
+    tally: &mut RunTally,
 ) -> Next
     requires room { tally.old.answers + MOST_ANSWERS < 2 ^ 60 }
     requires device { V.size service.old ≤ (X.device site.old).size }

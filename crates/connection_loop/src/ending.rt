@@ -3,7 +3,7 @@ ghost use Rattle.std.specs.Prelude.{◌≡◌};
 
 /// How a connection ended. A later one of these stands before an earlier one.
 #[derive(Clone, Copy, Debug, PartialEq, Eq)]
-pub enum Ending {
+pub enum ConnectionEnd {
     /// With its peer's bytes, behind a whole request, or with an answer that ends it.
     Complete,
     /// With its peer's bytes, within a request.
@@ -16,13 +16,13 @@ pub enum Ending {
     Stopped,
 }
 
-impl Ending {
+impl ConnectionEnd {
     ghost use Rattle.connection_loop.specs.Turns.{is_stopped};
 
     /// Whether it ends the run too.
     pub(crate) fn is_stopped(self) -> bool
         ensures { result ≡ is_stopped self }
     {
-        matches!(self, Ending::Stopped)
+        matches!(self, ConnectionEnd::Stopped)
     }
 }

@@ -10,7 +10,7 @@ mod service;
 mod tally;
 
 pub use crate::connection::{Next, serve_next};
-pub use crate::ending::Ending;
+pub use crate::ending::ConnectionEnd;
 pub use crate::run::{MOST_CONNECTIONS, RunEnd, serve};
 pub use crate::service::{MOST_ANSWERS, Service};
-pub use crate::tally::Tally;
+pub use crate::tally::RunTally;

@@ -5,7 +5,7 @@ ghost use Rattle.connection_loop.specs.Turns.{GivesMore, IsBetween, TellsAll};
 ghost use Rattle.connection_loop.specs.Loops.{HasEnded, RunCalls};
 
 use crate::connection::{Next, serve_next};
-use crate::{Service, Tally};
+use crate::{RunTally, Service};
 use site_edge::{Clock, Site};
 use std::alloc::Global;
 
@@ -32,7 +32,7 @@ pub fn serve<V: Service, X: Site, C: Clock>(
     service: &mut V,
     site: &mut X,
     clock: &mut C,
-    tally: &mut Tally,
+    tally: &mut RunTally,
     connections: u64,
 ) -> RunEnd
     requires none { tally.old.answers ≡ 0 }

@@ -8,7 +8,7 @@ ghost use Rattle.run_history.specs.Runs.{Beginning};
 ghost use Rattle.run_history.specs.Serving.{Going};
 ghost use Rattle.connection_loop.specs.Turns.{GivesMore, SameImages, SiteCalls, TellsAll, TurnLeads, held_with};
 
-use crate::{Ending, Tally};
+use crate::{ConnectionEnd, RunTally};
 use site_edge::{Clock, Site};
 use std::alloc::Global;
 
@@ -74,8 +74,8 @@ pub trait Service {
         alloc: Global,
         site: &mut X,
         clock: &mut C,
-        tally: &mut Tally,
-    ) -> Option<Ending>
+        tally: &mut RunTally,
+    ) -> Option<ConnectionEnd>
         requires ready { ready self.old }
         requires few { taken self.old < MOST_ANSWERS }
         requires room { tally.old.answers < 2 ^ 60 }

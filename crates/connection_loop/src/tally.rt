@@ -6,13 +6,13 @@ use std::marker::Model;
 
 /// How many answers a run gave, how many changes it made, and how many turns it skipped.
 #[derive(Drop)]
-pub struct Tally {
+pub struct RunTally {
     answers: u64,
     changes: u64,
     skipped: u64,
 }
 
-impl Model for Tally {
+impl Model for RunTally {
     ghost use Rattle.std.specs.Prelude.{◌≤◌, ◌*◌};
     ghost use Rattle.run_history.specs.Serving.{RunCounts};
     ghost use Rattle.connection_loop.specs.Tallies.{IsTally};
@@ -24,14 +24,14 @@ impl Model for Tally {
     ghost invariant = { λ t. IsTally t.answers t.changes t.skipped };
 }
 
-impl Tally {
+impl RunTally {
     ghost use Rattle.connection_loop.specs.Tallies.{plus_answer, nothing_counted};
 
     /// The numbers of a run that hasn't begun.
-    pub fn new() -> Tally
+    pub fn new() -> RunTally
         ensures { result ≡ nothing_counted }
     {
-        Tally {
+        RunTally {
             answers: 0,
             changes: 0,
             skipped: 0,

@@ -20,7 +20,7 @@ const INSTALLED: u64 = 10;
 
 /// A kind of change.
 #[derive(Clone, Copy)]
-pub(crate) enum Kind {
+pub(crate) enum ChangeKind {
     PutFlow,
     NewFlow,
     SetFlow,
@@ -38,40 +38,40 @@ pub(crate) enum Kind {
 }
 
 /// All kinds, in the order in which they are measured.
-pub(crate) const KINDS: [Kind; 14] = [
-    Kind::PutFlow,
-    Kind::NewFlow,
-    Kind::SetFlow,
-    Kind::SetSource,
-    Kind::DropFlow,
-    Kind::AskDelete,
-    Kind::Allocate,
-    Kind::Keep,
-    Kind::AddSegment,
-    Kind::CutSegment,
-    Kind::PutHook,
-    Kind::DropHook,
-    Kind::DeleteStep,
-    Kind::SweepStep,
+pub(crate) const KINDS: [ChangeKind; 14] = [
+    ChangeKind::PutFlow,
+    ChangeKind::NewFlow,
+    ChangeKind::SetFlow,
+    ChangeKind::SetSource,
+    ChangeKind::DropFlow,
+    ChangeKind::AskDelete,
+    ChangeKind::Allocate,
+    ChangeKind::Keep,
+    ChangeKind::AddSegment,
+    ChangeKind::CutSegment,
+    ChangeKind::PutHook,
+    ChangeKind::DropHook,
+    ChangeKind::DeleteStep,
+    ChangeKind::SweepStep,
 ];
 
-impl Kind {
+impl ChangeKind {
     pub(crate) fn name(self) -> &'static str {
         match self {
-            Kind::PutFlow => "put-flow",
-            Kind::NewFlow => "new-flow",
-            Kind::SetFlow => "set-flow",
-            Kind::SetSource => "set-source",
-            Kind::DropFlow => "drop-flow",
-            Kind::AskDelete => "ask-delete",
-            Kind::Allocate => "allocate",
-            Kind::Keep => "keep",
-            Kind::AddSegment => "add-segment",
-            Kind::CutSegment => "cut-segment",
-            Kind::PutHook => "put-hook",
-            Kind::DropHook => "drop-hook",
-            Kind::DeleteStep => "delete-step",
-            Kind::SweepStep => "sweep-step",
+            ChangeKind::PutFlow => "put-flow",
+            ChangeKind::NewFlow => "new-flow",
+            ChangeKind::SetFlow => "set-flow",
+            ChangeKind::SetSource => "set-source",
+            ChangeKind::DropFlow => "drop-flow",
+            ChangeKind::AskDelete => "ask-delete",
+            ChangeKind::Allocate => "allocate",
+            ChangeKind::Keep => "keep",
+            ChangeKind::AddSegment => "add-segment",
+            ChangeKind::CutSegment => "cut-segment",
+            ChangeKind::PutHook => "put-hook",
+            ChangeKind::DropHook => "drop-hook",
+            ChangeKind::DeleteStep => "delete-step",
+            ChangeKind::SweepStep => "sweep-step",
         }
     }
 }
@@ -79,7 +79,7 @@ impl Kind {
 /// A library to measure, how many flows with all their segments it has, and among how many first ones of them the flows
 /// of commands are taken at random.
 #[derive(Clone, Copy)]
-pub(crate) struct Site<'a> {
+pub(crate) struct Measured<'a> {
     pub(crate) alloc: Global,
     pub(crate) base: &'a Core,
     pub(crate) flows: u64,
@@ -126,30 +126,47 @@ fn drop_hook(alloc: Global, core: &Core) -> Result<Prepared, Stop> {
 }
 
 /// A change of a kind, of the flow at a place where it is of one.
-fn prepared(site: &Site<'_>, core: &Core, kind: Kind, place: u64) -> Result<Prepared, Stop> {
+fn prepared(
+    site: &Measured<'_>,
+    core: &Core,
+    kind: ChangeKind,
+    place: u64,
+) -> Result<Prepared, Stop> {
     let alloc = site.alloc;
     let flow = u128::from(place);
     let last = u128::from(site.flows);
     match kind {
-        Kind::PutFlow => put_flow(alloc, core, flow, place),
-        Kind::NewFlow => put_flow(alloc, core, last + 1, place),
-        Kind::SetFlow => commands::set_flow(alloc, core, flow, Part::MaxBitRate(Some(place)), NOW),
-        Kind::SetSource => set_source(alloc, core, place),
-        Kind::DropFlow => commands::drop_flow(alloc, core, last, NOW),
-        Kind::AskDelete => commands::cut_segments(alloc, core, flow, TimeRange::eternity(), NOW),
-        Kind::Allocate => commands::allocate(alloc, core, flow, 1, NOW),
-        Kind::Keep => keep(alloc, core),
-        Kind::AddSegment => add_segment(alloc, core, place),
-        Kind::CutSegment => commands::cut_segments(alloc, core, flow, range(20, 1), NOW),
-        Kind::PutHook => put_hook(alloc, core),
-        Kind::DropHook => drop_hook(alloc, core),
-        Kind::DeleteStep | Kind::SweepStep => commands::turn(alloc, core, NOW),
+        ChangeKind::PutFlow => put_flow(alloc, core, flow, place),
+        ChangeKind::NewFlow => put_flow(alloc, core, last + 1, place),
+        ChangeKind::SetFlow => commands::set_flow(
+            alloc,
+            core,
+            flow,
+            Part::MaxBitRate(Some(place)),
+            NOW,
+        ),
+        ChangeKind::SetSource => set_source(alloc, core, place),
+        ChangeKind::DropFlow => commands::drop_flow(alloc, core, last, NOW),
+        ChangeKind::AskDelete => commands::cut_segments(
+            alloc,
+            core,
+            flow,
+            TimeRange::eternity(),
+            NOW,
+        ),
+        ChangeKind::Allocate => commands::allocate(alloc, core, flow, 1, NOW),
+        ChangeKind::Keep => keep(alloc, core),
+        ChangeKind::AddSegment => add_segment(alloc, core, place),
+        ChangeKind::CutSegment => commands::cut_segments(alloc, core, flow, range(20, 1), NOW),
+        ChangeKind::PutHook => put_hook(alloc, core),
+        ChangeKind::DropHook => drop_hook(alloc, core),
+        ChangeKind::DeleteStep | ChangeKind::SweepStep => commands::turn(alloc, core, NOW),
     }
 }
 
 /// The library on which a kind of change is made: for a delete step, one with a request.
-pub(crate) fn base_of(site: &Site<'_>, kind: Kind) -> Result<Core, Stop> {
-    if let Kind::DeleteStep = kind {
+pub(crate) fn base_of(site: &Measured<'_>, kind: ChangeKind) -> Result<Core, Stop> {
+    if let ChangeKind::DeleteStep = kind {
         let made = commands::drop_flow(site.alloc, site.base, 0, NOW)?;
         return Ok(made.core);
     }
@@ -178,9 +195,9 @@ fn installed(core: Result<Core, Memory>, made: Prepared) -> Result<(), Stop> {
 
 /// Prepares a change of a kind, and installs it where that is wanted. The library itself stays.
 pub(crate) fn changed(
-    site: &Site<'_>,
+    site: &Measured<'_>,
     base: &Core,
-    kind: Kind,
+    kind: ChangeKind,
     place: u64,
     installs: bool,
 ) -> Result<(), Stop> {
@@ -193,7 +210,12 @@ pub(crate) fn changed(
 }
 
 /// Prepares a kind of change so often, each time on the same library, and installs one in ten.
-pub(crate) fn repeated(site: &Site<'_>, base: &Core, kind: Kind, times: u64) -> Result<(), Stop> {
+pub(crate) fn repeated(
+    site: &Measured<'_>,
+    base: &Core,
+    kind: ChangeKind,
+    times: u64,
+) -> Result<(), Stop> {
     let mut places = Places::new(site.near);
     for time in 0..times {
         changed(site, base, kind, places.next(), time % INSTALLED == 0)?;

@@ -1,5 +1,5 @@
 //! How long changes take, by the processor time of the process.
-use crate::kinds::{KINDS, Kind, Site, base_of, changed, repeated};
+use crate::kinds::{ChangeKind, KINDS, Measured, base_of, changed, repeated};
 use crate::let_go;
 use crate::library::library;
 use crate::records::{add_changes, opened};
@@ -53,9 +53,9 @@ fn of_one(taken: u128, times: u64) -> u128 {
 /// The nanoseconds of one change of a kind in a round.
 fn round(
     rt: &HostRuntime,
-    site: &Site<'_>,
+    site: &Measured<'_>,
     base: &Core,
-    kind: Kind,
+    kind: ChangeKind,
     times: u64,
 ) -> Result<u128, Stop> {
     let start = nanoseconds(rt)?;
@@ -67,9 +67,9 @@ fn round(
 /// The nanoseconds of one change of a kind in the best round. One is made before.
 fn best(
     rt: &HostRuntime,
-    site: &Site<'_>,
+    site: &Measured<'_>,
     base: &Core,
-    kind: Kind,
+    kind: ChangeKind,
     times: u64,
 ) -> Result<u128, Stop> {
     changed(site, base, kind, 0, true)?;
@@ -81,7 +81,12 @@ fn best(
 }
 
 /// Prints the nanoseconds that a kind of change takes.
-fn measure_kind(rt: &HostRuntime, site: &Site<'_>, kind: Kind, times: u64) -> Result<(), Stop> {
+fn measure_kind(
+    rt: &HostRuntime,
+    site: &Measured<'_>,
+    kind: ChangeKind,
+    times: u64,
+) -> Result<(), Stop> {
     let base = base_of(site, kind)?;
     let least = best(rt, site, &base, kind, times);
     let_go::library(base);
@@ -89,7 +94,7 @@ fn measure_kind(rt: &HostRuntime, site: &Site<'_>, kind: Kind, times: u64) -> Re
 }
 
 /// Prints the nanoseconds that each kind of change takes.
-fn measure_kinds(rt: &HostRuntime, site: &Site<'_>, times: u64) -> Result<(), Stop> {
+fn measure_kinds(rt: &HostRuntime, site: &Measured<'_>, times: u64) -> Result<(), Stop> {
     say_counts(rt, site.base.counts())?;
     for kind in &KINDS {
         measure_kind(rt, site, *kind, times)?;
@@ -107,7 +112,7 @@ pub(crate) fn measure_changes(
 ) -> Result<(), Stop> {
     let alloc = rt.alloc();
     let core = library(alloc, flows)?;
-    let site = Site {
+    let site = Measured {
         alloc,
         base: &core,
         flows,

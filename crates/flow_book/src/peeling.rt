@@ -14,7 +14,7 @@ use std::alloc::Global;
 
 /// Flows, and the index of who collects whom among them.
 #[derive(Drop)]
-pub(crate) struct Left {
+pub(crate) struct FlowsLeft {
     pub(crate) flows: Version<FlowRow>,
     pub(crate) collectors: IdIndex,
 }
@@ -26,11 +26,11 @@ pub(crate) fn all_peeled(
     rows: &[FlowRow],
     flows: &Version<FlowRow>,
     collectors: &IdIndex,
-) -> Result<Left, Memory>
+) -> Result<FlowsLeft, Memory>
     requires { IsPeeled rows.now flows.now collectors.now (map flow_id rows.now) }
     ensures { IfOk result (λ left. IsPeeled rows.now left.flows left.collectors []) }
 {
-    let mut left = Left {
+    let mut left = FlowsLeft {
         flows: flows.share()?,
         collectors: collectors.share()?,
     };
@@ -52,7 +52,12 @@ fn flow_ids(alloc: Global, rows: &[FlowRow]) -> Result<Vec<u128>, Memory>
 }
 
 /// The flows without one, where it is among them and none collects it. Those that it collects wait.
-fn peeled(alloc: Global, left: Left, id: u128, waiting: &mut Vec<u128>) -> Result<Left, Memory>
+fn peeled(
+    alloc: Global,
+    left: FlowsLeft,
+    id: u128,
+    waiting: &mut Vec<u128>,
+) -> Result<FlowsLeft, Memory>
     ensures kept { IfOk result (λ next. (rows : List FlowRow)
         → IsPeeled rows left.flows left.collectors (waiting.old.items ++ id ∷ [])
         → IsPeeled rows next.flows next.collectors waiting.new.items) }
@@ -68,7 +73,7 @@ fn peeled(alloc: Global, left: Left, id: u128, waiting: &mut Vec<u128>) -> Resul
     };
     let collected = member_ids(alloc, row.body.members.items())?;
     waiting.extend_from_slice(&collected)?;
-    Ok(Left {
+    Ok(FlowsLeft {
         flows: without_row(alloc, &left.flows, id)?,
         collectors: left.collectors.unlink(alloc, &collected, id)?,
     })

@@ -11,20 +11,20 @@ use Rattle.http_queries.specs.Pairs.{is_pair_named}
 use Rattle.http_queries.specs.declared.pairs.Pair.{Pair}
 use Rattle.http_queries.specs.declared.rules.QueryKind.{QueryKind}
 use Rattle.http_queries.specs.declared.rules.QueryKind.TheVariants.{Sources, Flows, Segments, Cut}
-use Rattle.http_queries.specs.declared.rules.Rule.{Rule}
-use Rattle.http_queries.specs.declared.rules.Rule.TheVariants as rules
+use Rattle.http_queries.specs.declared.rules.ValueRule.{ValueRule}
+use Rattle.http_queries.specs.declared.rules.ValueRule.TheVariants as rules
 
 -- ---- names
 
 -- tests on tags, `tag.NAME` and `tag_exists.NAME`; no other name is listed
-abbrev pub tag_name_rule : List ℕ → Option Rule
+abbrev pub tag_name_rule : List ℕ → Option ValueRule
 tag_name_rule name =
     if starts_with nat_eq name (codes "tag.") then Some rules.Any
     else if starts_with nat_eq name (codes "tag_exists.") then Some rules.Truth
     else None
 
 -- a list of sources
-abbrev pub source_rule : List ℕ → Option Rule
+abbrev pub source_rule : List ℕ → Option ValueRule
 source_rule name =
     if bytes_eq name (codes "label") then Some rules.Any
     else if bytes_eq name (codes "format") then Some rules.Format
@@ -33,7 +33,7 @@ source_rule name =
     else tag_name_rule name
 
 -- a list of flows, with these names besides
-abbrev pub flow_rule : List ℕ → Option Rule
+abbrev pub flow_rule : List ℕ → Option ValueRule
 flow_rule name =
     if bytes_eq name (codes "source_id") then Some rules.Id
     else if bytes_eq name (codes "timerange") then Some rules.Range
@@ -43,7 +43,7 @@ flow_rule name =
     else source_rule name
 
 -- a list of segments
-abbrev pub segment_rule : List ℕ → Option Rule
+abbrev pub segment_rule : List ℕ → Option ValueRule
 segment_rule name =
     if bytes_eq name (codes "timerange") then Some rules.Range
     else if bytes_eq name (codes "object_id") then Some rules.Any
@@ -53,11 +53,11 @@ segment_rule name =
     else None
 
 -- a deletion of segments, whose query has no other name
-abbrev pub cut_rule : List ℕ → Rule
+abbrev pub cut_rule : List ℕ → ValueRule
 cut_rule name = if bytes_eq name (codes "timerange") then rules.Range else rules.Never
 
 -- the rule of a name, where it is a listed one
-unfoldable pub rule_of : QueryKind → List ℕ → Option Rule
+unfoldable pub rule_of : QueryKind → List ℕ → Option ValueRule
 rule_of Sources name = source_rule name
 rule_of Flows name = flow_rule name
 rule_of Segments name = segment_rule name
@@ -66,7 +66,7 @@ rule_of Cut name = Some (cut_rule name)
 -- ---- values
 
 -- a value spells what a rule says
-abbrev pub is_read : Rule → List ℕ → Bool
+abbrev pub is_read : ValueRule → List ℕ → Bool
 is_read rules.Any value = true
 is_read rules.Id value = is_some (id_of value)
 is_read rules.Point value = is_some (point_in value)
@@ -79,7 +79,7 @@ is_read rules.Never value = false
 -- ---- faults
 
 -- a pair of a listed name is at fault where its name stood before, or its value isn't read
-abbrev pub breaks : List Pair → Pair → Option Rule → Bool
+abbrev pub breaks : List Pair → Pair → Option ValueRule → Bool
 breaks earlier pair None = false
 breaks earlier pair (Some rule) =
     list_any (is_pair_named pair.name) earlier || not (is_read rule pair.value)

@@ -19,7 +19,7 @@ pub enum QueryKind {
 
 /// What the value of a name must spell.
 #[derive(Clone, Copy, Debug, PartialEq, Eq)]
-pub(crate) enum Rule {
+pub(crate) enum ValueRule {
     /// Any text.
     Any,
     Id,
@@ -35,7 +35,7 @@ pub(crate) enum Rule {
 
 /// The rule of a name, where it is a listed one.
 #[tactic(auto, unfolding(crate::specs::Rules::rule_of))]
-pub(crate) fn rule_of(kind: QueryKind, name: &[u8]) -> Option<Rule>
+pub(crate) fn rule_of(kind: QueryKind, name: &[u8]) -> Option<ValueRule>
     ensures { result ≡ rule_of kind name.now }
 {
     match kind {
@@ -46,90 +46,90 @@ pub(crate) fn rule_of(kind: QueryKind, name: &[u8]) -> Option<Rule>
     }
 }
 
-fn source_rule(name: &[u8]) -> Option<Rule>
+fn source_rule(name: &[u8]) -> Option<ValueRule>
     ensures { result ≡ spec.source_rule name.now }
 {
     if is_word(name, "label") {
-        Some(Rule::Any)
+        Some(ValueRule::Any)
     } else if is_word(name, "format") {
-        Some(Rule::Format)
+        Some(ValueRule::Format)
     } else if is_word(name, "limit") {
-        Some(Rule::Limit)
+        Some(ValueRule::Limit)
     } else if is_word(name, "page") {
-        Some(Rule::Id)
+        Some(ValueRule::Id)
     } else {
         tag_name_rule(name)
     }
 }
 
-fn flow_rule(name: &[u8]) -> Option<Rule>
+fn flow_rule(name: &[u8]) -> Option<ValueRule>
     ensures { result ≡ spec.flow_rule name.now }
 {
     if is_word(name, "source_id") {
-        Some(Rule::Id)
+        Some(ValueRule::Id)
     } else if is_word(name, "timerange") {
-        Some(Rule::Range)
+        Some(ValueRule::Range)
     } else if is_word(name, "codec") {
-        Some(Rule::Any)
+        Some(ValueRule::Any)
     } else if is_word(name, "frame_width") || is_word(name, "frame_height") {
-        Some(Rule::Never)
+        Some(ValueRule::Never)
     } else {
         source_rule(name)
     }
 }
 
-fn segment_rule(name: &[u8]) -> Option<Rule>
+fn segment_rule(name: &[u8]) -> Option<ValueRule>
     ensures { result ≡ spec.segment_rule name.now }
 {
     if is_word(name, "timerange") {
-        Some(Rule::Range)
+        Some(ValueRule::Range)
     } else if is_word(name, "object_id") {
-        Some(Rule::Any)
+        Some(ValueRule::Any)
     } else if is_word(name, "reverse_order") {
-        Some(Rule::Truth)
+        Some(ValueRule::Truth)
     } else if is_word(name, "limit") {
-        Some(Rule::Limit)
+        Some(ValueRule::Limit)
     } else if is_word(name, "page") {
-        Some(Rule::Point)
+        Some(ValueRule::Point)
     } else {
         None
     }
 }
 
-fn cut_rule(name: &[u8]) -> Rule
+fn cut_rule(name: &[u8]) -> ValueRule
     ensures { result ≡ spec.cut_rule name.now }
 {
     if is_word(name, "timerange") {
-        Rule::Range
+        ValueRule::Range
     } else {
-        Rule::Never
+        ValueRule::Never
     }
 }
 
-fn tag_name_rule(name: &[u8]) -> Option<Rule>
+fn tag_name_rule(name: &[u8]) -> Option<ValueRule>
     ensures { result ≡ spec.tag_name_rule name.now }
 {
     if name.starts_with(b"tag.") {
-        Some(Rule::Any)
+        Some(ValueRule::Any)
     } else if name.starts_with(b"tag_exists.") {
-        Some(Rule::Truth)
+        Some(ValueRule::Truth)
     } else {
         None
     }
 }
 
 /// Whether a value spells what a rule says.
-pub(crate) fn is_read(rule: Rule, value: &[u8]) -> bool
+pub(crate) fn is_read(rule: ValueRule, value: &[u8]) -> bool
     ensures { result ≡ is_read rule value.now }
 {
     match rule {
-        Rule::Any => true,
-        Rule::Id => read_id(value).is_some(),
-        Rule::Point => read_point(value).is_some(),
-        Rule::Format => read_format(value).is_some(),
-        Rule::Limit => read_limit(value).is_some(),
-        Rule::Range => read_range(value).is_ok(),
-        Rule::Truth => read_truth(value).is_some(),
-        Rule::Never => false,
+        ValueRule::Any => true,
+        ValueRule::Id => read_id(value).is_some(),
+        ValueRule::Point => read_point(value).is_some(),
+        ValueRule::Format => read_format(value).is_some(),
+        ValueRule::Limit => read_limit(value).is_some(),
+        ValueRule::Range => read_range(value).is_ok(),
+        ValueRule::Truth => read_truth(value).is_some(),
+        ValueRule::Never => false,
     }
 }

@@ -13,8 +13,8 @@ use Rattle.http_wire.specs.Heads.{whole}
 use Rattle.http_wire.specs.Hearing.{Asked, HeardRequests, IsHeard, and_then, ends_with, stopped_by}
 use Rattle.http_wire.specs.Requests.{IsNext, given, opened}
 use Rattle.http_wire.specs.declared.framing.WireFault.{WireFault}
-use Rattle.http_wire.specs.declared.stage.Stage.{Stage}
-use Rattle.http_wire.specs.declared.stage.Stage.TheVariants.{Failed, Media, Open}
+use Rattle.http_wire.specs.declared.stage.FeedStage.{FeedStage}
+use Rattle.http_wire.specs.declared.stage.FeedStage.TheVariants.{Failed, Media, Open}
 use Rattle.http_wire.proofs.Hearings.{ends_last, ends_last_media, hears_on, hears_on_media, stays_refused}
 
 before-push : (done : List Asked) (asked : Asked) (tail : HeardRequests)
@@ -29,7 +29,7 @@ settle_media all done None ended requests unread agrees = absurd agrees
 settle_media all done (Some last) ended requests unread agrees = λ later tail follows.
     rw before-push (rw append-nil at (agrees later tail (omega arith) follows))
 
-settle : (stage : Stage) (all : List ℕ) (so_far : Given) (ended : Bool) (requests : ℕ) (unread : List ℕ) → left_of stage ≡ 0
+settle : (stage : FeedStage) (all : List ℕ) (so_far : Given) (ended : Bool) (requests : ℕ) (unread : List ℕ) → left_of stage ≡ 0
     → ((fault : WireFault) → stage ≡ Failed fault → ⊥) → AgreesBy stage all so_far ended requests unread
     → OpenAgrees all (settled so_far) ended requests unread
 settle Open all so_far ended requests unread none other agrees = agrees
@@ -70,7 +70,7 @@ agrees_at_start = record {
   spells = λ later tail follows. follows;
 }
 
-pushed_by : (stage : Stage) (all bytes : List ℕ) (so_far : Given) (media : Option Asked) (ended : Bool) (requests : ℕ) (unread : List ℕ)
+pushed_by : (stage : FeedStage) (all bytes : List ℕ) (so_far : Given) (media : Option Asked) (ended : Bool) (requests : ℕ) (unread : List ℕ)
     → so_far.media ≡ media
     → AgreesBy stage all so_far ended requests unread → AgreesBy stage (all ++ bytes) so_far ended requests (unread ++ bytes)
 pushed_by Open all bytes so_far media ended requests unread is agrees = λ later tail follows.

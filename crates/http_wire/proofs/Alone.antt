@@ -11,16 +11,16 @@ use Rattle.http_wire.specs.Lines.{behind_byte, further, head_end, line_end, look
 use Rattle.http_wire.specs.Feeds.{IsInterimDue}
 use Rattle.http_wire.specs.Hearing.{StandsAlone}
 use Rattle.http_wire.specs.Requests.{Got, IsNext, after_head, after_read, body_at, framed_body, given, opened, with_content}
-use Rattle.http_wire.specs.declared.chunk_line.Ending.{Ending}
-use Rattle.http_wire.specs.declared.chunk_line.Ending.TheVariants.{Ended, Open, Wrong}
+use Rattle.http_wire.specs.declared.chunk_line.FrontEnd.{FrontEnd}
+use Rattle.http_wire.specs.declared.chunk_line.FrontEnd.TheVariants.{Ended, Open, Wrong}
 use Rattle.http_wire.specs.declared.framing.Framing.{Framing}
 use Rattle.http_wire.specs.declared.framing.Framing.TheVariants.{Chunked, Length}
 use Rattle.http_wire.specs.declared.framing.WireFault.{WireFault}
 use Rattle.http_wire.specs.declared.framing.WireFault.TheVariants.{Coding, TooLarge}
 use Rattle.http_wire.specs.declared.lines.Looked.{Looked}
 use Rattle.http_wire.specs.declared.lines.Looked.TheVariants as looks
-use Rattle.http_wire.specs.declared.lines.Place.{Place}
-use Rattle.http_wire.specs.declared.lines.Place.TheVariants.{After, Before}
+use Rattle.http_wire.specs.declared.lines.LinePlace.{LinePlace}
+use Rattle.http_wire.specs.declared.lines.LinePlace.TheVariants.{After, Before}
 use Rattle.http_wire.proofs.Hearings.{next_unique}
 use Rattle.http_wire.proofs.Interims.{same_head}
 use Rattle.http_wire.proofs.Seeking.{IsHead_later}
@@ -47,8 +47,8 @@ front_on : (front all : Looked) (n : ℕ) → ((m : ℕ) → all ≡ looks.Ended
 front_on front (looks.Ended m) n same e = let sum : m + 1 ≡ n = cc in rw (same m refl sum) e
 front_on front (looks.Still q) n same e = cc
 
-front_step : (o : Option Place) (front all : Place → Looked) (n : ℕ)
-    → ((q : Place) (m : ℕ) → all q ≡ looks.Ended m → m + 1 ≡ n → front q ≡ looks.Ended m) → behind_byte o all ≡ looks.Ended n
+front_step : (o : Option LinePlace) (front all : LinePlace → Looked) (n : ℕ)
+    → ((q : LinePlace) (m : ℕ) → all q ≡ looks.Ended m → m + 1 ≡ n → front q ≡ looks.Ended m) → behind_byte o all ≡ looks.Ended n
     → behind_byte o front ≡ looks.Ended n
 front_step None front all n same e = e
 front_step (Some q) front all n same e = front_on (front q) (all q) n (same q) e
@@ -57,11 +57,11 @@ one_on-some : (all : Looked) (n : ℕ) → one_on all ≡ looks.Ended n → 1 �
 one_on-some (looks.Ended m) n e = let sum : m + 1 ≡ n = cc in omega (arith, sum)
 one_on-some (looks.Still q) n e = cc
 
-some_byte : (o : Option Place) (all : Place → Looked) (n : ℕ) → behind_byte o all ≡ looks.Ended n → 1 ≤ n
+some_byte : (o : Option LinePlace) (all : LinePlace → Looked) (n : ℕ) → behind_byte o all ≡ looks.Ended n → 1 ≤ n
 some_byte None all n e = let same : 1 ≡ n = cc in omega (arith, same)
 some_byte (Some q) all n e = one_on-some (all q) n e
 
-looked-take : (p : Place) (xs : List ℕ) (n k : ℕ) → looked p xs ≡ looks.Ended n → n ≤ k → looked p (take k xs) ≡ looks.Ended n
+looked-take : (p : LinePlace) (xs : List ℕ) (n k : ℕ) → looked p xs ≡ looks.Ended n → n ≤ k → looked p (take k xs) ≡ looks.Ended n
 looked-take p [] n k e le = cc
 looked-take p (x ∷ xs) n zero e le = absurd (omega (arith, le, some_byte (next_place p x) (λ q. looked q xs) n e))
 looked-take p (x ∷ xs) n (suc k) e le =
@@ -157,13 +157,13 @@ behind_of content n (whole rest m) body size e =
 abbrev Alone : (List ℕ → Front (List ℕ)) → Type 0
 Alone next = (bytes body : List ℕ) (n k : ℕ) → next bytes ≡ whole body n → n ≤ k → next (take k bytes) ≡ whole body n
 
-body_end-is : (end : Ending) (body : List ℕ) (n : ℕ) → body_end end ≡ whole body n → end ≡ Ended n
+body_end-is : (end : FrontEnd) (body : List ℕ) (n : ℕ) → body_end end ≡ whole body n → end ≡ Ended n
 body_end-is Open body n e = cc
 body_end-is Wrong body n e = cc
 body_end-is (Ended m) body n e = let same : m ≡ n = cc in ap (λ k. Ended k) same
 
 module _ (next : List ℕ → Front (List ℕ)) (alone : Alone next) (size : ℕ) where
-  data_alone : (end : Ending) (bytes body : List ℕ) (n k : ℕ) → size ≤ length bytes → data_ending (drop size bytes) ≡ end
+  data_alone : (end : FrontEnd) (bytes body : List ℕ) (n k : ℕ) → size ≤ length bytes → data_ending (drop size bytes) ≡ end
       → behind_data next size bytes end ≡ whole body n → n ≤ k → chunk_data next size (take k bytes) ≡ whole body n
   data_alone Open bytes body n k inside is e le = cc
   data_alone Wrong bytes body n k inside is e le = cc
@@ -390,7 +390,7 @@ pub record HeadWaits (text : List ℕ) (head : RequestHead) : Type 0 where
   pub media : is_media head.method head.target ≡ true
       → (size : ℕ) × (0 < size) × IsNext text (whole (opened head size) (length text))
 
-looked_some : (p : Place) (xs : List ℕ) (n : ℕ) → looked p xs ≡ looks.Ended n → 1 ≤ n
+looked_some : (p : LinePlace) (xs : List ℕ) (n : ℕ) → looked p xs ≡ looks.Ended n → 1 ≤ n
 looked_some p [] n e = cc
 looked_some p (x ∷ xs) n e = some_byte (next_place p x) (λ q. looked q xs) n e
 

@@ -7,8 +7,8 @@ use Rattle.http_wire.specs.Heads.{Front, more, refused, whole}
 use Rattle.http_wire.specs.declared.framing.WireFault.TheVariants.{TooLarge}
 use Rattle.http_wire.specs.Lines.{line_end}
 use Rattle.http_wire.specs.Within.Reading.{IsChunk}
-use Rattle.http_wire.specs.declared.chunk_line.Ending.{Ending}
-use Rattle.http_wire.specs.declared.chunk_line.Ending.TheVariants.{Ended, Open, Wrong}
+use Rattle.http_wire.specs.declared.chunk_line.FrontEnd.{FrontEnd}
+use Rattle.http_wire.specs.declared.chunk_line.FrontEnd.TheVariants.{Ended, Open, Wrong}
 use Rattle.http_wire.proofs.Ends.{line_end-append_some}
 
 -- ---- what stands before
@@ -66,7 +66,7 @@ chunk_steps bytes room n s chunk next later =
 
 -- ---- more chunks than fit the room are as good as those that fit
 
-data_same : (f g : List ℕ → Front (List ℕ)) (s : ℕ) (bytes : List ℕ) (end : Ending) → ((rest : List ℕ) → f rest ≡ g rest)
+data_same : (f g : List ℕ → Front (List ℕ)) (s : ℕ) (bytes : List ℕ) (end : FrontEnd) → ((rest : List ℕ) → f rest ≡ g rest)
     → behind_data f s bytes end ≡ behind_data g s bytes end
 data_same f g s bytes Open same = refl
 data_same f g s bytes Wrong same = refl

@@ -12,8 +12,8 @@ use Rattle.http_wire.specs.declared.framing.WireFault.{WireFault}
 use Rattle.http_wire.specs.declared.head.FoundHead.{FoundHead}
 use Rattle.http_wire.specs.declared.head.FeedSpan.{FeedSpan}
 use Rattle.http_wire.specs.declared.stage.Head.{Head}
-use Rattle.http_wire.specs.declared.stage.Stage.{Stage}
-use Rattle.http_wire.specs.declared.stage.Stage.TheVariants.{Failed, Media, Open}
+use Rattle.http_wire.specs.declared.stage.FeedStage.{FeedStage}
+use Rattle.http_wire.specs.declared.stage.FeedStage.TheVariants.{Failed, Media, Open}
 use Rattle.http_wire.specs.declared.stage.FeedStep.TheVariants as steps
 use Rattle.http_wire.specs.Steps.{wire_refusal}
 use Rattle.media_rows.specs.declared.refusal.Refusal.{Refusal}
@@ -78,7 +78,7 @@ tells_decoded size number found place shown fed long there is =
 -- ---- the turns of a feed
 
 -- a feed by its parts
-abbrev pub fed_of : GivenParts → List ℕ → Stage → ℕ → Bool → Fed
+abbrev pub fed_of : GivenParts → List ℕ → FeedStage → ℕ → Bool → Fed
 fed_of parts body stage requests ended = record {
   last = parts.last;
   unread = parts.unread;
@@ -88,7 +88,7 @@ fed_of parts body stage requests ended = record {
   ended = ended;
 }
 
-leaves_by : (kept parts : GivenParts) (content body : List ℕ) (was stage other : Stage) (requests number n : ℕ) (had ended : Bool)
+leaves_by : (kept parts : GivenParts) (content body : List ℕ) (was stage other : FeedStage) (requests number n : ℕ) (had ended : Bool)
     → parts ≡ held n kept → stage ≡ other
     → Leaves (fed_of kept content was requests had) (fed_of parts body stage number ended) n other number ended
 leaves_by kept parts content body was stage other requests number n had ended is same = record {
@@ -99,7 +99,7 @@ leaves_by kept parts content body was stage other requests number n had ended is
   ended_is = refl;
 }
 
-module _ (kept parts : GivenParts) (bytes content body : List ℕ) (was : Stage) (requests : ℕ) (had : Bool) (there : bytes ≡ kept.unread) where
+module _ (kept parts : GivenParts) (bytes content body : List ℕ) (was : FeedStage) (requests : ℕ) (had : Bool) (there : bytes ≡ kept.unread) where
   pub turn_refused : (fault : WireFault) (refusal : Refusal) → parts ≡ held 0 kept → refusal ≡ wire_refusal fault → IsNext bytes (refused fault)
       → Turns (fed_of kept content was requests had) (steps.Refused refusal) (fed_of parts body (Failed fault) requests had)
   turn_refused fault refusal is name next = (

@@ -15,7 +15,7 @@ use Rattle.http_wire.specs.declared.framing.WireFault.{WireFault}
 use Rattle.http_wire.specs.declared.framing.WireFault.TheVariants.{Coding, TooLarge}
 use Rattle.http_wire.specs.declared.lines.Looked.{Looked}
 use Rattle.http_wire.specs.declared.lines.Looked.TheVariants.{Ended, Still}
-use Rattle.http_wire.specs.declared.lines.Place.TheVariants.{Before}
+use Rattle.http_wire.specs.declared.lines.LinePlace.TheVariants.{Before}
 use Rattle.http_wire.proofs.Ends.{looked_inside}
 use Rattle.http_wire.proofs.Staying.{head_inside}
 

@@ -12,8 +12,8 @@ use Rattle.http_wire.specs.declared.head.FoundHead.{FoundHead}
 use Rattle.http_wire.specs.declared.head.FeedSpan.{FeedSpan}
 use Rattle.http_wire.specs.declared.lines.Looked.{Looked}
 use Rattle.http_wire.specs.declared.lines.Looked.TheVariants.{Ended, Still}
-use Rattle.http_wire.specs.declared.lines.Place.{Place}
-use Rattle.http_wire.specs.declared.lines.Place.TheVariants.{Before}
+use Rattle.http_wire.specs.declared.lines.LinePlace.{LinePlace}
+use Rattle.http_wire.specs.declared.lines.LinePlace.TheVariants.{Before}
 use Rattle.http_wire.specs.declared.seek.HeadFound.TheVariants as heads
 use Rattle.http_wire.specs.declared.seek.Seen.{Seen}
 use Rattle.http_wire.specs.declared.seek.Seen.TheVariants as seen
@@ -21,7 +21,7 @@ use Rattle.http_wire.proofs.Ends.{looked-append_ended, looked-drop, looked_insid
 use Rattle.http_wire.proofs.Reaching.{Reached_later}
 
 -- what is found behind the bytes that were looked at is found
-pub head_end-behind : (unread : List ℕ) (place : Place) (at : ℕ) → IsSeeking unread place at
+pub head_end-behind : (unread : List ℕ) (place : LinePlace) (at : ℕ) → IsSeeking unread place at
     → head_end unread ≡ on_by at (looked place (drop at (take max_head unread)))
 head_end-behind unread place at seeking =
     let size = length-take max_head unread in
@@ -29,7 +29,7 @@ head_end-behind unread place at seeking =
     looked-drop (take max_head unread) at Before place inside (rw (take-take at max_head unread seeking.few) seeking.leads)
 
 -- the head isn't whole
-pub seek_more : (unread : List ℕ) (place : Place) → head_end unread ≡ Still place → length (take max_head unread) < max_head
+pub seek_more : (unread : List ℕ) (place : LinePlace) → head_end unread ≡ Still place → length (take max_head unread) < max_head
     → FindsHead unread (heads.More place (length (take max_head unread)))
 seek_more unread place still short =
     let size = length-take max_head unread in
@@ -40,7 +40,7 @@ seek_more unread place still short =
     rw (still, all) (few, record { leads = rw same found; inside = omega arith; few = omega arith })
 
 -- it never is
-pub seek_refused : (unread : List ℕ) (place : Place) → head_end unread ≡ Still place → max_head ≤ length (take max_head unread)
+pub seek_refused : (unread : List ℕ) (place : LinePlace) → head_end unread ≡ Still place → max_head ≤ length (take max_head unread)
     → FindsHead unread heads.Refused
 seek_refused unread place still long = rw still (refl, omega (arith, length-take max_head unread))
 

@@ -10,16 +10,16 @@ use Rattle.http_wire.specs.Framing.{is_media, judge, max_body}
 use Rattle.http_wire.specs.Heads.{Front, IsHead, IsHeadBy, more, refused, whole}
 use Rattle.http_wire.specs.Lines.{behind_byte, further, head_end, line_end, looked, next_place, one_on}
 use Rattle.http_wire.specs.Requests.{Got, IsNext, after_head, after_read, body_at, framed_body, media_head, with_content}
-use Rattle.http_wire.specs.declared.chunk_line.Ending.{Ending}
-use Rattle.http_wire.specs.declared.chunk_line.Ending.TheVariants.{Ended, Open, Wrong}
+use Rattle.http_wire.specs.declared.chunk_line.FrontEnd.{FrontEnd}
+use Rattle.http_wire.specs.declared.chunk_line.FrontEnd.TheVariants.{Ended, Open, Wrong}
 use Rattle.http_wire.specs.declared.framing.Framing.{Framing}
 use Rattle.http_wire.specs.declared.framing.Framing.TheVariants.{Chunked, Length}
 use Rattle.http_wire.specs.declared.framing.WireFault.{WireFault}
 use Rattle.http_wire.specs.declared.framing.WireFault.TheVariants.{TooLarge}
 use Rattle.http_wire.specs.declared.lines.Looked.{Looked}
 use Rattle.http_wire.specs.declared.lines.Looked.TheVariants as looks
-use Rattle.http_wire.specs.declared.lines.Place.{Place}
-use Rattle.http_wire.specs.declared.lines.Place.TheVariants.{After, AfterReturn, Before, BeforeReturn, Within}
+use Rattle.http_wire.specs.declared.lines.LinePlace.{LinePlace}
+use Rattle.http_wire.specs.declared.lines.LinePlace.TheVariants.{After, AfterReturn, Before, BeforeReturn, Within}
 use Rattle.http_wire.proofs.Ends.{line_end-append_some, looked-append_ended, looked-append_still, looked_inside, on_by}
 use Rattle.http_wire.proofs.Seeking.{IsHead_later, head_end_later, take-append}
 
@@ -53,12 +53,12 @@ keeps_prefixed content n (whole body m) after keeps = rw keeps refl
 
 -- ---- ends
 
-abbrev KeepsEnd : Ending → Ending → Type 0
+abbrev KeepsEnd : FrontEnd → FrontEnd → Type 0
 KeepsEnd Open after = Unit {0}
 KeepsEnd Wrong after = after ≡ Wrong
 KeepsEnd (Ended n) after = after ≡ Ended n
 
-same_end : (end : Ending) → KeepsEnd end end
+same_end : (end : FrontEnd) → KeepsEnd end end
 same_end Open = tt
 same_end Wrong = refl
 same_end (Ended n) = refl
@@ -88,26 +88,26 @@ closed_inside (c ∷ l ∷ bytes) n e = two_inside (nat_eq c 13 && nat_eq l 10) 
 
 -- ---- trailers
 
-feed_or : (feed other : Bool) (a b : Place) → cond feed None (cond other (Some a) (Some b)) ≡ None → feed ≡ true
+feed_or : (feed other : Bool) (a b : LinePlace) → cond feed None (cond other (Some a) (Some b)) ≡ None → feed ≡ true
 feed_or true other a b e = refl
 feed_or false true a b e = cc
 feed_or false false a b e = cc
 
-feed_only : (feed : Bool) (a : Place) → cond feed None (Some a) ≡ None → feed ≡ true
+feed_only : (feed : Bool) (a : LinePlace) → cond feed None (Some a) ≡ None → feed ≡ true
 feed_only true a e = refl
 feed_only false a e = cc
 
-no_none : (first second : Bool) (a b c : Place) → cond first (Some a) (cond second (Some b) (Some c)) ≡ None → ⊥
+no_none : (first second : Bool) (a b c : LinePlace) → cond first (Some a) (cond second (Some b) (Some c)) ≡ None → ⊥
 no_none true second a b c e = cc
 no_none false true a b c e = cc
 no_none false false a b c e = cc
 
-some_none : (first : Bool) (a b : Place) → cond first (Some a) (Some b) ≡ None → ⊥
+some_none : (first : Bool) (a b : LinePlace) → cond first (Some a) (Some b) ≡ None → ⊥
 some_none true a b e = cc
 some_none false a b e = cc
 
 -- a head and a trailer end with LF
-ends_at_feed : (place : Place) (b : ℕ) → next_place place b ≡ None → nat_eq b 10 ≡ true
+ends_at_feed : (place : LinePlace) (b : ℕ) → next_place place b ≡ None → nat_eq b 10 ≡ true
 ends_at_feed Before b e = absurd (no_none (nat_eq b 10) (nat_eq b 13) Before BeforeReturn Within e)
 ends_at_feed BeforeReturn b e = absurd (some_none (nat_eq b 10) Before Within e)
 ends_at_feed Within b e = absurd (some_none (nat_eq b 10) After Within e)
@@ -123,14 +123,14 @@ module _ (b : ℕ) (bytes : List ℕ) where
       let next : m + 1 ≡ suc m = omega arith in
       rw (← same, next) (omega (arith, lines m refl, sum_by-append (λ c. cond (c == 10) 1 0) (b ∷ []) (take m bytes)))
 
-  last_line : (place : Option Place) (later : Place → Looked) (n : ℕ) → (place ≡ None → nat_eq b 10 ≡ true)
-      → ((q : Place) (m : ℕ) → later q ≡ looks.Ended m → 1 ≤ count_lines (take m bytes)) → behind_byte place later ≡ looks.Ended n
+  last_line : (place : Option LinePlace) (later : LinePlace → Looked) (n : ℕ) → (place ≡ None → nat_eq b 10 ≡ true)
+      → ((q : LinePlace) (m : ℕ) → later q ≡ looks.Ended m → 1 ≤ count_lines (take m bytes)) → behind_byte place later ≡ looks.Ended n
       → 1 ≤ count_lines (take n (b ∷ bytes))
   last_line None later n feed lines e =
       let same : 1 ≡ n = cc in rw (← same, feed refl) (omega arith)
   last_line (Some q) later n feed lines e = one_line (later q) n (lines q) e
 
-ends_a_line : (place : Place) (bytes : List ℕ) (n : ℕ) → looked place bytes ≡ looks.Ended n → 1 ≤ count_lines (take n bytes)
+ends_a_line : (place : LinePlace) (bytes : List ℕ) (n : ℕ) → looked place bytes ≡ looks.Ended n → 1 ≤ count_lines (take n bytes)
 ends_a_line place [] n e = cc
 ends_a_line place (b ∷ bytes) n e =
     last_line b bytes (next_place place b) (λ q. looked q bytes) n (ends_at_feed place b) (λ q. ends_a_line q bytes) e
@@ -144,7 +144,7 @@ module _ (front further : List ℕ) where
   count_more = sum_by-append (λ b. cond (b == 10) 1 0) front further
 
   -- too many lines stay too many
-  too_many : (place : Place) (found : Looked) → looked place further ≡ found → 65 ≤ count_lines front
+  too_many : (place : LinePlace) (found : Looked) → looked place further ≡ found → 65 ≤ count_lines front
       → trailer_by (on_by (length front) found) (front ++ further) ≡ Wrong
   too_many place (looks.Still q) is many =
       let test : nat_le 65 (count_lines (front ++ further)) ≡ true =
@@ -160,7 +160,7 @@ module _ (front further : List ℕ) where
       )) in
       rw (take-append-add front further m, test) refl
 
-  trailer_still : (place : Place) (long many : Bool) → looked After front ≡ looks.Still place → nat_le 16384 (length front) ≡ long
+  trailer_still : (place : LinePlace) (long many : Bool) → looked After front ≡ looks.Still place → nat_le 16384 (length front) ≡ long
       → nat_le 65 (count_lines front) ≡ many → (16384 ≤ length front → further ≡ [])
       → KeepsEnd (cond (long || many) Wrong Open) (trailer_by (looked After (front ++ further)) (front ++ further))
   trailer_still place true many still is_long is_many none =
@@ -192,7 +192,7 @@ trailer_keeps bytes later =
     (trailer_front (take 16384 bytes) (take (16384 - length bytes) later) (looked After (take 16384 bytes)) refl
     (λ long. nothing_more bytes later 16384 long))
 
-end_keeps : (end after : Ending) → KeepsEnd end after → Keeps (body_end end) (body_end after)
+end_keeps : (end after : FrontEnd) → KeepsEnd end after → Keeps (body_end end) (body_end after)
 end_keeps Open after keeps = tt
 end_keeps Wrong after keeps = rw keeps refl
 end_keeps (Ended n) after keeps = rw keeps refl
@@ -200,7 +200,7 @@ end_keeps (Ended n) after keeps = rw keeps refl
 -- ---- chunks
 
 module _ (next : List ℕ → Front (List ℕ)) (size : ℕ) (rest later : List ℕ) (stays : (r : List ℕ) → Keeps (next r) (next (r ++ later))) where
-  data_keeps : (end : Ending) → size ≤ length rest → data_ending (drop size rest) ≡ end
+  data_keeps : (end : FrontEnd) → size ≤ length rest → data_ending (drop size rest) ≡ end
       → Keeps (behind_data next size rest end) (behind_data next size (rest ++ later) (data_ending (drop size rest ++ later)))
   data_keeps Open inside is = tt
   data_keeps Wrong inside is =

@@ -7,12 +7,12 @@ use Rattle.std.proofs.lemmas.List.Sums.{count_by-le-length, sum_by-append}
 use Rattle.http_wire.specs.Chunks.{count_lines, max_trailer, max_trailer_lines, trailer}
 use Rattle.http_wire.specs.Lines.{line_feed, looked}
 use Rattle.http_wire.specs.Within.Trailers.{FindsTrailer, IsTrailerSeen}
-use Rattle.http_wire.specs.declared.chunk_line.Ending.TheVariants.{Wrong}
+use Rattle.http_wire.specs.declared.chunk_line.FrontEnd.TheVariants.{Wrong}
 use Rattle.http_wire.specs.declared.chunk_line.TrailerFound.TheVariants as found
 use Rattle.http_wire.specs.declared.chunk_line.TrailerSeen.{TrailerSeen}
 use Rattle.http_wire.specs.declared.lines.Looked.TheVariants as looks
-use Rattle.http_wire.specs.declared.lines.Place.{Place}
-use Rattle.http_wire.specs.declared.lines.Place.TheVariants.{After}
+use Rattle.http_wire.specs.declared.lines.LinePlace.{LinePlace}
+use Rattle.http_wire.specs.declared.lines.LinePlace.TheVariants.{After}
 use Rattle.http_wire.proofs.Ends.{looked-drop, looked_inside, on_by}
 
 -- what was looked at stays under more bytes
@@ -65,7 +65,7 @@ module _ (bytes most rest : List ℕ) (seen : TrailerSeen) (known : IsTrailerSee
   ended_at : (n : ℕ) → looked seen.place rest ≡ looks.Ended n → looked After most ≡ looks.Ended (seen.at + n)
   ended_at n ends = found_behind ∙ ap (on_by seen.at) ends
 
-  still_at : (place : Place) → looked seen.place rest ≡ looks.Still place → looked After most ≡ looks.Still place
+  still_at : (place : LinePlace) → looked seen.place rest ≡ looks.Still place → looked After most ≡ looks.Still place
   still_at place still = found_behind ∙ ap (on_by seen.at) still
 
   -- the trailer is whole, and has too many lines
@@ -86,20 +86,20 @@ module _ (bytes most rest : List ℕ) (seen : TrailerSeen) (known : IsTrailerSee
       )
 
   -- it never is: too many bytes
-  pub trailer_full : (place : Place) → looked seen.place rest ≡ looks.Still place → max_trailer ≤ length most → trailer bytes ≡ Wrong
+  pub trailer_full : (place : LinePlace) → looked seen.place rest ≡ looks.Still place → max_trailer ≤ length most → trailer bytes ≡ Wrong
   trailer_full place still many =
       let test : nat_le max_trailer (length most) ≡ true = search (arith, rules, nat_tests) in
       rw (← most_is, still_at place still, test) refl
 
   -- it never is: too many lines
-  pub trailer_lined : (place : Place) → looked seen.place rest ≡ looks.Still place → max_trailer_lines ≤ seen.lines + count_lines rest
+  pub trailer_lined : (place : LinePlace) → looked seen.place rest ≡ looks.Still place → max_trailer_lines ≤ seen.lines + count_lines rest
       → trailer bytes ≡ Wrong
   trailer_lined place still many =
       let test : nat_le max_trailer_lines (seen.lines + count_lines rest) ≡ true = search (arith, rules, nat_tests) in
       rw (← most_is, still_at place still, lines_in_all, test, or_true (nat_le max_trailer (length most))) refl
 
   -- it isn't whole as yet
-  pub trailer_more : (place : Place) → looked seen.place rest ≡ looks.Still place → length most < max_trailer
+  pub trailer_more : (place : LinePlace) → looked seen.place rest ≡ looks.Still place → length most < max_trailer
       → seen.lines + count_lines rest < max_trailer_lines
       → FindsTrailer bytes (found.More (record { at = length most; place = place; lines = seen.lines + count_lines rest }))
   trailer_more place still short few =

@@ -4,8 +4,8 @@ use Rattle.http_wire.specs.Feeds.{Fed, GivesHead, GivesWhole, Refuses, Waits, ha
 use Rattle.http_wire.specs.Hearing.{Asked, HeardRequests, IsHeard, IsHeardOf, and_then, nothing_heard, stopped_by}
 use Rattle.http_wire.specs.declared.framing.WireFault.{WireFault}
 use Rattle.http_wire.specs.declared.stage.Head.{Head}
-use Rattle.http_wire.specs.declared.stage.Stage.{Stage}
-use Rattle.http_wire.specs.declared.stage.Stage.TheVariants.{Failed, Media, Open}
+use Rattle.http_wire.specs.declared.stage.FeedStage.{FeedStage}
+use Rattle.http_wire.specs.declared.stage.FeedStage.TheVariants.{Failed, Media, Open}
 
 -- What a feed gave so far: the requests that are whole, and the last media PUT with the bytes of
 -- its body that were handed on.
@@ -53,7 +53,7 @@ MediaAgrees left all done (Some last) ended requests unread =
     (before done (and_then last.head (last.body ++ take left (unread ++ later)) tail))
 
 -- the same by the stage
-abbrev pub AgreesBy : Stage → List ℕ → Given → Bool → ℕ → List ℕ → Type 0
+abbrev pub AgreesBy : FeedStage → List ℕ → Given → Bool → ℕ → List ℕ → Type 0
 AgreesBy Open all given ended requests unread =
     OpenAgrees all (settled given) ended requests unread
 AgreesBy (Media left) all given ended requests unread =

@@ -10,11 +10,11 @@ use Rattle.http_wire.specs.Framing.{max_body}
 use Rattle.http_wire.specs.Heads.{Front, more, refused, whole}
 use Rattle.http_wire.specs.Lines.{carriage_return, line_end, line_feed, looked}
 use Rattle.http_wire.specs.declared.framing.WireFault.TheVariants.{BadFraming, TooLarge}
-use Rattle.http_wire.specs.declared.chunk_line.Ending.{Ending}
-use Rattle.http_wire.specs.declared.chunk_line.Ending.TheVariants.{Ended, Open, Wrong}
+use Rattle.http_wire.specs.declared.chunk_line.FrontEnd.{FrontEnd}
+use Rattle.http_wire.specs.declared.chunk_line.FrontEnd.TheVariants.{Ended, Open, Wrong}
 use Rattle.http_wire.specs.declared.lines.Looked.{Looked}
 use Rattle.http_wire.specs.declared.lines.Looked.TheVariants as looks
-use Rattle.http_wire.specs.declared.lines.Place.TheVariants.{After}
+use Rattle.http_wire.specs.declared.lines.LinePlace.TheVariants.{After}
 
 -- ---- the line before a chunk
 
@@ -65,7 +65,7 @@ count_lines bytes = count_by (λ b. b == line_feed) bytes
 
 -- The trailer by where its empty line ends. It can't be read where its first 65 lines, or its first
 -- 16,384 bytes, are there whole and hold no empty line.
-abbrev pub trailer_by : Looked → List ℕ → Ending
+abbrev pub trailer_by : Looked → List ℕ → FrontEnd
 trailer_by (looks.Ended n) bytes =
     if nat_lt max_trailer_lines (count_lines (take n bytes)) then Wrong else Ended n
 trailer_by (looks.Still place) bytes =
@@ -73,7 +73,7 @@ trailer_by (looks.Still place) bytes =
     then Wrong else Open
 
 -- the trailer at the front of bytes: lines up to and with the first empty one
-abbrev pub trailer : List ℕ → Ending
+abbrev pub trailer : List ℕ → FrontEnd
 trailer bytes = trailer_by (looked After (take max_trailer bytes)) (take max_trailer bytes)
 
 -- ---- the chunks
@@ -85,19 +85,19 @@ prefixed content n (refused fault) = refused fault
 prefixed content n (whole body m) = whole (content ++ body) (n + m)
 
 -- the end of a chunk's data: CR LF
-abbrev pub data_ending : List ℕ → Ending
+abbrev pub data_ending : List ℕ → FrontEnd
 data_ending [] = Open
 data_ending (c ∷ []) = if c == carriage_return then Open else Wrong
 data_ending (c ∷ l ∷ bytes) = if (c == carriage_return) && (l == line_feed) then Ended 2 else Wrong
 
 -- the end of the body behind the last chunk
-abbrev pub body_end : Ending → Front (List ℕ)
+abbrev pub body_end : FrontEnd → Front (List ℕ)
 body_end Open = more
 body_end Wrong = refused BadFraming
 body_end (Ended n) = whole [] n
 
 -- what stands behind a chunk's data of so many bytes, by the end of the data
-abbrev pub behind_data : (List ℕ → Front (List ℕ)) → ℕ → List ℕ → Ending → Front (List ℕ)
+abbrev pub behind_data : (List ℕ → Front (List ℕ)) → ℕ → List ℕ → FrontEnd → Front (List ℕ)
 behind_data next n bytes Open = more
 behind_data next n bytes Wrong = refused BadFraming
 behind_data next n bytes (Ended m) = prefixed (take n bytes) (n + m) (next (drop (n + m) bytes))

@@ -8,8 +8,8 @@ use Rattle.http_wire.specs.Steps.{wire_refusal}
 use Rattle.http_wire.specs.declared.framing.WireFault.{WireFault}
 use Rattle.http_wire.specs.declared.head.FeedSpan.{FeedSpan}
 use Rattle.http_wire.specs.declared.stage.Head.{Head}
-use Rattle.http_wire.specs.declared.stage.Stage.{Stage}
-use Rattle.http_wire.specs.declared.stage.Stage.TheVariants.{Failed, Media, Open}
+use Rattle.http_wire.specs.declared.stage.FeedStage.{FeedStage}
+use Rattle.http_wire.specs.declared.stage.FeedStage.TheVariants.{Failed, Media, Open}
 use Rattle.http_wire.specs.declared.stage.FeedStep.{FeedStep}
 use Rattle.http_wire.specs.declared.stage.FeedStep.TheVariants as steps
 
@@ -20,7 +20,7 @@ pub record Fed : Type 0 where
   pub last : List ℕ
   pub unread : List ℕ
   pub body : List ℕ
-  pub stage : Stage
+  pub stage : FeedStage
   pub requests : ℕ
   pub ended : Bool
 
@@ -48,13 +48,13 @@ abbrev pub kept_count : Fed → ℕ
 kept_count fed = length fed.last + length fed.unread
 
 -- how many bytes of a media body weren't handed on yet
-abbrev pub left_of : Stage → ℕ
+abbrev pub left_of : FeedStage → ℕ
 left_of Open = 0
 left_of (Media left) = left
 left_of (Failed fault) = 0
 
 -- the stage when so many more were
-abbrev pub less_by : ℕ → Stage → Stage
+abbrev pub less_by : ℕ → FeedStage → FeedStage
 less_by n Open = Open
 less_by n (Media left) = Media (left - n)
 less_by n (Failed fault) = Failed fault
@@ -104,7 +104,7 @@ span_bytes fed span =
 
 -- The state behind an answer: the first unread bytes, so many, are what is given.
 pub record Leaves
-    (old new : Fed) (n : ℕ) (stage : Stage) (requests : ℕ) (ended : Bool) : Type 0 where
+    (old new : Fed) (n : ℕ) (stage : FeedStage) (requests : ℕ) (ended : Bool) : Type 0 where
   pub last : new.last ≡ take n old.unread
   pub unread : new.unread ≡ drop n old.unread
   pub stage_is : new.stage ≡ stage
@@ -177,7 +177,7 @@ abbrev pub Stays : Fed → WireFault → FeedStep → Fed → Type 0
 Stays old fault step new = (step ≡ steps.Refused (wire_refusal fault)) × (new ≡ old)
 
 -- the answer by the stage
-abbrev pub AnswersBy : Stage → Fed → FeedStep → Fed → Type 0
+abbrev pub AnswersBy : FeedStage → Fed → FeedStep → Fed → Type 0
 AnswersBy Open old step new = Turns old step new
 AnswersBy (Media left) old step new = Turns old step new
 AnswersBy (Failed fault) old step new = Stays old fault step new

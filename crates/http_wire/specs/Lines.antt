@@ -1,7 +1,7 @@
 -- Where a head ends, and where a line ends (RFC 9112, sections 2.1 and 2.2).
 use Rattle.std.specs.Prelude.{ℕ, ◌+◌, ◌==◌, List, [], ◌∷◌, Option, Some, None, take, if◌then◌else◌}
-use Rattle.http_wire.specs.declared.lines.Place.{Place}
-use Rattle.http_wire.specs.declared.lines.Place.TheVariants.{Before, BeforeReturn, Within, After, AfterReturn}
+use Rattle.http_wire.specs.declared.lines.LinePlace.{LinePlace}
+use Rattle.http_wire.specs.declared.lines.LinePlace.TheVariants.{Before, BeforeReturn, Within, After, AfterReturn}
 use Rattle.http_wire.specs.declared.lines.Looked.{Looked}
 use Rattle.http_wire.specs.declared.lines.Looked.TheVariants.{Ended, Still}
 
@@ -16,7 +16,7 @@ carriage_return = 13
 -- The place behind a byte, and none where the byte ends the head. A line is empty where it is LF
 -- alone or CR LF. A head ends at the end of the first empty line that follows a line which isn't
 -- empty.
-abbrev pub next_place : Place → ℕ → Option Place
+abbrev pub next_place : LinePlace → ℕ → Option LinePlace
 next_place Before b =
     if b == line_feed then Some Before
     else if b == carriage_return then Some BeforeReturn
@@ -35,12 +35,12 @@ one_on (Ended n) = Ended (n + 1)
 one_on (Still place) = Still place
 
 -- what is found behind a byte, by the place that it leads to
-abbrev pub behind_byte : Option Place → (Place → Looked) → Looked
+abbrev pub behind_byte : Option LinePlace → (LinePlace → Looked) → Looked
 behind_byte None later = Ended 1
 behind_byte (Some place) later = one_on (later place)
 
 -- what bytes lead to from a place: the end of the head behind so many of them, or a further place
-abbrev pub looked : Place → List ℕ → Looked
+abbrev pub looked : LinePlace → List ℕ → Looked
 looked place [] = Still place
 looked place (b ∷ bytes) = behind_byte (next_place place b) (λ next. looked next bytes)
 

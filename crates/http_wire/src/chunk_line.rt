@@ -4,7 +4,7 @@ ghost use Rattle.http_wire.specs.Chunks.{data_ending, count_lines, line_size};
 ghost use Rattle.http_wire.specs.Lines.{line_end};
 ghost use Rattle.http_wire.specs.Within.Trailers.{FindsTrailer, IsTrailerSeen};
 
-use crate::lines::{Looked, Place, after, find_line, front, look};
+use crate::lines::{LinePlace, Looked, after, find_line, front, look};
 use httparse::{Status, parse_chunk_size};
 
 /// How far a trailer was looked at.
@@ -13,7 +13,7 @@ pub(crate) struct TrailerSeen {
     /// So many of its bytes hold no empty line,
     pub(crate) at: usize,
     /// and lead to this place,
-    pub(crate) place: Place,
+    pub(crate) place: LinePlace,
     /// and so many lines end in them.
     pub(crate) lines: usize,
 }
@@ -43,13 +43,13 @@ pub(crate) enum TrailerFound {
 /// A trailer that wasn't looked at.
 pub(crate) const UNSEEN_TRAILER: TrailerSeen = TrailerSeen {
     at: 0,
-    place: Place::After,
+    place: LinePlace::After,
     lines: 0,
 };
 
 /// What stands at the front of bytes as an end.
 #[derive(Clone, Copy)]
-pub(crate) enum Ending {
+pub(crate) enum FrontEnd {
     /// Nothing whole as yet.
     Open,
     /// It can't be read.
@@ -94,23 +94,23 @@ pub(crate) fn read_size(line: &[u8]) -> Option<u64>
 }
 
 /// The end of a chunk's data: CR LF.
-pub(crate) fn closed(bytes: &[u8]) -> Ending
+pub(crate) fn closed(bytes: &[u8]) -> FrontEnd
     ensures { result ≡ data_ending bytes.now }
 {
     match bytes {
-        [] => Ending::Open,
+        [] => FrontEnd::Open,
         [first] => {
             if *first == b'\r' {
-                Ending::Open
+                FrontEnd::Open
             } else {
-                Ending::Wrong
+                FrontEnd::Wrong
             }
         }
         [first, second, ..] => {
             if *first == b'\r' && *second == b'\n' {
-                Ending::Ended(2)
+                FrontEnd::Ended(2)
             } else {
-                Ending::Wrong
+                FrontEnd::Wrong
             }
         }
     }

@@ -9,7 +9,7 @@ ghost use Rattle.http_wire.specs.Within.Reading.{FindsChunk, FindsChunked, Finds
 ghost use Rattle.http_wire.specs.Within.Trailers.{IsTrailerSeen};
 
 use crate::chunk_line::{
-    Ending, LineSeen, TrailerFound, TrailerSeen, UNSEEN_TRAILER, closed, find_line_behind,
+    FrontEnd, LineSeen, TrailerFound, TrailerSeen, UNSEEN_TRAILER, closed, find_line_behind,
     find_trailer, read_size,
 };
 use crate::framing::{BODY_ROOM, WireFault};
@@ -108,9 +108,9 @@ fn read_data(bytes: &[u8], room: usize, count: usize, size: usize) -> ChunkFound
         return ChunkFound::More(LineSeen::Read(count, size));
     }
     match closed(after(bytes, count + size)) {
-        Ending::Open => ChunkFound::More(LineSeen::Read(count, size)),
-        Ending::Wrong => ChunkFound::Refused(WireFault::BadFraming),
-        Ending::Ended(_) => ChunkFound::Chunk(count, size),
+        FrontEnd::Open => ChunkFound::More(LineSeen::Read(count, size)),
+        FrontEnd::Wrong => ChunkFound::Refused(WireFault::BadFraming),
+        FrontEnd::Ended(_) => ChunkFound::Chunk(count, size),
     }
 }
 

@@ -8,10 +8,10 @@ ghost use Rattle.http_wire.specs.Within.Seeing.{ShowsHead, KnowsHead};
 use crate::framing::BODY_ROOM;
 use crate::front::{NextFound, find_next, is_short};
 use crate::head::{FeedSpan, FoundHead};
-use crate::kept::{KEPT_ROOM, Kept};
-use crate::lines::{Place, front, part};
+use crate::kept::{HeldBytes, KEPT_ROOM};
+use crate::lines::{LinePlace, front, part};
 use crate::seek::{HeadFound, Seen, seek};
-use crate::stage::{FeedStep, Head, Stage};
+use crate::stage::{FeedStage, FeedStep, Head};
 use disk_trait::Memory;
 use std::alloc::Global;
 use std::marker::Model;
@@ -26,15 +26,15 @@ const NO_PLACE: FeedSpan = FeedSpan {
 };
 
 /// Nothing is known of the unread bytes.
-const UNSEEN: Seen = Seen::Seeking(Place::Before, 0);
+const UNSEEN: Seen = Seen::Seeking(LinePlace::Before, 0);
 
 /// The bytes of one connection that were heard and not yet handed on. Its memory is taken at once, by `new`.
 #[derive(Drop)]
 pub struct Feed {
-    kept: Kept,
+    kept: HeldBytes,
     /// The data of a chunked body.
     body: Vec<u8>,
-    stage: Stage,
+    stage: FeedStage,
     requests: u64,
     ended: bool,
     /// What is known of the unread bytes.
@@ -71,12 +71,12 @@ impl Feed {
     pub fn new(alloc: Global) -> Result<Feed, Memory>
         ensures { IfOk result (λ feed. feed ≡ new_feed) }
     {
-        let kept = Kept::new(alloc)?;
+        let kept = HeldBytes::new(alloc)?;
         let body = Vec::with_capacity(alloc, BODY_ROOM)?;
         Ok(Feed {
             kept,
             body,
-            stage: Stage::Open,
+            stage: FeedStage::Open,
             requests: 0,
             ended: false,
             seen: UNSEEN,
@@ -89,7 +89,7 @@ impl Feed {
     {
         self.kept.clear();
         self.body.clear();
-        self.stage = Stage::Open;
+        self.stage = FeedStage::Open;
         self.requests = 0;
         self.ended = false;
         self.seen = UNSEEN;
@@ -126,12 +126,12 @@ impl Feed {
         requires goes_on { IsFalse self.old.ended }
         ensures { StepsTo self.old result self.new }
     {
-        if let Stage::Failed(fault) = self.stage {
+        if let FeedStage::Failed(fault) = self.stage {
             return FeedStep::Refused(fault.refusal());
         }
         if self.lacks_bytes() {
             self.kept.hold(0);
-            self.stage = Stage::Open;
+            self.stage = FeedStage::Open;
             return FeedStep::More;
         }
         self.read_next()
@@ -154,7 +154,7 @@ impl Feed {
     {
         let next = find_next(self.kept.unread(), self.seen, &mut self.body);
         self.seen = UNSEEN;
-        self.stage = Stage::Open;
+        self.stage = FeedStage::Open;
         match next {
             NextFound::More(seen) => {
                 self.kept.hold(0);
@@ -163,12 +163,12 @@ impl Feed {
             }
             NextFound::Refused(fault) => {
                 self.kept.hold(0);
-                self.stage = Stage::Failed(fault);
+                self.stage = FeedStage::Failed(fault);
                 FeedStep::Refused(fault.refusal())
             }
             NextFound::Opened(found, size) => {
                 self.kept.hold(found.length);
-                self.stage = Stage::Media(size);
+                self.stage = FeedStage::Media(size);
                 self.requests += 1;
                 let head = show(&found, NO_PLACE, size, self.requests);
                 self.ended = head.ends;
@@ -210,7 +210,7 @@ impl Feed {
         ensures out { out.new ≡ take result self.old.unread ++ drop result out.old }
         ensures rest { self.new ≡ handed_on self.old result }
     {
-        let Stage::Media(left) = self.stage else {
+        let FeedStage::Media(left) = self.stage else {
             return 0;
         };
         let count = least(out.len(), self.kept.unread().len(), left);
@@ -219,7 +219,7 @@ impl Feed {
             self.kept.skip(count);
             self.seen = UNSEEN;
         }
-        self.stage = Stage::Media(left - count as u64);
+        self.stage = FeedStage::Media(left - count as u64);
         count
     }
 
@@ -228,9 +228,9 @@ impl Feed {
         ensures { result ≡ left_of self.now.stage }
     {
         match self.stage {
-            Stage::Media(left) => left,
-            Stage::Open => 0,
-            Stage::Failed(_) => 0,
+            FeedStage::Media(left) => left,
+            FeedStage::Open => 0,
+            FeedStage::Failed(_) => 0,
         }
     }
 
@@ -241,8 +241,8 @@ impl Feed {
         requires left { count ≤ left_of self.old.stage }
         ensures { self.new ≡ passed_by self.old count }
     {
-        if let Stage::Media(left) = self.stage {
-            self.stage = Stage::Media(left - count as u64);
+        if let FeedStage::Media(left) = self.stage {
+            self.stage = FeedStage::Media(left - count as u64);
         }
     }
 

@@ -16,7 +16,7 @@ const BUFFER_ROOM: usize = 16_809_986;
 
 /// The bytes of what was given last, and the unread ones behind them.
 #[derive(Drop)]
-pub(crate) struct Kept {
+pub(crate) struct HeldBytes {
     bytes: Vec<u8>,
     /// Where the given bytes begin.
     start: usize,
@@ -26,7 +26,7 @@ pub(crate) struct Kept {
     read: usize,
 }
 
-impl Model for Kept {
+impl Model for HeldBytes {
     ghost use Rattle.std.specs.Prelude.{◌+◌, ◌-◌, ◌≤◌, drop, take, vec_len};
     ghost use Rattle.std.specs.Vec.{vec_capacity};
     ghost use Rattle.http_wire.specs.Parts.{GivenParts};
@@ -47,12 +47,12 @@ impl Model for Kept {
     } };
 }
 
-impl Kept {
+impl HeldBytes {
     /// Takes the buffer.
-    pub(crate) fn new(alloc: Global) -> Result<Kept, Memory>
+    pub(crate) fn new(alloc: Global) -> Result<HeldBytes, Memory>
         ensures { IfOk result (λ kept. kept ≡ no_parts) }
     {
-        Ok(Kept {
+        Ok(HeldBytes {
             bytes: Vec::with_capacity(alloc, BUFFER_ROOM)?,
             start: 0,
             taken: 0,

@@ -6,7 +6,7 @@ ghost use Rattle.http_wire.specs.Within.Lines.{IsLookedIn};
 
 /// Where a look at a head stands behind some of its bytes.
 #[derive(Clone, Copy, Debug, PartialEq, Eq)]
-pub enum Place {
+pub enum LinePlace {
     /// Only empty lines so far.
     Before,
     /// The same, and a carriage return.
@@ -25,26 +25,26 @@ pub enum Looked {
     /// The head ends behind so many of them.
     Ended(usize),
     /// It doesn't end in them.
-    Still(Place),
+    Still(LinePlace),
 }
 
 /// The place behind a byte, and `None` where the byte ends the head.
-fn next_place(place: Place, byte: u8) -> Option<Place>
+fn next_place(place: LinePlace, byte: u8) -> Option<LinePlace>
     ensures { result ≡ next_place place byte }
 {
     match (place, byte) {
-        (Place::Before, b'\n') => Some(Place::Before),
-        (Place::Before, b'\r') => Some(Place::BeforeReturn),
-        (Place::BeforeReturn, b'\n') => Some(Place::Before),
-        (Place::Within, b'\n') => Some(Place::After),
-        (Place::After, b'\n') | (Place::AfterReturn, b'\n') => None,
-        (Place::After, b'\r') => Some(Place::AfterReturn),
-        _ => Some(Place::Within),
+        (LinePlace::Before, b'\n') => Some(LinePlace::Before),
+        (LinePlace::Before, b'\r') => Some(LinePlace::BeforeReturn),
+        (LinePlace::BeforeReturn, b'\n') => Some(LinePlace::Before),
+        (LinePlace::Within, b'\n') => Some(LinePlace::After),
+        (LinePlace::After, b'\n') | (LinePlace::AfterReturn, b'\n') => None,
+        (LinePlace::After, b'\r') => Some(LinePlace::AfterReturn),
+        _ => Some(LinePlace::Within),
     }
 }
 
 /// Looks for the end of a head in bytes, from a place on.
-pub(crate) fn look(place: Place, bytes: &[u8]) -> Looked
+pub(crate) fn look(place: LinePlace, bytes: &[u8]) -> Looked
     ensures found { result ≡ looked place bytes.now }
     ensures inside { IsLookedIn result (length bytes.now) }
 {

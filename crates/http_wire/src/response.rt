@@ -11,13 +11,13 @@ use std::alloc::Global;
 
 /// A field of a head: its name and its value.
 #[derive(Drop)]
-pub struct Field {
+pub struct HeadField {
     pub name: Text,
     pub value: Text,
 }
 
 /// The fields of a head in their order.
-pub type FieldList = Listed<Field>;
+pub type FieldList = Listed<HeadField>;
 
 /// The bytes of a response: the status line with the phrase of `http`, the fields as they stand in the list,
 /// an empty line, and the body unless the head stands alone. The caller names the body's length in a field.
@@ -71,7 +71,7 @@ fn phrase(status: u16) -> &'static str
 }
 
 /// Adds the lines of fields.
-fn append_fields(text: &mut Text, fields: &[Field]) -> Result<(), Memory>
+fn append_fields(text: &mut Text, fields: &[HeadField]) -> Result<(), Memory>
     ensures { OnOk result (text.new ≡ text.old ++ flat_map field_line fields.now) }
 {
     for field in fields {
@@ -81,7 +81,7 @@ fn append_fields(text: &mut Text, fields: &[Field]) -> Result<(), Memory>
 }
 
 /// Adds the line of a field.
-fn append_field(text: &mut Text, field: &Field) -> Result<(), Memory>
+fn append_field(text: &mut Text, field: &HeadField) -> Result<(), Memory>
     ensures { OnOk result (text.new ≡ text.old ++ field_line field.now) }
 {
     text.append(field.name.bytes())?;

@@ -5,7 +5,7 @@ ghost use Rattle.http_wire.specs.Within.Seeing.{FindsHead, IsSeeking};
 
 use crate::chunks::Progress;
 use crate::head::{FoundHead, read_head};
-use crate::lines::{Looked, Place, after, front, look};
+use crate::lines::{LinePlace, Looked, after, front, look};
 
 /// The most bytes of a head.
 const MAX_HEAD: usize = 16_384;
@@ -14,7 +14,7 @@ const MAX_HEAD: usize = 16_384;
 #[derive(Clone, Copy)]
 pub(crate) enum Seen {
     /// So many of them hold no whole head, and lead to this place.
-    Seeking(Place, usize),
+    Seeking(LinePlace, usize),
     /// The head, and how far a chunked body behind it was read.
     Found(FoundHead, Progress),
 }
@@ -23,13 +23,13 @@ pub(crate) enum Seen {
 #[derive(Clone, Copy)]
 pub(crate) enum HeadFound {
     /// So many bytes hold no whole head, and lead to this place.
-    More(Place, usize),
+    More(LinePlace, usize),
     Refused,
     Whole(FoundHead),
 }
 
 /// Looks for the head, where so many bytes were looked at before.
-pub(crate) fn seek(unread: &[u8], place: Place, at: usize) -> HeadFound
+pub(crate) fn seek(unread: &[u8], place: LinePlace, at: usize) -> HeadFound
     requires { IsSeeking unread.now place at }
     ensures { FindsHead unread.now result }
 {

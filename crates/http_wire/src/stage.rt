@@ -8,7 +8,7 @@ use media_rows::Refusal;
 
 /// Where a feed stands between two calls.
 #[derive(Clone, Copy)]
-pub(crate) enum Stage {
+pub(crate) enum FeedStage {
     /// A request is to come.
     Open,
     /// So many bytes of a media body weren't handed on yet.

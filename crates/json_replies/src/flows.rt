@@ -6,7 +6,7 @@ ghost use Rattle.json_replies.specs.Shapes.{Appends, members_tokens};
 use crate::json_text::JsonText;
 use crate::lists::{Collections, Tags};
 use crate::shows::{Shows, show_if_any, show_if_set, show_member};
-use crate::values::{Formats, Ids, Kept, Moments, Numbers, Ranges, Texts, Truths};
+use crate::values::{Formats, Ids, Moments, Numbers, Ranges, Texts, Truths, Verbatim};
 use disk_trait::Memory;
 use media_rows::{FlowRow, FlowShown};
 use std::alloc::Global;
@@ -37,7 +37,7 @@ fn show_first(alloc: Global, row: &FlowRow, out: &mut JsonText) -> Result<(), Me
     show_if_set(alloc, "container", &flow.container, &Texts, out)?;
     show_member(alloc, "created", &row.created, &Moments, out)?;
     show_if_set(alloc, "description", &flow.description, &Texts, out)?;
-    show_if_set(alloc, "essence_parameters", &flow.essence, &Kept, out)
+    show_if_set(alloc, "essence_parameters", &flow.essence, &Verbatim, out)
 }
 
 /// Appends the members in the middle.

@@ -19,7 +19,7 @@ const LAST_MOMENT: u64 = 253_402_300_799;
 pub(crate) struct Texts;
 
 /// Texts that are JSON themselves.
-pub(crate) struct Kept;
+pub(crate) struct Verbatim;
 
 /// Whole numbers.
 pub(crate) struct Numbers;
@@ -59,7 +59,7 @@ impl Shows<Text> for Texts {
     }
 }
 
-impl Shows<Text> for Kept {
+impl Shows<Text> for Verbatim {
     ghost shown = { λ _. kept_value };
 
     #[tactic(auto, unfolding(crate::specs::Values::kept_value))]

@@ -10,7 +10,7 @@ ghost use Rattle.media_rows.specs.Sound.{is_good_command};
 ghost use Rattle.reply_laws.specs.Asks.{IsGoodAsk, asks_few};
 ghost use Rattle.tams_http.specs.Good.{is_ask_good, is_command_good};
 
-use crate::kept::{Kept, run};
+use crate::kept::{Followed, run};
 use disk_trait::{Memory, Text};
 use http_wire::MethodKind;
 use media_rows::{Command, ObjectState, Refusal, Reply};
@@ -23,7 +23,7 @@ const BASE: &str = "http://s";
 
 /// A method, a target and a body.
 #[derive(Drop)]
-pub(crate) struct Request<'a> {
+pub(crate) struct CaseRequest<'a> {
     pub(crate) method: MethodKind,
     pub(crate) target: &'a str,
     pub(crate) body: &'a str,
@@ -33,8 +33,8 @@ pub(crate) struct Request<'a> {
 pub(crate) fn response_to(
     alloc: Global,
     routes: &Routes,
-    kept: &mut Kept,
-    request: &Request<'_>,
+    kept: &mut Followed,
+    request: &CaseRequest<'_>,
     now: u64,
 ) -> Result<Text, Memory>
     requires moment { IsTrue (is_moment now) }
@@ -55,8 +55,8 @@ pub(crate) fn response_to(
 pub(crate) fn reply_to(
     alloc: Global,
     routes: &Routes,
-    kept: &mut Kept,
-    request: &Request<'_>,
+    kept: &mut Followed,
+    request: &CaseRequest<'_>,
     now: u64,
 ) -> Result<Reply, Memory>
     requires moment { IsTrue (is_moment now) }
@@ -75,7 +75,7 @@ pub(crate) fn reply_to(
 /// What is answered to what a request with this body asks for.
 fn answer_ask(
     alloc: Global,
-    kept: &mut Kept,
+    kept: &mut Followed,
     ask: Ask,
     body: &str,
     now: u64,
@@ -93,7 +93,7 @@ fn answer_ask(
 }
 
 /// What is answered to a command.
-fn answer(alloc: Global, kept: &mut Kept, command: &Command, now: u64) -> Result<Reply, Memory>
+fn answer(alloc: Global, kept: &mut Followed, command: &Command, now: u64) -> Result<Reply, Memory>
     requires good { IsTrue (is_good_command kept.old.core command.now) }
     requires few { IsTrue (asks_few command.now) }
     requires words { IsTrue (is_command_good command.now) }
@@ -122,7 +122,13 @@ fn number(word: &str) -> u64 {
 }
 
 /// What is answered to so many bytes of an object.
-fn put(alloc: Global, kept: &mut Kept, object: Text, length: u64, now: u64) -> Result<Reply, Memory>
+fn put(
+    alloc: Global,
+    kept: &mut Followed,
+    object: Text,
+    length: u64,
+    now: u64,
+) -> Result<Reply, Memory>
     requires moment { IsTrue (is_moment now) }
     requires id { IsTrue (is_object_id object) }
     ensures texts { IfOk result (λ reply. IsTrue (has_reply_texts reply)) }
@@ -139,7 +145,7 @@ fn put(alloc: Global, kept: &mut Kept, object: Text, length: u64, now: u64) -> R
 /// What is answered to the first bytes of an object.
 fn put_first(
     alloc: Global,
-    kept: &mut Kept,
+    kept: &mut Followed,
     object: Text,
     length: u64,
     now: u64,
@@ -162,7 +168,7 @@ fn put_first(
 }
 
 /// What is answered to a question for the bytes of an object.
-fn media(kept: &Kept, object: &Text) -> Reply
+fn media(kept: &Followed, object: &Text) -> Reply
     ensures texts { IsTrue (has_reply_texts result) }
 {
     match kept.core.object(object) {

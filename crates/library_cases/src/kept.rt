@@ -20,15 +20,15 @@ const BLOCKS: u64 = 10;
 
 /// A library, and the one that its changes make of an empty one.
 #[derive(Drop)]
-pub(crate) struct Kept {
+pub(crate) struct Followed {
     pub(crate) core: Core,
     pub(crate) follower: Core,
 }
 
-impl Kept {
+impl Followed {
     /// Two empty libraries.
-    pub(crate) fn new(alloc: Global) -> Result<Kept, Memory> {
-        Ok(Kept {
+    pub(crate) fn new(alloc: Global) -> Result<Followed, Memory> {
+        Ok(Followed {
             core: Core::empty(alloc, STORE, BLOCKS)?,
             follower: Core::empty(alloc, STORE, BLOCKS)?,
         })
@@ -38,7 +38,7 @@ impl Kept {
 /// Runs a command, and gives its reply, which is the library's answer.
 pub(crate) fn run(
     alloc: Global,
-    kept: &mut Kept,
+    kept: &mut Followed,
     command: &Command,
     now: u64,
 ) -> Result<Reply, Memory>
@@ -55,7 +55,7 @@ pub(crate) fn run(
 }
 
 /// What is shown to a command that asks, or its refusal, as a reply.
-fn ask(alloc: Global, kept: &Kept, command: &Command) -> Result<Reply, Memory>
+fn ask(alloc: Global, kept: &Followed, command: &Command) -> Result<Reply, Memory>
     requires asking { IsTrue (is_asking command.now) }
     ensures { IfOk result
         (λ reply. option_map shown_reply (asked kept.now.core command.now) ≡ Some reply) }
@@ -68,7 +68,7 @@ fn ask(alloc: Global, kept: &Kept, command: &Command) -> Result<Reply, Memory>
 }
 
 /// Runs a command that changes something, and gives its reply.
-fn change(alloc: Global, kept: &mut Kept, command: &Command, now: u64) -> Result<Reply, Memory>
+fn change(alloc: Global, kept: &mut Followed, command: &Command, now: u64) -> Result<Reply, Memory>
     requires changing { asked kept.old.core command.now ≡ None }
     requires good { IsTrue (is_good_command kept.old.core command.now) }
     requires moment { IsTrue (is_moment now) }
@@ -82,7 +82,7 @@ fn change(alloc: Global, kept: &mut Kept, command: &Command, now: u64) -> Result
 }
 
 /// Becomes what was prepared, applies its change to the other library, and gives the reply.
-fn become_prepared(alloc: Global, kept: &mut Kept, prepared: Prepared) -> Result<Reply, Memory>
+fn become_prepared(alloc: Global, kept: &mut Followed, prepared: Prepared) -> Result<Reply, Memory>
     ensures { IfOk result (λ reply. reply ≡ prepared.reply) }
 {
     let Prepared {
@@ -97,7 +97,7 @@ fn become_prepared(alloc: Global, kept: &mut Kept, prepared: Prepared) -> Result
 }
 
 /// Applies a change, if there is one, to the other library; one that is refused leaves it.
-fn follow(alloc: Global, kept: &mut Kept, change: Option<Change>) -> Result<(), Memory> {
+fn follow(alloc: Global, kept: &mut Followed, change: Option<Change>) -> Result<(), Memory> {
     let Some(change) = change else {
         return Ok(());
     };
@@ -112,7 +112,7 @@ fn follow(alloc: Global, kept: &mut Kept, change: Option<Change>) -> Result<(), 
 }
 
 /// Runs a turn, and gives its reply. `None` where there is nothing to do.
-pub(crate) fn turn(alloc: Global, kept: &mut Kept, now: u64) -> Result<Option<Reply>, Memory>
+pub(crate) fn turn(alloc: Global, kept: &mut Followed, now: u64) -> Result<Option<Reply>, Memory>
     requires moment { IsTrue (is_moment now) }
 {
     match kept.core.prepare_turn(alloc, now)? {
@@ -122,7 +122,7 @@ pub(crate) fn turn(alloc: Global, kept: &mut Kept, now: u64) -> Result<Option<Re
 }
 
 /// Makes the library from its own rows. False where they are refused, or where the other library has other rows.
-pub(crate) fn restore(alloc: Global, kept: &mut Kept) -> Result<bool, Memory> {
+pub(crate) fn restore(alloc: Global, kept: &mut Followed) -> Result<bool, Memory> {
     let text = kept.core.rows(alloc)?;
     let same = same_bytes(text.bytes(), kept.follower.rows(alloc)?.bytes());
     match from_text(alloc, text.bytes())? {

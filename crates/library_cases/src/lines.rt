@@ -2,9 +2,9 @@
 ghost use Rattle.std.specs.Prelude.{IsTrue};
 ghost use Rattle.media_rows.specs.Moments.{is_moment};
 
-use crate::asked::{Request, reply_to, response_to};
-use crate::kept::{Kept, restore, turn};
-use crate::told::{Told, body_of};
+use crate::asked::{CaseRequest, reply_to, response_to};
+use crate::kept::{Followed, restore, turn};
+use crate::told::{ShownReply, body_of};
 use good_values::is_moment;
 use http_wire::MethodKind;
 use std::io;
@@ -35,7 +35,7 @@ fn split_moment(line: &str) -> Option<(u64, &str)> {
 pub(crate) fn run_line<R: Print + AllocGlobal>(
     rt: &R,
     routes: &Routes,
-    kept: &mut Kept,
+    kept: &mut Followed,
     line: &str,
 ) -> io::Result<()> {
     let Some((now, rest)) = split_moment(line) else {
@@ -56,18 +56,18 @@ pub(crate) fn run_line<R: Print + AllocGlobal>(
 }
 
 /// Runs a turn.
-fn run_turn<R: Print + AllocGlobal>(rt: &R, kept: &mut Kept, now: u64) -> io::Result<()>
+fn run_turn<R: Print + AllocGlobal>(rt: &R, kept: &mut Followed, now: u64) -> io::Result<()>
     requires { IsTrue (is_moment now) }
 {
     match turn(rt.alloc(), kept, now) {
         Ok(None) => println!(rt; "nothing"),
-        Ok(Some(reply)) => println!(rt; "{}", Told(&reply)),
+        Ok(Some(reply)) => println!(rt; "{}", ShownReply(&reply)),
         Err(_) => println!(rt; "no memory"),
     }
 }
 
 /// Makes the library from its own rows, and prints how much it has then.
-fn run_rows<R: Print + AllocGlobal>(rt: &R, kept: &mut Kept) -> io::Result<()> {
+fn run_rows<R: Print + AllocGlobal>(rt: &R, kept: &mut Followed) -> io::Result<()> {
     match restore(rt.alloc(), kept) {
         Ok(true) => {}
         Ok(false) => return println!(rt; "refused"),
@@ -87,10 +87,10 @@ fn run_rows<R: Print + AllocGlobal>(rt: &R, kept: &mut Kept) -> io::Result<()> {
 }
 
 /// A request: a method, a target and a body.
-fn request_of(line: &str) -> Request<'_> {
+fn request_of(line: &str) -> CaseRequest<'_> {
     let (method, rest) = line.split_once(' ').unwrap_or((line, ""));
     let (target, body) = rest.split_once(' ').unwrap_or((rest, ""));
-    Request {
+    CaseRequest {
         method: method_of(method),
         target,
         body,
@@ -101,14 +101,14 @@ fn request_of(line: &str) -> Request<'_> {
 fn run_request<R: Print + AllocGlobal>(
     rt: &R,
     routes: &Routes,
-    kept: &mut Kept,
+    kept: &mut Followed,
     line: &str,
     now: u64,
 ) -> io::Result<()>
     requires { IsTrue (is_moment now) }
 {
     match reply_to(rt.alloc(), routes, kept, &request_of(line), now) {
-        Ok(reply) => println!(rt; "{}", Told(&reply)),
+        Ok(reply) => println!(rt; "{}", ShownReply(&reply)),
         Err(_) => println!(rt; "no memory"),
     }
 }
@@ -117,7 +117,7 @@ fn run_request<R: Print + AllocGlobal>(
 fn run_for_body<R: Print + AllocGlobal>(
     rt: &R,
     routes: &Routes,
-    kept: &mut Kept,
+    kept: &mut Followed,
     line: &str,
     now: u64,
 ) -> io::Result<()>

@@ -6,7 +6,7 @@ mod kept;
 mod lines;
 mod told;
 
-use crate::kept::Kept;
+use crate::kept::Followed;
 use crate::lines::run_line;
 use std::io;
 use tams_http::Routes;
@@ -16,7 +16,7 @@ const STORE: u128 = 0x00000000_0000_4000_8000_000000000001;
 
 fn main(rt: HostRuntime) -> io::Result<()> {
     let alloc = rt.alloc();
-    match (Routes::new(alloc, STORE), Kept::new(alloc)) {
+    match (Routes::new(alloc, STORE), Followed::new(alloc)) {
         (Ok(routes), Ok(mut kept)) => run_all(&rt, &routes, &mut kept),
         _ => println!(rt; "no memory"),
     }
@@ -26,7 +26,7 @@ fn main(rt: HostRuntime) -> io::Result<()> {
 fn run_all<R: Input + Print + AllocGlobal>(
     rt: &R,
     routes: &Routes,
-    kept: &mut Kept,
+    kept: &mut Followed,
 ) -> io::Result<()> {
     for line in rt.lines(rt.alloc()) {
         let line = line?;

@@ -8,9 +8,9 @@ use time_range::TimeRange;
 
 /// A reply, to be printed.
 #[derive(Drop)]
-pub(crate) struct Told<'a>(pub(crate) &'a Reply);
+pub(crate) struct ShownReply<'a>(pub(crate) &'a Reply);
 
-impl fmt::Display for Told<'_> {
+impl fmt::Display for ShownReply<'_> {
     fn fmt<W: fmt::Write>(&self, f: &mut fmt::Formatter<W>) -> fmt::Result {
         match self.0 {
             Reply::Created => f.write_str("created"),

@@ -131,50 +131,50 @@ impl<T: Drop> From<AllocFailed<T>> for JournalFault {
 
 /// Why bytes of a half were not read.
 #[derive(Clone, Copy, Debug, PartialEq, Eq)]
-pub(crate) enum ReadFault {
+pub(crate) enum HalfFault {
     Disk,
     Memory,
 }
 
-impl From<Failed> for ReadFault {
-    ghost use Rattle.media_journal.specs.declared.fault.ReadFault.TheVariants.{Disk};
+impl From<Failed> for HalfFault {
+    ghost use Rattle.media_journal.specs.declared.fault.HalfFault.TheVariants.{Disk};
 
     ghost from_gives = { λ _ e. e ≡ Disk };
 
     fn from(_: Failed) -> Self {
-        ReadFault::Disk
+        HalfFault::Disk
     }
 }
 
-impl From<AllocError> for ReadFault {
-    ghost use Rattle.media_journal.specs.declared.fault.ReadFault.TheVariants.{Memory};
+impl From<AllocError> for HalfFault {
+    ghost use Rattle.media_journal.specs.declared.fault.HalfFault.TheVariants.{Memory};
 
     ghost from_gives = { λ _ e. e ≡ Memory };
 
     fn from(_: AllocError) -> Self {
-        ReadFault::Memory
+        HalfFault::Memory
     }
 }
 
-impl From<disk_trait::Memory> for ReadFault {
-    ghost use Rattle.media_journal.specs.declared.fault.ReadFault.TheVariants.{Memory};
+impl From<disk_trait::Memory> for HalfFault {
+    ghost use Rattle.media_journal.specs.declared.fault.HalfFault.TheVariants.{Memory};
 
     ghost from_gives = { λ _ e. e ≡ Memory };
 
     fn from(_: disk_trait::Memory) -> Self {
-        ReadFault::Memory
+        HalfFault::Memory
     }
 }
 
-impl From<ReadFault> for JournalFault {
+impl From<HalfFault> for JournalFault {
     ghost use Rattle.media_journal.specs.Answers.{as_journal_fault};
 
     ghost from_gives = { λ fault e. e ≡ as_journal_fault fault };
 
-    fn from(fault: ReadFault) -> Self {
+    fn from(fault: HalfFault) -> Self {
         match fault {
-            ReadFault::Disk => JournalFault::Disk,
-            ReadFault::Memory => JournalFault::Memory,
+            HalfFault::Disk => JournalFault::Disk,
+            HalfFault::Memory => JournalFault::Memory,
         }
     }
 }

@@ -7,7 +7,7 @@ ghost use Rattle.media_journal.specs.File.{IsOpenGate};
 ghost use Rattle.media_journal.specs.Within.Scan.{FoundAt, EndsBefore, HalfAnswer, IsChain};
 ghost use Rattle.media_journal.specs.Within.Window.{IsPieceOn};
 
-use crate::fault::ReadFault;
+use crate::fault::HalfFault;
 use crate::window::Window;
 use crate::{JournalFault, Record, RecordList};
 use disk_trait::numbers::{read_u32, read_u64};
@@ -16,7 +16,7 @@ use std::alloc::Global;
 
 /// What stands at a place of a half.
 #[derive(Drop)]
-pub(crate) enum Found {
+pub(crate) enum AtPlace {
     /// A closed gate: the list ends here.
     Closed,
     /// An open record whose end passes the half.
@@ -88,7 +88,7 @@ pub(crate) fn read_chain<D: Disk>(
     disk: &mut D,
     window: &mut Window,
     from: u64,
-) -> Result<Chain, ReadFault>
+) -> Result<Chain, HalfFault>
     requires within { from < window.old.end }
     requires piece { IsPieceOn (D.device disk.old) window.old }
     ensures reads { DiskReads (read_ok result) (D.device disk.old) (D.device disk.new) }
@@ -101,21 +101,21 @@ pub(crate) fn read_chain<D: Disk>(
     let mut at = from;
     'records: loop {
         match read_record(alloc, disk, window, at)? {
-            Found::Closed => {
+            AtPlace::Closed => {
                 return Ok(Chain {
                     records,
                     gate: at,
                     torn: false,
                 });
             }
-            Found::Torn => {
+            AtPlace::Torn => {
                 return Ok(Chain {
                     records,
                     gate: at,
                     torn: true,
                 });
             }
-            Found::Whole(payload) => {
+            AtPlace::Whole(payload) => {
                 let next = at + 5 + payload.bytes().len() as u64;
                 records.push(Record {
                     offset: at,
@@ -133,7 +133,7 @@ fn read_record<D: Disk>(
     disk: &mut D,
     window: &mut Window,
     at: u64,
-) -> Result<Found, ReadFault>
+) -> Result<AtPlace, HalfFault>
     requires within { at < window.old.end }
     requires piece { IsPieceOn (D.device disk.old) window.old }
     ensures reads { DiskReads (read_ok result) (D.device disk.old) (D.device disk.new) }
@@ -144,17 +144,17 @@ fn read_record<D: Disk>(
         → IfOk result (FoundAt (D.device disk.old).seen at window.old.end) }
 {
     if !read_gate(disk, window, at)? {
-        return Ok(Found::Closed);
+        return Ok(AtPlace::Closed);
     }
     let left = window.end() - at;
     if left < 6 {
-        return Ok(Found::Torn);
+        return Ok(AtPlace::Torn);
     }
     let length = read_length(disk, window, at + 1)?;
     if left - 6 < length {
-        return Ok(Found::Torn);
+        return Ok(AtPlace::Torn);
     }
-    Ok(Found::Whole(read_text(alloc, disk, window, at + 5, length)?))
+    Ok(AtPlace::Whole(read_text(alloc, disk, window, at + 5, length)?))
 }
 
 /// Reads so many bytes at this place into a text of their own.
@@ -164,7 +164,7 @@ fn read_text<D: Disk>(
     window: &mut Window,
     at: u64,
     count: u64,
-) -> Result<Text, ReadFault>
+) -> Result<Text, HalfFault>
     requires within { at + count ≤ window.old.end }
     requires piece { IsPieceOn (D.device disk.old) window.old }
     ensures reads { DiskReads (read_ok result) (D.device disk.old) (D.device disk.new) }

@@ -17,8 +17,8 @@ use Rattle.http_wire.specs.declared.lines.Looked.{Looked}
 use Rattle.http_wire.specs.declared.lines.Looked.TheVariants.{Ended, Still}
 use Rattle.http_wire.specs.declared.framing.WireFault.{WireFault}
 use Rattle.http_wire.specs.declared.stage.Head.{Head}
-use Rattle.http_wire.specs.declared.stage.Stage.{Stage}
-use Rattle.http_wire.specs.declared.stage.Stage.TheVariants as stages
+use Rattle.http_wire.specs.declared.stage.FeedStage.{FeedStage}
+use Rattle.http_wire.specs.declared.stage.FeedStage.TheVariants as stages
 use Rattle.http_wire.proofs.Hearings.{next_unique, stays_decided}
 use Rattle.http_wire.proofs.Staying.{next_stays}
 use Rattle.run_history.specs.Machine.{Machine}
@@ -72,7 +72,7 @@ text_on all text unread further piece rest is on =
 
 -- ---- when the next request may be heard
 
-may_open : (stage : Stage) (fed : Fed) → fed.stage ≡ stage → left_of stage ≡ 0 → ((fault : WireFault) → stage ≢ stages.Failed fault) → fed.ended ≡ false
+may_open : (stage : FeedStage) (fed : Fed) → fed.stage ≡ stage → left_of stage ≡ 0 → ((fault : WireFault) → stage ≢ stages.Failed fault) → fed.ended ≡ false
     → MayTurn fed
 may_open stage fed is none unrefused goes =
     record { handed_on = rw is none; unrefused = λ fault failed. unrefused fault (sym is ∙ failed); goes_on = goes }

@@ -14,8 +14,8 @@ use Rattle.http_wire.specs.Heads.{Front, IsHead, more, refused, whole}
 use Rattle.http_wire.specs.Requests.{Got, IsNext, given, opened}
 use Rattle.http_wire.specs.declared.framing.WireFault.{WireFault}
 use Rattle.http_wire.specs.declared.stage.Head.{Head}
-use Rattle.http_wire.specs.declared.stage.Stage.{Stage}
-use Rattle.http_wire.specs.declared.stage.Stage.TheVariants as stages
+use Rattle.http_wire.specs.declared.stage.FeedStage.{FeedStage}
+use Rattle.http_wire.specs.declared.stage.FeedStage.TheVariants as stages
 use Rattle.http_wire.specs.declared.stage.FeedStep.{FeedStep}
 use Rattle.http_wire.specs.declared.stage.FeedStep.TheVariants as steps
 use Rattle.http_wire.proofs.Alone.{HasHead, due_head, due_later, given_head, heads_wait, media_opens, opened_head, stands_alone}
@@ -33,7 +33,7 @@ use Rattle.request_hearing.proofs.SiteLemmas.{hears_nothing, hears_twice, says_t
 
 -- ---- the feed's answers
 
-turn_by : (stage : Stage) (old new : Fed) (step : FeedStep) → ((fault : WireFault) → stage ≢ stages.Failed fault) → feeds.AnswersBy stage old step new
+turn_by : (stage : FeedStage) (old new : Fed) (step : FeedStep) → ((fault : WireFault) → stage ≢ stages.Failed fault) → feeds.AnswersBy stage old step new
     → Turns old step new
 turn_by stages.Open old new step unrefused answers = answers
 turn_by (stages.Media left) old new step unrefused answers = answers

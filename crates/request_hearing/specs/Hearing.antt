@@ -11,8 +11,8 @@ use Rattle.http_wire.specs.Requests.{IsNext, opened}
 use Rattle.http_wire.specs.Steps.{wire_refusal}
 use Rattle.http_wire.specs.declared.framing.WireFault.{WireFault}
 use Rattle.http_wire.specs.declared.stage.Head.{Head}
-use Rattle.http_wire.specs.declared.stage.Stage.{Stage}
-use Rattle.http_wire.specs.declared.stage.Stage.TheVariants as stages
+use Rattle.http_wire.specs.declared.stage.FeedStage.{FeedStage}
+use Rattle.http_wire.specs.declared.stage.FeedStage.TheVariants as stages
 use Rattle.media_rows.specs.declared.refusal.Refusal.{Refusal}
 use Rattle.run_history.specs.Steps.{Interim}
 use Rattle.run_history.specs.Traces.{Trace, with_piece}
@@ -95,7 +95,7 @@ has_ended Unsaid = false
 has_ended MediaUnsaid = false
 
 -- how a feed stands behind a request that was given, which so many came before
-pub record StandsBehind (taken : ℕ) (stage : Stage) (shown : Head) (new : Fed) : Type 0 where
+pub record StandsBehind (taken : ℕ) (stage : FeedStage) (shown : Head) (new : Fed) : Type 0 where
   pub stage_is : new.stage ≡ stage
   pub requests_are : new.requests ≡ taken + 1
   pub ended_is : new.ended ≡ shown.ends

@@ -8,11 +8,11 @@ use std::alloc::Global;
 /// A case: what is done to one file, in order.
 #[derive(Drop)]
 pub(crate) struct Case {
-    pub(crate) steps: Vec<Step>,
+    pub(crate) steps: Vec<CaseStep>,
 }
 
 #[derive(Drop)]
-pub(crate) enum Step {
+pub(crate) enum CaseStep {
     /// The file is as many zeros.
     Device(u64),
     /// The file is what the case of this name left.
@@ -66,12 +66,12 @@ pub(crate) struct Ends {
     pub(crate) opens: Text,
     pub(crate) status: u64,
     pub(crate) notes: Text,
-    pub(crate) answers: Vec<Answer>,
+    pub(crate) answers: Vec<PeerAnswer>,
 }
 
 /// An answer to the peer of this number. The peers count from 0.
 #[derive(Drop)]
-pub(crate) struct Answer {
+pub(crate) struct PeerAnswer {
     pub(crate) peer: usize,
     pub(crate) bytes: Text,
 }
@@ -109,20 +109,20 @@ pub(crate) fn read_case(alloc: Global, text: &str) -> Result<Case, Problem> {
     Ok(Case { steps })
 }
 
-fn add_entry(alloc: Global, steps: &mut Vec<Step>, entry: &Entry<'_>) -> Result<(), Problem> {
+fn add_entry(alloc: Global, steps: &mut Vec<CaseStep>, entry: &Entry<'_>) -> Result<(), Problem> {
     let step = match entry.word {
         Word::Bytes => return Ok(()),
-        Word::Device => Step::Device(read_number(entry.line, entry.rest)?),
-        Word::Store => Step::Store {
+        Word::Device => CaseStep::Device(read_number(entry.line, entry.rest)?),
+        Word::Store => CaseStep::Store {
             line: entry.line,
             name: Text::from_bytes(alloc, entry.rest.as_bytes())?,
         },
-        Word::Write => Step::Write(range_of(alloc, entry)?),
-        Word::Holds => Step::Holds(range_of(alloc, entry)?),
-        Word::Run => Step::Run(Run::new(alloc, entry)?),
+        Word::Write => CaseStep::Write(range_of(alloc, entry)?),
+        Word::Holds => CaseStep::Holds(range_of(alloc, entry)?),
+        Word::Run => CaseStep::Run(Run::new(alloc, entry)?),
         _ => {
             return match steps.last_mut() {
-                Some(Step::Run(run)) => run.take(alloc, entry),
+                Some(CaseStep::Run(run)) => run.take(alloc, entry),
                 _ => Err(Fault::Place.at(entry.line)),
             };
         }
@@ -233,7 +233,7 @@ impl Ends {
             Word::Opens => self.opens = Text::from_bytes(alloc, entry.rest.as_bytes())?,
             Word::Status => self.status = read_number(entry.line, entry.rest)?,
             Word::Notes => self.notes = entry.bytes.copy(alloc)?,
-            Word::Says => self.answers.push(Answer {
+            Word::Says => self.answers.push(PeerAnswer {
                 peer,
                 bytes: entry.bytes.copy(alloc)?,
             })?,

@@ -56,13 +56,13 @@ fn read_entry<'a>(alloc: Global, line: u64, content: &'a str) -> Result<Entry<'a
 
 /// Bytes, and how often they stand.
 #[derive(Drop)]
-struct Piece {
+struct Repeated {
     count: u64,
     bytes: Text,
 }
 
 /// Adds a piece to the last entry.
-fn add_bytes(entries: &mut Vec<Entry<'_>>, line: u64, piece: &Piece) -> Result<(), Problem> {
+fn add_bytes(entries: &mut Vec<Entry<'_>>, line: u64, piece: &Repeated) -> Result<(), Problem> {
     let Some(last) = entries.last_mut() else {
         return Err(Fault::Bytes.at(line));
     };
@@ -78,7 +78,7 @@ fn read_piece(
     line: u64,
     content: &str,
     above: &[Entry<'_>],
-) -> Result<Piece, Problem> {
+) -> Result<Repeated, Problem> {
     let (count, content) = match content.split_once(' ') {
         Some((digits, rest)) if digits.bytes().all(|digit| digit.is_ascii_digit()) => {
             (read_number(line, digits)?, rest)
@@ -86,7 +86,7 @@ fn read_piece(
         _ => (1, content),
     };
     let bytes = read_bytes(alloc, line, content, above)?;
-    Ok(Piece { count, bytes })
+    Ok(Repeated { count, bytes })
 }
 
 /// Reads `|` and text, `=` and hexadecimal digits, or `@` and a name.

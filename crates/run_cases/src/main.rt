@@ -12,7 +12,7 @@ mod sweep;
 mod word;
 
 use crate::problem::Problem;
-use crate::steps::{Left, run_case};
+use crate::steps::{CaseFile, run_case};
 use disk_trait::Text;
 use std::process::ExitCode;
 use std::rt::Files;
@@ -42,7 +42,7 @@ fn run_all<R: Files + Input + Print + AllocGlobal>(rt: &R) -> io::Result<Count> 
             Ok(image) => {
                 println!(rt; "ok {name}")?;
                 count.ok = count.ok.saturating_add(1);
-                passed.push(Left {
+                passed.push(CaseFile {
                     name: Text::from_vec(name.into_bytes()),
                     image,
                 })?;
@@ -57,7 +57,11 @@ fn run_all<R: Files + Input + Print + AllocGlobal>(rt: &R) -> io::Result<Count> 
 }
 
 /// Runs the case of a file, and answers the file that it leaves.
-fn run_named<R: Files + AllocGlobal>(rt: &R, name: &str, passed: &[Left]) -> Result<Text, Problem> {
+fn run_named<R: Files + AllocGlobal>(
+    rt: &R,
+    name: &str,
+    passed: &[CaseFile],
+) -> Result<Text, Problem> {
     let text = fs::read_to_string(rt, name)?;
     run_case(rt.alloc(), text.as_str(), passed)
 }

@@ -1,5 +1,5 @@
 //! Runs of the program over a site in memory, and what they are compared with.
-use crate::case::{Answer, Ends, Given};
+use crate::case::{Ends, Given, PeerAnswer};
 use crate::problem::{Fault, Problem};
 use disk_trait::{MemoryDisk, NumberList, Text, TextList, same_bytes};
 use site_edge::{LAST_MOMENT, ListClock, MemorySink, MemorySite, PeerList};
@@ -136,7 +136,7 @@ pub(crate) fn compare(alloc: Global, ran: &Ran, given: &Given, ends: &Ends) -> R
 }
 
 /// All that the peer of this number is to be told.
-fn answers_to(alloc: Global, answers: &[Answer], peer: usize) -> Result<Text, Problem> {
+fn answers_to(alloc: Global, answers: &[PeerAnswer], peer: usize) -> Result<Text, Problem> {
     let mut all = Text::new(alloc);
     for answer in answers {
         if answer.peer == peer {

@@ -1,5 +1,5 @@
 //! The steps of a case.
-use crate::case::{Range, Run, Step, read_case};
+use crate::case::{CaseStep, Range, Run, read_case};
 use crate::problem::{Fault, Problem};
 use crate::running::{FailingCall, compare, compare_bytes, run_on};
 use crate::sweep::make_sweep;
@@ -9,13 +9,13 @@ use tams_top::Wanted;
 
 /// The file that a case left.
 #[derive(Drop)]
-pub(crate) struct Left {
+pub(crate) struct CaseFile {
     pub(crate) name: Text,
     pub(crate) image: Text,
 }
 
 /// Runs a case, and answers the file that it leaves.
-pub(crate) fn run_case(alloc: Global, text: &str, passed: &[Left]) -> Result<Text, Problem> {
+pub(crate) fn run_case(alloc: Global, text: &str, passed: &[CaseFile]) -> Result<Text, Problem> {
     let case = read_case(alloc, text)?;
     let mut image = Text::new(alloc);
     for step in &case.steps {
@@ -25,12 +25,17 @@ pub(crate) fn run_case(alloc: Global, text: &str, passed: &[Left]) -> Result<Tex
 }
 
 /// Makes a step, and answers the file that it leaves.
-fn make_step(alloc: Global, image: Text, step: &Step, passed: &[Left]) -> Result<Text, Problem> {
+fn make_step(
+    alloc: Global,
+    image: Text,
+    step: &CaseStep,
+    passed: &[CaseFile],
+) -> Result<Text, Problem> {
     match step {
-        Step::Device(length) => Ok(Text::from_vec(vec![in alloc; 0u8; *length as usize]?)),
-        Step::Store { line, name } => left_by(alloc, *line, name, passed),
-        Step::Write(range) => overwrite(alloc, &image, range),
-        Step::Holds(range) => {
+        CaseStep::Device(length) => Ok(Text::from_vec(vec![in alloc; 0u8; *length as usize]?)),
+        CaseStep::Store { line, name } => left_by(alloc, *line, name, passed),
+        CaseStep::Write(range) => overwrite(alloc, &image, range),
+        CaseStep::Holds(range) => {
             compare_bytes(
                 alloc,
                 range.line,
@@ -40,12 +45,12 @@ fn make_step(alloc: Global, image: Text, step: &Step, passed: &[Left]) -> Result
             )?;
             Ok(image)
         }
-        Step::Run(run) => make_run(alloc, &image, run),
+        CaseStep::Run(run) => make_run(alloc, &image, run),
     }
 }
 
 /// The file that the case of this name left.
-fn left_by(alloc: Global, line: u64, name: &Text, passed: &[Left]) -> Result<Text, Problem> {
+fn left_by(alloc: Global, line: u64, name: &Text, passed: &[CaseFile]) -> Result<Text, Problem> {
     for left in passed {
         if left.name.same(name) {
             return Ok(left.image.copy(alloc)?);

@@ -5,12 +5,12 @@ use Rattle.disk_trait.specs.Device.{Connection}
 use Rattle.site_edge.specs.Links.{change_last}
 use Rattle.site_edge.specs.Lines.{Talk, with_changed_connection}
 use Rattle.site_edge.specs.declared.tally.Tally.{Tally}
-use Rattle.site_edge.specs.declared.span.Span.{Span}
+use Rattle.site_edge.specs.declared.span.ToldSpan.{ToldSpan}
 use Rattle.site_edge.specs.declared.span.Added.{Added}
 use Rattle.site_edge.specs.MemorySite.{SiteState, IsKeptBySite, add_to, told_after, told_of, disk_calls}
 use Rattle.site_edge.proofs.ConnectionLemmas.{length-change_last, told_kept}
 
-told_after-push : (spans : List Span) (span : Span) (told : List (List ℕ)) → told_after (spans ++ span ∷ []) told ≡ add_to (told_after spans told) span.adds
+told_after-push : (spans : List ToldSpan) (span : ToldSpan) (told : List (List ℕ)) → told_after (spans ++ span ∷ []) told ≡ add_to (told_after spans told) span.adds
 told_after-push [] span told = refl
 told_after-push (first ∷ spans) span told = told_after-push spans span (add_to told first.adds)
 
@@ -30,7 +30,7 @@ pub kept_ended : (adds : Added) (old new : SiteState) → IsKeptBySite old → n
     → new.since ≡ disk_calls old → new.spans ≡ old.spans ++ record { from = old.since; to = disk_calls old; adds = adds } ∷ []
     → told_of new ≡ add_to (told_of old) adds → IsKeptBySite new
 kept_ended adds old new kept piece some calls since spans told =
-    let last : Span = record { from = old.since; to = disk_calls old; adds = adds } in
+    let last : ToldSpan = record { from = old.since; to = disk_calls old; adds = adds } in
     record {
       piece = rw piece kept.piece;
       under_way = λ way. some;

@@ -8,7 +8,7 @@ use Rattle.disk_trait.specs.History.{call_of, Past, with_call}
 use Rattle.disk_trait.specs.MemoryDisk.{DiskState, DiskCalled, LeavesAt, LeavesSince, memory_device}
 use Rattle.disk_trait.specs.MemoryDiskLaws.{leaves_at_more}
 use Rattle.disk_trait.specs.declared.history.Call.{Call}
-use Rattle.site_edge.specs.declared.span.Span.{Span}
+use Rattle.site_edge.specs.declared.span.ToldSpan.{ToldSpan}
 use Rattle.site_edge.specs.declared.span.Added.{Added}
 use Rattle.site_edge.specs.Lines.{Talk}
 use Rattle.site_edge.specs.MemorySite.{SiteState, SiteLeaves, LeavesIn, IsKeptBySite, SoFar, now, earlier, ending, told_after, told_of, disk_calls, end_span, site_device}
@@ -256,16 +256,16 @@ ended_in past since n before t image earlier_by left = record {
 }
 
 -- the span that a link call ends
-abbrev pub ended_by : Added → SiteState → Span
+abbrev pub ended_by : Added → SiteState → ToldSpan
 ended_by adds site = record { from = site.since; to = disk_calls site; adds = adds }
 
 -- what was told before a span that stood already
-spans_before : (site : SiteState) (last : Span) (n : ℕ) → n ≤ length site.spans
+spans_before : (site : SiteState) (last : ToldSpan) (n : ℕ) → n ≤ length site.spans
     → told_after (take n (site.spans ++ last ∷ [])) [] ≡ told_after (take n site.spans) []
 spans_before site last n within = ap (λ spans. told_after spans []) (take-append-le n site.spans (last ∷ []) within)
 
 -- what was told before the last span
-told_before_last : (site : SiteState) (last : Span) → IsKeptBySite site → told_after (take (length site.spans) (site.spans ++ last ∷ [])) [] ≡ told_of site
+told_before_last : (site : SiteState) (last : ToldSpan) → IsKeptBySite site → told_after (take (length site.spans) (site.spans ++ last ∷ [])) [] ≡ told_of site
 told_before_last site last kept =
     spans_before site last (length site.spans) (omega arith) ∙ (ap (λ spans. told_after spans []) (take_all (length site.spans) site.spans (omega arith)) ∙
     kept.told)
@@ -307,7 +307,7 @@ follows_at step site p leaves made = (
 )
 
 -- the last span, by its place
-is_last : (site : SiteState) (last span : Span) (n : ℕ) → n < length (site.spans ++ last ∷ []) → length site.spans ≤ n
+is_last : (site : SiteState) (last span : ToldSpan) (n : ℕ) → n < length (site.spans ++ last ∷ []) → length site.spans ≤ n
     → get_or (site.spans ++ last ∷ []) n span ≡ span → (n ≡ length site.spans) × (span ≡ last)
 is_last site last span n within past at =
     let here : n ≡ length site.spans = omega (arith, within, past, length_push site.spans last) in

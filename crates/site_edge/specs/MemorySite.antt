@@ -8,7 +8,7 @@ use Rattle.site_edge.specs.Links.{Sends, change_last, fresh}
 use Rattle.site_edge.specs.Lines.{Talk, rest_of, with_changed_connection, told_more}
 use Rattle.site_edge.specs.Tallies.{CountsCall}
 use Rattle.site_edge.specs.declared.tally.Tally.{Tally}
-use Rattle.site_edge.specs.declared.span.Span.{Span}
+use Rattle.site_edge.specs.declared.span.ToldSpan.{ToldSpan}
 use Rattle.site_edge.specs.declared.span.Added.{Added}
 use Rattle.site_edge.specs.declared.span.Added.TheVariants.{Peer, Bytes}
 
@@ -18,7 +18,7 @@ add_to told Peer = told ++ [] ∷ []
 add_to told (Bytes sent) = change_last (λ t. t ++ sent) told
 
 -- what was told after these spans
-abbrev pub told_after : List Span → List (List ℕ) → List (List ℕ)
+abbrev pub told_after : List ToldSpan → List (List ℕ) → List (List ℕ)
 told_after [] told = told
 told_after (span ∷ later) told = told_after later (add_to told span.adds)
 
@@ -34,7 +34,7 @@ pub record SiteState : Type 0 where
   pub piece : ℕ
   pub under_way : Bool
   pub closed : Bool
-  pub spans : List Span
+  pub spans : List ToldSpan
   pub since : ℕ
 
 -- a site at its beginning
@@ -93,13 +93,13 @@ told_before site n = told_after (take n site.spans) []
 -- or within the call that ended it.
 pub data SiteLeaves (site : SiteState) (t : ℕ) (p : Left) : Type 0 where
   now : LeavesNow site t p.image → p.told ≡ told_of site → SiteLeaves site t p
-  earlier : (n : ℕ) (span : Span)
+  earlier : (n : ℕ) (span : ToldSpan)
       → n < length site.spans
       → slice_index_or site.spans n span ≡ span
       → LeavesIn site.disk.past span.from span.to n t p.image
       → p.told ≡ told_before site n
       → SiteLeaves site t p
-  ending : (n : ℕ) (span : Span)
+  ending : (n : ℕ) (span : ToldSpan)
       → n < length site.spans
       → slice_index_or site.spans n span ≡ span
       → LeavesIn site.disk.past span.to span.to n t p.image

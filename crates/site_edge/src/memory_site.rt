@@ -9,7 +9,7 @@ ghost use Rattle.site_edge.specs.Lines.{heard_more, with_passed, told_more, with
 ghost use Rattle.site_edge.specs.MemorySite.{SiteCalled, after_close, after_next, after_tell, connections_of, is_one_left, fresh_site, rest_of_last, sent_by, site_device, told_also, told_of};
 
 use crate::line::Line;
-use crate::span::{Added, Span};
+use crate::span::{Added, ToldSpan};
 use crate::tally::{Tally, count, count_peer, has_number, passes};
 use crate::{LinkFailed, PeerList, Site};
 use disk_trait::{Disk, Failed, Memory, MemoryDisk, NumberList, Text};
@@ -27,7 +27,7 @@ pub struct MemorySite {
     piece: usize,
     under_way: bool,
     closed: bool,
-    spans: Vec<Span>,
+    spans: Vec<ToldSpan>,
     since: u64,
 }
 
@@ -155,7 +155,7 @@ impl MemorySite {
             return Ok(false);
         }
         self.lines.reserve(1)?;
-        let ended = Span {
+        let ended = ToldSpan {
             from: self.since,
             to: self.disk.calls(),
             adds: Added::Peer,
@@ -193,7 +193,7 @@ impl MemorySite {
         self.spans.reserve(1)?;
         let adds = Added::Bytes(Text::from_bytes(self.alloc, bytes)?);
         tell_last(&mut self.lines, bytes)?;
-        let ended = Span {
+        let ended = ToldSpan {
             from: self.since,
             to: self.disk.calls(),
             adds,

@@ -4,7 +4,7 @@ use disk_trait::Text;
 /// A stretch of time in which what was told stood: the number of disk calls made before it began
 /// and before it ended, and what the link call that ended it added.
 #[derive(Drop)]
-pub(crate) struct Span {
+pub(crate) struct ToldSpan {
     pub from: u64,
     pub to: u64,
     pub adds: Added,

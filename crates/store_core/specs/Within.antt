@@ -13,7 +13,7 @@ use Rattle.media_rows.specs.Library.{Library}
 use Rattle.media_rows.specs.Refusals.{IsChange}
 use Rattle.core_parts.specs.Parts.{within_serials}
 use Rattle.store_core.specs.declared.made.Made.{Made}
-use Rattle.store_core.specs.declared.made.Step.{Step}
+use Rattle.store_core.specs.declared.made.ChangeStep.{ChangeStep}
 use Rattle.store_core.specs.declared.prepare.Prepared.{Prepared}
 
 -- a reply, with a change and the library after it
@@ -26,7 +26,7 @@ abbrev pub made_none : Reply → Made
 made_none reply = record { reply = reply; step = None }
 
 -- a change of a library, and the library after it, unless its serials would end
-abbrev pub step_by : Library → Change → Step
+abbrev pub step_by : Library → Change → ChangeStep
 step_by library change =
     record { change = change; next = within_serials (after change library) }
 
@@ -42,7 +42,7 @@ MakesAnswer library command moment result =
     (made_by library (changing_answer None (accepted library command moment))) result
 
 -- what is prepared of a library by what was made of it
-abbrev pub prepared_step : Library → Reply → Option Step → Prepared
+abbrev pub prepared_step : Library → Reply → Option ChangeStep → Prepared
 prepared_step library reply None =
     record { core = library; change = None; reply = reply; past = false }
 prepared_step library reply (Some step) = record {

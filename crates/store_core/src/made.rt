@@ -8,7 +8,7 @@ use media_rows::{Change, Reply};
 
 /// A change, and the library after it, unless its serials would end.
 #[derive(Drop)]
-pub(crate) struct Step {
+pub(crate) struct ChangeStep {
     pub(crate) change: Change,
     pub(crate) next: Option<Parts>,
 }
@@ -17,7 +17,7 @@ pub(crate) struct Step {
 #[derive(Drop)]
 pub(crate) struct Made {
     pub(crate) reply: Reply,
-    pub(crate) step: Option<Step>,
+    pub(crate) step: Option<ChangeStep>,
 }
 
 impl Made {
@@ -27,7 +27,7 @@ impl Made {
     {
         Made {
             reply,
-            step: Some(Step { change, next }),
+            step: Some(ChangeStep { change, next }),
         }
     }
 

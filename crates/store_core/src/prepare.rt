@@ -13,7 +13,7 @@ use crate::commands::{
     add_segments, allocate, cut_segments, drop_flow, drop_hook, keep, put_flow, put_hook, set_flow,
     set_source,
 };
-use crate::made::{Made, Step};
+use crate::made::{ChangeStep, Made};
 use core_parts::{Parts, good_is_ready};
 use disk_trait::Memory;
 use library_laws::{answers_apply, good_is_tested};
@@ -63,7 +63,7 @@ impl Core {
                 past: false,
             });
         };
-        let Step { change, next } = step;
+        let ChangeStep { change, next } = step;
         let past = next.is_none();
         let core = match next {
             None => self.share()?,

@@ -10,7 +10,7 @@ ghost use Rattle.tams_http.specs.declared.ask.Ask.TheVariants.{PutMedia};
 ghost use Rattle.tams_machine.specs.Requests.{TamsRequest};
 ghost use Rattle.tams_answers.specs.Answers.{AnswersRequest, IsSent};
 
-use crate::plans::{Made, is_head_only, plan_asked};
+use crate::plans::{PlannedAnswer, is_head_only, plan_asked};
 use disk_trait::{Memory, Text};
 use http_wire::MethodKind;
 use media_rows::Extent;
@@ -66,7 +66,7 @@ pub fn plan_answer(
     ensures ready { IfOk result (λ answer. CanCommit store.now.kept answer.planned) }
     ensures media { IfOk result (λ answer. IfSome answer.media (IsExtent store.now.kept.library)) }
 {
-    let Made { planned, media } = plan_asked(alloc, routes, store, request, now)?;
+    let PlannedAnswer { planned, media } = plan_asked(alloc, routes, store, request, now)?;
     let response = routes.response_of(
         alloc,
         &planned.reply,

@@ -25,7 +25,7 @@ use tams_machine::requests_send_bytes;
 
 /// What is planned, and where the bytes of an object lie that follow the response.
 #[derive(Drop)]
-pub(crate) struct Made {
+pub(crate) struct PlannedAnswer {
     pub(crate) planned: Planned,
     pub(crate) media: Option<Extent>,
 }
@@ -37,7 +37,7 @@ pub(crate) fn plan_asked(
     store: &Store,
     request: &Request<'_>,
     now: u64,
-) -> Result<Made, Memory>
+) -> Result<PlannedAnswer, Memory>
     requires unspent { IsFalse store.now.spent }
     requires moment { IsTrue (is_moment now) }
     requires no_put { (object : List ℕ) → ask_of routes.now request.now.method request.now.target.now
@@ -60,7 +60,12 @@ pub(crate) fn plan_asked(
 }
 
 /// Plans a command, which brings no bytes of an object.
-fn plan_command(alloc: Global, store: &Store, command: &Command, now: u64) -> Result<Made, Memory>
+fn plan_command(
+    alloc: Global,
+    store: &Store,
+    command: &Command,
+    now: u64,
+) -> Result<PlannedAnswer, Memory>
     requires unspent { IsFalse store.now.spent }
     requires moment { IsTrue (is_moment now) }
     requires good { IsGoodFor store.now.kept.library command.now }
@@ -72,34 +77,34 @@ fn plan_command(alloc: Global, store: &Store, command: &Command, now: u64) -> Re
     answers_have_texts();
     store.keeps_good();
     let planned = store.plan(alloc, command, now)?;
-    Ok(Made {
+    Ok(PlannedAnswer {
         planned,
         media: None,
     })
 }
 
 /// Plans what is shown of the bytes of an object: their length, where they are stored.
-fn plan_get(store: &Store, object: &Text, head_only: bool) -> Result<Made, Memory>
+fn plan_get(store: &Store, object: &Text, head_only: bool) -> Result<PlannedAnswer, Memory>
     ensures { IfOk result (λ made. (moment : ℕ) → PlansAsked store.now.kept moment head_only
         (Ok (GetMedia object.now)) made.planned made.media) }
 {
     media_answers_have_texts();
     let extent = store.extent_of(object);
     let planned = store.keep(reply_at(extent))?;
-    Ok(Made {
+    Ok(PlannedAnswer {
         planned,
         media: unless(head_only, extent),
     })
 }
 
 /// Plans a refusal.
-fn plan_refusal(store: &Store, why: Refusal) -> Result<Made, Memory>
+fn plan_refusal(store: &Store, why: Refusal) -> Result<PlannedAnswer, Memory>
     requires texts { IsTrue (has_refusal_texts why) }
     ensures { IfOk result (λ made. (moment : ℕ) → (head_only : Bool)
         → PlansAsked store.now.kept moment head_only (Err why) made.planned made.media) }
 {
     let planned = store.keep(Reply::Refused(why))?;
-    Ok(Made {
+    Ok(PlannedAnswer {
         planned,
         media: None,
     })

@@ -7,7 +7,7 @@ use Rattle.http_queries.specs.Pairs.{query_pairs}
 use Rattle.http_routes.specs.Paths.{path_of, query_of, route_of}
 use Rattle.http_routes.specs.Table.{allow_text, methods_of}
 use Rattle.http_wire.specs.Response.{response}
-use Rattle.http_wire.specs.declared.response.Field.{Field}
+use Rattle.http_wire.specs.declared.response.HeadField.{HeadField}
 use Rattle.json_replies.specs.Replies.{reply_text}
 use Rattle.json_replies.specs.Rows.{request_id}
 use Rattle.media_rows.specs.Ids.{id_text}
@@ -44,7 +44,7 @@ reply_status (replies.Refused refusal) = refusal_status refusal
 -- ---- fields
 
 -- a field, where it has a value
-abbrev pub field_if : List ℕ → Option (List ℕ) → List Field
+abbrev pub field_if : List ℕ → Option (List ℕ) → List HeadField
 field_if name None = []
 field_if name (Some value) = record { name = name; value = value } ∷ []
 
@@ -153,7 +153,7 @@ abbrev pub connection_word : Bool → Option (List ℕ)
 connection_word ends = if ends then Some (codes "close") else None
 
 -- the fields of the response to a reply with this body, in their order
-abbrev pub response_fields : Context → Reply → List ℕ → List Field
+abbrev pub response_fields : Context → Reply → List ℕ → List HeadField
 response_fields context reply body =
     field_if (codes "Content-Length") (content_length reply body)
     ++ field_if (codes "Content-Type") (content_type reply body)

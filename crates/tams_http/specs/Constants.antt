@@ -2,10 +2,10 @@
 -- ends its connection.
 use Rattle.std.specs.Prelude.{ℕ, List, [], ◌∷◌, true, codes}
 use Rattle.http_wire.specs.Response.{response}
-use Rattle.http_wire.specs.declared.response.Field.{Field}
+use Rattle.http_wire.specs.declared.response.HeadField.{HeadField}
 
 -- the fields of such a response
-abbrev pub failure_fields : List Field
+abbrev pub failure_fields : List HeadField
 failure_fields =
     record { name = codes "Content-Length"; value = codes "0" }
     ∷ record { name = codes "Connection"; value = codes "close" } ∷ []

@@ -8,7 +8,7 @@ ghost use Rattle.tams_http.specs.Answered.{field_if, id_key_text, next_key_of, r
 use disk_trait::{Listed, Memory, Text};
 use http_queries::{id_of_key, next_query, read_pairs};
 use http_routes::{RouteTable, path_of, query_of};
-use http_wire::{Field, FieldList};
+use http_wire::{FieldList, HeadField};
 use itoa::Buffer;
 use media_rows::{Refusal, Reply, View, print_id};
 use std::alloc::Global;
@@ -46,7 +46,7 @@ pub(crate) fn push_field(
     match value {
         Some(value) => {
             let name = Text::from_bytes(alloc, name.as_bytes())?;
-            fields.push(Field { name, value })
+            fields.push(HeadField { name, value })
         }
         None => Ok(()),
     }

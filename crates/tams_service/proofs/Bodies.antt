@@ -19,8 +19,8 @@ use Rattle.run_history.specs.Handing.{HasHanded}
 use Rattle.run_history.specs.Laws.{under_way}
 use Rattle.run_history.specs.Sessions.{Hearing, IsUnfinished, Whole}
 use Rattle.run_history.specs.Steps.{Cut}
-use Rattle.connection_loop.specs.declared.ending.Ending.{Ending}
-use Rattle.connection_loop.specs.declared.ending.Ending.TheVariants as endings
+use Rattle.connection_loop.specs.declared.ending.ConnectionEnd.{ConnectionEnd}
+use Rattle.connection_loop.specs.declared.ending.ConnectionEnd.TheVariants as endings
 use Rattle.connection_loop.specs.Turns.{SiteCalls, TurnLeads, held_with}
 use Rattle.tams_machine.specs.Answers.{heard_body}
 use Rattle.tams_machine.specs.Machine.{tams_machine}
@@ -37,7 +37,7 @@ use Rattle.tams_service.specs.Keeping.{KeepsState}
 use Rattle.tams_service.specs.Serving.{ServiceSeen}
 use Rattle.tams_service.specs.Sites.{SiteCounts}
 use Rattle.tams_service.specs.Taking.{HandedMost, HoldsIf, IsFilled, TakesBody, TakesOfBody, body_handed, plan_of}
-use Rattle.tams_service.specs.declared.body.Taken.TheVariants as taken
+use Rattle.tams_service.specs.declared.body.BodyTaken.TheVariants as taken
 use Rattle.tams_service.proofs.Giving.{nothing_changed}
 use Rattle.tams_service.proofs.Handed.{handed_step, handed_then}
 use Rattle.tams_service.proofs.Keeping.{keeps_so}
@@ -213,7 +213,7 @@ module _ (s : StoreSeen) (from : Fed) (shown : Head) (old : Device) (moment : �
           sized None is = tt
           sized (Some x) is = is.sized ∙ sym body.comes
 
-      whole_so : (new : Device) (now : RunCounts) (next : StoreSeen) (result : Option Ending)
+      whole_so : (new : Device) (now : RunCounts) (next : StoreSeen) (result : Option ConnectionEnd)
           → PutLeads mid new store next n now put responses moment shown.ends result
           → p.taken < 1000000 → LeadsTo p new next moment fed.unread now result
       whole_so new now next result leads few =
@@ -246,7 +246,7 @@ module _ (old mid : Device) (s store : StoreSeen) (from fed : Fed) (shown : Head
   take_failed new now body stops p all asks keeps o answers few =
       failed_so s from shown old moment n p all asks keeps o tells mid store fed put kept_is stays new now body stops
 
-  pub take_whole : (new : Device) (now : RunCounts) (next : StoreSeen) (result : Option Ending) → TakesBody s.kept shown.length from fed put old mid taken.Whole
+  pub take_whole : (new : Device) (now : RunCounts) (next : StoreSeen) (result : Option ConnectionEnd) → TakesBody s.kept shown.length from fed put old mid taken.Whole
       → store.spent ≡ false → plan_of put ≡ plan_of begun → IfSome put (IsFilled s.kept shown.length)
       → PutLeads mid new store next n now put responses moment shown.ends result
       → TakeLeads s next from fed shown begun responses old new moment n now result
@@ -260,7 +260,7 @@ module _ (old mid : Device) (s store : StoreSeen) (from fed : Fed) (shown : Head
 module _ (s next : ServiceSeen) (shown : Head) (old new : Device) (begun given : List ℕ) (moment : ℕ) (n now : RunCounts)
     (given_is : given ≡ begun ++ moment ∷ [])
   where
-    media_leads : (result : Option Ending)
+    media_leads : (result : Option ConnectionEnd)
         → ((p : RunPlace) (all : List ℕ) → p.base ≡ s.base → AsksAt p old all n → KeepsState s.store old p.state → OpensMedia p.taken all p.said s.fed shown
         → p.taken < 1000000 → LeadsTo p new next.store moment next.fed.unread now result)
         → MediaLeads s next shown old new begun given n now result
@@ -270,7 +270,7 @@ module _ (s next : ServiceSeen) (shown : Head) (old new : Device) (begun given :
         (ap (λ g. g ++ moment ∷ []) same ∙ sym given_is) (leads p all base asks keeps o few)
 
     -- It was planned.
-    pub media_planned : (result : Option Ending) (put : Option PutSeen) (responses : Responses) (target : List ℕ) → target ≡ span_bytes s.fed shown.target
+    pub media_planned : (result : Option ConnectionEnd) (put : Option PutSeen) (responses : Responses) (target : List ℕ) → target ≡ span_bytes s.fed shown.target
         → ((r : TamsRequest) → IsMediaSent (record { target = target; size = shown.length; ends = shown.ends }) r
         → MediaAnswers s.base r moment s.store.kept put responses)
         → TakeLeads s.store next.store s.fed next.fed shown put responses old new moment n now result

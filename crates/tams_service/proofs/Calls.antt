@@ -3,7 +3,7 @@ use Rattle.std.proofs.Common.{Bool, true, false, ℕ, List, Some, None, refl, sy
 use Rattle.disk_trait.specs.Calls.{DiskCalls, IsCounted}
 use Rattle.disk_trait.specs.Device.{Device, Link}
 use Rattle.disk_trait.proofs.Theorems.{same_device_twice}
-use Rattle.connection_loop.specs.declared.ending.Ending.TheVariants.{Complete, Cut, Unlinked, Starved, Stopped}
+use Rattle.connection_loop.specs.declared.ending.ConnectionEnd.TheVariants.{Complete, Cut, Unlinked, Starved, Stopped}
 use Rattle.connection_loop.specs.Turns.{SiteCalls}
 use Rattle.connection_loop.proofs.Turning.{counted_none}
 use Rattle.request_hearing.specs.Hearing.{HearsAndSays}

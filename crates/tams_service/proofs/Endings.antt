@@ -15,7 +15,7 @@ use Rattle.run_history.specs.Steps.{IsStep, Refused, Starved, Stopped, where_don
 use Rattle.run_history.specs.Laws.{under_way}
 use Rattle.run_history.specs.Serving.{RunCounts}
 use Rattle.run_history.specs.Sessions.{Saying, Whole}
-use Rattle.connection_loop.specs.declared.ending.Ending.TheVariants as endings
+use Rattle.connection_loop.specs.declared.ending.ConnectionEnd.TheVariants as endings
 use Rattle.connection_loop.specs.Tallies.{plus_answer}
 use Rattle.connection_loop.specs.Turns.{ending_of, held_with}
 use Rattle.tams_http.specs.Constants.{failure}

@@ -17,31 +17,31 @@ use Rattle.store_states.specs.Kept.{AgreesWith}
 use Rattle.store_states.specs.States.{StoreState}
 use Rattle.run_history.specs.Serving.{RunCounts}
 use Rattle.run_history.specs.Steps.{last_or}
-use Rattle.connection_loop.specs.declared.ending.Ending.TheVariants as endings
+use Rattle.connection_loop.specs.declared.ending.ConnectionEnd.TheVariants as endings
 use Rattle.connection_loop.specs.Tallies.{plus_answer}
 use Rattle.tams_machine.specs.Laws.{TurnsKeepGood}
 use Rattle.tams_service.specs.Answering.{EndsThere, FinishLeads, LeadsTo, TellsAllOf, changes_by, ending_behind}
 use Rattle.tams_service.specs.Keeping.{KeepsState}
 use Rattle.tams_service.specs.Saying.{Says, is_told_unfailed, is_linked, is_whole}
-use Rattle.tams_service.specs.declared.saying.Told.{Told}
-use Rattle.tams_service.specs.declared.saying.Told.TheVariants as told
+use Rattle.tams_service.specs.declared.saying.AnswerTold.{AnswerTold}
+use Rattle.tams_service.specs.declared.saying.AnswerTold.TheVariants as told
 use Rattle.tams_service.proofs.Finishing.{failed_by, made_by, reading_stopped, skipped_by}
 use Rattle.tams_service.proofs.Keeping.{keeps_so}
 use Rattle.tams_service.proofs.Stepping.{answered_ending}
 
 -- ---- how a reply was said
 
-failed_is : (t : Told) → not (is_told_unfailed t) ≡ true → (is_whole t ≡ false) × (is_linked t ≡ true)
+failed_is : (t : AnswerTold) → not (is_told_unfailed t) ≡ true → (is_whole t ≡ false) × (is_linked t ≡ true)
 failed_is told.All lost = absurd (false≢true lost)
 failed_is told.Unlinked lost = absurd (false≢true lost)
 failed_is told.Failed lost = (refl, refl)
 
-same_is : (t : Told) → not (is_told_unfailed t) ≡ false → is_whole t ≡ is_linked t
+same_is : (t : AnswerTold) → not (is_told_unfailed t) ≡ false → is_whole t ≡ is_linked t
 same_is told.All whole = refl
 same_is told.Unlinked whole = refl
 same_is told.Failed whole = absurd (false≢true (sym whole))
 
-ending_is : (t : Told) (ends : Bool) → not (is_told_unfailed t) ≡ false → answered_ending (is_linked t) ends ≡ ending_behind t ends
+ending_is : (t : AnswerTold) (ends : Bool) → not (is_told_unfailed t) ≡ false → answered_ending (is_linked t) ends ≡ ending_behind t ends
 ending_is told.All true whole = refl
 ending_is told.All false whole = refl
 ending_is told.Unlinked ends whole = refl
@@ -62,7 +62,7 @@ turn_counts journal due moment Swept is =
     ap (λ d. length (option_to_list (turn_change journal d))) is.is
     ∙ ap (λ (b : Bool). length (option_to_list (cond b (Some (SweepStep moment)) None))) is.fits
 
-module _ (old mid new : Device) (store behind next : StoreSeen) (n : RunCounts) (bytes : List ℕ) (changes moment : ℕ) (ends : Bool) (t : Told)
+module _ (old mid new : Device) (store behind next : StoreSeen) (n : RunCounts) (bytes : List ℕ) (changes moment : ℕ) (ends : Bool) (t : AnswerTold)
     (all : TellsAllOf old) (says : Says (is_whole t) (is_linked t) bytes old mid) where
   -- A read of the object's bytes failed.
   pub read_failed : not (is_told_unfailed t) ≡ true → FinishLeads old mid store behind n (plus_answer changes false n) bytes changes moment ends

@@ -22,7 +22,7 @@ use Rattle.run_history.specs.Traces.{Trace, state_now}
 use Rattle.run_history.specs.Serving.{RunCounts}
 use Rattle.run_history.specs.Sessions.{Saying, Whole, most_answers, stops, stops_in_answer}
 use Rattle.run_history.specs.Steps.{Answered, IsStep, Made, Skipped, Stage, Step, Stopped, Turned, after_answer, effect, is_made, last_or, step_text, where_done}
-use Rattle.connection_loop.specs.declared.ending.Ending.TheVariants as endings
+use Rattle.connection_loop.specs.declared.ending.ConnectionEnd.TheVariants as endings
 use Rattle.connection_loop.specs.Tallies.{plus_answer}
 use Rattle.connection_loop.specs.Turns.{ending_of, held_with}
 use Rattle.tams_machine.specs.Answers.{answer_handed, answer_in, is_turn_due, state_with_change, turn_handed, turn_in}

@@ -19,8 +19,8 @@ use Rattle.store_plans.specs.Plans.{MakesChange, MakesStep}
 use Rattle.store_states.specs.Kept.{AgreesWith, StoreView}
 use Rattle.store_states.specs.States.{StoreState, held_in, media_start}
 use Rattle.run_history.specs.Serving.{RunCounts}
-use Rattle.connection_loop.specs.declared.ending.Ending.{Ending}
-use Rattle.connection_loop.specs.declared.ending.Ending.TheVariants as endings
+use Rattle.connection_loop.specs.declared.ending.ConnectionEnd.{ConnectionEnd}
+use Rattle.connection_loop.specs.declared.ending.ConnectionEnd.TheVariants as endings
 use Rattle.connection_loop.specs.Turns.{held_with}
 use Rattle.tams_answers.specs.Answers.{AnswersRequest, MediaFollows, following_bytes}
 use Rattle.tams_answers.specs.declared.answers.Answer.{Answer}
@@ -143,7 +143,7 @@ module _ (p : RunPlace) (old mid new : Device) (n now : RunCounts) (text rest : 
       (unspent : next.spent ≡ false)
       (seen_old : held_in old.seen (media_start store.kept.journal.half) p.state.archive.library.objects ≡ p.state.archive.held)
       (media_is : answer.media ≡ None ⊎ (answer.planned.frame ≡ None))
-      (last : StoreSeen) (ends : Bool) (request : IsRequest p text ends r) (few : p.taken < 1000000) (result : Option Ending)
+      (last : StoreSeen) (ends : Bool) (request : IsRequest p text ends r) (few : p.taken < 1000000) (result : Option ConnectionEnd)
       (finishes : FinishLeads mid new next last n now
       (answer.response ++ following_bytes (media_start next.kept.journal.half) answer.media mid.seen)
       (changes_in answer.planned.frame) moment ends result) where

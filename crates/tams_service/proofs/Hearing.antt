@@ -8,7 +8,7 @@ use Rattle.run_history.specs.Runs.{Beginning}
 use Rattle.run_history.specs.Serving.{RunCounts, Going}
 use Rattle.run_history.specs.Sessions.{Hearing, Saying, Session, Whole}
 use Rattle.run_history.specs.Steps.{Step}
-use Rattle.connection_loop.specs.declared.ending.Ending.TheVariants as endings
+use Rattle.connection_loop.specs.declared.ending.ConnectionEnd.TheVariants as endings
 use Rattle.connection_loop.specs.Turns.{EndsAs, held_with}
 use Rattle.tams_machine.specs.Machine.{tams_machine}
 use Rattle.tams_machine.specs.Requests.{TamsRequest}

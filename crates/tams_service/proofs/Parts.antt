@@ -5,8 +5,8 @@ use Rattle.disk_trait.specs.Device.{Connection, Device, Link}
 use Rattle.disk_trait.specs.Calls.{SameDevice}
 use Rattle.site_edge.specs.Links.{change_last}
 use Rattle.http_wire.specs.Feeds.{Fed, left_of, less_by}
-use Rattle.http_wire.specs.declared.stage.Stage.{Stage}
-use Rattle.http_wire.specs.declared.stage.Stage.TheVariants.{Failed, Media, Open}
+use Rattle.http_wire.specs.declared.stage.FeedStage.{FeedStage}
+use Rattle.http_wire.specs.declared.stage.FeedStage.TheVariants.{Failed, Media, Open}
 use Rattle.request_hearing.specs.Hearing.{HearsAndSays, IsBare, IsPiece, after_hearing}
 use Rattle.request_hearing.proofs.SiteLemmas.{change_last-itself, change_last-twice, sends_none}
 use Rattle.tams_service.specs.Sites.{SiteCounts}
@@ -16,17 +16,17 @@ use Rattle.tams_service.proofs.Counting.{counts_link}
 -- ---- stages
 
 -- what is left once so many bytes were handed on
-pub left_less : (n : ℕ) (stage : Stage) → left_of (less_by n stage) ≡ left_of stage - n
+pub left_less : (n : ℕ) (stage : FeedStage) → left_of (less_by n stage) ≡ left_of stage - n
 left_less n Open = omega arith
 left_less n (Media left) = refl
 left_less n (Failed fault) = omega arith
 
-less_twice : (n k : ℕ) (stage : Stage) → less_by k (less_by n stage) ≡ less_by (n + k) stage
+less_twice : (n k : ℕ) (stage : FeedStage) → less_by k (less_by n stage) ≡ less_by (n + k) stage
 less_twice n k Open = refl
 less_twice n k (Media left) = ap Media (omega arith)
 less_twice n k (Failed fault) = refl
 
-less_none : (stage : Stage) → less_by 0 stage ≡ stage
+less_none : (stage : FeedStage) → less_by 0 stage ≡ stage
 less_none Open = refl
 less_none (Media left) = ap Media (omega arith)
 less_none (Failed fault) = refl

@@ -7,10 +7,10 @@ use Rattle.disk_trait.specs.Device.{Device}
 use Rattle.http_wire.specs.Agreeing.{MayTurn}
 use Rattle.http_wire.specs.Feeds.{Fed, less_by}
 use Rattle.http_wire.specs.declared.stage.Head.{Head}
-use Rattle.http_wire.specs.declared.stage.Stage.TheVariants as stages
+use Rattle.http_wire.specs.declared.stage.FeedStage.TheVariants as stages
 use Rattle.media_store.specs.Puts.{PutSeen, may_be_same}
 use Rattle.store_states.specs.Kept.{StoreView}
-use Rattle.connection_loop.specs.declared.ending.Ending.{Ending}
+use Rattle.connection_loop.specs.declared.ending.ConnectionEnd.{ConnectionEnd}
 use Rattle.tams_machine.specs.Requests.{TamsRequest}
 use Rattle.request_hearing.specs.Hearing.{OpensMedia}
 use Rattle.request_hearing.specs.Laws.{media_request}
@@ -19,7 +19,7 @@ use Rattle.tams_answers.specs.Media.{IsMediaSent, MediaAnswers}
 use Rattle.tams_answers.specs.declared.media.Responses.{Responses}
 use Rattle.tams_service.specs.Answering.{EndKeepsId, IsWholePut}
 use Rattle.tams_service.specs.Taking.{IsFilled, IsPutBegun, TakesBody}
-use Rattle.tams_service.specs.declared.body.Taken.TheVariants as taken
+use Rattle.tams_service.specs.declared.body.BodyTaken.TheVariants as taken
 use Rattle.tams_service.proofs.Bodies.{media_sent}
 use Rattle.tams_service.proofs.Ids.{keeps_id}
 
@@ -70,7 +70,7 @@ put_whole kept now size None filled same = tt
 put_whole kept now size (Some put) filled same = subst (λ k. IsWholePut k put) (sym same) (record { of_store = filled.of_store; filled = filled.filled })
 
 -- The next request may be heard behind a put that doesn't end its connection.
-pub may_go_on : (old new : Fed) (size : ℕ) (ends : Bool) (put : Option PutSeen) (before now : Device) (kept : StoreView) (result : Option Ending)
+pub may_go_on : (old new : Fed) (size : ℕ) (ends : Bool) (put : Option PutSeen) (before now : Device) (kept : StoreView) (result : Option ConnectionEnd)
     → old.stage ≡ stages.Media size → old.ended ≡ ends → TakesBody kept size old new put before now taken.Whole → (ends ≡ true → IsSome result)
     → IsNone result → MayTurn new
 may_go_on old new size ends put before now kept None stage ended body closes none =

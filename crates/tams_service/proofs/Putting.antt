@@ -16,8 +16,8 @@ use Rattle.store_states.specs.Kept.{AgreesWith, StoreView}
 use Rattle.store_states.specs.States.{held_in, media_start}
 use Rattle.store_writes.specs.Writes.{Keeps}
 use Rattle.run_history.specs.Serving.{RunCounts}
-use Rattle.connection_loop.specs.declared.ending.Ending.{Ending}
-use Rattle.connection_loop.specs.declared.ending.Ending.TheVariants as endings
+use Rattle.connection_loop.specs.declared.ending.ConnectionEnd.{ConnectionEnd}
+use Rattle.connection_loop.specs.declared.ending.ConnectionEnd.TheVariants as endings
 use Rattle.tams_machine.specs.Answers.{answer_handed, state_with_change}
 use Rattle.tams_machine.specs.Requests.{TamsRequest}
 use Rattle.request_hearing.proofs.Asking.{asking_kept}
@@ -25,7 +25,7 @@ use Rattle.tams_answers.specs.Answers.{following_bytes}
 use Rattle.tams_answers.specs.Media.{MediaAnswers, response_by}
 use Rattle.tams_answers.specs.declared.media.Responses.{Responses}
 use Rattle.tams_service.specs.Answering.{AsksWith, ChangedAt, EndsThere, FinishLeads, HandedAt, IsMachineReply, IsRequest, LeadsTo, RunPlace, PutLeads, StopLeads, TellsAllOf, written_by}
-use Rattle.tams_service.specs.declared.answering.Reply.{Reply}
+use Rattle.tams_service.specs.declared.answering.DueReply.{DueReply}
 use Rattle.tams_service.specs.Keeping.{KeepsState}
 use Rattle.tams_service.specs.Serving.{needs_by, needs_in}
 use Rattle.tams_service.specs.Taking.{plan_of}
@@ -37,7 +37,7 @@ use Rattle.tams_service.proofs.PutReplies.{IsFull, came_is, change, changes_so, 
 use Rattle.tams_service.proofs.States.{keeps_next}
 
 -- There is no put.
-pub none_leads : (old new : Device) (n now : RunCounts) (store next : StoreSeen) (responses : Responses) (moment : ℕ) (ends : Bool) (result : Option Ending)
+pub none_leads : (old new : Device) (n now : RunCounts) (store next : StoreSeen) (responses : Responses) (moment : ℕ) (ends : Bool) (result : Option ConnectionEnd)
     → FinishLeads old new store next n now (responses.reply ++ []) 0 moment ends result
     → PutLeads old new store next n now None responses moment ends result
 none_leads old new n now store next responses moment ends result finishes p text rest r asks keeps request is few = by_begun is.begun is.answers is.plan
@@ -106,7 +106,7 @@ module _ (p : RunPlace) (old mid : Device) (n : RunCounts) (text rest : List ℕ
 
   module _ (makes : (c : Change) → StoresAs store.kept c put.plan → EndsPut true put.plan c store.kept p.state.archive.held old mid) (new : Device)
       (now : RunCounts) (next last : StoreSeen) (kept_is : next.kept ≡ kept_after_put store.kept put.plan) (unspent : next.spent ≡ false) (ends : Bool)
-      (request : IsRequest p text ends r) (count : ℕ) (count_is : count ≡ written_by put.plan) (few : p.taken < 1000000) (result : Option Ending)
+      (request : IsRequest p text ends r) (count : ℕ) (count_is : count ≡ written_by put.plan) (few : p.taken < 1000000) (result : Option ConnectionEnd)
       (finishes : FinishLeads mid new next last n now (response_by responses (put_reply put put.plan) ++ []) count moment ends result)
       (before : more ≡ handed_of_piece put.plan r.body) (handed_on : mid.handed ≡ old.handed + handed_at_end put.plan) where
     -- what was handed on is what the machine's change comes to
@@ -175,7 +175,7 @@ module _ (old mid new : Device) (n now : RunCounts) (store last : StoreSeen) (pu
 
   -- It was ended, and the reply was said.
   pub made_leads : ok ≡ true → (next : StoreSeen) → next.kept ≡ kept_after_put store.kept put.plan → next.spent ≡ false
-      → mid.handed ≡ old.handed + handed_at_end put.plan → (result : Option Ending)
+      → mid.handed ≡ old.handed + handed_at_end put.plan → (result : Option ConnectionEnd)
       → FinishLeads mid new next last n now (response_by responses (put_reply put put.plan) ++ []) count moment ends result
       → PutLeads old new store last n now (Some put) responses moment ends result
   made_leads made next kept_is unspent handed result finishes p text rest r asks keeps request is few =
@@ -192,7 +192,7 @@ pub tells_on : (old new : Device) → SameDevice old new → TellsAllOf old → 
 tells_on old new same all = record { honest = same.honest ∙ all.honest; shows = same.shows ∙ all.shows; tells = same.tells ∙ all.tells }
 
 -- a reply with a response alone
-pub finishes_with : (old new : Device) (store next : StoreSeen) (n now : RunCounts) (moment : ℕ) (result : Option Ending) (reply : Reply) (response : List ℕ)
+pub finishes_with : (old new : Device) (store next : StoreSeen) (n now : RunCounts) (moment : ℕ) (result : Option ConnectionEnd) (reply : DueReply) (response : List ℕ)
     (area count : ℕ) (ends : Bool)
     → FinishLeads old new store next n now (reply.response.now ++ following_bytes area reply.media old.seen) reply.changes moment reply.ends result
     → reply.response.now ≡ response → (reply.media ≡ None) × (reply.changes ≡ count) × (reply.ends ≡ ends)

@@ -13,8 +13,8 @@ use Rattle.run_history.specs.Handing.{HasHanded}
 use Rattle.run_history.specs.Laws.{under_way}
 use Rattle.run_history.specs.Serving.{RunCounts, Going, Held}
 use Rattle.run_history.proofs.Ends.{EndLike, end_like-push, open-going, stage-sessions}
-use Rattle.connection_loop.specs.declared.ending.Ending.{Ending}
-use Rattle.connection_loop.specs.declared.ending.Ending.TheVariants as endings
+use Rattle.connection_loop.specs.declared.ending.ConnectionEnd.{ConnectionEnd}
+use Rattle.connection_loop.specs.declared.ending.ConnectionEnd.TheVariants as endings
 use Rattle.connection_loop.specs.Turns.{EndsAs, GoesOn, TurnLeads, ending_of}
 use Rattle.request_hearing.specs.Hearing.{HearsAndSays, after_hearing, interim_where}
 use Rattle.request_hearing.specs.Asking.{Asking, IsAnswerStep, asked_trace, counted_more}
@@ -32,7 +32,7 @@ ending-like steps step link like = rw (like.stops, like.starves, like.cut) refl
 
 -- how an answer of the machine ends its connection, if it does, by whether each saying held and whether it is the last one that the
 -- connection may have
-abbrev pub answered_ending : Bool → Bool → Option Ending
+abbrev pub answered_ending : Bool → Bool → Option ConnectionEnd
 answered_ending false last = Some endings.Unlinked
 answered_ending true true = Some endings.Complete
 answered_ending true false = None
@@ -57,7 +57,7 @@ module _ {State Request : Type 0} {m : Machine State Request} {b : Beginning Sta
   link_behind = if linked then Whole else Saying
 
   -- The connection has ended.
-  pub step_ends : (ending : Ending) → ending ≡ ending_of (under_way (step ∷ []) link_behind) → RestIs m held.taken (step ∷ []) link_behind rest
+  pub step_ends : (ending : ConnectionEnd) → ending ≡ ending_of (under_way (step ∷ []) link_behind) → RestIs m held.taken (step ∷ []) link_behind rest
       → EndIs m (step ∷ []) link_behind false → (stops (step ∷ []) ≡ false → keeps (last_or held.state (states ++ later)))
       → EndsAs m b new (given ++ moments) keeps finished (counted_more n (states ++ later) step) ending
   step_ends ending ending_is rest_is end_is kept =

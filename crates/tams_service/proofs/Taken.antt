@@ -5,7 +5,7 @@ use Rattle.std.proofs.lemmas.Bool.{false≢true}
 use Rattle.std.proofs.lemmas.List.{length-append, length-take-le}
 use Rattle.disk_trait.specs.Device.{Device, IsDevice}
 use Rattle.http_wire.specs.Feeds.{Fed, left_of}
-use Rattle.http_wire.specs.declared.stage.Stage.TheVariants.{Media}
+use Rattle.http_wire.specs.declared.stage.FeedStage.TheVariants.{Media}
 use Rattle.store_states.specs.Kept.{AgreesWith, StoreView}
 use Rattle.store_writes.specs.Writes.{Keeps}
 use Rattle.media_store.specs.Puts.{IsPutOf, PutSeen}
@@ -14,8 +14,8 @@ use Rattle.request_hearing.specs.Hearing.{HearsBody}
 use Rattle.request_hearing.specs.declared.heard.Body.TheVariants as bodies
 use Rattle.tams_service.specs.Sites.{SiteCounts}
 use Rattle.tams_service.specs.Taking.{HandedMost, HandsOn, HoldsIf, HoldsPart, IsPutBegun, IsFilled, TakesBody, TakesNext, TakesOfBody, body_handed, plan_of}
-use Rattle.tams_service.specs.declared.body.Piece.TheVariants as pieces
-use Rattle.tams_service.specs.declared.body.Taken.TheVariants as taken
+use Rattle.tams_service.specs.declared.body.PieceTaken.TheVariants as pieces
+use Rattle.tams_service.specs.declared.body.BodyTaken.TheVariants as taken
 use Rattle.tams_service.proofs.Counting.{counts_none, counts_twice}
 use Rattle.tams_service.proofs.Handed.{body_few, body_none, body_twice}
 use Rattle.tams_service.proofs.Holding.{holds_more, holds_none, stored_same, takes_from}

@@ -13,7 +13,7 @@ use Rattle.run_history.specs.Runs.{Beginning}
 use Rattle.run_history.specs.Serving.{RunCounts, Going}
 use Rattle.run_history.specs.Sessions.{Session}
 use Rattle.run_history.specs.Steps.{Step}
-use Rattle.connection_loop.specs.declared.ending.Ending.{Ending}
+use Rattle.connection_loop.specs.declared.ending.ConnectionEnd.{ConnectionEnd}
 use Rattle.connection_loop.specs.Turns.{TellsAll, TurnLeads, held_with}
 use Rattle.tams_machine.specs.Machine.{tams_machine}
 use Rattle.tams_machine.specs.Requests.{TamsRequest, ends_behind}
@@ -32,20 +32,20 @@ tells_behind old new clock same all =
 -- ---- how many requests a connection had
 
 -- a request behind which its connection goes on didn't end it
-not_ended : (ends : Bool) (result : Option Ending) → (ends ≡ true → IsSome result) → IsNone result → ends ≡ false
+not_ended : (ends : Bool) (result : Option ConnectionEnd) → (ends ≡ true → IsSome result) → IsNone result → ends ≡ false
 not_ended false result closes none = refl
 not_ended true None closes none = absurd (false≢true (closes refl))
 not_ended true (Some ending) closes none = absurd (false≢true (sym none))
 
 -- so more may come behind one that came whole
-pub few_given : (taken next : ℕ) (all : List ℕ) (said : Bool) (fed : Fed) (head : Head) (result : Option Ending) → GivesRequest taken all said fed head
+pub few_given : (taken next : ℕ) (all : List ℕ) (said : Bool) (fed : Fed) (head : Head) (result : Option ConnectionEnd) → GivesRequest taken all said fed head
     → taken < 1000000 → (head.ends ≡ true → IsSome result) → IsNone result → next ≡ fed.requests → next < 1000000
 few_given taken next all said fed head result g few closes none same =
     let goes : ends_behind taken g.request.head ≡ false = sym (g.ends ∙ g.spells.ends_is) ∙ not_ended head.ends result closes none in
     subst (λ n. n < 1000000) (sym (same ∙ g.behind.requests_are)) (few_behind taken g.request.head goes few)
 
 -- and behind a media PUT
-pub few_opened : (taken next : ℕ) (all : List ℕ) (said : Bool) (fed : Fed) (head : Head) (result : Option Ending) → OpensMedia taken all said fed head
+pub few_opened : (taken next : ℕ) (all : List ℕ) (said : Bool) (fed : Fed) (head : Head) (result : Option ConnectionEnd) → OpensMedia taken all said fed head
     → taken < 1000000 → (head.ends ≡ true → IsSome result) → IsNone result → next ≡ fed.requests → next < 1000000
 few_opened taken next all said fed head result o few closes none same =
     let goes : ends_behind taken o.head ≡ false = sym o.ends ∙ not_ended head.ends result closes none in
@@ -59,7 +59,7 @@ module _ (base : List ℕ) (b : Beginning StoreState) (old mid new : Device) (gi
     (said : Bool) (h : HearsAndSays bytes said true true false old mid) where
   -- ---- a request, by what a service is behind its hearing and behind its answer
 
-  module _ (service next : ServiceSeen) (head : Head) (result : Option Ending) (same_base : base ≡ service.base) (same_store : service.store ≡ store)
+  module _ (service next : ServiceSeen) (head : Head) (result : Option ConnectionEnd) (same_base : base ≡ service.base) (same_store : service.store ≡ store)
       (few : fed.requests < 1000000) where
     counted_so : next.fed.requests ≡ fed.requests + 1
         → TurnLeads (tams_machine base) b new given_now next.fed.unread (fed.requests + 1) (KeepsState next.store new) finished now result
@@ -88,7 +88,7 @@ module _ (base : List ℕ) (b : Beginning StoreState) (old mid new : Device) (gi
 
   -- ---- what the wire refuses
 
-  pub refused_turn : (later : Fed) (refusal : Refusal) (ending : Ending) (unread : List ℕ) (taken : ℕ) → IsRefusedByWire
+  pub refused_turn : (later : Fed) (refusal : Refusal) (ending : ConnectionEnd) (unread : List ℕ) (taken : ℕ) → IsRefusedByWire
       (fed.unread ++ bytes) said later refusal
       → RefuseLeads base mid new store n now refusal ending
       → TurnLeads (tams_machine base) b new given unread taken (KeepsState store new) finished now (Some ending)

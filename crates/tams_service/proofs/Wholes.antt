@@ -14,8 +14,8 @@ use Rattle.store_plans.specs.Plans.{IsPlanned}
 use Rattle.store_states.specs.Kept.{StoreView, kept_state}
 use Rattle.store_states.specs.States.{StoreState}
 use Rattle.run_history.specs.Serving.{RunCounts}
-use Rattle.connection_loop.specs.declared.ending.Ending.{Ending}
-use Rattle.connection_loop.specs.declared.ending.Ending.TheVariants as endings
+use Rattle.connection_loop.specs.declared.ending.ConnectionEnd.{ConnectionEnd}
+use Rattle.connection_loop.specs.declared.ending.ConnectionEnd.TheVariants as endings
 use Rattle.connection_loop.specs.Turns.{TurnLeads}
 use Rattle.reply_laws.specs.MediaPuts.{MediaAsksAreMedia}
 use Rattle.request_hearing.specs.Hearing.{GivesRequest}
@@ -85,7 +85,7 @@ media_still {base} {s} {r} {moment} {answer} kept a has = by_media answer.media 
 module _ (service next : ServiceSeen) (old new : Device) (begun given : List ℕ) (n now : RunCounts) (moment : ℕ) (more : given ≡ begun ++ moment ∷ [])
     (same : next.fed ≡ service.fed) where
   -- where the run stands behind it
-  led : (p : RunPlace) (result : Option Ending) → p.given ≡ begun → LeadsTo p new next.store moment service.fed.unread now result
+  led : (p : RunPlace) (result : Option ConnectionEnd) → p.given ≡ begun → LeadsTo p new next.store moment service.fed.unread now result
       → TurnLeads (tams_machine p.base) p.beginning new given next.fed.unread (p.taken + 1) (KeepsState next.store new) p.finished now result
   led p result is leads =
       subst (λ g. TurnLeads (tams_machine p.base) p.beginning new g next.fed.unread (p.taken + 1) (KeepsState next.store new) p.finished now result)
@@ -94,7 +94,7 @@ module _ (service next : ServiceSeen) (old new : Device) (begun given : List ℕ
       (KeepsState next.store new) p.finished
       now result) (sym same) leads)
 
-  pub whole_given : (head : Head) (answer : Answer) (result : Option Ending)
+  pub whole_given : (head : Head) (answer : Answer) (result : Option ConnectionEnd)
       → ((held : List (List ℕ)) (r : TamsRequest) → IsSent (shown_parts service.fed head) r
       → AnswersRequest service.base (kept_state service.store.kept held) r moment answer)
       → GiveLeads old new service.store next.store n now answer moment head.ends result → WholeLeads service next head old new begun given n now result

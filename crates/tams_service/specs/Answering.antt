@@ -20,8 +20,8 @@ use Rattle.run_history.specs.Handing.{HasHanded}
 use Rattle.run_history.specs.Laws.{under_way}
 use Rattle.run_history.specs.Sessions.{Session, Whole}
 use Rattle.run_history.specs.Steps.{Step, last_or}
-use Rattle.connection_loop.specs.declared.ending.Ending.{Ending}
-use Rattle.connection_loop.specs.declared.ending.Ending.TheVariants.{Complete, Starved, Stopped, Unlinked}
+use Rattle.connection_loop.specs.declared.ending.ConnectionEnd.{ConnectionEnd}
+use Rattle.connection_loop.specs.declared.ending.ConnectionEnd.TheVariants.{Complete, Starved, Stopped, Unlinked}
 use Rattle.connection_loop.specs.Turns.{EndsAs, TurnLeads, held_with}
 use Rattle.tams_machine.specs.Answers.{answer_handed, answer_in}
 use Rattle.tams_machine.specs.Machine.{tams_machine}
@@ -41,9 +41,9 @@ use Rattle.tams_answers.specs.declared.media.Responses.{Responses}
 use Rattle.tams_service.specs.Taking.{HoldsIf, body_handed, plan_of}
 use Rattle.tams_answers.specs.declared.answers.Answer.{Answer}
 use Rattle.tams_service.specs.Serving.{ServiceSeen}
-use Rattle.tams_service.specs.declared.saying.Told.{Told}
-use Rattle.tams_service.specs.declared.saying.Told.TheVariants.{All, Failed}
-use Rattle.tams_service.specs.declared.saying.Told.TheVariants as told
+use Rattle.tams_service.specs.declared.saying.AnswerTold.{AnswerTold}
+use Rattle.tams_service.specs.declared.saying.AnswerTold.TheVariants.{All, Failed}
+use Rattle.tams_service.specs.declared.saying.AnswerTold.TheVariants as told
 use Rattle.tams_service.specs.Keeping.{KeepsState}
 
 -- the disk is honest, and the site shows its bytes and tells its links
@@ -122,19 +122,19 @@ pub record IsMachineReply (p : RunPlace) (r : TamsRequest) (moment : ℕ) (bytes
 
 -- The connection goes on behind a request at a moment, or has ended, and what the store keeps then
 -- is the state to which it led.
-abbrev pub LeadsTo : RunPlace → Device → StoreSeen → ℕ → List ℕ → RunCounts → Option Ending → Type 0
+abbrev pub LeadsTo : RunPlace → Device → StoreSeen → ℕ → List ℕ → RunCounts → Option ConnectionEnd → Type 0
 LeadsTo p d store moment rest n result =
     TurnLeads (tams_machine p.base) p.beginning d (p.given ++ moment ∷ []) rest (p.taken + 1)
     (KeepsState store d) p.finished n result
 
 -- the connection has ended, behind these moments
-abbrev pub EndsThere : RunPlace → Device → StoreSeen → List ℕ → RunCounts → Ending → Type 0
+abbrev pub EndsThere : RunPlace → Device → StoreSeen → List ℕ → RunCounts → ConnectionEnd → Type 0
 EndsThere p d store moments n ending =
     EndsAs (tams_machine p.base) p.beginning d (p.given ++ moments) (KeepsState store d) p.finished
     n ending
 
 -- how a reply that was said, or failed to be said, ends its connection, if it does
-abbrev pub ending_behind : Told → Bool → Option Ending
+abbrev pub ending_behind : AnswerTold → Bool → Option ConnectionEnd
 ending_behind All ends = if ends then Some Complete else None
 ending_behind told.Unlinked ends = Some Unlinked
 ending_behind Failed ends = Some Unlinked
@@ -154,7 +154,7 @@ changes_in (Some payload) = 1
 -- From a request whose changes were made and handed on, and whose reply has these bytes.
 abbrev pub FinishLeads : Device → Device → StoreSeen → StoreSeen → RunCounts → RunCounts → List ℕ
     → ℕ
-    → ℕ → Bool → Option Ending → Type 0
+    → ℕ → Bool → Option ConnectionEnd → Type 0
 FinishLeads old new store next n now bytes changes moment ends result =
     (p : RunPlace) (text rest : List ℕ) (r : TamsRequest) (states : List StoreState)
     → ChangedAt p old (text ++ rest) n states false
@@ -170,7 +170,7 @@ PlanKeepsId kept planned = (kept_by kept planned).library.id ≡ kept.library.id
 -- From a request of which the answer was planned.
 abbrev pub GiveLeads : Device → Device → StoreSeen → StoreSeen → RunCounts → RunCounts → Answer → ℕ
     → Bool
-    → Option Ending → Type 0
+    → Option ConnectionEnd → Type 0
 GiveLeads old new store next n now answer moment ends result =
     (p : RunPlace) (text rest : List ℕ) (r : TamsRequest) → AsksAt p old (text ++ rest) n
     → KeepsState store old p.state → IsRequest p text ends r
@@ -203,7 +203,7 @@ pub record IsPutting (p : RunPlace) (r : TamsRequest) (moment : ℕ) (kept : Sto
 -- From a media PUT whose bytes are all there, and were handed on.
 abbrev pub PutLeads : Device → Device → StoreSeen → StoreSeen → RunCounts → RunCounts
     → Option PutSeen
-    → Responses → ℕ → Bool → Option Ending → Type 0
+    → Responses → ℕ → Bool → Option ConnectionEnd → Type 0
 PutLeads old new store next n now put responses moment ends result =
     (p : RunPlace) (text rest : List ℕ) (r : TamsRequest)
     → AsksWith p old (text ++ rest) n (body_handed (plan_of put) r.body)
@@ -213,7 +213,7 @@ PutLeads old new store next n now put responses moment ends result =
 
 -- From a request that came whole.
 abbrev pub WholeLeads : ServiceSeen → ServiceSeen → Head → Device → Device → List ℕ → List ℕ
-    → RunCounts → RunCounts → Option Ending → Type 0
+    → RunCounts → RunCounts → Option ConnectionEnd → Type 0
 WholeLeads s next head old new begun given n now result =
     (p : RunPlace) (all : List ℕ) → p.base ≡ s.base → p.given ≡ begun → AsksAt p old all n
     → KeepsState s.store old p.state → GivesRequest p.taken all p.said s.fed head
@@ -223,7 +223,7 @@ WholeLeads s next head old new begun given n now result =
 
 -- From a media PUT whose head came.
 abbrev pub MediaLeads : ServiceSeen → ServiceSeen → Head → Device → Device → List ℕ → List ℕ
-    → RunCounts → RunCounts → Option Ending → Type 0
+    → RunCounts → RunCounts → Option ConnectionEnd → Type 0
 MediaLeads s next head old new begun given n now result =
     (p : RunPlace) (all : List ℕ) → p.base ≡ s.base → p.given ≡ begun → AsksAt p old all n
     → KeepsState s.store old p.state → OpensMedia p.taken all p.said s.fed head → p.taken < 1000000
@@ -240,7 +240,7 @@ AnswersEach p head shown moment kept put responses =
 
 -- From a media PUT that was planned by its head.
 abbrev pub TakeLeads : StoreSeen → StoreSeen → Fed → Fed → Head → Option PutSeen → Responses
-    → Device → Device → ℕ → RunCounts → RunCounts → Option Ending → Type 0
+    → Device → Device → ℕ → RunCounts → RunCounts → Option ConnectionEnd → Type 0
 TakeLeads store next fed later shown put responses old new moment n now result =
     (p : RunPlace) (all : List ℕ) → AsksAt p old all n → KeepsState store old p.state
     → (o : OpensMedia p.taken all p.said fed shown)
@@ -281,7 +281,7 @@ Responds base refusal response =
 
 -- From bytes that the wire refuses.
 abbrev pub RefuseLeads : List ℕ → Device → Device → StoreSeen → RunCounts → RunCounts → Refusal
-    → Ending
+    → ConnectionEnd
     → Type 0
 RefuseLeads base old new store n now refusal ending =
     (p : RunPlace) (fed : Fed) (all : List ℕ) → p.base ≡ base → AsksAt p old all n

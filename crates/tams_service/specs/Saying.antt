@@ -4,23 +4,23 @@ use Rattle.std.specs.Prelude.{◌≡◌, Bool, true, false, ℕ, List}
 use Rattle.disk_trait.specs.Calls.{Elapses}
 use Rattle.disk_trait.specs.Device.{Device}
 use Rattle.site_edge.specs.Links.{Sends, Tells, after_say, change_last}
-use Rattle.tams_service.specs.declared.saying.Told.{Told}
-use Rattle.tams_service.specs.declared.saying.Told.TheVariants.{All, Unlinked, Failed}
+use Rattle.tams_service.specs.declared.saying.AnswerTold.{AnswerTold}
+use Rattle.tams_service.specs.declared.saying.AnswerTold.TheVariants.{All, Unlinked, Failed}
 
 -- all was said
-abbrev pub is_whole : Told → Bool
+abbrev pub is_whole : AnswerTold → Bool
 is_whole All = true
 is_whole Unlinked = false
 is_whole Failed = false
 
 -- no call of the link failed
-abbrev pub is_linked : Told → Bool
+abbrev pub is_linked : AnswerTold → Bool
 is_linked All = true
 is_linked Unlinked = false
 is_linked Failed = true
 
 -- no call of the disk failed
-abbrev pub is_told_unfailed : Told → Bool
+abbrev pub is_told_unfailed : AnswerTold → Bool
 is_told_unfailed All = true
 is_told_unfailed Unlinked = true
 is_told_unfailed Failed = false

@@ -9,29 +9,29 @@ use Rattle.store_plans.specs.declared.puts.PutPlan.{PutPlan}
 use Rattle.store_plans.specs.declared.puts.PutPlan.TheVariants.{Kept, Refused, Write}
 use Rattle.media_store.specs.Puts.{PutMovesOn, IsPutOf, PutSeen, TakesPiece, bytes_at_extent, may_be_same, handed_of_piece}
 use Rattle.request_hearing.specs.Hearing.{after_hearing}
-use Rattle.tams_service.specs.declared.body.Piece.{Piece}
-use Rattle.tams_service.specs.declared.body.Piece.TheVariants as pieces
-use Rattle.tams_service.specs.declared.body.Taken.{Taken}
-use Rattle.tams_service.specs.declared.body.Taken.TheVariants.{Ended, Failed, Unheard, Whole}
+use Rattle.tams_service.specs.declared.body.PieceTaken.{PieceTaken}
+use Rattle.tams_service.specs.declared.body.PieceTaken.TheVariants as pieces
+use Rattle.tams_service.specs.declared.body.BodyTaken.{BodyTaken}
+use Rattle.tams_service.specs.declared.body.BodyTaken.TheVariants.{Ended, Failed, Unheard, Whole}
 
 -- ---- how a body was taken
 
 -- no hearing failed
-abbrev pub is_heard : Taken → Bool
+abbrev pub is_heard : BodyTaken → Bool
 is_heard Whole = true
 is_heard Ended = true
 is_heard Unheard = false
 is_heard Failed = true
 
 -- no call of the disk failed
-abbrev pub is_taken_unfailed : Taken → Bool
+abbrev pub is_taken_unfailed : BodyTaken → Bool
 is_taken_unfailed Whole = true
 is_taken_unfailed Ended = true
 is_taken_unfailed Unheard = true
 is_taken_unfailed Failed = false
 
 -- the end of the peer's bytes was heard
-abbrev pub has_end : Taken → Bool
+abbrev pub has_end : BodyTaken → Bool
 has_end Whole = false
 has_end Ended = true
 has_end Unheard = false
@@ -97,7 +97,7 @@ HoldsIf kept put part seen = IfSome put (λ p. HoldsPart kept p p.plan part seen
 -- ---- a body
 
 -- how much of a body was taken, and what is unread then
-abbrev pub BodyIs : Taken → ℕ → List ℕ → List ℕ → Type 0
+abbrev pub BodyIs : BodyTaken → ℕ → List ℕ → List ℕ → Type 0
 BodyIs Whole size part unread = length part ≡ size
 BodyIs Ended size part unread = (length part < size) × (unread ≡ [])
 BodyIs Unheard size part unread = (length part < size) × (unread ≡ [])
@@ -106,7 +106,7 @@ BodyIs Failed size part unread = part ≢ []
 -- What taking a body of so many bytes comes to. Where all of it was taken, the put has it. Unless
 -- the disk failed, no more than was taken was handed to the device.
 pub record TakesBody (kept : StoreView) (size : ℕ) (old new : Fed) (put : Option PutSeen)
-    (before now : Device) (result : Taken) : Type 0 where
+    (before now : Device) (result : BodyTaken) : Type 0 where
   pub part : List ℕ
   pub takes : TakesOfBody part (has_end result) (not (is_heard result)) old new before now
   pub comes : BodyIs result size part new.unread
@@ -120,21 +120,21 @@ pub record TakesBody (kept : StoreView) (size : ℕ) (old new : Fed) (put : Opti
 -- ---- a piece
 
 -- no hearing failed
-abbrev pub piece_heard : Piece → Bool
+abbrev pub piece_heard : PieceTaken → Bool
 piece_heard (pieces.Of count) = true
 piece_heard pieces.Ended = true
 piece_heard pieces.Unheard = false
 piece_heard pieces.Failed = true
 
 -- no call of the disk failed
-abbrev pub piece_stored : Piece → Bool
+abbrev pub piece_stored : PieceTaken → Bool
 piece_stored (pieces.Of count) = true
 piece_stored pieces.Ended = true
 piece_stored pieces.Unheard = true
 piece_stored pieces.Failed = false
 
 -- the end of the peer's bytes was heard
-abbrev pub piece_end : Piece → Bool
+abbrev pub piece_end : PieceTaken → Bool
 piece_end (pieces.Of count) = false
 piece_end pieces.Ended = true
 piece_end pieces.Unheard = false
@@ -155,7 +155,7 @@ HandsOn kept piece None next before now = next ≡ None
 HandsOn kept piece (Some put) next before now = PutGoesOn kept piece put next before now
 
 -- what came of taking a piece
-abbrev pub PieceIs : Piece → StoreView → List ℕ → List ℕ → Option PutSeen → Option PutSeen
+abbrev pub PieceIs : PieceTaken → StoreView → List ℕ → List ℕ → Option PutSeen → Option PutSeen
     → Device → Device → Type 0
 PieceIs (pieces.Of count) kept part unread put next before now =
     (0 < count) × (length part ≡ count) × HandsOn kept part put next before now
@@ -165,7 +165,7 @@ PieceIs pieces.Failed kept part unread put next before now = part ≢ []
 
 -- What taking a piece comes to.
 pub record TakesNext (kept : StoreView) (old new : Fed) (put next : Option PutSeen)
-    (before now : Device) (result : Piece) : Type 0 where
+    (before now : Device) (result : PieceTaken) : Type 0 where
   pub part : List ℕ
   pub takes : TakesOfBody part (piece_end result) (not (piece_heard result)) old new before now
   pub comes : PieceIs result kept part new.unread put next before now

@@ -10,8 +10,8 @@ ghost use Rattle.tams_answers.specs.Answers.{following_bytes};
 ghost use Rattle.tams_service.specs.Answering.{FinishLeads, TellsAllOf, changes_by, ending_behind};
 ghost use Rattle.tams_service.specs.Serving.{KeepsId, needs_in};
 
-use crate::saying::{Told, say_answer};
-use connection_loop::{Ending, Tally};
+use crate::saying::{AnswerTold, say_answer};
+use connection_loop::{ConnectionEnd, RunTally};
 use media_rows::Extent;
 use media_store::{Store, StoreFault, TurnMade};
 use site_edge::Site;
@@ -21,7 +21,7 @@ use tams_machine::turns_keep;
 /// A reply that is to be said: its response, where the bytes of an object lie that follow it, how many changes of
 /// the request were made before it, and whether the connection ends behind it.
 #[derive(Drop)]
-pub(crate) struct Reply<'a> {
+pub(crate) struct DueReply<'a> {
     pub(crate) response: &'a [u8],
     pub(crate) media: Option<Extent>,
     pub(crate) changes: u64,
@@ -33,11 +33,11 @@ pub(crate) fn finish<X: Site>(
     alloc: Global,
     store: &mut Store,
     site: &mut X,
-    tally: &mut Tally,
-    reply: &Reply<'_>,
+    tally: &mut RunTally,
+    reply: &DueReply<'_>,
     now: u64,
     room: &mut [u8],
-) -> Option<Ending>
+) -> Option<ConnectionEnd>
     requires unspent { IsFalse store.old.spent }
     requires device { size_of store.old.kept ≤ (X.device site.old).size }
     requires under_way { (X.device site.old).link.under_way ≡ true }
@@ -61,7 +61,7 @@ pub(crate) fn finish<X: Site>(
     let told = say_answer(store, site, reply.response, reply.media, room);
     if told.is_failed() {
         tally.count(reply.changes, false);
-        return Some(Ending::Stopped);
+        return Some(ConnectionEnd::Stopped);
     }
     match store.turn(alloc, site, now) {
         Ok(made) => {
@@ -74,7 +74,7 @@ pub(crate) fn finish<X: Site>(
         }
         Err(StoreFault::Disk) => {
             tally.count(reply.changes + 1, false);
-            Some(Ending::Stopped)
+            Some(ConnectionEnd::Stopped)
         }
     }
 }
@@ -90,12 +90,12 @@ fn changes_of(made: TurnMade) -> u64
 }
 
 /// How a reply that was said, or failed to be said, ends its connection, if it does.
-fn ending_behind(told: Told, ends: bool) -> Option<Ending>
+fn ending_behind(told: AnswerTold, ends: bool) -> Option<ConnectionEnd>
     ensures { result ≡ ending_behind told ends }
 {
     match told {
-        Told::All if ends => Some(Ending::Complete),
-        Told::All => None,
-        Told::Unlinked | Told::Failed => Some(Ending::Unlinked),
+        AnswerTold::All if ends => Some(ConnectionEnd::Complete),
+        AnswerTold::All => None,
+        AnswerTold::Unlinked | AnswerTold::Failed => Some(ConnectionEnd::Unlinked),
     }
 }

@@ -3,7 +3,7 @@ ghost use Rattle.std.specs.Prelude.{◌≡◌, ◌≤◌, ◌<◌, ◌+◌, ℕ,
 ghost use Rattle.std.specs.Result.{is_err};
 ghost use Rattle.disk_trait.specs.Calls.{DiskCalls};
 ghost use Rattle.http_wire.specs.Feeds.{left_of};
-ghost use Rattle.http_wire.specs.declared.stage.Stage.TheVariants as stages;
+ghost use Rattle.http_wire.specs.declared.stage.FeedStage.TheVariants as stages;
 ghost use Rattle.store_states.specs.Kept.{AgreesWith};
 ghost use Rattle.store_writes.specs.Writes.{Keeps};
 ghost use Rattle.media_store.specs.Puts.{IsPutOf};
@@ -11,7 +11,7 @@ ghost use Rattle.media_store.specs.Stores.{size_of};
 ghost use Rattle.media_store.specs.declared.puts.TheConstants.{PIECE};
 ghost use Rattle.tams_service.specs.Sites.{SiteCounts};
 ghost use Rattle.tams_service.specs.Taking.{HandsOn, IsPutBegun, IsFilled, TakesBody, TakesNext, body_handed, is_heard, is_taken_unfailed, piece_heard, piece_stored, plan_of};
-ghost use Rattle.tams_service.specs.declared.body.Taken.TheVariants as taken;
+ghost use Rattle.tams_service.specs.declared.body.BodyTaken.TheVariants as taken;
 
 use disk_trait::Failed;
 use media_store::{Put, Store};
@@ -20,7 +20,7 @@ use site_edge::Site;
 
 /// How the body of a media PUT was taken.
 #[derive(Clone, Copy, Debug, PartialEq, Eq)]
-pub(crate) enum Taken {
+pub(crate) enum BodyTaken {
     /// All of it.
     Whole,
     /// The peer's bytes ended within it.
@@ -33,7 +33,7 @@ pub(crate) enum Taken {
 
 /// How a piece of the body was taken.
 #[derive(Clone, Copy, Debug, PartialEq, Eq)]
-enum Piece {
+enum PieceTaken {
     /// So many bytes of it.
     Of(u64),
     /// The peer's bytes ended.
@@ -53,7 +53,7 @@ pub(crate) fn take_body<X: Site>(
     put: &mut Option<Put>,
     size: u64,
     room: &mut [u8],
-) -> Taken
+) -> BodyTaken
     requires unspent { IsFalse store.old.spent }
     requires device { size_of store.old.kept ≤ (X.device site.old).size }
     requires under_way { (X.device site.old).link.under_way ≡ true }
@@ -77,13 +77,13 @@ pub(crate) fn take_body<X: Site>(
     let mut left = size;
     'pieces: while 0 < left {
         match take_piece(store, hearing, site, put, room) {
-            Piece::Of(count) => left -= count,
-            Piece::Ended => return Taken::Ended,
-            Piece::Unheard => return Taken::Unheard,
-            Piece::Failed => return Taken::Failed,
+            PieceTaken::Of(count) => left -= count,
+            PieceTaken::Ended => return BodyTaken::Ended,
+            PieceTaken::Unheard => return BodyTaken::Unheard,
+            PieceTaken::Failed => return BodyTaken::Failed,
         }
     }
-    Taken::Whole
+    BodyTaken::Whole
 }
 
 /// Hears a piece of the body into `room`, and hands it to the put, where there is one.
@@ -93,7 +93,7 @@ fn take_piece<X: Site>(
     site: &mut X,
     put: &mut Option<Put>,
     room: &mut [u8],
-) -> Piece
+) -> PieceTaken
     requires unspent { IsFalse store.old.spent }
     requires device { size_of store.old.kept ≤ (X.device site.old).size }
     requires under_way { (X.device site.old).link.under_way ≡ true }
@@ -113,11 +113,11 @@ fn take_piece<X: Site>(
 {
     match hearing.take_body(site, room) {
         Body::Piece(count) => match hand_on(store, site, put, &room[..count]) {
-            Ok(()) => Piece::Of(count as u64),
-            Err(Failed) => Piece::Failed,
+            Ok(()) => PieceTaken::Of(count as u64),
+            Err(Failed) => PieceTaken::Failed,
         },
-        Body::Ended => Piece::Ended,
-        Body::Unheard => Piece::Unheard,
+        Body::Ended => PieceTaken::Ended,
+        Body::Unheard => PieceTaken::Unheard,
     }
 }
 

@@ -7,19 +7,19 @@ ghost use Rattle.media_rows.specs.declared.refusal.Refusal.{Refusal};
 ghost use Rattle.media_store.specs.Stores.{StoreSeen};
 ghost use Rattle.connection_loop.specs.Tallies.{plus_answer};
 ghost use Rattle.connection_loop.specs.Turns.{SiteCalls};
-ghost use Rattle.connection_loop.specs.declared.ending.Ending.TheVariants.{Starved, Stopped};
+ghost use Rattle.connection_loop.specs.declared.ending.ConnectionEnd.TheVariants.{Starved, Stopped};
 ghost use Rattle.tams_answers.specs.Wire.{AreResponses};
 ghost use Rattle.tams_service.specs.Answering.{RefuseLeads, Responds, StarveLeads, StopLeads, TellsAllOf};
 ghost use Rattle.tams_service.specs.Sites.{LinkCalls};
 
-use connection_loop::{Ending, Tally};
+use connection_loop::{ConnectionEnd, RunTally};
 use media_rows::Refusal;
 use site_edge::{LinkFailed, Site};
 use tams_answers::WireResponses;
 use tams_http::{server_error, unavailable};
 
 /// Says that there was no memory for a request.
-pub(crate) fn starve<X: Site>(site: &mut X, tally: &mut Tally) -> Ending
+pub(crate) fn starve<X: Site>(site: &mut X, tally: &mut RunTally) -> ConnectionEnd
     requires room { tally.old.answers < 2 ^ 60 }
     requires under_way { (X.device site.old).link.under_way ≡ true }
     ensures starved { result ≡ Starved }
@@ -30,11 +30,11 @@ pub(crate) fn starve<X: Site>(site: &mut X, tally: &mut Tally) -> Ending
 {
     tally.count(0, false);
     let _ = site.say(server_error().as_bytes());
-    Ending::Starved
+    ConnectionEnd::Starved
 }
 
 /// Says that the disk failed in a request, while the records of so many changes were being written.
-pub(crate) fn stop<X: Site>(site: &mut X, tally: &mut Tally, changes: u64) -> Ending
+pub(crate) fn stop<X: Site>(site: &mut X, tally: &mut RunTally, changes: u64) -> ConnectionEnd
     requires room { tally.old.answers < 2 ^ 60 }
     requires few { changes ≤ 1 }
     requires under_way { (X.device site.old).link.under_way ≡ true }
@@ -46,16 +46,16 @@ pub(crate) fn stop<X: Site>(site: &mut X, tally: &mut Tally, changes: u64) -> En
 {
     tally.count(changes, false);
     let _ = site.say(unavailable().as_bytes());
-    Ending::Stopped
+    ConnectionEnd::Stopped
 }
 
 /// Says the response to what the wire refuses, which ends the connection.
 pub(crate) fn refuse_wire<X: Site>(
     site: &mut X,
-    tally: &mut Tally,
+    tally: &mut RunTally,
     responses: &WireResponses,
     refusal: Refusal,
-) -> Ending
+) -> ConnectionEnd
     requires fault { (fault : WireFault) × (refusal ≡ wire_refusal fault) }
     requires room { tally.old.answers < 2 ^ 60 }
     requires under_way { (X.device site.old).link.under_way ≡ true }
@@ -70,7 +70,7 @@ pub(crate) fn refuse_wire<X: Site>(
 }
 
 /// Says a response that ends the connection.
-fn refuse<X: Site>(site: &mut X, tally: &mut Tally, response: &[u8]) -> Ending
+fn refuse<X: Site>(site: &mut X, tally: &mut RunTally, response: &[u8]) -> ConnectionEnd
     requires room { tally.old.answers < 2 ^ 60 }
     requires under_way { (X.device site.old).link.under_way ≡ true }
     ensures calls { SiteCalls (Some result) (X.device site.old) (X.device site.new) }
@@ -82,7 +82,7 @@ fn refuse<X: Site>(site: &mut X, tally: &mut Tally, response: &[u8]) -> Ending
 {
     tally.count(0, false);
     match site.say(response) {
-        Ok(()) => Ending::Complete,
-        Err(LinkFailed) => Ending::Unlinked,
+        Ok(()) => ConnectionEnd::Complete,
+        Err(LinkFailed) => ConnectionEnd::Unlinked,
     }
 }

@@ -1,7 +1,7 @@
 //! PUTs of objects' bytes.
 ghost use Rattle.std.specs.Prelude.{◌≡◌, ◌≤◌, ◌<◌, ◌+◌, ◌^◌, ℕ, List, Bool, true, None, length, IfSome, IsFalse, IsNone, IsSome, IsTrue};
 ghost use Rattle.http_wire.specs.Agreeing.{MayTurn};
-ghost use Rattle.http_wire.specs.declared.stage.Stage.TheVariants as stages;
+ghost use Rattle.http_wire.specs.declared.stage.FeedStage.TheVariants as stages;
 ghost use Rattle.media_rows.specs.Moments.{is_moment};
 ghost use Rattle.media_store.specs.Stores.{size_of};
 ghost use Rattle.media_store.specs.declared.puts.TheConstants.{PIECE};
@@ -12,10 +12,10 @@ ghost use Rattle.tams_service.specs.Serving.{KeepsId, needs_in};
 ghost use Rattle.tams_service.specs.Taking.{IsPutBegun};
 
 use crate::TamsService;
-use crate::answering::{Reply, finish};
-use crate::body::{Taken, take_body};
+use crate::answering::{DueReply, finish};
+use crate::body::{BodyTaken, take_body};
 use crate::ending::{starve, stop};
-use connection_loop::{Ending, Tally};
+use connection_loop::{ConnectionEnd, RunTally};
 use http_wire::Head;
 use media_store::{Put, Store};
 use request_hearing::Hearing;
@@ -31,9 +31,9 @@ impl TamsService {
         alloc: Global,
         site: &mut X,
         clock: &mut C,
-        tally: &mut Tally,
+        tally: &mut RunTally,
         head: Head,
-    ) -> Option<Ending>
+    ) -> Option<ConnectionEnd>
         requires unspent { IsFalse self.old.store.spent }
         requires opened { (taken : ℕ) × (all : List ℕ) × (said : Bool)
             × OpensMedia taken all said self.old.fed head }
@@ -87,12 +87,12 @@ fn take_put<X: Site>(
     store: &mut Store,
     hearing: &mut Hearing,
     site: &mut X,
-    tally: &mut Tally,
+    tally: &mut RunTally,
     plan: MediaPlan,
     head: &Head,
     now: u64,
     room: &mut [u8],
-) -> Option<Ending>
+) -> Option<ConnectionEnd>
     requires unspent { IsFalse store.old.spent }
     requires device { size_of store.old.kept ≤ (X.device site.old).size }
     requires under_way { (X.device site.old).link.under_way ≡ true }
@@ -118,18 +118,18 @@ fn take_put<X: Site>(
 {
     let MediaPlan { mut put, responses } = plan;
     match take_body(store, hearing, site, &mut put, head.length, room) {
-        Taken::Whole => give_put(
+        BodyTaken::Whole => give_put(
             alloc, store, site, tally, put, &responses, now, head.ends, room,
         ),
-        Taken::Ended => {
+        BodyTaken::Ended => {
             let_go(put);
-            Some(Ending::Cut)
+            Some(ConnectionEnd::Cut)
         }
-        Taken::Unheard => {
+        BodyTaken::Unheard => {
             let_go(put);
-            Some(Ending::Unlinked)
+            Some(ConnectionEnd::Unlinked)
         }
-        Taken::Failed => {
+        BodyTaken::Failed => {
             let_go(put);
             Some(stop(site, tally, 0))
         }
@@ -144,13 +144,13 @@ fn give_put<X: Site>(
     alloc: Global,
     store: &mut Store,
     site: &mut X,
-    tally: &mut Tally,
+    tally: &mut RunTally,
     put: Option<Put>,
     responses: &Responses,
     now: u64,
     ends: bool,
     room: &mut [u8],
-) -> Option<Ending>
+) -> Option<ConnectionEnd>
     requires unspent { IsFalse store.old.spent }
     requires device { size_of store.old.kept ≤ (X.device site.old).size }
     requires under_way { (X.device site.old).link.under_way ≡ true }
@@ -190,11 +190,11 @@ fn changes_of(put: &Put) -> u64
 }
 
 /// A reply behind which no bytes of an object follow.
-fn reply_with(response: &[u8], changes: u64, ends: bool) -> Reply<'_>
+fn reply_with(response: &[u8], changes: u64, ends: bool) -> DueReply<'_>
     ensures response { result.response.now ≡ response.now }
     ensures rest { (result.media ≡ None) × (result.changes ≡ changes) × (result.ends ≡ ends) }
 {
-    Reply {
+    DueReply {
         response,
         media: None,
         changes,

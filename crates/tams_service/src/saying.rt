@@ -17,7 +17,7 @@ use site_edge::{LinkFailed, Site};
 
 /// How an answer was said.
 #[derive(Clone, Copy, Debug, PartialEq, Eq)]
-pub(crate) enum Told {
+pub(crate) enum AnswerTold {
     /// Whole.
     All,
     /// A saying failed.
@@ -26,12 +26,12 @@ pub(crate) enum Told {
     Failed,
 }
 
-impl Told {
+impl AnswerTold {
     /// Whether a read of the object's bytes failed.
     pub(crate) fn is_failed(self) -> bool
         ensures { result ≡ not (is_told_unfailed self) }
     {
-        matches!(self, Told::Failed)
+        matches!(self, AnswerTold::Failed)
     }
 }
 
@@ -43,7 +43,7 @@ pub(crate) fn say_answer<X: Site>(
     response: &[u8],
     media: Option<Extent>,
     room: &mut [u8],
-) -> Told
+) -> AnswerTold
     requires unspent { IsFalse store.old.spent }
     requires device { size_of store.old.kept ≤ (X.device site.old).size }
     requires under_way { (X.device site.old).link.under_way ≡ true }
@@ -60,16 +60,21 @@ pub(crate) fn say_answer<X: Site>(
     ensures room { length room.new ≡ length room.old }
 {
     match site.say(response) {
-        Err(LinkFailed) => Told::Unlinked,
+        Err(LinkFailed) => AnswerTold::Unlinked,
         Ok(()) => match media {
-            None => Told::All,
+            None => AnswerTold::All,
             Some(extent) => say_object(store, site, extent, room),
         },
     }
 }
 
 /// Says the bytes of a stored object.
-fn say_object<X: Site>(store: &mut Store, site: &mut X, extent: Extent, room: &mut [u8]) -> Told
+fn say_object<X: Site>(
+    store: &mut Store,
+    site: &mut X,
+    extent: Extent,
+    room: &mut [u8],
+) -> AnswerTold
     requires unspent { IsFalse store.old.spent }
     requires device { size_of store.old.kept ≤ (X.device site.old).size }
     requires under_way { (X.device site.old).link.under_way ≡ true }
@@ -89,12 +94,12 @@ fn say_object<X: Site>(store: &mut Store, site: &mut X, extent: Extent, room: &m
     'pieces: while at < extent.length {
         let count = (extent.length - at).min(PIECE as u64);
         match say_piece(store, site, extent, at, &mut room[..count as usize]) {
-            Told::All => at += count,
-            Told::Unlinked => return Told::Unlinked,
-            Told::Failed => return Told::Failed,
+            AnswerTold::All => at += count,
+            AnswerTold::Unlinked => return AnswerTold::Unlinked,
+            AnswerTold::Failed => return AnswerTold::Failed,
         }
     }
-    Told::All
+    AnswerTold::All
 }
 
 /// Says the bytes of a stored object from this offset in them on, as many as `out` has room for.
@@ -104,7 +109,7 @@ fn say_piece<X: Site>(
     extent: Extent,
     at: u64,
     out: &mut [u8],
-) -> Told
+) -> AnswerTold
     requires unspent { IsFalse store.old.spent }
     requires device { size_of store.old.kept ≤ (X.device site.old).size }
     requires under_way { (X.device site.old).link.under_way ≡ true }
@@ -122,10 +127,10 @@ fn say_piece<X: Site>(
     ensures room { length out.new ≡ length out.old }
 {
     match store.get_piece(site, extent, at, out) {
-        Err(Failed) => Told::Failed,
+        Err(Failed) => AnswerTold::Failed,
         Ok(()) => match site.say(out) {
-            Err(LinkFailed) => Told::Unlinked,
-            Ok(()) => Told::All,
+            Err(LinkFailed) => AnswerTold::Unlinked,
+            Ok(()) => AnswerTold::All,
         },
     }
 }

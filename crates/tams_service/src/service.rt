@@ -2,7 +2,7 @@
 ghost use Rattle.std.specs.Prelude.{◌≡◌};
 
 use crate::ending::refuse_wire;
-use connection_loop::{Ending, Service, Tally};
+use connection_loop::{ConnectionEnd, RunTally, Service};
 use disk_trait::Text;
 use media_store::Store;
 use request_hearing::{Heard, Hearing};
@@ -84,22 +84,22 @@ impl Service for TamsService {
         alloc: Global,
         site: &mut X,
         clock: &mut C,
-        tally: &mut Tally,
-    ) -> Option<Ending> {
+        tally: &mut RunTally,
+    ) -> Option<ConnectionEnd> {
         if self.store.spent() {
-            return Some(Ending::Complete);
+            return Some(ConnectionEnd::Complete);
         }
         match self.hearing.hear_request(site) {
             Heard::Whole(head) => self.answer_whole(alloc, site, clock, tally, head),
             Heard::Media(head) => self.answer_media(alloc, site, clock, tally, head),
             Heard::Refused(refusal) => Some(refuse_wire(site, tally, &self.refusals, refusal)),
-            Heard::Ended => Some(Ending::Complete),
-            Heard::Cut => Some(Ending::Cut),
-            Heard::Unheard => Some(Ending::Unlinked),
-            Heard::Unsaid => Some(Ending::Unlinked),
+            Heard::Ended => Some(ConnectionEnd::Complete),
+            Heard::Cut => Some(ConnectionEnd::Cut),
+            Heard::Unheard => Some(ConnectionEnd::Unlinked),
+            Heard::Unsaid => Some(ConnectionEnd::Unlinked),
             Heard::MediaUnsaid => {
                 clock.now();
-                Some(Ending::Unlinked)
+                Some(ConnectionEnd::Unlinked)
             }
         }
     }

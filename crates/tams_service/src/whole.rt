@@ -11,9 +11,9 @@ ghost use Rattle.tams_service.specs.Answering.{GiveLeads, PlanKeepsId, TellsAllO
 ghost use Rattle.tams_service.specs.Serving.{KeepsId, needs_in};
 
 use crate::TamsService;
-use crate::answering::{Reply, finish};
+use crate::answering::{DueReply, finish};
 use crate::ending::{starve, stop};
-use connection_loop::{Ending, Tally};
+use connection_loop::{ConnectionEnd, RunTally};
 use http_wire::Head;
 use media_store::Store;
 use reply_laws::media_puts_agree;
@@ -29,9 +29,9 @@ impl TamsService {
         alloc: Global,
         site: &mut X,
         clock: &mut C,
-        tally: &mut Tally,
+        tally: &mut RunTally,
         head: Head,
-    ) -> Option<Ending>
+    ) -> Option<ConnectionEnd>
         requires unspent { IsFalse self.old.store.spent }
         requires given { (taken : ℕ) × (all : List ℕ) × (said : Bool)
             × GivesRequest taken all said self.old.fed head }
@@ -83,12 +83,12 @@ fn give_answer<X: Site>(
     alloc: Global,
     store: &mut Store,
     site: &mut X,
-    tally: &mut Tally,
+    tally: &mut RunTally,
     answer: Answer,
     now: u64,
     ends: bool,
     room: &mut [u8],
-) -> Option<Ending>
+) -> Option<ConnectionEnd>
     requires unspent { IsFalse store.old.spent }
     requires device { size_of store.old.kept ≤ (X.device site.old).size }
     requires under_way { (X.device site.old).link.under_way ≡ true }
@@ -118,7 +118,7 @@ fn give_answer<X: Site>(
     match store.commit(site, planned) {
         Err(_) => Some(stop(site, tally, changes)),
         Ok(_) => {
-            let reply = Reply {
+            let reply = DueReply {
                 response: response.bytes(),
                 media,
                 changes,

@@ -10,7 +10,7 @@ use Rattle.store_opening.specs.Opening.{IsKept, bytes_in_image}
 use Rattle.store_states.specs.Kept.{StoreView, kept_state}
 use Rattle.store_states.specs.Laws.{IsOneState}
 use Rattle.store_states.specs.States.{StoreState}
-use Rattle.tams_top.specs.declared.outcome.Outcome.TheVariants.{Checked}
+use Rattle.tams_top.specs.declared.outcome.RunOutcome.TheVariants.{Checked}
 use Rattle.tams_top.specs.Running.{CheckEnds, Untouched, opening_outcome}
 use Rattle.tams_top.proofs.RunningLemmas.{Answers, untouched_by}
 

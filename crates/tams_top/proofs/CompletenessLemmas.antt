@@ -10,8 +10,8 @@ use Rattle.run_history.specs.Sessions.{AreServed, Hearing, IsServed, IsTold, Lin
 use Rattle.run_history.specs.Serving.{RunCounts, counts_of_run, is_cut, run_stops, starves}
 use Rattle.run_history.specs.Steps.{Answered, Cut, Refused, Starved, Step, Stopped}
 use Rattle.run_history.specs.Traces.{start_of}
-use Rattle.connection_loop.specs.declared.ending.Ending.{Ending}
-use Rattle.connection_loop.specs.declared.ending.Ending.TheVariants as endings
+use Rattle.connection_loop.specs.declared.ending.ConnectionEnd.{ConnectionEnd}
+use Rattle.connection_loop.specs.declared.ending.ConnectionEnd.TheVariants as endings
 use Rattle.connection_loop.specs.declared.run.RunEnd.{RunEnd}
 use Rattle.connection_loop.specs.declared.run.RunEnd.TheVariants as run_ends
 use Rattle.connection_loop.specs.Loops.{AreCounted}
@@ -19,8 +19,8 @@ use Rattle.connection_loop.specs.Loops as loops
 use Rattle.store_states.specs.States.{StoreState}
 use Rattle.tams_machine.specs.Machine.{tams_machine}
 use Rattle.tams_machine.specs.Requests.{TamsRequest}
-use Rattle.tams_top.specs.declared.outcome.Outcome.{Outcome}
-use Rattle.tams_top.specs.declared.outcome.Outcome.TheVariants.{Formatted, Checked, Worked, Served, NotStore, AlreadyStore, TooSmall, Damaged, DiskFault, NoMemory, LinkFault}
+use Rattle.tams_top.specs.declared.outcome.RunOutcome.{RunOutcome}
+use Rattle.tams_top.specs.declared.outcome.RunOutcome.TheVariants.{Formatted, Checked, Worked, Served, NotStore, AlreadyStore, TooSmall, Damaged, DiskFault, NoMemory, LinkFault}
 use Rattle.tams_top.specs.declared.words.Invocation.TheVariants.{Format, Check, Work}
 use Rattle.tams_top.specs.Words.{IsCommand}
 use Rattle.tams_top.specs.Completeness.{AreServedWhole, IsAnswered, IsServedWhole, NoneRose, OneAnswered}
@@ -28,7 +28,7 @@ use Rattle.tams_top.specs.Histories.{EndsWithoutPeer, OnePeer, Replayed, ServedA
 use Rattle.tams_top.specs.Running.{CheckEnds, CommandEnds, FormatRunEnds, EndsWithCause, WorkCause, no_disk_fault, status_of}
 use Rattle.tams_top.proofs.WordTheorems.{one_command}
 
-no_disk : (old new : Device) (o : Outcome) → IsCounted (no_disk_fault o) old.faults new.faults → NoneRose old new → o ≢ DiskFault
+no_disk : (old new : Device) (o : RunOutcome) → IsCounted (no_disk_fault o) old.faults new.faults → NoneRose old new → o ≢ DiskFault
 no_disk old new o counts none is = none.disk (counts.rises (rw is refl))
 
 -- ---- how a connection ended where nothing failed
@@ -41,11 +41,11 @@ pub record EndedWell (stopped starved failed cut : Bool) (skipped status : ℕ) 
   pub made : skipped ≡ 0
   pub by_input : status ≡ (if cut then 6 else 0)
 
-abbrev pub ending_by : Bool → Bool → Bool → Bool → Ending
+abbrev pub ending_by : Bool → Bool → Bool → Bool → ConnectionEnd
 ending_by stopped starved failed cut =
     if stopped then endings.Stopped else if starved then endings.Starved else if failed then endings.Unlinked else if cut then endings.Cut else endings.Complete
 
-abbrev pub FailsBy : Outcome → Type 0
+abbrev pub FailsBy : RunOutcome → Type 0
 FailsBy o = (o ≡ DiskFault) ⊎ ((o ≡ LinkFault) ⊎ (status_of o ≡ 4))
 
 -- no turn was skipped
@@ -53,7 +53,7 @@ none_skipped : (skipped : ℕ) → nat_lt 0 skipped ≡ false → skipped ≡ 0
 none_skipped zero e = refl
 none_skipped (suc n) e = absurd (false≢true (sym e ∙ lt-ltb 0 (suc n) (omega arith)))
 
-some_skipped : (some : Bool) (o : Outcome) → some ≡ true → FailsBy (if some then NoMemory else o)
+some_skipped : (some : Bool) (o : RunOutcome) → some ≡ true → FailsBy (if some then NoMemory else o)
 some_skipped true o e = inr (inr refl)
 some_skipped false o e = absurd (false≢true e)
 
@@ -117,7 +117,7 @@ answered base from c session status served well =
       status_is = well.by_input;
     }
 
-module _ (base : List ℕ) (from : StoreState) (old new : Device) (begun given : List ℕ) (o : Outcome)
+module _ (base : List ℕ) (from : StoreState) (old new : Device) (begun given : List ℕ) (o : RunOutcome)
     (disk : IsCounted (no_disk_fault o) old.faults new.faults)
     (none : NoneRose old new)
     (unlinked : o ≡ LinkFault → Rose old.link.faults new.link.faults)
@@ -129,7 +129,7 @@ module _ (base : List ℕ) (from : StoreState) (old new : Device) (begun given :
   never (inr (inr is)) = fed is
 
   -- no connection began: no peer came
-  no_peer_came : (p : Outcome) → o ≡ p → EndsWithoutPeer new p → (new.link.closed ≡ true) × (status_of p ≡ 0)
+  no_peer_came : (p : RunOutcome) → o ≡ p → EndsWithoutPeer new p → (new.link.closed ≡ true) × (status_of p ≡ 0)
   no_peer_came (Served requests changes skipped) is ends = (ends.3, refl)
   no_peer_came LinkFault is ends = absurd (never (inr (inl is)))
   no_peer_came DiskFault is ends = absurd (never (inl is))
@@ -236,7 +236,7 @@ module _ (base : List ℕ) (from : StoreState) (old new : Device) (begun given :
       record { sessions = []; runs = p.runs; unstopped = refl; whole = tt; number = inr came.0; status_is = came.1 }
 
 -- `format` where no call of the disk failed
-formatted : (old new : Device) (h : Header) (o : Outcome) → FormatRunEnds old new h o → (o ≡ DiskFault → ⊥)
+formatted : (old new : Device) (h : Header) (o : RunOutcome) → FormatRunEnds old new h o → (o ≡ DiskFault → ⊥)
     → (status_of o ≡ 0) ⊎ ((status_of o ≡ 2) ⊎ (status_of o ≡ 4))
 formatted old new h (Formatted blocks half media) ends held = inl refl
 formatted old new h AlreadyStore ends held = inr (inl refl)
@@ -245,7 +245,7 @@ formatted old new h NoMemory ends held = inr (inr refl)
 formatted old new h DiskFault ends held = absurd (held refl)
 formatted old new h _ ends held = absurd ends
 
-pub formatted_whole : (words : List (List ℕ)) (old new : Device) (clock : Bool) (begun given : List ℕ) (o : Outcome)
+pub formatted_whole : (words : List (List ℕ)) (old new : Device) (clock : Bool) (begun given : List ℕ) (o : RunOutcome)
     → EndsWithCause words old new clock begun given o
     → (path : List ℕ) (blocks half id : ℕ) → IsCommand words (Format path blocks half id) → NoneRose old new
     → (status_of o ≡ 0) ⊎ ((status_of o ≡ 2) ⊎ (status_of o ≡ 4))
@@ -260,7 +260,7 @@ formatted_whole words old new clock begun given o run path blocks half id is non
 ]
 
 -- `check` where no call of the disk failed
-checked : (old new : Device) (o : Outcome) → CheckEnds old new o → (o ≡ DiskFault → ⊥) → (status_of o ≡ 0) ⊎ ((status_of o ≡ 2) ⊎ (status_of o ≡ 4))
+checked : (old new : Device) (o : RunOutcome) → CheckEnds old new o → (o ≡ DiskFault → ⊥) → (status_of o ≡ 0) ⊎ ((status_of o ≡ 2) ⊎ (status_of o ≡ 4))
 checked old new (Checked counts) ends held = inl refl
 checked old new NotStore ends held = inr (inl refl)
 checked old new (Damaged at) ends held = inr (inl refl)
@@ -268,7 +268,7 @@ checked old new NoMemory ends held = inr (inr refl)
 checked old new DiskFault ends held = absurd (held refl)
 checked old new _ ends held = absurd ends
 
-pub checked_whole : (words : List (List ℕ)) (old new : Device) (clock : Bool) (begun given : List ℕ) (o : Outcome)
+pub checked_whole : (words : List (List ℕ)) (old new : Device) (clock : Bool) (begun given : List ℕ) (o : RunOutcome)
     → EndsWithCause words old new clock begun given o
     → (path : List ℕ) → IsCommand words (Check path) → NoneRose old new → (status_of o ≡ 0) ⊎ ((status_of o ≡ 2) ⊎ (status_of o ≡ 4))
 checked_whole words old new clock begun given o run path is none = elim run.cause [
@@ -282,7 +282,7 @@ checked_whole words old new clock begun given o run path is none = elim run.caus
 ]
 
 -- `work` where no call of the disk failed
-worked : (old new : Device) (o : Outcome) → WorkCause old new o → (o ≡ DiskFault → ⊥) → (status_of o ≡ 0) ⊎ ((status_of o ≡ 2) ⊎ (status_of o ≡ 4))
+worked : (old new : Device) (o : RunOutcome) → WorkCause old new o → (o ≡ DiskFault → ⊥) → (status_of o ≡ 0) ⊎ ((status_of o ≡ 2) ⊎ (status_of o ≡ 4))
 worked old new (Worked turns) cause held = inl refl
 worked old new NotStore cause held = inr (inl refl)
 worked old new (Damaged at) cause held = inr (inl refl)
@@ -290,7 +290,7 @@ worked old new NoMemory cause held = inr (inr refl)
 worked old new DiskFault cause held = absurd (held refl)
 worked old new _ cause held = absurd cause
 
-pub worked_whole : (words : List (List ℕ)) (old new : Device) (clock : Bool) (begun given : List ℕ) (o : Outcome)
+pub worked_whole : (words : List (List ℕ)) (old new : Device) (clock : Bool) (begun given : List ℕ) (o : RunOutcome)
     → EndsWithCause words old new clock begun given o
     → (path : List ℕ) → IsCommand words (Work path) → NoneRose old new → (status_of o ≡ 0) ⊎ ((status_of o ≡ 2) ⊎ (status_of o ≡ 4))
 worked_whole words old new clock begun given o run path is none = elim run.cause [

@@ -4,8 +4,8 @@ use Rattle.disk_trait.specs.Device.{Device, IsDevice, Left, Link}
 use Rattle.disk_trait.specs.Calls.{Rose}
 use Rattle.media_journal.specs.declared.header.Header.{Header}
 use Rattle.media_journal.specs.File.{HasOpenHeader}
-use Rattle.tams_top.specs.declared.outcome.Outcome.{Outcome}
-use Rattle.tams_top.specs.declared.outcome.Outcome.TheVariants.{Checked, BadWords, DiskFault, NoMemory, LinkFault}
+use Rattle.tams_top.specs.declared.outcome.RunOutcome.{RunOutcome}
+use Rattle.tams_top.specs.declared.outcome.RunOutcome.TheVariants.{Checked, BadWords, DiskFault, NoMemory, LinkFault}
 use Rattle.tams_top.specs.declared.words.Invocation.{Invocation}
 use Rattle.tams_top.specs.declared.words.Invocation.TheVariants.{Format, Check, Work, Replay, Serve, Workload}
 use Rattle.tams_top.specs.Words.{IsCommand}
@@ -24,7 +24,7 @@ use Rattle.tams_top.specs.Working.{WorkedOff}
 use Rattle.tams_top.proofs.WordTheorems.{one_command}
 use Rattle.tams_top.proofs.WorkingLemmas.{no_turns}
 
-module _ (words : List (List ℕ)) (old new : Device) (clock : Bool) (begun given : List ℕ) (o : Outcome)
+module _ (words : List (List ℕ)) (old new : Device) (clock : Bool) (begun given : List ℕ) (o : RunOutcome)
     (run : EndsWithCause words old new clock begun given o) where
   -- a command that was refused
   command_refused : DamagedStandsForNone → (command : Invocation) → CommandEnds old new clock begun given o command → status_of o ≡ 2
@@ -164,7 +164,7 @@ module _ (words : List (List ℕ)) (old new : Device) (clock : Bool) (begun give
   command_linked (Format path blocks half id) ends is = absurd (format_unlinked _ ends.0 is)
   command_linked (Check path) ends is = absurd (check_unlinked ends.0 is)
   command_linked (Work path) ends is = absurd (work_unlinked ends.cause is)
-  command_linked (Replay path base) ends is = (subst (λ (p : Outcome). LinkFaults p old.link.faults new.link.faults) is ends.link).1
+  command_linked (Replay path base) ends is = (subst (λ (p : RunOutcome). LinkFaults p old.link.faults new.link.faults) is ends.link).1
   command_linked (Serve path port base connections) ends is = ends.link is
   command_linked (Workload number count) ends is = absurd (workload_unlinked number count ends.0 is)
 
@@ -180,7 +180,7 @@ module _ (words : List (List ℕ)) (old new : Device) (clock : Bool) (begun give
   pub run_unlinked : o ≡ LinkFault → Rose old.link.faults new.link.faults
   run_unlinked is = run_linked (ap status_of is)
 
-  replay_linked : (p : Outcome) → LinkFaults p old.link.faults new.link.faults → old.link.faults < new.link.faults
+  replay_linked : (p : RunOutcome) → LinkFaults p old.link.faults new.link.faults → old.link.faults < new.link.faults
       → (status_of p ≡ 3) ⊎ ((status_of p ≡ 4) ⊎ (status_of p ≡ 5))
   replay_linked LinkFault faults rose = inr (inr refl)
   replay_linked DiskFault faults rose = inl refl
@@ -218,7 +218,7 @@ module _ (words : List (List ℕ)) (old new : Device) (clock : Bool) (begun give
       ]
     ]
 
-    peers_failed : (p : Outcome) → no_peer_fault p ≡ false → status_of p ≡ 5
+    peers_failed : (p : RunOutcome) → no_peer_fault p ≡ false → status_of p ≡ 5
     peers_failed LinkFault e = refl
     peers_failed _ e = absurd cc
 
@@ -257,23 +257,23 @@ module _ (words : List (List ℕ)) (old new : Device) (clock : Bool) (begun give
     ]
 
   -- words that are no command
-  format_words : (h : Header) (p : Outcome) → FormatRunEnds old new h p → status_of p ≢ 1
+  format_words : (h : Header) (p : RunOutcome) → FormatRunEnds old new h p → status_of p ≢ 1
   format_words h BadWords ends s = ends
   format_words h _ ends s = omega (arith, s)
 
-  check_words : (p : Outcome) → CheckEnds old new p → status_of p ≢ 1
+  check_words : (p : RunOutcome) → CheckEnds old new p → status_of p ≢ 1
   check_words BadWords ends s = ends
   check_words _ ends s = omega (arith, s)
 
-  work_words : (p : Outcome) → WorkCause old new p → status_of p ≢ 1
+  work_words : (p : RunOutcome) → WorkCause old new p → status_of p ≢ 1
   work_words BadWords cause s = cause
   work_words _ cause s = omega (arith, s)
 
-  opened_words : (p : Outcome) → OpenedCause old new p → status_of p ≢ 1
+  opened_words : (p : RunOutcome) → OpenedCause old new p → status_of p ≢ 1
   opened_words BadWords cause s = cause
   opened_words _ cause s = omega (arith, s)
 
-  workload_words : (number count : ℕ) (p : Outcome) → WorkloadEnds number count p → status_of p ≢ 1
+  workload_words : (number count : ℕ) (p : RunOutcome) → WorkloadEnds number count p → status_of p ≢ 1
   workload_words number count BadWords ends s = ends
   workload_words number count _ ends s = omega (arith, s)
 

@@ -16,8 +16,8 @@ use Rattle.connection_loop.proofs.Turning.{counted_none}
 use Rattle.store_opening.specs.Laws.{DamagedStandsForNone}
 use Rattle.store_opening.specs.Opening.{StoreAnswer}
 use Rattle.store_states.specs.States.{StoreState}
-use Rattle.tams_top.specs.declared.outcome.Outcome.{Outcome}
-use Rattle.tams_top.specs.declared.outcome.Outcome.TheVariants.{Cut, DiskFault, LinkFault, NoMemory}
+use Rattle.tams_top.specs.declared.outcome.RunOutcome.{RunOutcome}
+use Rattle.tams_top.specs.declared.outcome.RunOutcome.TheVariants.{Cut, DiskFault, LinkFault, NoMemory}
 use Rattle.tams_top.specs.Histories.{BeginsFrom, EndsWithoutPeer, NoPeer, beginning, serve_outcome}
 use Rattle.tams_top.specs.Running.{LinkFaults, OpenedCause, ReplayEnds, ServeEnds, StandsForNone, StandsForOne, Untouched, no_disk_fault, no_peer_fault, opening_outcome, status_of}
 use Rattle.tams_top.proofs.BeginningLemmas.{begun_served}
@@ -33,7 +33,7 @@ pub untouched_by : (ok : Bool) (old new : Device) → DiskReads ok old new → U
 untouched_by ok old new reads = record { seen = reads.seen; handed = reads.handed; link = reads.calls.link; time = reads.time }
 
 -- nothing was served, and nothing changed
-pub no_peer : (base : List ℕ) (old new : Device) (clock : Bool) (begun : List ℕ) (o : Outcome) → IsDevice old → Untouched old new
+pub no_peer : (base : List ℕ) (old new : Device) (clock : Bool) (begun : List ℕ) (o : RunOutcome) → IsDevice old → Untouched old new
     → EndsWithoutPeer new o → (from : StoreState) → BeginsFrom from old clock → NoPeer base (beginning from old begun) new begun o
 no_peer base old new clock begun o sound untouched ends from start =
     let begins =

@@ -14,8 +14,8 @@ use Rattle.run_history.specs.Traces.{start_of}
 use Rattle.run_history.proofs.Going.{has_run}
 use Rattle.connection_loop.specs.declared.connection.Next.{Next}
 use Rattle.connection_loop.specs.declared.connection.Next.TheVariants.{NoMore, Unlinked, Ended}
-use Rattle.connection_loop.specs.declared.ending.Ending.{Ending}
-use Rattle.connection_loop.specs.declared.ending.Ending.TheVariants as endings
+use Rattle.connection_loop.specs.declared.ending.ConnectionEnd.{ConnectionEnd}
+use Rattle.connection_loop.specs.declared.ending.ConnectionEnd.TheVariants as endings
 use Rattle.connection_loop.specs.declared.run.RunEnd.{RunEnd}
 use Rattle.connection_loop.specs.Loops.{AreCounted, HasEnded, NextCalls, NextLeads, NextLinkCount, RunCalls, next_disk_held}
 use Rattle.connection_loop.specs.Tallies.{nothing_counted}
@@ -28,8 +28,8 @@ use Rattle.store_states.specs.States.{StoreState}
 use Rattle.tams_histories.specs.Along.{RunsKeepBytes}
 use Rattle.tams_machine.specs.Machine.{tams_machine}
 use Rattle.tams_machine.specs.Requests.{TamsRequest}
-use Rattle.tams_top.specs.declared.outcome.Outcome.{Outcome}
-use Rattle.tams_top.specs.declared.outcome.Outcome.TheVariants.{Cut, LinkFault, NoMemory}
+use Rattle.tams_top.specs.declared.outcome.RunOutcome.{RunOutcome}
+use Rattle.tams_top.specs.declared.outcome.RunOutcome.TheVariants.{Cut, LinkFault, NoMemory}
 use Rattle.tams_top.specs.Histories.{BeginsFrom, OnePeer, Replayed, RunsAs, ServedAll, beginning, replay_outcome, serve_outcome, served_with}
 use Rattle.tams_top.specs.Running.{LinkFaults, OpenedCause, ReplayEnds, ServeEnds, StandsForOne, no_disk_fault, status_of}
 use Rattle.tams_top.proofs.BeginningLemmas.{begun_served}
@@ -53,12 +53,12 @@ runs_as law base b d begun given sessions n h sound honest shows tells first mor
 -- ---- one connection
 
 -- the outcome of what came of waiting for a connection
-abbrev pub next_outcome : Next → RunCounts → Outcome
+abbrev pub next_outcome : Next → RunCounts → RunOutcome
 next_outcome NoMore n = served_with n
 next_outcome Unlinked n = LinkFault
 next_outcome (Ended ending) n = replay_outcome ending n
 
-unless_link : (skipped : Bool) (o : Outcome) (before now : ℕ) → before ≤ now → LinkFaults o before now
+unless_link : (skipped : Bool) (o : RunOutcome) (before now : ℕ) → before ≤ now → LinkFaults o before now
     → LinkFaults (if skipped then NoMemory else o) before now
 unless_link true o before now least faults = least
 unless_link false o before now least faults = faults
@@ -73,7 +73,7 @@ next_link (Ended endings.Unlinked) n before now count = unless_link (nat_lt 0 n.
 next_link (Ended endings.Starved) n before now count = count
 next_link (Ended endings.Stopped) n before now count = count
 
-unless_disk : (skipped : Bool) (o : Outcome) → no_disk_fault o ≡ true → no_disk_fault (if skipped then NoMemory else o) ≡ true
+unless_disk : (skipped : Bool) (o : RunOutcome) → no_disk_fault o ≡ true → no_disk_fault (if skipped then NoMemory else o) ≡ true
 unless_disk true o held = refl
 unless_disk false o held = held
 
@@ -87,7 +87,7 @@ next_disk (Ended endings.Unlinked) n = unless_disk (nat_lt 0 n.skipped) _ refl
 next_disk (Ended endings.Starved) n = refl
 next_disk (Ended endings.Stopped) n = refl
 
-unless_cause : (old new : Device) (skipped : Bool) (o : Outcome) → OpenedCause old new o → OpenedCause old new (if skipped then NoMemory else o)
+unless_cause : (old new : Device) (skipped : Bool) (o : RunOutcome) → OpenedCause old new o → OpenedCause old new (if skipped then NoMemory else o)
 unless_cause old new true o cause = tt
 unless_cause old new false o cause = cause
 
@@ -101,7 +101,7 @@ next_cause old new (Ended endings.Unlinked) n stood = unless_cause old new (nat_
 next_cause old new (Ended endings.Starved) n stood = tt
 next_cause old new (Ended endings.Stopped) n stood = tt
 
-unless_unrefused : (skipped : Bool) (o : Outcome) → status_of o ≢ 2 → status_of (if skipped then NoMemory else o) ≢ 2
+unless_unrefused : (skipped : Bool) (o : RunOutcome) → status_of o ≢ 2 → status_of (if skipped then NoMemory else o) ≢ 2
 unless_unrefused true o other s = omega (arith, s)
 unless_unrefused false o other s = other s
 
@@ -161,7 +161,7 @@ module _ (base : List ℕ) (old opened new : Device) (clock : Bool) (begun given
         → NextLeads (tams_machine base) b new given keeps_last sessions n next
 
     -- one that came
-    one_peer : (ending : Ending) → Leads (Ended ending) → (from : StoreState) → BeginsFrom from old clock
+    one_peer : (ending : ConnectionEnd) → Leads (Ended ending) → (from : StoreState) → BeginsFrom from old clock
         → OnePeer base (beginning from old begun) new given (replay_outcome ending n)
     one_peer ending leads from start =
         let ended = leads (tells_opened from start) (beginning from old begun) [] (between from start) in

@@ -7,8 +7,8 @@ use Rattle.media_journal.specs.Formatting.{FitsStore}
 use Rattle.store_opening.specs.Laws.{DamagedStandsForNone}
 use Rattle.store_core.specs.Prepared.{counts_of}
 use Rattle.store_states.specs.States.{StandsFor, StoreState}
-use Rattle.tams_top.specs.declared.outcome.Outcome.{Outcome}
-use Rattle.tams_top.specs.declared.outcome.Outcome.TheVariants.{Formatted, Checked, Worked, Served, Generated, Cut, NotStore, AlreadyStore, TooSmall, Damaged, DiskFault, NoMemory, LinkFault}
+use Rattle.tams_top.specs.declared.outcome.RunOutcome.{RunOutcome}
+use Rattle.tams_top.specs.declared.outcome.RunOutcome.TheVariants.{Formatted, Checked, Worked, Served, Generated, Cut, NotStore, AlreadyStore, TooSmall, Damaged, DiskFault, NoMemory, LinkFault}
 use Rattle.tams_top.specs.Formatting.{empty_rows, formatted_state}
 use Rattle.tams_top.specs.declared.outcome.WorkloadRun.{WorkloadRun}
 use Rattle.tams_top.specs.Generating.{IsWorkloadRun, WorkloadEnds}
@@ -16,7 +16,7 @@ use Rattle.tams_top.specs.Running.{CheckEnds, FormatRunEnds, OpenedCause, Stands
 use Rattle.tams_top.proofs.RunningLemmas.{no_store}
 
 module _ (old new : Device) (h : Header) where
-  pub format_refused : (o : Outcome) → FormatRunEnds old new h o → status_of o ≡ 2
+  pub format_refused : (o : RunOutcome) → FormatRunEnds old new h o → status_of o ≡ 2
       → Untouched old new × (old.shows ≡ true → HasOpenHeader old.seen ⊎ ¬ (FitsStore h (length old.seen) empty_rows))
   format_refused AlreadyStore ends s = (ends.1, λ shows. inl (ends.0 shows))
   format_refused TooSmall ends s = (ends.1, λ shows. inr ((ends.0 shows).1))
@@ -24,7 +24,7 @@ module _ (old new : Device) (h : Header) where
   format_refused (Damaged at) ends s = absurd ends
   format_refused _ ends s = absurd (omega (arith, s))
 
-  pub format_done : (o : Outcome) → FormatRunEnds old new h o → status_of o ≡ 0 → old.shows ≡ true → StandsFor new.seen (formatted_state h)
+  pub format_done : (o : RunOutcome) → FormatRunEnds old new h o → status_of o ≡ 0 → old.shows ≡ true → StandsFor new.seen (formatted_state h)
   format_done (Formatted blocks half media) ends s = ends.stands
   format_done (Checked counts) ends s = absurd ends
   format_done (Worked turns) ends s = absurd ends
@@ -32,12 +32,12 @@ module _ (old new : Device) (h : Header) where
   format_done (Generated run) ends s = absurd ends
   format_done _ ends s = absurd (omega (arith, s))
 
-  pub format_starved : (o : Outcome) → FormatRunEnds old new h o → status_of o ≡ 4 → Untouched old new
+  pub format_starved : (o : RunOutcome) → FormatRunEnds old new h o → status_of o ≡ 4 → Untouched old new
   format_starved NoMemory ends s = ends
   format_starved LinkFault ends s = absurd ends
   format_starved _ ends s = absurd (omega (arith, s))
 
-  pub format_only : (o : Outcome) → FormatRunEnds old new h o → old.shows ≡ true → HasOpenHeader old.seen ⊎ ¬ (FitsStore h (length old.seen) empty_rows)
+  pub format_only : (o : RunOutcome) → FormatRunEnds old new h o → old.shows ≡ true → HasOpenHeader old.seen ⊎ ¬ (FitsStore h (length old.seen) empty_rows)
       → (status_of o ≡ 2) ⊎ ((status_of o ≡ 3) ⊎ (status_of o ≡ 4))
   format_only (Formatted blocks half media) ends shows cause =
       absurd (elim cause [ inl header ↦ ends.none shows header | inr misfit ↦ misfit (ends.fits shows) ])
@@ -48,7 +48,7 @@ module _ (old new : Device) (h : Header) where
   format_only _ ends shows cause = absurd ends
 
 module _ (old new : Device) where
-  pub opened_refused : DamagedStandsForNone → (o : Outcome) → OpenedCause old new o → status_of o ≡ 2
+  pub opened_refused : DamagedStandsForNone → (o : RunOutcome) → OpenedCause old new o → status_of o ≡ 2
       → Untouched old new × (old.shows ≡ true → StandsForNone old.seen)
   opened_refused damaged NotStore cause s = (cause.1, λ shows. no_store old.seen (cause.0 shows))
   opened_refused damaged (Damaged at) cause s = (cause.1, λ shows state. damaged old.seen at state (cause.0 shows).1)
@@ -56,7 +56,7 @@ module _ (old new : Device) where
   opened_refused damaged TooSmall cause s = absurd cause
   opened_refused damaged _ cause s = absurd (omega (arith, s))
 
-  pub opened_only : (o : Outcome) → OpenedCause old new o → old.shows ≡ true → StandsForNone old.seen
+  pub opened_only : (o : RunOutcome) → OpenedCause old new o → old.shows ≡ true → StandsForNone old.seen
       → (status_of o ≡ 2) ⊎ ((status_of o ≡ 3) ⊎ (status_of o ≡ 4))
   opened_only (Served requests changes skipped) cause shows none = let stood = cause shows in absurd (none stood.0 stood.1)
   opened_only Cut cause shows none = let stood = cause shows in absurd (none stood.0 stood.1)
@@ -68,7 +68,7 @@ module _ (old new : Device) where
   opened_only _ cause shows none = absurd cause
 
   -- `check` writes nothing
-  pub check_untouched : (o : Outcome) → CheckEnds old new o → Untouched old new
+  pub check_untouched : (o : RunOutcome) → CheckEnds old new o → Untouched old new
   check_untouched (Checked counts) ends = ends.1
   check_untouched NotStore ends = ends.1
   check_untouched (Damaged at) ends = ends.1
@@ -76,7 +76,7 @@ module _ (old new : Device) where
   check_untouched NoMemory ends = ends
   check_untouched _ ends = absurd ends
 
-  pub check_refused : DamagedStandsForNone → (o : Outcome) → CheckEnds old new o → status_of o ≡ 2
+  pub check_refused : DamagedStandsForNone → (o : RunOutcome) → CheckEnds old new o → status_of o ≡ 2
       → Untouched old new × (old.shows ≡ true → StandsForNone old.seen)
   check_refused damaged NotStore ends s = opened_refused damaged NotStore ends s
   check_refused damaged (Damaged at) ends s = opened_refused damaged (Damaged at) ends s
@@ -84,7 +84,7 @@ module _ (old new : Device) where
   check_refused damaged TooSmall ends s = absurd ends
   check_refused damaged _ ends s = absurd (omega (arith, s))
 
-  pub check_only : (o : Outcome) → CheckEnds old new o → old.shows ≡ true → StandsForNone old.seen
+  pub check_only : (o : RunOutcome) → CheckEnds old new o → old.shows ≡ true → StandsForNone old.seen
       → (status_of o ≡ 2) ⊎ ((status_of o ≡ 3) ⊎ (status_of o ≡ 4))
   check_only (Checked counts) ends shows none = let stood = (ends.0 shows).stands in absurd (none stood.0 stood.1)
   check_only NotStore ends shows none = inl refl
@@ -94,7 +94,7 @@ module _ (old new : Device) where
   check_only _ ends shows none = absurd ends
 
   -- a store that was checked has the counts of the state for which the file stands
-  pub check_done : (o : Outcome) → CheckEnds old new o → status_of o ≡ 0 → old.shows ≡ true → (from : StoreState) → StandsFor old.seen from
+  pub check_done : (o : RunOutcome) → CheckEnds old new o → status_of o ≡ 0 → old.shows ≡ true → (from : StoreState) → StandsFor old.seen from
       → o ≡ Checked (counts_of from.archive.library)
   check_done (Checked counts) ends s shows from stands = ap Checked ((ends.0 shows).counts_are from stands)
   check_done (Formatted blocks half media) ends s shows from stands = absurd ends
@@ -103,7 +103,7 @@ module _ (old new : Device) where
   check_done (Generated run) ends s shows from stands = absurd ends
   check_done _ ends s shows from stands = absurd (omega (arith, s))
 
-  pub work_refused : DamagedStandsForNone → (o : Outcome) → WorkCause old new o → status_of o ≡ 2
+  pub work_refused : DamagedStandsForNone → (o : RunOutcome) → WorkCause old new o → status_of o ≡ 2
       → Untouched old new × (old.shows ≡ true → StandsForNone old.seen)
   work_refused damaged NotStore cause s = opened_refused damaged NotStore cause s
   work_refused damaged (Damaged at) cause s = opened_refused damaged (Damaged at) cause s
@@ -111,7 +111,7 @@ module _ (old new : Device) where
   work_refused damaged TooSmall cause s = absurd cause
   work_refused damaged _ cause s = absurd (omega (arith, s))
 
-  pub work_only : (o : Outcome) → WorkCause old new o → old.shows ≡ true → StandsForNone old.seen
+  pub work_only : (o : RunOutcome) → WorkCause old new o → old.shows ≡ true → StandsForNone old.seen
       → (status_of o ≡ 2) ⊎ ((status_of o ≡ 3) ⊎ (status_of o ≡ 4))
   work_only (Worked turns) cause shows none = let stood = cause shows in absurd (none stood.0 stood.1)
   work_only NotStore cause shows none = inl refl
@@ -121,7 +121,7 @@ module _ (old new : Device) where
   work_only _ cause shows none = absurd cause
 
 -- `workload` ends with its numbers, or for want of memory
-pub workload_unrefused : (number count : ℕ) (o : Outcome) → WorkloadEnds number count o → status_of o ≢ 2
+pub workload_unrefused : (number count : ℕ) (o : RunOutcome) → WorkloadEnds number count o → status_of o ≢ 2
 workload_unrefused number count NotStore ends s = ends
 workload_unrefused number count AlreadyStore ends s = ends
 workload_unrefused number count TooSmall ends s = ends
@@ -129,7 +129,7 @@ workload_unrefused number count (Damaged at) ends s = ends
 workload_unrefused number count _ ends s = omega (arith, s)
 
 -- the run whose numbers it ended with
-pub workload_done : (number count : ℕ) (o : Outcome) → WorkloadEnds number count o → status_of o ≡ 0
+pub workload_done : (number count : ℕ) (o : RunOutcome) → WorkloadEnds number count o → status_of o ≡ 0
     → (run : WorkloadRun) × IsWorkloadRun number count run × (line_of o ≡ generated_line run)
 workload_done number count (Generated run) ends s = (run, ends, refl)
 workload_done number count (Formatted blocks half media) ends s = absurd ends
@@ -138,20 +138,20 @@ workload_done number count (Worked turns) ends s = absurd ends
 workload_done number count (Served requests changes skipped) ends s = absurd ends
 workload_done number count _ ends s = absurd (omega (arith, s))
 
-pub workload_whole : (number count : ℕ) (o : Outcome) → WorkloadEnds number count o → (status_of o ≡ 0) ⊎ (status_of o ≡ 4)
+pub workload_whole : (number count : ℕ) (o : RunOutcome) → WorkloadEnds number count o → (status_of o ≡ 0) ⊎ (status_of o ≡ 4)
 workload_whole number count (Generated run) ends = inl refl
 workload_whole number count NoMemory ends = inr refl
 workload_whole number count _ ends = absurd ends
 
 -- statuses of one outcome alone
-pub no_memory_by : (p : Outcome) → status_of p ≡ 4 → p ≡ NoMemory
+pub no_memory_by : (p : RunOutcome) → status_of p ≡ 4 → p ≡ NoMemory
 no_memory_by NoMemory e = refl
 no_memory_by _ e = absurd (omega (arith, e))
 
-pub link_fault_by : (p : Outcome) → status_of p ≡ 5 → p ≡ LinkFault
+pub link_fault_by : (p : RunOutcome) → status_of p ≡ 5 → p ≡ LinkFault
 link_fault_by LinkFault e = refl
 link_fault_by _ e = absurd (omega (arith, e))
 
-pub cut_by : (p : Outcome) → status_of p ≡ 6 → p ≡ Cut
+pub cut_by : (p : RunOutcome) → status_of p ≡ 6 → p ≡ Cut
 cut_by Cut e = refl
 cut_by _ e = absurd (omega (arith, e))

@@ -18,8 +18,8 @@ use Rattle.run_history.specs.Serving.{RunCounts, counts_of_run}
 use Rattle.run_history.specs.Sessions.{stops}
 use Rattle.run_history.specs.Steps.{Step}
 use Rattle.run_history.specs.Steps as steps
-use Rattle.connection_loop.specs.declared.ending.Ending.{Ending}
-use Rattle.connection_loop.specs.declared.ending.Ending.TheVariants as endings
+use Rattle.connection_loop.specs.declared.ending.ConnectionEnd.{ConnectionEnd}
+use Rattle.connection_loop.specs.declared.ending.ConnectionEnd.TheVariants as endings
 use Rattle.connection_loop.specs.Turns.{ending_of}
 use Rattle.snapshot_rows.specs.Texts.{IsOneList, SpellsRows}
 use Rattle.store_opening.specs.Laws.{KeptStands}
@@ -29,10 +29,10 @@ use Rattle.store_states.specs.Laws.{IsOneState}
 use Rattle.store_states.specs.States.{StandsFor, StoreState}
 use Rattle.tams_machine.specs.Machine.{tams_machine}
 use Rattle.tams_machine.specs.Requests.{TamsRequest}
-use Rattle.tams_top.specs.declared.outcome.Outcome.{Outcome}
-use Rattle.tams_top.specs.declared.outcome.Outcome.TheVariants.{Formatted, Served, Cut, NoMemory, LinkFault}
+use Rattle.tams_top.specs.declared.outcome.RunOutcome.{RunOutcome}
+use Rattle.tams_top.specs.declared.outcome.RunOutcome.TheVariants.{Formatted, Served, Cut, NoMemory, LinkFault}
 use Rattle.tams_top.specs.declared.generating.Answered.{Answered}
-use Rattle.tams_top.specs.declared.generating.Kept.{Kept}
+use Rattle.tams_top.specs.declared.generating.StoreSizes.{StoreSizes}
 use Rattle.tams_top.specs.declared.generating.TheConstants.{BLOCKS, HALF, STORE_ID}
 use Rattle.tams_top.specs.Completeness.{IsAnswered, NoneRose}
 use Rattle.tams_top.specs.Generating.{IsWorkloadRun, workload_base, workload_start}
@@ -77,11 +77,11 @@ are_zeros (suc n) = All-append (λ moment. moment ≡ 0) (zeros n) (0 ∷ []) (a
 
 -- ---- the numbers of a run that served
 
-abbrev answers_of : Outcome → ℕ
+abbrev answers_of : RunOutcome → ℕ
 answers_of (Served requests changes skipped) = requests
 answers_of _ = 0
 
-abbrev changes_of : Outcome → ℕ
+abbrev changes_of : RunOutcome → ℕ
 changes_of (Served requests changes skipped) = changes
 changes_of _ = 0
 
@@ -90,12 +90,12 @@ served_by_skips : (some : Bool) (answers changes skipped : ℕ) (n : RunCounts)
 served_by_skips true answers changes skipped n e = absurd cc
 served_by_skips false answers changes skipped n e = (ap answers_of e, ap changes_of e)
 
-never_served : (some : Bool) (answers changes skipped : ℕ) (other : Outcome) → (Served answers changes skipped ≡ other → ⊥)
+never_served : (some : Bool) (answers changes skipped : ℕ) (other : RunOutcome) → (Served answers changes skipped ≡ other → ⊥)
     → Served answers changes skipped ≡ (if some then NoMemory else other) → ⊥
 never_served true answers changes skipped other never e = cc
 never_served false answers changes skipped other never e = never e
 
-served_numbers : (end : Ending) (answers changes skipped : ℕ) (n : RunCounts) → Served answers changes skipped ≡ replay_outcome end n
+served_numbers : (end : ConnectionEnd) (answers changes skipped : ℕ) (n : RunCounts) → Served answers changes skipped ≡ replay_outcome end n
     → (answers ≡ n.answers) × (changes ≡ n.changes)
 served_numbers endings.Complete answers changes skipped n e = served_by_skips _ answers changes skipped n e
 served_numbers endings.Cut answers changes skipped n e = absurd (never_served _ answers changes skipped Cut (λ e. cc) e)
@@ -188,15 +188,15 @@ kept_is kept_stands one image view from kept stands =
     ap (λ (s : StoreState). kept_of_library s.archive.library) (one image from (kept_state view (bytes_in_image image view)) stands
     (kept_stands image view kept))
 
-pub kept_found : KeptStands → IsOneState → (image : List ℕ) (view : StoreView) → IsKept image view → (found : Option Kept)
-    → IfSome found (λ (kept : Kept). kept ≡ kept_of_library view.library)
-    → IfSome found (λ (kept : Kept). (from : StoreState) → StandsFor image from → kept ≡ kept_of_library from.archive.library)
+pub kept_found : KeptStands → IsOneState → (image : List ℕ) (view : StoreView) → IsKept image view → (found : Option StoreSizes)
+    → IfSome found (λ (kept : StoreSizes). kept ≡ kept_of_library view.library)
+    → IfSome found (λ (kept : StoreSizes). (from : StoreState) → StandsFor image from → kept ≡ kept_of_library from.archive.library)
 kept_found stand one image view is None found = tt
 kept_found stand one image view is (Some kept) found = λ from stands. found ∙ kept_is stand one image view from is stands
 
 -- ---- the whole run
 
-pub workload_run : (number count : ℕ) (bytes : List ℕ) (d : Device) (n : Answered) (kept : Kept) → bytes ≡ workload_requests number count
+pub workload_run : (number count : ℕ) (bytes : List ℕ) (d : Device) (n : Answered) (kept : StoreSizes) → bytes ≡ workload_requests number count
     → HasAnswered bytes d n → ((from : StoreState) → StandsFor d.seen from → kept ≡ kept_of_library from.archive.library)
     → IsWorkloadRun number count (record {
       number = number;

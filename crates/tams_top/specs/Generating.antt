@@ -12,8 +12,8 @@ use Rattle.tams_machine.specs.Machine.{tams_machine}
 use Rattle.tams_machine.specs.Requests.{TamsRequest}
 use Rattle.tams_top.specs.Completeness.{IsAnswered}
 use Rattle.tams_top.specs.Formatting.{formatted_state}
-use Rattle.tams_top.specs.declared.outcome.Outcome.{Outcome}
-use Rattle.tams_top.specs.declared.outcome.Outcome.TheVariants.{Generated, NoMemory}
+use Rattle.tams_top.specs.declared.outcome.RunOutcome.{RunOutcome}
+use Rattle.tams_top.specs.declared.outcome.RunOutcome.TheVariants.{Generated, NoMemory}
 use Rattle.tams_top.specs.declared.outcome.WorkloadRun.{WorkloadRun}
 use Rattle.tams_top.specs.declared.generating.TheConstants.{BLOCKS, HALF, STORE_ID}
 
@@ -55,7 +55,7 @@ pub record IsWorkloadRun (number count : ℕ) (run : WorkloadRun) : Type 0 where
   pub numbers : run ≡ workload_numbers number count session
 
 -- the ends of `workload`
-abbrev pub WorkloadEnds : ℕ → ℕ → Outcome → Type 0
+abbrev pub WorkloadEnds : ℕ → ℕ → RunOutcome → Type 0
 WorkloadEnds number count (Generated run) = IsWorkloadRun number count run
 WorkloadEnds number count NoMemory = Unit {0}
 WorkloadEnds number count _ = ⊥

@@ -9,8 +9,8 @@ use Rattle.run_history.specs.Runs.{Beginning, Ran}
 use Rattle.run_history.specs.Serving.{RunCounts, counts_of_run, run_stops}
 use Rattle.run_history.specs.Sessions.{Session, all_moments}
 use Rattle.run_history.specs.Traces.{start_of, states_of, trace_of}
-use Rattle.connection_loop.specs.declared.ending.Ending.{Ending}
-use Rattle.connection_loop.specs.declared.ending.Ending.TheVariants as endings
+use Rattle.connection_loop.specs.declared.ending.ConnectionEnd.{ConnectionEnd}
+use Rattle.connection_loop.specs.declared.ending.ConnectionEnd.TheVariants as endings
 use Rattle.connection_loop.specs.declared.run.RunEnd.{RunEnd}
 use Rattle.connection_loop.specs.declared.run.RunEnd.TheVariants as run_ends
 use Rattle.connection_loop.specs.Loops.{AreCounted}
@@ -20,8 +20,8 @@ use Rattle.store_states.specs.States.{StandsFor, StoreState}
 use Rattle.tams_histories.specs.Along.{KeepBytes}
 use Rattle.tams_machine.specs.Machine.{tams_machine}
 use Rattle.tams_machine.specs.Requests.{TamsRequest}
-use Rattle.tams_top.specs.declared.outcome.Outcome.{Outcome}
-use Rattle.tams_top.specs.declared.outcome.Outcome.TheVariants.{Served, Cut, DiskFault, NoMemory, LinkFault}
+use Rattle.tams_top.specs.declared.outcome.RunOutcome.{RunOutcome}
+use Rattle.tams_top.specs.declared.outcome.RunOutcome.TheVariants.{Served, Cut, DiskFault, NoMemory, LinkFault}
 
 -- nothing is pending: a crash now leaves just what a read gives
 abbrev pub IsSettled : Device → Type 0
@@ -58,15 +58,15 @@ pub record RunsAs (base : List ℕ) (b : Beginning StoreState) (sessions : List 
 -- ---- outcomes by numbers
 
 -- the outcome with the numbers of a run
-abbrev pub served_with : RunCounts → Outcome
+abbrev pub served_with : RunCounts → RunOutcome
 served_with n = Served n.answers n.changes n.skipped
 
 -- an outcome of `replay`, unless a turn was skipped for want of memory
-abbrev pub unless_skipped : RunCounts → Outcome → Outcome
+abbrev pub unless_skipped : RunCounts → RunOutcome → RunOutcome
 unless_skipped n outcome = if nat_lt 0 n.skipped then NoMemory else outcome
 
 -- the outcome of `replay` by how its connection ended and by its numbers
-abbrev pub replay_outcome : Ending → RunCounts → Outcome
+abbrev pub replay_outcome : ConnectionEnd → RunCounts → RunOutcome
 replay_outcome endings.Complete n = unless_skipped n (served_with n)
 replay_outcome endings.Cut n = unless_skipped n Cut
 replay_outcome endings.Unlinked n = unless_skipped n LinkFault
@@ -74,7 +74,7 @@ replay_outcome endings.Starved n = NoMemory
 replay_outcome endings.Stopped n = DiskFault
 
 -- the same of `serve`, by how its connections came to an end
-abbrev pub serve_outcome : RunEnd → RunCounts → Outcome
+abbrev pub serve_outcome : RunEnd → RunCounts → RunOutcome
 serve_outcome run_ends.Complete n = served_with n
 serve_outcome run_ends.NoMore n = served_with n
 serve_outcome run_ends.Unlinked n = LinkFault
@@ -84,7 +84,7 @@ serve_outcome run_ends.Stopped n = DiskFault
 
 -- One connection was served to its end, by one history.
 pub record OnePeer (base : List ℕ) (b : Beginning StoreState) (new : Device) (given : List ℕ)
-    (outcome : Outcome) : Type 0 where
+    (outcome : RunOutcome) : Type 0 where
   pub session : Session TamsRequest
   pub runs : RunsAs base b (session ∷ []) new given
   pub outcome_is : outcome
@@ -94,7 +94,7 @@ pub record OnePeer (base : List ℕ) (b : Beginning StoreState) (new : Device) (
 -- Connections were served one after another, at most so many, by one history. Each that ended with
 -- a call of its link that failed raised the count.
 pub record SomePeers (base : List ℕ) (b : Beginning StoreState) (old new : Device)
-    (given : List ℕ) (connections : ℕ) (outcome : Outcome) : Type 0 where
+    (given : List ℕ) (connections : ℕ) (outcome : RunOutcome) : Type 0 where
   pub sessions : List (Session TamsRequest)
   pub end : RunEnd
   pub runs : RunsAs base b sessions new given
@@ -104,7 +104,7 @@ pub record SomePeers (base : List ℕ) (b : Beginning StoreState) (old new : Dev
 
 -- the ends of a run in which no connection began: no peer will come, waiting for one failed, or
 -- opening the store did
-abbrev pub EndsWithoutPeer : Device → Outcome → Type 0
+abbrev pub EndsWithoutPeer : Device → RunOutcome → Type 0
 EndsWithoutPeer new (Served requests changes skipped) =
     (requests ≡ 0) × (changes ≡ 0) × (skipped ≡ 0) × (new.link.closed ≡ true)
 EndsWithoutPeer new LinkFault = Unit {0}
@@ -114,17 +114,17 @@ EndsWithoutPeer new _ = ⊥
 
 -- No connection began, and the state stays.
 pub record NoPeer (base : List ℕ) (b : Beginning StoreState) (new : Device) (given : List ℕ)
-    (outcome : Outcome) : Type 0 where
+    (outcome : RunOutcome) : Type 0 where
   pub runs : RunsAs base b [] new given
   pub ends : EndsWithoutPeer new outcome
 
 -- a run of `replay` from its beginning
-abbrev pub Replayed : List ℕ → Beginning StoreState → Device → List ℕ → Outcome → Type 0
+abbrev pub Replayed : List ℕ → Beginning StoreState → Device → List ℕ → RunOutcome → Type 0
 Replayed base b new given outcome =
     OnePeer base b new given outcome ⊎ NoPeer base b new given outcome
 
 -- a run of `serve` from its beginning
-abbrev pub ServedAll : List ℕ → Beginning StoreState → Device → Device → List ℕ → ℕ → Outcome
+abbrev pub ServedAll : List ℕ → Beginning StoreState → Device → Device → List ℕ → ℕ → RunOutcome
     → Type 0
 ServedAll base b old new given connections outcome =
     SomePeers base b old new given connections outcome ⊎ NoPeer base b new given outcome

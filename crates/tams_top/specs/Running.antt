@@ -15,8 +15,8 @@ use Rattle.store_core.specs.Prepared.{counts_of}
 use Rattle.store_opening.specs.Opening.{StoreDamagedAt}
 use Rattle.store_states.specs.States.{StandsFor, StoreState}
 use Rattle.tams_top.specs.declared.outcome.WorkloadRun.{WorkloadRun}
-use Rattle.tams_top.specs.declared.outcome.Outcome.{Outcome}
-use Rattle.tams_top.specs.declared.outcome.Outcome.TheVariants.{Formatted, Checked, Worked, Served, Generated, Cut, BadWords, NotStore, AlreadyStore, TooSmall, Damaged, DiskFault, NoMemory, LinkFault}
+use Rattle.tams_top.specs.declared.outcome.RunOutcome.{RunOutcome}
+use Rattle.tams_top.specs.declared.outcome.RunOutcome.TheVariants.{Formatted, Checked, Worked, Served, Generated, Cut, BadWords, NotStore, AlreadyStore, TooSmall, Damaged, DiskFault, NoMemory, LinkFault}
 use Rattle.tams_top.specs.declared.words.Invocation.{Invocation}
 use Rattle.tams_top.specs.declared.words.Invocation.TheVariants.{Format, Check, Work, Replay, Serve, Workload}
 use Rattle.tams_top.specs.Words.{IsCommand}
@@ -26,7 +26,7 @@ use Rattle.tams_top.specs.Working.{WorkedOff}
 use Rattle.tams_top.specs.Histories.{BeginsFrom, IsSettled, OnePeer, Replayed, ServedAll, beginning}
 
 -- the status of each end
-abbrev pub status_of : Outcome → ℕ
+abbrev pub status_of : RunOutcome → ℕ
 status_of (Formatted blocks half media) = 0
 status_of (Checked counts) = 0
 status_of (Worked turns) = 0
@@ -76,7 +76,7 @@ generated_line n =
     (numbered (codes ", bytes ") n.bytes (codes "\n"))))))))
 
 -- the line of each end in the notes
-abbrev pub line_of : Outcome → List ℕ
+abbrev pub line_of : RunOutcome → List ℕ
 line_of (Formatted blocks half media) =
     numbered (codes "formatted ") blocks (numbered (codes " blocks, ") half
     (numbered (codes " per half, ") media (codes " for media\n")))
@@ -139,7 +139,7 @@ abbrev pub StandsForNone : List ℕ → Type 0
 StandsForNone image = (s : StoreState) → StandsFor image s → ⊥
 
 -- the cause of each end of `replay` and `serve` in the file
-abbrev pub OpenedCause : Device → Device → Outcome → Type 0
+abbrev pub OpenedCause : Device → Device → RunOutcome → Type 0
 OpenedCause old new (Served requests changes skipped) = old.shows ≡ true → StandsForOne old.seen
 OpenedCause old new Cut = old.shows ≡ true → StandsForOne old.seen
 OpenedCause old new LinkFault = old.shows ≡ true → StandsForOne old.seen
@@ -151,7 +151,7 @@ OpenedCause old new NoMemory = Unit {0}
 OpenedCause old new _ = ⊥
 
 -- how opening a store fails
-abbrev pub opening_outcome : JournalFault → Outcome
+abbrev pub opening_outcome : JournalFault → RunOutcome
 opening_outcome opening.NotStore = NotStore
 opening_outcome (opening.Damaged at) = Damaged at
 opening_outcome opening.Disk = DiskFault
@@ -159,7 +159,7 @@ opening_outcome opening.Memory = NoMemory
 
 -- The count of link faults over a run of `replay` by its end. Want of memory and a disk fault come
 -- before it: behind them the link may have failed too.
-abbrev pub LinkFaults : Outcome → ℕ → ℕ → Type 0
+abbrev pub LinkFaults : RunOutcome → ℕ → ℕ → Type 0
 LinkFaults LinkFault before now = (before ≤ now) × Rose before now
 LinkFaults DiskFault before now = before ≤ now
 LinkFaults NoMemory before now = before ≤ now
@@ -167,7 +167,7 @@ LinkFaults _ before now = now ≡ before
 
 -- Where a run of `replay` ended for want of memory nobody was served, or a request of the one
 -- connection wanted it, or its turn.
-abbrev pub StarvedAs : List ℕ → Device → Device → Bool → List ℕ → List ℕ → Outcome → Type 0
+abbrev pub StarvedAs : List ℕ → Device → Device → Bool → List ℕ → List ℕ → RunOutcome → Type 0
 StarvedAs base old new clock begun given o = ServesNobody old new begun given
     ⊎ ((from : StoreState) → BeginsFrom from old clock
     → OnePeer base (beginning from old begun) new given o)
@@ -175,7 +175,7 @@ StarvedAs base old new clock begun given o = ServesNobody old new begun given
 -- The ends of `replay`, each with its cause, and the one history of all that was heard, told and
 -- left.
 pub record ReplayEnds (base : List ℕ) (old new : Device) (clock : Bool) (begun given : List ℕ)
-    (o : Outcome) : Type 0 where
+    (o : RunOutcome) : Type 0 where
   pub cause : OpenedCause old new o
   pub link : LinkFaults o old.link.faults new.link.faults
   pub history : (from : StoreState) → BeginsFrom from old clock
@@ -184,7 +184,7 @@ pub record ReplayEnds (base : List ℕ) (old new : Device) (clock : Bool) (begun
   pub unread : status_of o ≡ 2 → given ≡ begun
 
 -- waiting for each peer succeeded
-abbrev pub no_peer_fault : Outcome → Bool
+abbrev pub no_peer_fault : RunOutcome → Bool
 no_peer_fault LinkFault = false
 no_peer_fault _ = true
 
@@ -192,7 +192,7 @@ no_peer_fault _ = true
 -- connection may fail too, which ends that connection alone. Want of memory ends it before the
 -- first peer.
 pub record ServeEnds (base : List ℕ) (old new : Device) (clock : Bool) (begun given : List ℕ)
-    (connections : ℕ) (o : Outcome) : Type 0 where
+    (connections : ℕ) (o : RunOutcome) : Type 0 where
   pub cause : OpenedCause old new o
   pub peers : IsCounted (no_peer_fault o) old.link.peer_faults new.link.peer_faults
   pub link : o ≡ LinkFault → Rose old.link.faults new.link.faults
@@ -212,7 +212,7 @@ pub record IsMade (old new : Device) (h : Header) (blocks half media : ℕ) : Ty
   pub stands : old.shows ≡ true → StandsFor new.seen (formatted_state h)
 
 -- the ends of `format`, each with its cause
-abbrev pub FormatRunEnds : Device → Device → Header → Outcome → Type 0
+abbrev pub FormatRunEnds : Device → Device → Header → RunOutcome → Type 0
 FormatRunEnds old new h (Formatted blocks half media) = IsMade old new h blocks half media
 FormatRunEnds old new h AlreadyStore =
     (old.shows ≡ true → HasOpenHeader old.seen) × Untouched old new
@@ -225,7 +225,7 @@ FormatRunEnds old new h _ = ⊥
 
 -- What a crash at each moment of a run of `format` leaves of an honest device that had no store,
 -- with nothing pending: no store, or the new one. Once it was made nothing is pending.
-pub record FormatMoments (old new : Device) (h : Header) (o : Outcome) : Type 0 where
+pub record FormatMoments (old new : Device) (h : Header) (o : RunOutcome) : Type 0 where
   pub each : old.honest ≡ true → old.shows ≡ true → IsSettled old → ¬ (HasOpenHeader old.seen)
       → (p : Left) → new.left_since old.moment p → (¬ (HasOpenHeader p.image))
       ⊎ StandsFor p.image (formatted_state h)
@@ -238,7 +238,7 @@ pub record IsChecked (image : List ℕ) (counts : Counts) : Type 0 where
       (from : StoreState) → StandsFor image from → counts ≡ counts_of from.archive.library
 
 -- the ends of `check`, each with its cause
-abbrev pub CheckEnds : Device → Device → Outcome → Type 0
+abbrev pub CheckEnds : Device → Device → RunOutcome → Type 0
 CheckEnds old new (Checked counts) =
     (old.shows ≡ true → IsChecked old.seen counts) × Untouched old new
 CheckEnds old new NotStore = OpenedCause old new NotStore
@@ -248,7 +248,7 @@ CheckEnds old new NoMemory = Untouched old new
 CheckEnds old new _ = ⊥
 
 -- the cause of each end of `work` in the file
-abbrev pub WorkCause : Device → Device → Outcome → Type 0
+abbrev pub WorkCause : Device → Device → RunOutcome → Type 0
 WorkCause old new (Worked turns) = old.shows ≡ true → StandsForOne old.seen
 WorkCause old new NotStore = OpenedCause old new NotStore
 WorkCause old new (Damaged at) = OpenedCause old new (Damaged at)
@@ -258,7 +258,7 @@ WorkCause old new _ = ⊥
 
 -- The ends of `work`, each with its cause, and the one history of its turns. It waits for nobody.
 pub record WorkEnds (old new : Device) (clock : Bool) (begun given : List ℕ)
-    (o : Outcome) : Type 0 where
+    (o : RunOutcome) : Type 0 where
   pub cause : WorkCause old new o
   pub link : new.link ≡ old.link
   pub history : (from : StoreState) → BeginsFrom from old clock
@@ -266,7 +266,7 @@ pub record WorkEnds (old new : Device) (clock : Bool) (begun given : List ℕ)
   pub unread : status_of o ≡ 2 → given ≡ begun
 
 -- the ends of a command
-abbrev pub CommandEnds : Device → Device → Bool → List ℕ → List ℕ → Outcome → Invocation → Type 0
+abbrev pub CommandEnds : Device → Device → Bool → List ℕ → List ℕ → RunOutcome → Invocation → Type 0
 CommandEnds old new clock begun given o (Format path blocks half id) =
     FormatRunEnds old new record { blocks = blocks; half = half; id = id } o
     × FormatMoments old new record { blocks = blocks; half = half; id = id } o
@@ -281,7 +281,7 @@ CommandEnds old new clock begun given o (Workload number count) =
     WorkloadEnds number count o × Untouched old new × (given ≡ begun)
 
 -- no call of the disk failed
-abbrev pub no_disk_fault : Outcome → Bool
+abbrev pub no_disk_fault : RunOutcome → Bool
 no_disk_fault DiskFault = false
 no_disk_fault _ = true
 
@@ -291,7 +291,7 @@ IsNoCommand words = (command : Invocation) → IsCommand words command → ⊥
 
 -- The ends of a run: no memory to read the words, or words that are no command, which leave the
 -- site and the clock as they were; or the end of their command.
-abbrev pub EndCause : List (List ℕ) → Device → Device → Bool → List ℕ → List ℕ → Outcome → Type 0
+abbrev pub EndCause : List (List ℕ) → Device → Device → Bool → List ℕ → List ℕ → RunOutcome → Type 0
 EndCause words old new clock begun given o =
     ((o ≡ NoMemory) × (given ≡ begun) × Untouched old new)
     ⊎ (((o ≡ BadWords) × IsNoCommand words × Untouched old new × (given ≡ begun))
@@ -301,7 +301,7 @@ EndCause words old new clock begun given o =
 -- a run: the count of disk faults by its end, and the end's cause
 pub record EndsWithCause (words : List (List ℕ)) (old new : Device) (clock : Bool)
     (begun given : List ℕ)
-    (o : Outcome) : Type 0 where
+    (o : RunOutcome) : Type 0 where
   pub disk : IsCounted (no_disk_fault o) old.faults new.faults
   pub cause : EndCause words old new clock begun given o
 

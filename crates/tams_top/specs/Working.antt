@@ -12,8 +12,8 @@ use Rattle.media_store.specs.declared.fault.StoreFault.TheVariants as faults
 use Rattle.store_states.specs.States.{StoreState}
 use Rattle.tams_machine.specs.Answers.{is_turn_due, turn_handed, turn_in}
 use Rattle.tams_machine.specs.Machine.{tams_machine}
-use Rattle.tams_top.specs.declared.outcome.Outcome.{Outcome}
-use Rattle.tams_top.specs.declared.outcome.Outcome.TheVariants.{Worked, DiskFault, NoMemory}
+use Rattle.tams_top.specs.declared.outcome.RunOutcome.{RunOutcome}
+use Rattle.tams_top.specs.declared.outcome.RunOutcome.TheVariants.{Worked, DiskFault, NoMemory}
 
 -- At these moments, one after another, a turn changed something, and left these states.
 abbrev pub HaveTurned : StoreState → List ℕ → List StoreState → Type 0
@@ -67,14 +67,14 @@ pub record HasWorked (b : Beginning StoreState) (new : Device) (given : List ℕ
       → new.handed ≡ b.handed + turns_handed b.state moments states
 
 -- the outcome of turns by how they ended
-abbrev pub work_outcome : Result ℕ StoreFault → Outcome
+abbrev pub work_outcome : Result ℕ StoreFault → RunOutcome
 work_outcome (Ok turns) = Worked turns
 work_outcome (Err faults.Disk) = DiskFault
 work_outcome (Err faults.Memory) = NoMemory
 
 -- a run of `work` from its beginning
 pub record WorkedOff (b : Beginning StoreState) (new : Device) (given : List ℕ)
-    (outcome : Outcome) : Type 0 where
+    (outcome : RunOutcome) : Type 0 where
   pub end : Result ℕ StoreFault
   pub worked : HasWorked b new given end
   pub outcome_is : outcome ≡ work_outcome end

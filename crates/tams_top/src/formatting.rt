@@ -4,7 +4,7 @@ ghost use Rattle.disk_trait.specs.Calls.{IsCounted};
 ghost use Rattle.tams_top.specs.Formatting.{empty_rows};
 ghost use Rattle.tams_top.specs.Running.{FormatMoments, FormatRunEnds, no_disk_fault};
 
-use crate::outcome::Outcome;
+use crate::outcome::RunOutcome;
 use media_journal::{FormatFault, MOST_BLOCKS, MOST_HALF, format_device};
 use site_edge::Site;
 use std::alloc::Global;
@@ -16,7 +16,7 @@ pub(crate) fn format<X: Site>(
     blocks: u64,
     half: u64,
     id: u128,
-) -> Outcome
+) -> RunOutcome
     requires some_half { 1 ≤ half }
     requires half { half ≤ MOST_HALF }
     requires blocks { blocks ≤ MOST_BLOCKS }
@@ -29,15 +29,15 @@ pub(crate) fn format<X: Site>(
         record { blocks = blocks; half = half; id = id } result }
 {
     match format_device(alloc, site, blocks, half, id, &empty_rows()) {
-        Ok(()) => Outcome::Formatted {
+        Ok(()) => RunOutcome::Formatted {
             blocks,
             half,
             media: blocks.saturating_sub(2 * half + 2),
         },
-        Err(FormatFault::AlreadyStore) => Outcome::AlreadyStore,
-        Err(FormatFault::TooSmall) => Outcome::TooSmall,
-        Err(FormatFault::Disk) => Outcome::DiskFault,
-        Err(FormatFault::Memory) => Outcome::NoMemory,
+        Err(FormatFault::AlreadyStore) => RunOutcome::AlreadyStore,
+        Err(FormatFault::TooSmall) => RunOutcome::TooSmall,
+        Err(FormatFault::Disk) => RunOutcome::DiskFault,
+        Err(FormatFault::Memory) => RunOutcome::NoMemory,
     }
 }
 

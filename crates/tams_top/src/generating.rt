@@ -8,7 +8,7 @@ ghost use Rattle.tams_top.specs.Generating.{IsWorkloadRun, WorkloadEnds};
 ghost use Rattle.tams_top.specs.Within.Standing.{HasAnswered, HeardToItsEnd, IsMadeInMemory, kept_of_library};
 
 use crate::formatting::format;
-use crate::outcome::{Outcome, WorkloadRun};
+use crate::outcome::{RunOutcome, WorkloadRun};
 use crate::serving::replay;
 use crate::still_clock::StillClock;
 use disk_trait::{Memory, MemoryDisk, NumberList, Text, same_bytes};
@@ -43,20 +43,20 @@ struct Answered {
 
 /// How much a store keeps, and the bytes of its objects.
 #[derive(Clone, Copy)]
-struct Kept {
+struct StoreSizes {
     counts: Counts,
     bytes: u64,
 }
 
 /// Serves one connection with the requests that are generated from two numbers, over a store in memory.
-pub(crate) fn workload(alloc: Global, number: u64, count: u64) -> Outcome
+pub(crate) fn workload(alloc: Global, number: u64, count: u64) -> RunOutcome
     requires number { number ≤ MOST_NUMBER }
     requires count { count ≤ MOST_COUNT }
     ensures ends { WorkloadEnds number count result }
 {
     match run_requests(alloc, number, count) {
-        Ok(Some(run)) => Outcome::Generated(run),
-        Ok(None) | Err(Memory) => Outcome::NoMemory,
+        Ok(Some(run)) => RunOutcome::Generated(run),
+        Ok(None) | Err(Memory) => RunOutcome::NoMemory,
     }
 }
 
@@ -115,7 +115,7 @@ fn empty_store(alloc: Global, requests: &Text) -> Result<Option<MemorySite>, Mem
     let disk = MemoryDisk::new(alloc, BLOCK * BLOCKS, NumberList::new(alloc))?;
     let mut site = MemorySite::new(alloc, disk, peers, PIECE, NumberList::new(alloc));
     match format(alloc, &mut site, BLOCKS, HALF, STORE_ID) {
-        Outcome::Formatted { .. } => Ok(Some(site)),
+        RunOutcome::Formatted { .. } => Ok(Some(site)),
         _ => Ok(None),
     }
 }
@@ -132,7 +132,7 @@ fn answer_requests(
     let base = Text::from_bytes(alloc, b"http://s")?;
     let mut clock = StillClock::new();
     let outcome = replay(alloc, site, &mut clock, base);
-    let Outcome::Served {
+    let RunOutcome::Served {
         requests: answers,
         changes,
         ..
@@ -160,7 +160,7 @@ fn has_heard(site: &MemorySite, bytes: &[u8]) -> bool
 }
 
 /// What the store of a site keeps.
-fn kept_in(alloc: Global, site: &mut MemorySite) -> Option<Kept>
+fn kept_in(alloc: Global, site: &mut MemorySite) -> Option<StoreSizes>
     ensures { IfSome result (λ kept. (from : StoreState)
         → StandsFor (site_device site.old).seen from → kept ≡ kept_of_library from.archive.library) }
 {
@@ -173,12 +173,12 @@ fn kept_in(alloc: Global, site: &mut MemorySite) -> Option<Kept>
 }
 
 /// What a store keeps, which is let go.
-fn kept_by(alloc: Global, opened: OpenedStore) -> Option<Kept>
+fn kept_by(alloc: Global, opened: OpenedStore) -> Option<StoreSizes>
     ensures { IfSome result (λ kept. kept ≡ kept_of_library opened.core) }
 {
     let counts = opened.core.counts();
     let bytes = bytes_in(alloc, &opened.core)?;
-    Some(Kept { counts, bytes })
+    Some(StoreSizes { counts, bytes })
 }
 
 /// The bytes of all stored objects of a library, by its rows.

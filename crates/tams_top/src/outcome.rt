@@ -23,7 +23,7 @@ pub(crate) struct WorkloadRun {
 
 /// How a run ended.
 #[derive(Clone, Copy, Debug, PartialEq, Eq)]
-pub(crate) enum Outcome {
+pub(crate) enum RunOutcome {
     /// A store of so many blocks was made, with so many a half and so many for media.
     Formatted {
         blocks: u64,
@@ -55,25 +55,27 @@ pub(crate) enum Outcome {
     LinkFault,
 }
 
-impl Outcome {
+impl RunOutcome {
     ghost use Rattle.tams_top.specs.Running.{status_of};
 
     pub(crate) fn status(self) -> u8
         ensures { result ≡ status_of self }
     {
         match self {
-            Outcome::Formatted { .. }
-            | Outcome::Checked(_)
-            | Outcome::Worked(_)
-            | Outcome::Served { .. }
-            | Outcome::Generated(_) => 0,
-            Outcome::BadWords => 1,
-            Outcome::NotStore | Outcome::AlreadyStore | Outcome::TooSmall | Outcome::Damaged(_) =>
-                2,
-            Outcome::DiskFault => 3,
-            Outcome::NoMemory => 4,
-            Outcome::LinkFault => 5,
-            Outcome::Cut => 6,
+            RunOutcome::Formatted { .. }
+            | RunOutcome::Checked(_)
+            | RunOutcome::Worked(_)
+            | RunOutcome::Served { .. }
+            | RunOutcome::Generated(_) => 0,
+            RunOutcome::BadWords => 1,
+            RunOutcome::NotStore
+            | RunOutcome::AlreadyStore
+            | RunOutcome::TooSmall
+            | RunOutcome::Damaged(_) => 2,
+            RunOutcome::DiskFault => 3,
+            RunOutcome::NoMemory => 4,
+            RunOutcome::LinkFault => 5,
+            RunOutcome::Cut => 6,
         }
     }
 
@@ -83,7 +85,7 @@ impl Outcome {
             (N.faults notes.new) (N.taken notes.old) (N.taken notes.new) }
     {
         match self {
-            Outcome::Formatted {
+            RunOutcome::Formatted {
                 blocks,
                 half,
                 media,
@@ -95,36 +97,36 @@ impl Outcome {
                 ];
                 put_parts(notes, &parts, b" for media\n")
             }
-            Outcome::Checked(counts) => put_checked(notes, counts),
-            Outcome::Worked(turns) => put_parts(notes, &[part(b"worked: ", turns)], b" turns\n"),
-            Outcome::Served {
+            RunOutcome::Checked(counts) => put_checked(notes, counts),
+            RunOutcome::Worked(turns) => put_parts(notes, &[part(b"worked: ", turns)], b" turns\n"),
+            RunOutcome::Served {
                 requests,
                 changes,
                 skipped,
             } => put_served(notes, requests, changes, skipped),
-            Outcome::Generated(run) => put_generated(notes, run),
-            Outcome::Damaged(at) => put_parts(notes, &[part(b"damaged at ", at)], b"\n"),
-            Outcome::BadWords => notes.put(b"bad words\n"),
-            Outcome::NotStore => notes.put(b"not a store\n"),
-            Outcome::AlreadyStore => notes.put(b"already a store\n"),
-            Outcome::TooSmall => notes.put(b"too small\n"),
-            Outcome::DiskFault => notes.put(b"disk fault\n"),
-            Outcome::NoMemory => notes.put(b"no memory\n"),
-            Outcome::LinkFault => notes.put(b"link fault\n"),
-            Outcome::Cut => notes.put(b"input ended within a request\n"),
+            RunOutcome::Generated(run) => put_generated(notes, run),
+            RunOutcome::Damaged(at) => put_parts(notes, &[part(b"damaged at ", at)], b"\n"),
+            RunOutcome::BadWords => notes.put(b"bad words\n"),
+            RunOutcome::NotStore => notes.put(b"not a store\n"),
+            RunOutcome::AlreadyStore => notes.put(b"already a store\n"),
+            RunOutcome::TooSmall => notes.put(b"too small\n"),
+            RunOutcome::DiskFault => notes.put(b"disk fault\n"),
+            RunOutcome::NoMemory => notes.put(b"no memory\n"),
+            RunOutcome::LinkFault => notes.put(b"link fault\n"),
+            RunOutcome::Cut => notes.put(b"input ended within a request\n"),
         }
     }
 }
 
 /// The outcome where the store couldn't be opened.
-pub(crate) fn opening_outcome(fault: JournalFault) -> Outcome
+pub(crate) fn opening_outcome(fault: JournalFault) -> RunOutcome
     ensures { result ≡ opening_outcome fault }
 {
     match fault {
-        JournalFault::NotStore => Outcome::NotStore,
-        JournalFault::Damaged(at) => Outcome::Damaged(at),
-        JournalFault::Disk => Outcome::DiskFault,
-        JournalFault::Memory => Outcome::NoMemory,
+        JournalFault::NotStore => RunOutcome::NotStore,
+        JournalFault::Damaged(at) => RunOutcome::Damaged(at),
+        JournalFault::Disk => RunOutcome::DiskFault,
+        JournalFault::Memory => RunOutcome::NoMemory,
     }
 }
 

@@ -5,8 +5,8 @@ ghost use Rattle.disk_trait.specs.Calls.{IsCounted};
 ghost use Rattle.tams_top.specs.Histories.{replay_outcome, serve_outcome, served_with};
 ghost use Rattle.tams_top.specs.Running.{ReplayEnds, ServeEnds, no_disk_fault};
 
-use crate::outcome::{Outcome, opening_outcome};
-use connection_loop::{Ending, MOST_CONNECTIONS, Next, RunEnd, Tally, serve_next};
+use crate::outcome::{RunOutcome, opening_outcome};
+use connection_loop::{ConnectionEnd, MOST_CONNECTIONS, Next, RunEnd, RunTally, serve_next};
 use disk_trait::Text;
 use site_edge::{Clock, Site};
 use std::alloc::Global;
@@ -21,7 +21,7 @@ pub(crate) fn replay<X: Site, C: Clock>(
     site: &mut X,
     clock: &mut C,
     base: Text,
-) -> Outcome
+) -> RunOutcome
     requires base { IsTrue (is_utf8 base) }
     ensures disk { IsCounted (no_disk_fault result) (X.device site.old).faults
         (X.device site.new).faults }
@@ -34,13 +34,13 @@ pub(crate) fn replay<X: Site, C: Clock>(
         Ok(service) => service,
         Err(fault) => return opening_outcome(fault),
     };
-    let mut tally = Tally::new();
+    let mut tally = RunTally::new();
     let next = serve_next(alloc, &mut service, site, clock, &mut tally);
     let_go(service);
     match next {
         Next::Ended(ending) => replay_outcome(ending, &tally),
         Next::NoMore => served_with(&tally),
-        Next::Unlinked => Outcome::LinkFault,
+        Next::Unlinked => RunOutcome::LinkFault,
     }
 }
 
@@ -51,7 +51,7 @@ pub(crate) fn serve<X: Site, C: Clock>(
     clock: &mut C,
     base: Text,
     connections: u64,
-) -> Outcome
+) -> RunOutcome
     requires base { IsTrue (is_utf8 base) }
     requires few { connections ≤ MOST_CONNECTIONS }
     ensures disk { IsCounted (no_disk_fault result) (X.device site.old).faults
@@ -65,7 +65,7 @@ pub(crate) fn serve<X: Site, C: Clock>(
         Ok(service) => service,
         Err(fault) => return opening_outcome(fault),
     };
-    let mut tally = Tally::new();
+    let mut tally = RunTally::new();
     let end = connection_loop::serve(alloc, &mut service, site, clock, &mut tally, connections);
     let_go(service);
     serve_outcome(end, &tally)
@@ -76,35 +76,35 @@ fn let_go(service: TamsService) {}
 
 /// The outcome of one connection by how it ended. A turn that was skipped for want of memory stands before
 /// what its link or its input gives.
-fn replay_outcome(ending: Ending, tally: &Tally) -> Outcome
+fn replay_outcome(ending: ConnectionEnd, tally: &RunTally) -> RunOutcome
     ensures { result ≡ replay_outcome ending tally.now }
 {
     match ending {
-        Ending::Stopped => Outcome::DiskFault,
-        Ending::Starved => Outcome::NoMemory,
-        _ if tally.skipped() > 0 => Outcome::NoMemory,
-        Ending::Unlinked => Outcome::LinkFault,
-        Ending::Cut => Outcome::Cut,
-        Ending::Complete => served_with(tally),
+        ConnectionEnd::Stopped => RunOutcome::DiskFault,
+        ConnectionEnd::Starved => RunOutcome::NoMemory,
+        _ if tally.skipped() > 0 => RunOutcome::NoMemory,
+        ConnectionEnd::Unlinked => RunOutcome::LinkFault,
+        ConnectionEnd::Cut => RunOutcome::Cut,
+        ConnectionEnd::Complete => served_with(tally),
     }
 }
 
 /// The outcome of connections one after another.
-fn serve_outcome(end: RunEnd, tally: &Tally) -> Outcome
+fn serve_outcome(end: RunEnd, tally: &RunTally) -> RunOutcome
     ensures { result ≡ serve_outcome end tally.now }
 {
     match end {
         RunEnd::Complete | RunEnd::NoMore => served_with(tally),
-        RunEnd::Unlinked => Outcome::LinkFault,
-        RunEnd::Stopped => Outcome::DiskFault,
+        RunEnd::Unlinked => RunOutcome::LinkFault,
+        RunEnd::Stopped => RunOutcome::DiskFault,
     }
 }
 
 /// The outcome with the numbers of a run.
-fn served_with(tally: &Tally) -> Outcome
+fn served_with(tally: &RunTally) -> RunOutcome
     ensures { result ≡ served_with tally.now }
 {
-    Outcome::Served {
+    RunOutcome::Served {
         requests: tally.answers(),
         changes: tally.changes(),
         skipped: tally.skipped(),

@@ -12,7 +12,7 @@ ghost use Rattle.tams_top.specs.Histories.{IsSettled, OnePeer, Replayed, ServedA
 ghost use Rattle.tams_top.specs.Running.{IsNoCommand, IsReplayFrom, IsServeFrom, IsWorkFrom, RefusedFor, EndsWithCause, ServesNobody, TakesPart, Untouched, checked_line, generated_line, line_of, status_of};
 ghost use Rattle.tams_top.specs.Words.{IsCommand};
 ghost use Rattle.tams_top.specs.Working.{WorkedOff};
-ghost use Rattle.tams_top.specs.declared.outcome.Outcome.{Outcome};
+ghost use Rattle.tams_top.specs.declared.outcome.RunOutcome.{RunOutcome};
 ghost use Rattle.tams_top.specs.declared.outcome.WorkloadRun.{WorkloadRun};
 ghost use Rattle.tams_top.specs.declared.words.Invocation.{Invocation};
 ghost use Rattle.tams_top.specs.declared.words.Invocation.TheVariants.{Format, Check, Work, Replay, Serve, Workload};
@@ -20,7 +20,7 @@ ghost use Rattle.tams_top.specs.declared.words.Invocation.TheVariants.{Format, C
 use crate::checking::check;
 use crate::formatting::format;
 use crate::generating::workload;
-use crate::outcome::Outcome;
+use crate::outcome::RunOutcome;
 use crate::serving::{replay, serve};
 use crate::words::{Invocation, read_words};
 use crate::working::work;
@@ -109,7 +109,7 @@ pub fn run<X: Site, C: Clock, N: Sink>(
         ⊎ ((base : List ℕ) (from : StoreState)
         → IsReplayFrom base from words.now (X.device site.old) (C.tells clock.new)
         → OnePeer base (beginning from (X.device site.old) (C.given clock.old)) (X.device site.new)
-        (C.given clock.new) Outcome.NoMemory)) }
+        (C.given clock.new) RunOutcome.NoMemory)) }
 
     ensures formatted { result ≡ 0 → (X.device site.old).shows ≡ true
         → (path : List ℕ) (blocks half id : ℕ) → IsCommand words.now (Format path blocks half id)
@@ -144,19 +144,19 @@ pub fn run<X: Site, C: Clock, N: Sink>(
     // the outcome by it has the status, and its line is put.
     ensures replayed { (base : List ℕ) (from : StoreState)
         → IsReplayFrom base from words.now (X.device site.old) (C.tells clock.new)
-        → (outcome : Outcome) × (result ≡ status_of outcome)
+        → (outcome : RunOutcome) × (result ≡ status_of outcome)
         × Replayed base (beginning from (X.device site.old) (C.given clock.old))
         (X.device site.new) (C.given clock.new) outcome }
     ensures served { (base : List ℕ) (from : StoreState) (connections : ℕ)
         → IsServeFrom base from connections words.now (X.device site.old) (C.tells clock.new)
-        → (outcome : Outcome) × (result ≡ status_of outcome)
+        → (outcome : RunOutcome) × (result ≡ status_of outcome)
         × ServedAll base (beginning from (X.device site.old) (C.given clock.old))
         (X.device site.old) (X.device site.new) (C.given clock.new) connections outcome }
 
     // And so does one history of its turns all that a run of `work` left and handed to its device.
     ensures worked { (from : StoreState)
         → IsWorkFrom from words.now (X.device site.old) (C.tells clock.new)
-        → (outcome : Outcome) × (result ≡ status_of outcome)
+        → (outcome : RunOutcome) × (result ≡ status_of outcome)
         × WorkedOff (beginning from (X.device site.old) (C.given clock.old)) (X.device site.new)
         (C.given clock.new) outcome }
 
@@ -186,7 +186,7 @@ pub fn run<X: Site, C: Clock, N: Sink>(
 
     // Each run has an outcome with its cause, which gives the status and the line of the notes. A fault
     // of the notes changes no status.
-    ensures ended { (outcome : Outcome) × (line_put : Bool)
+    ensures ended { (outcome : RunOutcome) × (line_put : Bool)
         × (result ≡ status_of outcome)
         × EndsWithCause words.now (X.device site.old) (X.device site.new) (C.tells clock.new)
         (C.given clock.old) (C.given clock.new) outcome
@@ -205,13 +205,13 @@ fn outcome_of<X: Site, C: Clock>(
     words: &TextList,
     site: &mut X,
     clock: &mut C,
-) -> Outcome
+) -> RunOutcome
     ensures { EndsWithCause words.now (X.device site.old) (X.device site.new) (C.tells clock.new)
         (C.given clock.old) (C.given clock.new) result }
 {
     match read_words(alloc, words) {
-        Err(Memory) => Outcome::NoMemory,
-        Ok(None) => Outcome::BadWords,
+        Err(Memory) => RunOutcome::NoMemory,
+        Ok(None) => RunOutcome::BadWords,
         Ok(
             Some(
                 Invocation::Format {

@@ -10,7 +10,7 @@ ghost use Rattle.tams_top.specs.Running.{WorkEnds, no_disk_fault};
 ghost use Rattle.tams_top.specs.Working.{HasWorked, work_outcome};
 ghost use Rattle.tams_top.specs.Within.Turning.{IsWorking};
 
-use crate::outcome::{Outcome, opening_outcome};
+use crate::outcome::{RunOutcome, opening_outcome};
 use disk_trait::Disk;
 use media_store::{Store, StoreFault, TurnMade};
 use site_edge::Clock;
@@ -20,7 +20,7 @@ use store_states::an_image_stands_for_one_state;
 use tams_machine::turns_keep;
 
 /// Opens the store of a device, and makes turns until one changes nothing.
-pub(crate) fn work<D: Disk, C: Clock>(alloc: Global, disk: &mut D, clock: &mut C) -> Outcome
+pub(crate) fn work<D: Disk, C: Clock>(alloc: Global, disk: &mut D, clock: &mut C) -> RunOutcome
     ensures disk { IsCounted (no_disk_fault result) (D.device disk.old).faults
         (D.device disk.new).faults }
     ensures ends { WorkEnds (D.device disk.old) (D.device disk.new) (C.tells clock.new)
@@ -70,12 +70,12 @@ fn make_turns<D: Disk, C: Clock>(
 fn let_go(store: Store) {}
 
 /// The outcome of turns by how they ended.
-fn work_outcome(end: Result<u64, StoreFault>) -> Outcome
+fn work_outcome(end: Result<u64, StoreFault>) -> RunOutcome
     ensures { result ≡ work_outcome end }
 {
     match end {
-        Ok(turns) => Outcome::Worked(turns),
-        Err(StoreFault::Disk) => Outcome::DiskFault,
-        Err(StoreFault::Memory) => Outcome::NoMemory,
+        Ok(turns) => RunOutcome::Worked(turns),
+        Err(StoreFault::Disk) => RunOutcome::DiskFault,
+        Err(StoreFault::Memory) => RunOutcome::NoMemory,
     }
 }

@@ -15,7 +15,7 @@ use Rattle.shared_tree.specs.Pairs.{values, values_of}
 use Rattle.shared_tree.proofs.Counted.{all_append, all_kept}
 use Rattle.shared_tree.proofs.Rising.{all_map}
 use Rattle.webhook_outbox.specs.declared.outbox.Slot.{Slot}
-use Rattle.webhook_outbox.specs.declared.posts.Reached.{Reached}
+use Rattle.webhook_outbox.specs.declared.posts.PostsReached.{PostsReached}
 use Rattle.webhook_outbox.specs.Delivered.{IsBehind}
 use Rattle.webhook_outbox.specs.Posting.{posted_within}
 use Rattle.webhook_outbox.specs.Within.Posts.{AreKept, reached_within}
@@ -80,19 +80,19 @@ behind_more serial row events own behind =
     behind) (omega (arith, own), tt)
 
 -- events as far as they were posted
-pub record Told (happened : Happened) (now : ℕ) (takers rest : List HookRow) (from : Reached) (outbox : Outbox) (serial : ℕ) : Type 0 where
+pub record Told (happened : Happened) (now : ℕ) (takers rest : List HookRow) (from : PostsReached) (outbox : Outbox) (serial : ℕ) : Type 0 where
   pub done : with_events (events_for happened now serial rest) outbox ≡ with_events (events_for happened now from.next takers) from.outbox
   pub kept : AreKept rest outbox.hooks
   pub last : IsBehind serial outbox.events
   pub within : serial + length rest ≤ last_serial
 
-pub told_start : (happened : Happened) (now : ℕ) (takers : List HookRow) (from : Reached) (outbox : Outbox) → outbox ≡ from.outbox
+pub told_start : (happened : Happened) (now : ℕ) (takers : List HookRow) (from : PostsReached) (outbox : Outbox) → outbox ≡ from.outbox
     → AreKept takers from.outbox.hooks → IsBehind from.next from.outbox.events → from.next + length takers ≤ last_serial
     → Told happened now takers takers from outbox from.next
 told_start happened now takers from outbox e kept last within =
     subst (λ o. Told happened now takers takers from o from.next) (sym e) (record { done = refl; kept = kept; last = last; within = within })
 
-pub told_more : (happened : Happened) (now : ℕ) (takers : List HookRow) (row : HookRow) (rest : List HookRow) (from : Reached) (outbox next : Outbox)
+pub told_more : (happened : Happened) (now : ℕ) (takers : List HookRow) (row : HookRow) (rest : List HookRow) (from : PostsReached) (outbox next : Outbox)
     (serial : ℕ)
     → Told happened now takers (row ∷ rest) from outbox serial → next ≡ with_events (event_row happened now row serial ∷ []) outbox
     → Told happened now takers rest from next (serial + 1)
@@ -157,7 +157,7 @@ behind_all happened now serial (row ∷ rows) events behind =
     (append_assoc events (event_row happened now row serial ∷ []) (events_for happened now (serial + 1) rows)) more)
 
 -- what one happening comes to
-one_made : (happened : Happened) (now : ℕ) (from : Reached) (takers : List HookRow) → takers ≡ filter (takes happened) from.outbox.hooks
+one_made : (happened : Happened) (now : ℕ) (from : PostsReached) (takers : List HookRow) → takers ≡ filter (takes happened) from.outbox.hooks
     → after_post (happened ∷ []) now (record { outbox = from.outbox; next = from.next })
     ≡ record { outbox = with_events (events_for happened now from.next takers) from.outbox; next = from.next + length takers }
 one_made happened now from takers e =
@@ -172,7 +172,7 @@ within_is : (outbox : Outbox) (next : ℕ) → next ≤ last_serial
     → Some (record { outbox = outbox; next = next }) ≡ reached_within (record { outbox = outbox; next = next })
 within_is outbox next within = rw (le-leb next last_serial within) refl
 
-pub one_reached : (happened : Happened) (now : ℕ) (from : Reached) (takers : List HookRow) (outbox : Outbox) (next : ℕ)
+pub one_reached : (happened : Happened) (now : ℕ) (from : PostsReached) (takers : List HookRow) (outbox : Outbox) (next : ℕ)
     → takers ≡ filter (takes happened) from.outbox.hooks → outbox ≡ with_events (events_for happened now from.next takers) from.outbox
     → next ≡ from.next + length takers → next ≤ last_serial
     → Some (record { outbox = outbox; next = next }) ≡ reached_within (after_post (happened ∷ []) now (record { outbox = from.outbox; next = from.next }))
@@ -181,7 +181,7 @@ one_reached happened now from takers outbox next e eo en within =
     ap (λ o. Some (record { outbox = o; next = next })) eo ∙ within_is made next within
     ∙ ap (λ n. reached_within (record { outbox = made; next = n })) en ∙ ap reached_within (sym (one_made happened now from takers e))
 
-pub one_ended : (happened : Happened) (now : ℕ) (from : Reached) (takers : List HookRow) → takers ≡ filter (takes happened) from.outbox.hooks
+pub one_ended : (happened : Happened) (now : ℕ) (from : PostsReached) (takers : List HookRow) → takers ≡ filter (takes happened) from.outbox.hooks
     → last_serial < from.next + length takers
     → None ≡ reached_within (after_post (happened ∷ []) now (record { outbox = from.outbox; next = from.next }))
 one_ended happened now from takers e over =
@@ -189,34 +189,34 @@ one_ended happened now from takers e over =
     (subst (λ (m : Made). last_serial < m.next) (sym (one_made happened now from takers e)) over))
 
 -- posting as far as it has come
-pub record Comes (all rest : List Happened) (now : ℕ) (outbox : Outbox) (serial : ℕ) (reached : Reached) : Type 0 where
+pub record Comes (all rest : List Happened) (now : ℕ) (outbox : Outbox) (serial : ℕ) (reached : PostsReached) : Type 0 where
   pub done : reached_within (after_post rest now (record { outbox = reached.outbox; next = reached.next })) ≡ reached_within
       (after_post all now (record { outbox = outbox; next = serial }))
   pub last : IsBehind reached.next reached.outbox.events
   pub within : reached.next ≤ last_serial
 
-pub comes_start : (all : List Happened) (now : ℕ) (outbox : Outbox) (serial : ℕ) (reached : Reached) → reached ≡ record { outbox = outbox; next = serial }
+pub comes_start : (all : List Happened) (now : ℕ) (outbox : Outbox) (serial : ℕ) (reached : PostsReached) → reached ≡ record { outbox = outbox; next = serial }
     → IsBehind serial outbox.events → serial ≤ last_serial → Comes all all now outbox serial reached
 comes_start all now outbox serial reached e last within =
     subst (Comes all all now outbox serial) (sym e) (record { done = refl; last = last; within = within })
 
 -- where one happening comes to something
-some_made : (made : Made) (reached : Reached) → Some reached ≡ reached_within made → (made ≡ record { outbox = reached.outbox; next = reached.next })
+some_made : (made : Made) (reached : PostsReached) → Some reached ≡ reached_within made → (made ≡ record { outbox = reached.outbox; next = reached.next })
     × (reached.next ≤ last_serial)
 some_made made reached e = by (nat_le made.next last_serial) refl
   where
-    same : {x y : Reached} → Some x ≡ Some y → x ≡ y
+    same : {x y : PostsReached} → Some x ≡ Some y → x ≡ y
     same e = grind arith
 
     by : (b : Bool) → nat_le made.next last_serial ≡ b → (made ≡ record { outbox = reached.outbox; next = reached.next }) × (reached.next ≤ last_serial)
     by true le =
         let own : reached ≡ record { outbox = made.outbox; next = made.next } = same (e ∙ rw le refl) in (
-          ap (λ (r : Reached). record { outbox = r.outbox; next = r.next }) (sym own),
-          subst (λ (r : Reached). r.next ≤ last_serial) (sym own) (leb-true made.next last_serial le),
+          ap (λ (r : PostsReached). record { outbox = r.outbox; next = r.next }) (sym own),
+          subst (λ (r : PostsReached). r.next ≤ last_serial) (sym own) (leb-true made.next last_serial le),
         )
     by false le = absurd (let none : Some reached ≡ None = e ∙ rw le refl in grind (arith, none))
 
-pub comes_more : (all : List Happened) (one : Happened) (rest : List Happened) (now : ℕ) (outbox : Outbox) (serial : ℕ) (reached next : Reached)
+pub comes_more : (all : List Happened) (one : Happened) (rest : List Happened) (now : ℕ) (outbox : Outbox) (serial : ℕ) (reached next : PostsReached)
     → Comes all (one ∷ rest) now outbox serial reached
     → Some next ≡ reached_within (after_post (one ∷ []) now (record { outbox = reached.outbox; next = reached.next }))
     → Comes all rest now outbox serial next
@@ -233,7 +233,7 @@ comes_more all one rest now outbox serial reached next d e =
       within = own.1;
     }
 
-pub comes_to_none : (all : List Happened) (one : Happened) (rest : List Happened) (now : ℕ) (outbox : Outbox) (serial : ℕ) (reached : Reached)
+pub comes_to_none : (all : List Happened) (one : Happened) (rest : List Happened) (now : ℕ) (outbox : Outbox) (serial : ℕ) (reached : PostsReached)
     → Comes all (one ∷ rest) now outbox serial reached
     → None ≡ reached_within (after_post (one ∷ []) now (record { outbox = reached.outbox; next = reached.next }))
     → None ≡ reached_within (after_post all now (record { outbox = outbox; next = serial }))
@@ -252,7 +252,7 @@ comes_to_none all one rest now outbox serial reached d e =
 
 -- ---- what is answered
 
-pub reached_is : (old : Outbox) (made : Made) (reached : Reached) → Some reached ≡ reached_within made
+pub reached_is : (old : Outbox) (made : Made) (reached : PostsReached) → Some reached ≡ reached_within made
     → record { outbox = reached.outbox; next = Some reached.next } ≡ posted_within old made
 reached_is old made reached e =
     let own = some_made made reached e in

@@ -20,7 +20,7 @@ pub(crate) const LAST_SERIAL: u64 = 9_223_372_036_854_775_807;
 
 /// The outbox to which posting has come, and the serial that the next event gets.
 #[derive(Drop)]
-pub(crate) struct Reached {
+pub(crate) struct PostsReached {
     pub(crate) outbox: Outbox,
     pub(crate) next: u64,
 }
@@ -32,7 +32,7 @@ pub(crate) fn post_all(
     happened: &[Happened],
     serial: u64,
     now: u64,
-) -> Result<Option<Reached>, Memory>
+) -> Result<Option<PostsReached>, Memory>
     requires last { IsBehind serial outbox.now.events }
     ensures { IfOk result (λ reached. reached ≡ reached_within
         (after_post happened.now now (record { outbox = outbox.now; next = serial }))) }
@@ -40,7 +40,7 @@ pub(crate) fn post_all(
     if serial > LAST_SERIAL {
         return Ok(None);
     }
-    let mut reached = Reached {
+    let mut reached = PostsReached {
         outbox: outbox.share()?,
         next: serial,
     };
@@ -60,7 +60,7 @@ fn post_one(
     happened: &Happened,
     serial: u64,
     now: u64,
-) -> Result<Option<Reached>, Memory>
+) -> Result<Option<PostsReached>, Memory>
     requires last { IsBehind serial outbox.now.events }
     requires within { serial ≤ last_serial }
     ensures { IfOk result (λ reached. reached ≡ reached_within
@@ -72,7 +72,7 @@ fn post_one(
     if count > LAST_SERIAL - serial {
         return Ok(None);
     }
-    Ok(Some(Reached {
+    Ok(Some(PostsReached {
         outbox: post_to(alloc, outbox, happened, takers, serial, now)?,
         next: serial + count,
     }))

@@ -3,7 +3,7 @@
 #![tactic(auto)]
 
 ghost use Rattle.std.specs.Prelude.{◌≡◌, IsFalse};
-ghost use Rattle.http_wire.specs.declared.stage.Stage.TheVariants.{Open};
+ghost use Rattle.http_wire.specs.declared.stage.FeedStage.TheVariants.{Open};
 
 use http_wire::{Feed, FeedStep};
 use std::rt::{Env, Files};

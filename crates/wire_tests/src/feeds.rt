@@ -2,7 +2,7 @@
 //! once and byte by byte.
 
 use disk_trait::{Memory, Text};
-use http_wire::{Feed, FeedStep, Field, FieldList, MethodKind, write_response};
+use http_wire::{Feed, FeedStep, FieldList, HeadField, MethodKind, write_response};
 use std::alloc::Global;
 
 const MORE: u8 = 0;
@@ -281,7 +281,7 @@ fn waits(feed: &mut Feed) -> bool {
 /// A response with one field.
 fn response(alloc: Global) -> Result<Text, Memory> {
     let mut fields = FieldList::new(alloc);
-    fields.push(Field {
+    fields.push(HeadField {
         name: Text::from_bytes(alloc, b"Content-Length")?,
         value: Text::from_bytes(alloc, b"2")?,
     })?;

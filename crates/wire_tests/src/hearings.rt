@@ -16,7 +16,7 @@ const HALF: &[u8] = b"HTTP/1.1 100";
 
 /// One row of a table: what a peer sends, at most how many bytes one `hear` gives, the number of the link
 /// call that fails, what is answered, and what was told. No call has the number 0.
-struct Row {
+struct HearingRow {
     sends: &'static [u8],
     piece: usize,
     fail: u64,
@@ -24,36 +24,36 @@ struct Row {
     told: &'static [u8],
 }
 
-const ROWS: [Row; 14] = [
-    Row {
+const ROWS: [HearingRow; 14] = [
+    HearingRow {
         sends: b"",
         piece: 9,
         fail: 0,
         answer: b'e',
         told: b"",
     },
-    Row {
+    HearingRow {
         sends: b"GET / HTTP/1.1\r\n\r\n",
         piece: 1,
         fail: 0,
         answer: b'w',
         told: b"",
     },
-    Row {
+    HearingRow {
         sends: b"GET / HTTP/1.1\r\n\r\nGET",
         piece: 999,
         fail: 0,
         answer: b'w',
         told: b"",
     },
-    Row {
+    HearingRow {
         sends: b"GET / HTTP/1.1\r\n",
         piece: 5,
         fail: 0,
         answer: b'c',
         told: b"",
     },
-    Row {
+    HearingRow {
         sends: b"GET / HTTP/7\r\n\r\n",
         piece: 5,
         fail: 0,
@@ -61,35 +61,35 @@ const ROWS: [Row; 14] = [
         told: b"",
     },
     // A body for which the client waits.
-    Row {
+    HearingRow {
         sends: b"POST /a HTTP/1.1\r\nContent-Length: 2\r\nExpect: 100-continue\r\n\r\nab",
         piece: 1,
         fail: 0,
         answer: b'w',
         told: INTERIM,
     },
-    Row {
+    HearingRow {
         sends: b"POST /a HTTP/1.1\r\nContent-Length: 2\r\nExpect: 100-continue\r\n\r\nab",
         piece: 999,
         fail: 0,
         answer: b'w',
         told: INTERIM,
     },
-    Row {
+    HearingRow {
         sends: b"POST /a HTTP/1.1\r\nContent-Length: 2\r\nExpect: 100-continue\r\n\r\na",
         piece: 1,
         fail: 0,
         answer: b'c',
         told: INTERIM,
     },
-    Row {
+    HearingRow {
         sends: b"POST /a HTTP/1.1\r\nTransfer-Encoding: chunked\r\nExpect: 100-continue\r\n\r\nz\r\n",
         piece: 999,
         fail: 0,
         answer: b'r',
         told: INTERIM,
     },
-    Row {
+    HearingRow {
         sends: b"PUT /media/a HTTP/1.1\r\nContent-Length: 2\r\nExpect: 100-continue\r\n\r\n",
         piece: 999,
         fail: 0,
@@ -97,28 +97,28 @@ const ROWS: [Row; 14] = [
         told: INTERIM,
     },
     // Calls that fail: the first waits for the peer, and the second hears.
-    Row {
+    HearingRow {
         sends: b"GET / HTTP/1.1\r\n\r\n",
         piece: 999,
         fail: 2,
         answer: b'u',
         told: b"",
     },
-    Row {
+    HearingRow {
         sends: b"POST /a HTTP/1.1\r\nContent-Length: 2\r\nExpect: 100-continue\r\n\r\nab",
         piece: 999,
         fail: 3,
         answer: b's',
         told: HALF,
     },
-    Row {
+    HearingRow {
         sends: b"POST /a HTTP/1.1\r\nContent-Length: 2\r\nExpect: 100-continue\r\n\r\n",
         piece: 999,
         fail: 4,
         answer: b'u',
         told: INTERIM,
     },
-    Row {
+    HearingRow {
         sends: b"PUT /media/a HTTP/1.1\r\nContent-Length: 2\r\nExpect: 100-continue\r\n\r\n",
         piece: 999,
         fail: 3,
@@ -203,7 +203,7 @@ fn check_row(
     rt: &impl Abort,
     alloc: Global,
     hearing: &mut Hearing,
-    row: &Row,
+    row: &HearingRow,
 ) -> Result<(), disk_trait::Memory> {
     if row.piece == 0 {
         assert!(rt; false, "a piece has a byte at least");

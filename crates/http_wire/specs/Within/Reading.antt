@@ -5,7 +5,7 @@ use Rattle.http_wire.specs.Heads.{Front, more, refused, whole}
 use Rattle.http_wire.specs.Lines.{line_end}
 use Rattle.http_wire.specs.Chunks.{chunked, chunks_within, data_ending, coded_front, line_size, one_chunk, prefixed}
 use Rattle.http_wire.specs.Within.Trailers.{IsTrailerSeen}
-use Rattle.http_wire.specs.declared.chunk_line.Ending.TheVariants.{Ended}
+use Rattle.http_wire.specs.declared.chunk_line.FrontEnd.TheVariants.{Ended}
 use Rattle.http_wire.specs.declared.chunk_line.LineSeen.{LineSeen}
 use Rattle.http_wire.specs.declared.chunk_line.LineSeen.TheVariants.{Last, Open, Read}
 use Rattle.http_wire.specs.declared.chunks.ChunkFound.{ChunkFound}

@@ -15,15 +15,15 @@ use Rattle.http_wire.specs.declared.head.FoundHead.{FoundHead}
 use Rattle.http_wire.specs.declared.head.FeedSpan.{FeedSpan}
 use Rattle.http_wire.specs.declared.stage.Head.{Head}
 use Rattle.http_wire.specs.declared.lines.Looked.TheVariants.{Still}
-use Rattle.http_wire.specs.declared.lines.Place.{Place}
-use Rattle.http_wire.specs.declared.lines.Place.TheVariants.{Before}
+use Rattle.http_wire.specs.declared.lines.LinePlace.{LinePlace}
+use Rattle.http_wire.specs.declared.lines.LinePlace.TheVariants.{Before}
 use Rattle.http_wire.specs.declared.seek.Seen.{Seen}
 use Rattle.http_wire.specs.declared.seek.Seen.TheVariants as seen
 use Rattle.http_wire.specs.declared.seek.HeadFound.{HeadFound}
 use Rattle.http_wire.specs.declared.seek.HeadFound.TheVariants as heads
 
 -- so many bytes hold no whole head, and lead to a place
-pub record IsSeeking (unread : List ℕ) (place : Place) (at : ℕ) : Type 0 where
+pub record IsSeeking (unread : List ℕ) (place : LinePlace) (at : ℕ) : Type 0 where
   pub leads : looked Before (take at unread) ≡ Still place
   pub inside : at ≤ length unread
   pub few : at ≤ max_head

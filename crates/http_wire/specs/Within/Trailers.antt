@@ -2,12 +2,12 @@
 use Rattle.std.specs.Prelude.{◌≡◌, ℕ, ◌≤◌, List, length, take}
 use Rattle.http_wire.specs.Chunks.{count_lines, max_trailer, trailer}
 use Rattle.http_wire.specs.Lines.{looked}
-use Rattle.http_wire.specs.declared.chunk_line.Ending.TheVariants.{Ended, Open, Wrong}
+use Rattle.http_wire.specs.declared.chunk_line.FrontEnd.TheVariants.{Ended, Open, Wrong}
 use Rattle.http_wire.specs.declared.chunk_line.TrailerFound.{TrailerFound}
 use Rattle.http_wire.specs.declared.chunk_line.TrailerFound.TheVariants as found
 use Rattle.http_wire.specs.declared.chunk_line.TrailerSeen.{TrailerSeen}
 use Rattle.http_wire.specs.declared.lines.Looked.TheVariants.{Still}
-use Rattle.http_wire.specs.declared.lines.Place.TheVariants.{After}
+use Rattle.http_wire.specs.declared.lines.LinePlace.TheVariants.{After}
 
 -- so many bytes of a trailer hold no empty line and lead to a place, and so many lines end in them
 pub record IsTrailerSeen (bytes : List ℕ) (seen : TrailerSeen) : Type 0 where

@@ -3,8 +3,8 @@ use Rattle.std.specs.Prelude.{◌≡◌, ◌<◌, ◌+◌, ◌*◌, ℕ, Bool, t
 use Rattle.media_journal.specs.declared.header.TheConstants.{BLOCK}
 use Rattle.media_journal.specs.declared.header.Header.{Header}
 use Rattle.media_journal.specs.declared.record.Record.{Record}
-use Rattle.media_journal.specs.declared.scan.Found.{Found}
-use Rattle.media_journal.specs.declared.scan.Found.TheVariants.{Closed, Torn, Whole}
+use Rattle.media_journal.specs.declared.scan.AtPlace.{AtPlace}
+use Rattle.media_journal.specs.declared.scan.AtPlace.TheVariants.{Closed, Torn, Whole}
 use Rattle.media_journal.specs.declared.fault.JournalFault.{JournalFault}
 use Rattle.media_journal.specs.declared.fault.JournalFault.TheVariants.{NotStore, Damaged, Disk, Memory}
 use Rattle.media_journal.specs.declared.scan.Half.{Half}
@@ -12,13 +12,13 @@ use Rattle.media_journal.specs.File.{IsClosedGate, IsTornAt, IsRecordAt, AreReco
 use Rattle.media_journal.specs.Opening.{IsStore}
 
 -- what stands at this place of a half
-abbrev pub FoundAt : List ℕ → ℕ → ℕ → Found → Type 0
+abbrev pub FoundAt : List ℕ → ℕ → ℕ → AtPlace → Type 0
 FoundAt image at end Closed = IsClosedGate image at
 FoundAt image at end Torn = IsTornAt image at end
 FoundAt image at end (Whole payload) = IsRecordAt image at payload
 
 -- a gate fits the half behind the record that was found
-abbrev pub EndsBefore : ℕ → ℕ → Found → Type 0
+abbrev pub EndsBefore : ℕ → ℕ → AtPlace → Type 0
 EndsBefore at end Closed = Unit {0}
 EndsBefore at end Torn = Unit {0}
 EndsBefore at end (Whole payload) = at + (5 + length payload) < end

@@ -53,11 +53,11 @@ pub record NoneOrFormatted (header half seen : List ℕ) (old new : Left) : Type
   pub image : (¬ (HasOpenHeader new.image)) ⊎ IsFormatted header half seen new.image
 
 -- what they have done once all have succeeded
-pub record Formats (header half seen : List ℕ) (old new : Left) : Type 0 where
+pub record MakesFormatted (header half seen : List ℕ) (old new : Left) : Type 0 where
   pub told : new.told ≡ old.told
   pub image : IsFormatted header half seen new.image
 
 -- what they have done at their end
 abbrev pub StoreEnds : Bool → List ℕ → List ℕ → List ℕ → Left → Left → Type 0
-StoreEnds true = Formats
+StoreEnds true = MakesFormatted
 StoreEnds false = NoneOrFormatted

@@ -13,7 +13,7 @@ use Rattle.tams_top.specs.Completeness.{IsAnswered}
 use Rattle.tams_top.specs.Generating.{workload_base, workload_start}
 use Rattle.tams_top.specs.Histories.{BeginsFrom}
 use Rattle.tams_top.specs.declared.still_clock.StillClock.{StillClock}
-use Rattle.tams_top.specs.declared.generating.Kept.{Kept}
+use Rattle.tams_top.specs.declared.generating.StoreSizes.{StoreSizes}
 use Rattle.tams_top.specs.declared.generating.Answered.{Answered}
 
 -- so many times moment 0
@@ -61,6 +61,6 @@ pub record HasAnswered (bytes : List ℕ) (d : Device) (n : Answered) : Type 0 w
       (state_now (trace_of (tams_machine workload_base) workload_start (session ∷ [])))
 
 -- what a store keeps of this library, and the bytes of its objects
-abbrev pub kept_of_library : Library → Kept
+abbrev pub kept_of_library : Library → StoreSizes
 kept_of_library library =
     record { counts = core.counts_of library; bytes = stored_total library.objects }

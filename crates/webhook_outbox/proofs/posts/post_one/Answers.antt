@@ -3,7 +3,7 @@ use Rattle.media_rows.specs.Library.{last_serial}
 use Rattle.media_rows.specs.Outbox.{takes}
 use Rattle.shared_tree.specs.Pairs.{values_of}
 use Rattle.webhook_outbox.specs.Within.Slots.{hook_rows}
-use Rattle.webhook_outbox.specs.declared.posts.Reached.{Reached}
+use Rattle.webhook_outbox.specs.declared.posts.PostsReached.{PostsReached}
 use Rattle.webhook_outbox.proofs.Posting.{hooks_length, one_ended, one_reached, takers_kept}
 use Rattle.webhook_outbox.proofs.posts.post_one.Goals as goal
 
@@ -14,7 +14,7 @@ returns-then-count-serial c =
     let taken : rows ≡ filter (takes c.args.happened.now) c.args.outbox.now.hooks =
     ap (λ l. hook_rows (values_of l)) c.deref-takers.ensures.value ∙ c.in_ok-list.ensures in
     let size : length rows ≡ length c.deref-takers.result.now = hooks_length c.deref-takers.result.now in
-    let from : Reached = record { outbox = c.args.outbox.now; next = c.args.serial } in
+    let from : PostsReached = record { outbox = c.args.outbox.now; next = c.args.serial } in
     let over : last_serial < c.args.serial + length rows = omega (arith, size, c.if-count-serial.true) in
     one_ended c.args.happened.now c.args.now from rows taken over
 
@@ -31,7 +31,7 @@ returns c =
     let taken : rows ≡ filter (takes c.args.happened.now) c.args.outbox.now.hooks =
     ap (λ l. hook_rows (values_of l)) c.deref-takers.ensures.value ∙ c.in_ok-list.ensures in
     let size : length rows ≡ length c.deref-takers.result.now = hooks_length c.deref-takers.result.now in
-    let from : Reached = record { outbox = c.args.outbox.now; next = c.args.serial } in
+    let from : PostsReached = record { outbox = c.args.outbox.now; next = c.args.serial } in
     let next : c.args.serial + length c.deref-takers.result.now ≡ c.args.serial + length rows = omega (arith, size) in
     let within : c.args.serial + length c.deref-takers.result.now ≤ last_serial = omega (arith, c.requires.within, c.if-count-serial.false) in
     one_reached c.args.happened.now c.args.now from rows c.in_ok-post_to.field-0

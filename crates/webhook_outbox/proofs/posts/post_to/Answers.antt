@@ -2,7 +2,7 @@ use Rattle.std.proofs.Common.{◌≡◌, ◌<◌, ◌+◌, [], ◌∷◌, drop, 
 use Rattle.media_rows.specs.Outbox.{event_row, with_events}
 use Rattle.shared_tree.specs.Pairs.{values_of}
 use Rattle.webhook_outbox.specs.Within.Slots.{hook_rows}
-use Rattle.webhook_outbox.specs.declared.posts.Reached.{Reached}
+use Rattle.webhook_outbox.specs.declared.posts.PostsReached.{PostsReached}
 use Rattle.webhook_outbox.proofs.Posting.{Told, item_first, told_more}
 use Rattle.webhook_outbox.proofs.posts.post_to.Goals as goal
 
@@ -12,7 +12,7 @@ loop-slot-preserved c =
     let i = c.loop-slot.slot-index in
     let all = c.args.takers.now in
     let row = c.slot-item.result.now.row.value in
-    let from : Reached = record { outbox = c.args.outbox.now; next = c.args.serial } in
+    let from : PostsReached = record { outbox = c.args.outbox.now; next = c.args.serial } in
     let within : i < length all = omega arith in
     let shape : drop i all ≡ c.slot-item.result ∷ drop (i + 1) all = item_first all i c.slot-item.result within c.slot-item.is in
     let before : Told c.args.happened.now c.args.now (hook_rows (values_of all)) (row ∷ hook_rows (values_of (drop (i + 1) all))) from c.loop-slot.next

@@ -1,5 +1,5 @@
 use Rattle.std.proofs.Common.{◌≡◌, false}
-use Rattle.http_wire.specs.declared.stage.Stage.TheVariants.{Open}
+use Rattle.http_wire.specs.declared.stage.FeedStage.TheVariants.{Open}
 use Rattle.wire_tests.proofs.feeds.one_by_one.Given as goal
 
 -- every answer so far was that nothing is whole

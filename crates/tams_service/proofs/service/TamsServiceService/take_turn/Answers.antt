@@ -2,7 +2,7 @@ use Rattle.std.proofs.Common.{◌≡◌, ◌<◌, ◌++◌, true, false, ap, ref
 use Rattle.std.proofs.lemmas.Bool.{false≢true}
 use Rattle.run_history.specs.Serving.{Going}
 use Rattle.connection_loop.specs.Turns.{EndsAs, TurnLeads, held_with}
-use Rattle.connection_loop.specs.declared.ending.Ending.TheVariants as endings
+use Rattle.connection_loop.specs.declared.ending.ConnectionEnd.TheVariants as endings
 use Rattle.connection_loop.proofs.Turning.{calls_more, gives_none}
 use Rattle.http_wire.specs.Feeds.{Fed}
 use Rattle.tams_machine.specs.Machine.{tams_machine}

@@ -1,4 +1,4 @@
-use Rattle.tams_top.proofs.outcome.Outcome.put_line.Goals as goal
+use Rattle.tams_top.proofs.outcome.RunOutcome.put_line.Goals as goal
 
 pub returns-in-Formatted : goal.returns-in-Formatted
 returns-in-Formatted g c =
