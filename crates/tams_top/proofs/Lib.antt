@@ -8,6 +8,7 @@ mod NoteLemmas
 mod RunningLemmas
 mod ServedLemmas
 mod StatusLemmas
+mod TurnsLeft
 mod WordLemmas
 pub mod WordTheorems
 mod WorkingLemmas

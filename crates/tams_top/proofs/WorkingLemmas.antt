@@ -49,6 +49,7 @@ use Rattle.tams_top.specs.Working.{HasWorked, HaveTurned, TurnsEnd, WorkedOff, t
 use Rattle.tams_top.specs.Within.Turning.{IsWorking, SoMany, WorksOn}
 use Rattle.tams_top.proofs.BeginningLemmas.{begun_served}
 use Rattle.tams_top.proofs.RunningLemmas.{Answers, no_store, untouched_by}
+use Rattle.tams_top.proofs.TurnsLeft.{turns_few}
 
 -- ---- the beginning
 
@@ -234,7 +235,7 @@ module _ (b : Beginning StoreState) (moments : List ℕ) (states : List StoreSta
   works_no_more is keeps sound honest shows tells later later_is turns number on =
       ended (Ok turns) (t ∷ []) new later later_is moments_are
       (kept_calls (tams_machine []) b (turns_trace b.state states) false mid new w.reached (over_keeps [] w.keeps.state keeps)) sound honest shows tells
-      (sym number, refl, inl (t, refl, turn_is None is)) (omega (arith, on, ap (bytes_if (journal_of store.kept)) is))
+      (sym number, refl, t, refl, turn_is None is) (omega (arith, on, ap (bytes_if (journal_of store.kept)) is))
 
   -- There was no memory for it.
   pub works_starved : new ≡ mid → is_some (turn store.kept.library t) ≡ true → IsDevice new → new.honest ≡ true → new.shows ≡ true → new.tells ≡ true
@@ -245,25 +246,11 @@ module _ (b : Beginning StoreState) (moments : List ℕ) (states : List StoreSta
       (subst (Reached (tams_machine []) b (turns_trace b.state states) false false) (sym stays) w.reached) sound honest shows tells
       (refl, inr (t, refl, ap (λ (s : StoreState). is_some (turn s.archive.library t)) w.keeps.state ∙ some)) (ap (λ (d : Device). d.handed) stays)
 
--- Turns can't be counted any more.
+-- Before turns can't be counted any more one changes nothing.
 pub works_to_last : (b : Beginning StoreState) (d : Device) (given : List ℕ) (store : StoreSeen) (turns : ℕ) → turns ≡ 2 ^ 64 - 1 → SoMany b d given store turns
-    → IsDevice d → d.honest ≡ true → d.shows ≡ true → d.tells ≡ true → HasWorked b d given (Ok turns)
-works_to_last b d given store turns most many sound honest shows tells =
-    let w = many.working in
-    record {
-      moments = many.moments;
-      states = many.states;
-      turned = w.turned;
-      idle = [];
-      given_is = w.given_is ∙ ap (λ (l : List ℕ). b.given ++ l) (sym (append-nil many.moments));
-      are_moments = subst (All IsMoment) (sym (append-nil many.moments)) w.are_moments;
-      torn = false;
-      right = w.reached.right;
-      stands = (w.reached.now (as_read d) (sound.itself honest shows tells)).stands;
-      good = w.good;
-      ends = (sym many.number, refl, inr (refl, many.number ∙ most));
-      handed = λ held. w.handed;
-    }
+    → HasWorked b d given (Ok turns)
+works_to_last b d given store turns most many =
+    absurd (omega (arith, most, many.number, turns_few b.state many.moments many.states many.working.turned many.working.good))
 
 -- ---- turns one after another
 

@@ -1,6 +1,6 @@
 -- What a run of `work` makes of a file that stands for a state: turns, each at a moment of its own,
 -- until one changes nothing.
-use Rattle.std.specs.Prelude.{◌≡◌, ◌≢◌, ◌+◌, ◌-◌, ◌^◌, ◌⊎◌, ℕ, Bool, true, false, List, [], ◌∷◌, ◌++◌, length, All, Some, None, Result, Ok, Err}
+use Rattle.std.specs.Prelude.{◌≡◌, ◌≢◌, ◌+◌, ◌⊎◌, ℕ, Bool, true, false, List, [], ◌∷◌, ◌++◌, length, All, Some, None, Result, Ok, Err}
 use Rattle.disk_trait.specs.Device.{Device}
 use Rattle.site_edge.specs.Clocks.{IsMoment}
 use Rattle.library_laws.specs.MediaLaws.{IsGoodArchive}
@@ -34,13 +34,12 @@ abbrev pub turns_trace : StoreState → List StoreState → Trace StoreState
 turns_trace from states = record { scripts = []; first = from; changes = states }
 
 -- How turns end, so many of which changed something, and which moments were taken behind theirs:
--- with one that changes nothing (or once they can't be counted any more), with a fault of the disk,
--- or for want of memory, before the first turn or where a change is due. Where the disk failed, the
--- change that was being made may stand or not.
+-- with one that changes nothing, with a fault of the disk, or for want of memory, before the first
+-- turn or where a change is due. Where the disk failed, the change that was being made may stand or
+-- not.
 abbrev pub TurnsEnd : StoreState → ℕ → List ℕ → Bool → Result ℕ StoreFault → Type 0
 TurnsEnd last number idle torn (Ok turns) = (turns ≡ number) × (torn ≡ false)
-    × (((moment : ℕ) × (idle ≡ moment ∷ []) × (turn_in moment last ≡ None))
-    ⊎ ((idle ≡ []) × (number ≡ 2 ^ 64 - 1)))
+    × ((moment : ℕ) × (idle ≡ moment ∷ []) × (turn_in moment last ≡ None))
 TurnsEnd last number idle torn (Err faults.Disk) = idle ≡ []
 TurnsEnd last number idle torn (Err faults.Memory) = (torn ≡ false)
     × (((idle ≡ []) × (number ≡ 0))

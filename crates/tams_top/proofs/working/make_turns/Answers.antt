@@ -55,11 +55,9 @@ returns-in_err-turn-clause-worked g c = λ all b w.
     c.now.ensures.told_before c.now.ensures.given c.turns_keep.ensures.good b w all (g.met.D.Disk.sound c.turn.new.disk) c.in_err-turn.field-0.0 _
     failed.memory (λ starved. (ap (λ d. g.D.Disk.device d) starved.1, starved.2)) failed.failing failed.makes failed.calls)
 
--- There were as many as can be counted.
+-- There can't be as many as can be counted.
 pub returns-clause-worked : goal.returns-clause-worked
 returns-clause-worked g c = λ all b w.
     let so_far = c.loop.invariant in
-    let same = so_far.calls.same in
     works_to_last b (g.D.Disk.device c.loop.disk) (g.C.Clock.given c.loop.clock) c.loop.store c.loop.turns
-    (omega (arith, so_far.counted, c.loop-test.false, c.loop.auto.counter-end)) (so_far.working all b w) (g.met.D.Disk.sound c.loop.disk)
-    (same.honest ∙ all.honest) (same.shows ∙ all.shows) (same.tells ∙ all.tells)
+    (omega (arith, so_far.counted, c.loop-test.false, c.loop.auto.counter-end)) (so_far.working all b w)
