@@ -18,5 +18,5 @@ returns c =
     let works = c.in_ok-program-3.ensures ∙ ap (λ (a : App). with_subcommand a (command_with (codes "work") work_words)) checks in
     let replays = c.in_ok-program-4.ensures ∙ ap (λ (a : App). with_subcommand a (command_with (codes "replay") replay_words)) works in
     let serves = c.in_ok-program-5.ensures ∙ ap (λ (a : App). with_subcommand a (command_with (codes "serve") serve_words)) replays in
-    IfOk-weaker c.with_workload.result _ _ (λ r added. added
-    ∙ ap (λ (a : App). with_subcommand a (command_with (codes "workload") workload_words)) serves) c.with_workload.ensures
+    IfOk-weaker c.with_command-6.result _ _ (λ r added. added
+    ∙ ap (λ (a : App). with_subcommand a (command_with (codes "workload") workload_words)) serves) c.with_command-6.ensures
