@@ -9,7 +9,7 @@ use Rattle.clap.specs.Walk.{Held, Step, Walk, after_step, idle, positional, to_p
 use Rattle.clap.specs.Simple.{argument_words, built, entered, help_shape, label_of, names_of, rows_at}
 use Rattle.clap.specs.Takes.{default_passes, entered_passes, is_valid, step_passes, word_passes, level_passes, positional_passes, settle_passes, turn_passes, walk_passes}
 use Rattle.clap.proofs.OnLiterals.{clap_on_literals}
-use Rattle.tams_top.specs.Commands.{IsNamed, tams_app, text_of, word_value, words_of}
+use Rattle.tams_top.specs.Commands.{IsNamed, tams_app, command_word, word_value, words_of}
 use Rattle.tams_top.specs.Words.{FormIs, HasForm, IsPlainWord, IsFormat, IsCheck, IsWork, IsReplay, IsServe, IsWorkload}
 use Rattle.tams_top.specs.declared.words.Invocation.{Invocation}
 use Rattle.tams_top.specs.declared.words.Invocation.TheVariants.{Format, Check, Work, Replay, Serve, Workload}
@@ -138,10 +138,10 @@ level s words plain places taken =
 
 -- the words are those of a command: `clap` takes them, and gives each under its name
 record Reads (name : CommandName) (rest : List Text) : Type 0 where
-  pub taken : takes tams_app (text_of name ∷ rest) ≡ true
-  pub values : (rows : List Row) → option_map (λ p. p.1) (subcommand_of tams_app (text_of name ∷ rest)) ≡ Some rows → map (word_value rows) (words_of name)
+  pub taken : takes tams_app (command_word name ∷ rest) ≡ true
+  pub values : (rows : List Row) → option_map (λ p. p.1) (subcommand_of tams_app (command_word name ∷ rest)) ≡ Some rows → map (word_value rows) (words_of name)
       ≡ rest
-  pub found : option_map (λ p. p.1) (subcommand_of tams_app (text_of name ∷ rest)) ≡ None → ⊥
+  pub found : option_map (λ p. p.1) (subcommand_of tams_app (command_word name ∷ rest)) ≡ None → ⊥
 
 -- the program's own walk ends at the command's name
 record Names (a : App) (words : List Text) (name : Text) (rest : List Text) (s : Shape) : Type 0 where
@@ -168,15 +168,15 @@ entered_at a words name rest s n = ap (entered (built a)) n.stopped ∙ ap (opti
 some_of : {A : Type 0} (a b : A) → Some a ≡ Some b → a ≡ b
 some_of a b e = ap (λ o. unwrap_or o a) e
 
-reads : (name : CommandName) (rest : List Text) (s : Shape) → Names tams_app (text_of name ∷ rest) (text_of name) rest s
+reads : (name : CommandName) (rest : List Text) (s : Shape) → Names tams_app (command_word name ∷ rest) (command_word name) rest s
     → list_all begins_plain rest ≡ true → has_places s 1 nothing_held rest ≡ true → is_taken s (plain_end s.rules 1 nothing_held rest) ≡ true
     → map (word_value (finished s.rules (plain_end s.rules 1 nothing_held rest))) (words_of name) ≡ rest → Reads name rest
 reads name rest s n plain places taken values =
-    let words = text_of name ∷ rest in
+    let words = command_word name ∷ rest in
     let w = walks s 1 nothing_held rest plain places in
-    let enters = entered_at tams_app words (text_of name) rest s n in
+    let enters = entered_at tams_app words (command_word name) rest s n in
     record {
-      taken = taken_at tams_app words (text_of name) rest s n (level s rest plain places taken);
+      taken = taken_at tams_app words (command_word name) rest s n (level s rest plain places taken);
       values = λ rows is.
           let own = ap (option_map (λ (p : Text × List Row). p.1)) (sym enters) ∙ is in
           let same = some_of _ rows own in
@@ -189,7 +189,7 @@ reads name rest s n plain places taken values =
 
 -- the command of this name, as it is built
 abbrev leaf : CommandName → Shape
-leaf n = unwrap_or (find (λ s. answers_to (text_of n) (label_of s)) (built tams_app).subs) help_shape
+leaf n = unwrap_or (find (λ s. answers_to (command_word n) (label_of s)) (built tams_app).subs) help_shape
 
 reads_format : (a b c d : Text) → list_all begins_plain (a ∷ b ∷ c ∷ d ∷ []) ≡ true → Reads name.Format (a ∷ b ∷ c ∷ d ∷ [])
 unfolding clap_on_literals plain_end has_places
@@ -271,7 +271,7 @@ rest_reads : (words : List Text) (n : CommandName) (has : HasWords words n) → 
 rest_reads words n has =
     let is = has.named.words_are in
     let same : length has.named.rest ≡ length (words_of n) = omega (arith, has.many, ap (λ (ws : List Text). length ws) is) in
-    let begins = (both (begins_plain (text_of n)) _ (sym (ap (list_all begins_plain) is) ∙ plain_begin words has.plain)).1 in
+    let begins = (both (begins_plain (command_word n)) _ (sym (ap (list_all begins_plain) is) ∙ plain_begin words has.plain)).1 in
     reads_rest n has.named.rest same begins
 
 words_taken : (words : List Text) (n : CommandName) → HasWords words n → takes tams_app words ≡ true
@@ -279,11 +279,11 @@ words_taken words n has = ap (takes tams_app) has.named.words_are ∙ (rest_read
 
 -- the values are the words
 pub values_are : (words : List Text) (n : CommandName) (rows : List Row) → HasWords words n
-    → option_map (λ p. p.1) (subcommand_of tams_app words) ≡ Some rows → text_of n ∷ map (word_value rows) (words_of n) ≡ words
+    → option_map (λ p. p.1) (subcommand_of tams_app words) ≡ Some rows → command_word n ∷ map (word_value rows) (words_of n) ≡ words
 values_are words n rows has is =
     let r = rest_reads words n has in
     let own = ap (λ ws. option_map (λ (p : Text × List Row). p.1) (subcommand_of tams_app ws)) (sym has.named.words_are) ∙ is in
-    ap (λ (ws : List Text). text_of n ∷ ws) (r.values rows own) ∙ sym has.named.words_are
+    ap (λ (ws : List Text). command_word n ∷ ws) (r.values rows own) ∙ sym has.named.words_are
 
 pub has_values : (words : List Text) (n : CommandName) → HasWords words n → option_map (λ p. p.1) (subcommand_of tams_app words) ≡ None → ⊥
 has_values words n has none =
@@ -296,7 +296,7 @@ abbrev count_behind : Text → ℕ
 count_behind t = if bytes_eq t (codes "check") || bytes_eq t (codes "work") then 1
     else (if bytes_eq t (codes "format") || bytes_eq t (codes "serve") then 4 else 2)
 
-count_of_name : (n : CommandName) → count_behind (text_of n) ≡ length (words_of n)
+count_of_name : (n : CommandName) → count_behind (command_word n) ≡ length (words_of n)
 count_of_name name.Format = refl
 count_of_name name.Check = refl
 count_of_name name.Work = refl
@@ -344,7 +344,7 @@ not_taken words plain none = λ command form.
 pub other_count : (words : List Text) (n : CommandName) → IsNamed words n → length words ≢ length (words_of n) + 1 → FormIs words None
 other_count words n named other = λ command form.
     let of = of_command words command form in
-    let first : text_of of.name ≡ text_of n =
+    let first : command_word of.name ≡ command_word n =
     ap (λ (ws : List Text). get_or ws 0 []) (sym of.named.words_are ∙ named.words_are) in
     let count : length (words_of of.name) ≡ length (words_of n) =
     sym (count_of_name of.name) ∙ (ap count_behind first ∙ count_of_name n) in

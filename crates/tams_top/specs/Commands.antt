@@ -51,13 +51,13 @@ tams_app = record {
 }
 
 -- the word that names a command
-abbrev pub text_of : CommandName → Text
-text_of name.Format = codes "format"
-text_of name.Check = codes "check"
-text_of name.Work = codes "work"
-text_of name.Replay = codes "replay"
-text_of name.Serve = codes "serve"
-text_of name.Workload = codes "workload"
+abbrev pub command_word : CommandName → Text
+command_word name.Format = codes "format"
+command_word name.Check = codes "check"
+command_word name.Work = codes "work"
+command_word name.Replay = codes "replay"
+command_word name.Serve = codes "serve"
+command_word name.Workload = codes "workload"
 
 -- the names of its other words
 abbrev pub words_of : CommandName → List Text
@@ -71,7 +71,7 @@ words_of name.Workload = workload_words
 -- the words begin with the command's name
 pub record IsNamed (words : List Text) (name : CommandName) : Type 0 where
   pub rest : List Text
-  pub words_are : words ≡ text_of name ∷ rest
+  pub words_are : words ≡ command_word name ∷ rest
 
 -- what `clap` found for a word of a command, and no byte where it found nothing
 abbrev pub word_value : List Row → Text → Text

@@ -1,7 +1,7 @@
 //! The program's command line: its commands with their words, as `clap` reads them and as help shows them.
 ghost use Rattle.std.specs.Prelude.{◌≡◌, ◌+◌, IfOk, IfSome, IsNone, codes, false, length, map};
 ghost use Rattle.clap.specs.Words.{app_of, rule_of, with_subcommand};
-ghost use Rattle.tams_top.specs.Commands.{word_rule, command_with, tams_app, text_of, words_of};
+ghost use Rattle.tams_top.specs.Commands.{word_rule, command_with, tams_app, command_word, words_of};
 ghost use Rattle.tams_top.specs.declared.commands.CommandName.{CommandName};
 
 use clap::{Arg, Command};
@@ -24,8 +24,8 @@ pub(crate) enum CommandName {
 impl CommandName {
     /// The command that a word names.
     pub(crate) fn read(word: &str) -> Option<CommandName>
-        ensures found { IfSome result (λ name. word.now ≡ text_of name) }
-        ensures none { IsNone result → (name : CommandName) → word.now ≡ text_of name → ⊥ }
+        ensures found { IfSome result (λ name. word.now ≡ command_word name) }
+        ensures none { IsNone result → (name : CommandName) → word.now ≡ command_word name → ⊥ }
     {
         match word {
             "format" => Some(CommandName::Format),

@@ -2,7 +2,7 @@
 ghost use Rattle.std.specs.Prelude.{◌≡◌, ◌∷◌, [], ◌↔◌, ℕ, All, codes, map};
 ghost use Rattle.std.specs.Prelude.{true, IfOk, IfSome, IsNone, IsSome, IsTrue};
 ghost use Rattle.clap.specs.Words.{found_of, rows_of, subcommand_of, subcommand_rows_of, takes};
-ghost use Rattle.tams_top.specs.Commands.{IsNamed, tams_app, text_of, word_value, words_of};
+ghost use Rattle.tams_top.specs.Commands.{IsNamed, tams_app, command_word, word_value, words_of};
 ghost use Rattle.tams_top.specs.Words.{IsPlainWord, IsNumber, IsNumberOrZero, IsBaseByte, HasScheme, IsBase, FormIs, IsCommand, WantedFor};
 ghost use Rattle.tams_top.specs.declared.words.Invocation.{Invocation};
 ghost use Rattle.tams_top.specs.declared.commands.CommandName.{CommandName};
@@ -156,7 +156,7 @@ fn read_values(
     name: CommandName,
     values: &ArgMatches<'_>,
 ) -> Result<Option<Invocation>, Memory>
-    ensures { IfOk result (FormIs (text_of name
+    ensures { IfOk result (FormIs (command_word name
         ∷ map (word_value (rows_of (found_of values.now))) (words_of name))) }
 {
     match name {
