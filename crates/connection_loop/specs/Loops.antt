@@ -4,7 +4,7 @@ use Rattle.std.specs.List.{AllByRecursion}
 use Rattle.disk_trait.specs.Device.{Device}
 use Rattle.disk_trait.specs.Calls.{IsCounted, Rose, SameDevice}
 use Rattle.run_history.specs.Machine.{Machine}
-use Rattle.run_history.specs.Sessions.{Session}
+use Rattle.run_history.specs.Sessions.{Session, most_answers}
 use Rattle.run_history.specs.Runs.{Beginning}
 use Rattle.run_history.specs.Serving.{RunCounts, Going, HasServed, run_stops}
 use Rattle.connection_loop.specs.declared.connection.Next.{Next}
@@ -29,7 +29,7 @@ pub record HasTurned {State Request Setting : Type 0} (m : Machine State Request
     pub size_is : size ≤ size_first
     pub clock : tells_now ≡ true → tells_first ≡ true
     pub moments : tells_now ≡ true → GivesMore given_first given
-    pub few : taken < 1000000
+    pub few : taken < most_answers
     pub answers : n.answers ≡ n_first.answers + taken
     pub moved : counter ≤ turns
     pub most : turns < 2 ^ 64 - 1
@@ -145,7 +145,7 @@ pub record HasServedSo {State Request Setting : Type 0} (m : Machine State Reque
     pub size_is : size ≤ size_first
     pub clock : tells_now ≡ true → tells_first ≡ true
     pub moments : tells_now ≡ true → GivesMore given_first given
-    pub answers : n.answers ≤ 1000000 * counter
+    pub answers : n.answers ≤ most_answers * counter
     pub reached : TellsAll first tells_now → (b : Beginning State)
         → IsBetween m b first given_first keeps_first [] n_first
         → GoesOnBetween m b first now given keeps n counter

@@ -9,6 +9,7 @@ ghost use Rattle.media_book.specs.Media.{allocation_refusal, are_objects_below, 
 use crate::MediaBook;
 use disk_trait::{Memory, Text};
 use media_rows::{BookFault, Extent};
+use object_blobs::BLOCK;
 use reference_laws::{objects_change, objects_come};
 use std::alloc::Global;
 
@@ -106,7 +107,7 @@ impl MediaBook {
 pub(crate) fn blocks_of(bytes: u64) -> u64
     ensures { result ≡ blocks_of bytes }
 {
-    bytes.div_ceil(4096)
+    bytes.div_ceil(BLOCK)
 }
 
 /// Two numbers of bytes together. One that passes a `u64` is want of memory.

@@ -19,6 +19,7 @@ use Rattle.store_plans.specs.declared.puts.PutPlan.{PutPlan}
 use Rattle.store_plans.specs.declared.puts.PutPlan.TheVariants.{Refused, Kept, Write}
 use Rattle.store_plans.specs.Plans.{HasExtent, IsPutPlan, MakesChange}
 use Rattle.store_writes.specs.Writes.{IsFree, Keeps}
+use Rattle.media_store.specs.declared.puts.TheConstants.{PIECE}
 use Rattle.media_store.specs.Changes.{CanCommit, ChangesStore, bytes_by, kept_by}
 use Rattle.media_store.specs.Pieces.{IsExtent}
 use Rattle.media_store.specs.Stores.{journal_of}
@@ -112,7 +113,7 @@ handed_of_piece (Write extent planned) piece = length piece
 -- the put has room for a piece of the bytes that it compares
 abbrev pub HasRoomToCompare : PutPlan → ℕ → Type 0
 HasRoomToCompare (Refused why) room = Unit {0}
-HasRoomToCompare (Kept extent) room = room ≡ 65536
+HasRoomToCompare (Kept extent) room = room ≡ PIECE
 HasRoomToCompare (Write extent planned) room = Unit {0}
 
 -- why a put is refused, if it is

@@ -31,7 +31,7 @@ impl Model for Hearing {
 
     ghost view = { λ h. h.feed };
 
-    ghost invariant = { λ h. vec_len h.buffer ≡ 65536 };
+    ghost invariant = { λ h. vec_len h.buffer ≡ PIECE };
 }
 
 impl Hearing {

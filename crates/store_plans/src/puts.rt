@@ -10,6 +10,7 @@ use disk_trait::{Memory, Text};
 use library_laws::places_are_least;
 use media_journal::Journal;
 use media_rows::{BookFault, Command, Extent, ObjectState, Refusal};
+use object_blobs::BLOCK;
 use std::alloc::Global;
 use store_core::Core;
 
@@ -121,5 +122,5 @@ fn plan_store(
 fn blocks_of(bytes: u64) -> u64
     ensures { result ≡ blocks_of bytes }
 {
-    bytes.div_ceil(4096)
+    bytes.div_ceil(BLOCK)
 }

@@ -18,7 +18,7 @@ use Rattle.run_history.specs.Runs.{Beginning, Reached}
 use Rattle.run_history.specs.Serving.{RunCounts}
 use Rattle.run_history.specs.Handing.{HasHanded}
 use Rattle.run_history.specs.Laws.{under_way}
-use Rattle.run_history.specs.Sessions.{Session, Whole}
+use Rattle.run_history.specs.Sessions.{Session, Whole, most_answers}
 use Rattle.run_history.specs.Steps.{Step, last_or}
 use Rattle.connection_loop.specs.declared.ending.ConnectionEnd.{ConnectionEnd}
 use Rattle.connection_loop.specs.declared.ending.ConnectionEnd.TheVariants.{Complete, Starved, Stopped, Unlinked}
@@ -161,7 +161,7 @@ FinishLeads old new store next n now bytes changes moment ends result =
     → KeepsState store old (last_or p.state states)
     → IsRequest p text ends r → IsMachineReply p r moment bytes states
     → HandedAt p old (answer_handed r moment p.state) → length states ≡ changes
-    → p.taken < 1000000 → LeadsTo p new next moment rest now result
+    → p.taken < most_answers → LeadsTo p new next moment rest now result
 
 -- what a plan makes of a store has the id of the store
 abbrev pub PlanKeepsId : StoreView → Planned → Type 0
@@ -174,7 +174,7 @@ abbrev pub GiveLeads : Device → Device → StoreSeen → StoreSeen → RunCoun
 GiveLeads old new store next n now answer moment ends result =
     (p : RunPlace) (text rest : List ℕ) (r : TamsRequest) → AsksAt p old (text ++ rest) n
     → KeepsState store old p.state → IsRequest p text ends r
-    → AnswersRequest p.base p.state r moment answer → p.taken < 1000000
+    → AnswersRequest p.base p.state r moment answer → p.taken < most_answers
     → LeadsTo p new next moment rest now result
 
 -- all of a put's bytes were handed to it
@@ -208,7 +208,7 @@ PutLeads old new store next n now put responses moment ends result =
     (p : RunPlace) (text rest : List ℕ) (r : TamsRequest)
     → AsksWith p old (text ++ rest) n (body_handed (plan_of put) r.body)
     → KeepsState store old p.state → IsRequest p text ends r
-    → IsPutting p r moment store.kept put responses old.seen → p.taken < 1000000
+    → IsPutting p r moment store.kept put responses old.seen → p.taken < most_answers
     → LeadsTo p new next moment rest now result
 
 -- From a request that came whole.
@@ -217,7 +217,7 @@ abbrev pub WholeLeads : ServiceSeen → ServiceSeen → Head → Device → Devi
 WholeLeads s next head old new begun given n now result =
     (p : RunPlace) (all : List ℕ) → p.base ≡ s.base → p.given ≡ begun → AsksAt p old all n
     → KeepsState s.store old p.state → GivesRequest p.taken all p.said s.fed head
-    → p.taken < 1000000
+    → p.taken < most_answers
     → TurnLeads (tams_machine p.base) p.beginning new given next.fed.unread (p.taken + 1)
     (KeepsState next.store new) p.finished now result
 
@@ -226,7 +226,7 @@ abbrev pub MediaLeads : ServiceSeen → ServiceSeen → Head → Device → Devi
     → RunCounts → RunCounts → Option ConnectionEnd → Type 0
 MediaLeads s next head old new begun given n now result =
     (p : RunPlace) (all : List ℕ) → p.base ≡ s.base → p.given ≡ begun → AsksAt p old all n
-    → KeepsState s.store old p.state → OpensMedia p.taken all p.said s.fed head → p.taken < 1000000
+    → KeepsState s.store old p.state → OpensMedia p.taken all p.said s.fed head → p.taken < most_answers
     → TurnLeads (tams_machine p.base) p.beginning new given next.fed.unread (p.taken + 1)
     (KeepsState next.store new) p.finished now result
 
@@ -244,7 +244,7 @@ abbrev pub TakeLeads : StoreSeen → StoreSeen → Fed → Fed → Head → Opti
 TakeLeads store next fed later shown put responses old new moment n now result =
     (p : RunPlace) (all : List ℕ) → AsksAt p old all n → KeepsState store old p.state
     → (o : OpensMedia p.taken all p.said fed shown)
-    → AnswersEach p o.head shown moment store.kept put responses → p.taken < 1000000
+    → AnswersEach p o.head shown moment store.kept put responses → p.taken < most_answers
     → LeadsTo p new next moment later.unread now result
 
 -- From a request for which there was no memory.

@@ -3,6 +3,10 @@ use Rattle.std.specs.Prelude.{◌≡◌, ◌≢◌, IsUtf8, ◌≤◌, ◌*◌, 
 use Rattle.std.specs.List.{starts_with}
 use Rattle.std.specs.Fmt.{decimal}
 use Rattle.media_rows.specs.Ids.{id_of}
+use Rattle.media_journal.specs.declared.header.TheConstants.{BLOCK, MOST_BLOCKS, MOST_HALF}
+use Rattle.connection_loop.specs.declared.run.TheConstants.{MOST_CONNECTIONS}
+use Rattle.generated_workload.specs.declared.workload.TheConstants.{MOST_COUNT, MOST_NUMBER}
+use Rattle.tams_top.specs.declared.words.TheConstants.{LAST_PORT, MOST_BASE}
 use Rattle.tams_top.specs.declared.words.Invocation.{Invocation}
 use Rattle.tams_top.specs.declared.words.Invocation.TheVariants.{Format, Check, Work, Replay, Serve, Workload}
 use Rattle.tams_top.specs.declared.words.Wanted.{Wanted}
@@ -42,7 +46,7 @@ HasScheme word =
 -- the word is an address that paths are put behind, so it does not end in `/`
 pub record IsBase (word : List ℕ) : Type 0 where
   pub least : 8 ≤ length word
-  pub most : length word ≤ 200
+  pub most : length word ≤ MOST_BASE
   pub bytes : All IsBaseByte word
   pub scheme : HasScheme word
   pub last : slice_index word (length word - 1) ≢ 47
@@ -53,8 +57,8 @@ pub record IsFormat (words : List (List ℕ)) (path : List ℕ) (blocks half id 
   pub half_word : List ℕ
   pub id_word : List ℕ
   pub words_are : words ≡ codes "format" ∷ path ∷ blocks_word ∷ half_word ∷ id_word ∷ []
-  pub blocks_is : IsNumber 1073741824 blocks_word blocks
-  pub half_is : IsNumber 65536 half_word half
+  pub blocks_is : IsNumber MOST_BLOCKS blocks_word blocks
+  pub half_is : IsNumber MOST_HALF half_word half
   pub id_is : id_of id_word ≡ Some id
 
 -- check PATH
@@ -76,17 +80,17 @@ pub record IsServe (words : List (List ℕ)) (path : List ℕ) (port : ℕ) (bas
   pub port_word : List ℕ
   pub connections_word : List ℕ
   pub words_are : words ≡ codes "serve" ∷ path ∷ port_word ∷ base ∷ connections_word ∷ []
-  pub port_is : IsNumber 65535 port_word port
+  pub port_is : IsNumber LAST_PORT port_word port
   pub base_is : IsBase base
-  pub connections_is : IsNumber 1000000000 connections_word connections
+  pub connections_is : IsNumber MOST_CONNECTIONS connections_word connections
 
 -- workload NUMBER COUNT
 pub record IsWorkload (words : List (List ℕ)) (number count : ℕ) : Type 0 where
   pub number_word : List ℕ
   pub count_word : List ℕ
   pub words_are : words ≡ codes "workload" ∷ number_word ∷ count_word ∷ []
-  pub number_is : IsNumberOrZero 1000000 number_word number
-  pub count_is : IsNumber 1000 count_word count
+  pub number_is : IsNumberOrZero MOST_NUMBER number_word number
+  pub count_is : IsNumber MOST_COUNT count_word count
 
 -- the words are the command's name and its own words, each of its form
 abbrev pub HasForm : List (List ℕ) → Invocation → Type 0
@@ -117,6 +121,6 @@ WantedFor words (Plain path) =
     IsCommand words (Check path) ⊎ (IsCommand words (Work path)
     ⊎ ((base : List ℕ) × IsCommand words (Replay path base)))
 WantedFor words (Fresh path bytes) =
-    (blocks half id : ℕ) × (bytes ≡ 4096 * blocks) × IsCommand words (Format path blocks half id)
+    (blocks half id : ℕ) × (bytes ≡ BLOCK * blocks) × IsCommand words (Format path blocks half id)
 WantedFor words (Listen path port) =
     (base : List ℕ) × (connections : ℕ) × IsCommand words (Serve path port base connections)
