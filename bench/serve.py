@@ -10,8 +10,12 @@ A half has room for all changes, so no checkpoint comes in.
 
 An object has 4 MiB, and its client waits for each answer. Beside a PUT stands a program in C that writes as much in
 pieces of 64 KiB, syncs, and writes and syncs a record: one sync less than the store, whose record has a gate that
-is synced apart. Beside a GET stands nginx with a file, where it is on the path. The time from the first byte of a
-request to the last one of its answer counts.
+is synced apart. Beside a PUT and a GET stands a server in C that copies: it makes the calls of the system that the
+store makes, so it receives and writes pieces of 64 KiB at most and syncs three times, or reads and sends such pieces.
+What lies between its rows and those of the store is the store's own; what lies between them and the other rows are the
+calls. Beside a GET stands nginx with a file, where it is on the path: once it has the kernel send the file without a
+copy, and once (`sendfile off`) it copies too. The time from the first byte of a request to the last one of its answer
+counts.
 
 Each round runs all in turn over fresh files in one folder; the best of the rounds of each count. BENCH_FOLDER says
 in which folder the files lie. The program has to be built: `cd crates/tams && rt run`.
@@ -240,8 +244,23 @@ def sqlite_served(folder):
 
 
 @contextlib.contextmanager
-def nginx_served(folder):
-    """A client of nginx, which gives the files of a folder."""
+def copying_served(folder, program, objects):
+    """A client of the server in C that copies, over a fresh file, for one connection."""
+    path, port = fresh(folder, "copied"), free_port()
+    words = [program, str(port), path, str(objects), str(LENGTH), "1"]
+    with subprocess.Popen(words, stderr=subprocess.PIPE) as server:
+        try:
+            with connected(port) as client:
+                yield client
+            _, errors = server.communicate(timeout=PATIENCE)
+        finally:
+            server.kill()
+    same((server.returncode, errors), (0, b""))
+
+
+@contextlib.contextmanager
+def nginx_served(folder, sendfile):
+    """A client of nginx, which gives the files of a folder, with sendfile `on` or `off`."""
     port = free_port()
     user = f"user {pwd.getpwuid(0).pw_name};" if os.geteuid() == 0 else ""
     temporary = " ".join(
@@ -251,7 +270,7 @@ def nginx_served(folder):
     with open(os.path.join(folder, "nginx.conf"), "w") as file:
         file.write(
             f"{user} daemon off; worker_processes 1; pid {folder}/nginx.pid; error_log stderr crit;\n"
-            f"events {{}}\nhttp {{ access_log off; sendfile on; tcp_nodelay on; {temporary}\n"
+            f"events {{}}\nhttp {{ access_log off; sendfile {sendfile}; tcp_nodelay on; {temporary}\n"
             f"server {{ listen 127.0.0.1:{port}; root {folder}; }} }}\n"
         )
     words = ["nginx", "-p", folder, "-c", os.path.join(folder, "nginx.conf")]
@@ -291,19 +310,37 @@ def allocated(client, count):
     return [b"/media/" + one["object_id"].encode() for one in objects]
 
 
-def round_of_media(folder, program, objects, body):
+def round_of_media(folder, programs, objects, body):
     """The seconds of so many objects of each who puts or gets them."""
     media, half = objects * LENGTH // BLOCK, SPARE + objects
     blocks = 2 + 2 * half + media
-    seconds = {"ceiling, put": ceiling(program, folder, blocks, objects, LENGTH)}
+    seconds = {"ceiling, put": ceiling(programs["ceiling"], folder, blocks, objects, LENGTH)}
     with served(folder, blocks, half, 2 + 2 * objects, 2 + objects) as client:
         targets = allocated(client, objects)
         seconds["serve, put"] = put_objects(client, targets, body)
         seconds["serve, get"] = get_objects(client, targets, body)
-    if shutil.which("nginx"):
-        with nginx_served(folder) as client:
-            seconds["nginx, get"] = get_objects(client, [b"/object"] * objects, body)
+    seconds |= beside_media(folder, programs["copying"], objects, body)
     return seconds
+
+
+def beside_media(folder, program, objects, body):
+    """The seconds of so many objects of each server beside the store that takes or gives them."""
+    seconds, targets = {}, [b"/media/%d" % number for number in range(objects)]
+    with copying_served(folder, program, objects) as client:
+        seconds["copying, put"] = put_objects(client, targets, body)
+        seconds["copying, get"] = get_objects(client, targets, body)
+    if shutil.which("nginx"):
+        for name, sendfile in (("nginx, get", "on"), ("nginx, sendfile off, get", "off")):
+            with nginx_served(folder, sendfile) as client:
+                seconds[name] = get_objects(client, [b"/object"] * objects, body)
+    return seconds
+
+
+def compiled(folder, name):
+    """The program of this source in C."""
+    program, source = os.path.join(folder, f"{name}_program"), os.path.join(HERE, f"{name}.c")
+    subprocess.run(["cc", "-O2", "-o", program, source], check=True)
+    return program
 
 
 def best(rounds):
@@ -323,11 +360,18 @@ def print_changes(seconds, changes, rounds):
 
 def print_media(seconds, objects, rounds):
     for name, spent in seconds.items():
-        print(f"{name + ':':<18}{objects * LENGTH / spent / 1e6:>8.0f} MB a second")
+        print(f"{name + ':':<26}{objects * LENGTH / spent / 1e6:>8.0f} MB a second")
     print(f"serve, put to the ceiling: {seconds['ceiling, put'] / seconds['serve, put']:.2f}")
-    if "nginx, get" in seconds:
-        print(f"serve, get to nginx, get: {seconds['nginx, get'] / seconds['serve, get']:.2f}")
-    else:
+    for one, other in (
+        ("serve, put", "copying, put"),
+        ("serve, get", "copying, get"),
+        ("serve, get", "nginx, get"),
+        ("serve, get", "nginx, sendfile off, get"),
+        ("copying, get", "nginx, get"),
+    ):
+        if other in seconds:
+            print(f"{one} to {other}: {seconds[other] / seconds[one]:.2f}")
+    if "nginx, get" not in seconds:
         print("nginx isn't on the path, so it was left out")
     print(f"best of {rounds} rounds of {objects} objects of {LENGTH} bytes")
 
@@ -342,16 +386,14 @@ def main():
     if changes > MOST_REQUESTS or objects > MOST_OBJECTS:
         sys.exit(f"at most {MOST_REQUESTS} changes and {MOST_OBJECTS} objects")
     with tempfile.TemporaryDirectory(dir=os.environ.get("BENCH_FOLDER")) as folder:
-        program = os.path.join(folder, "ceiling_program")
-        source = os.path.join(HERE, "ceiling.c")
-        subprocess.run(["cc", "-O2", "-o", program, source], check=True)
+        programs = {name: compiled(folder, name) for name in ("ceiling", "copying")}
         body = os.urandom(LENGTH)
         with open(os.path.join(folder, "object"), "wb") as file:
             file.write(body)
         of_changes, of_media = [], []
         for _ in range(rounds):
-            of_changes.append(round_of_changes(folder, program, changes))
-            of_media.append(round_of_media(folder, program, objects, body))
+            of_changes.append(round_of_changes(folder, programs["ceiling"], changes))
+            of_media.append(round_of_media(folder, programs, objects, body))
     print_changes(best(of_changes), changes, rounds)
     print_media(best(of_media), objects, rounds)
 
