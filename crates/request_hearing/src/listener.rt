@@ -26,6 +26,7 @@ pub struct Hearing {
 impl Model for Hearing {
     ghost use Rattle.std.specs.Prelude.{◌≡◌, vec_len};
     ghost use Rattle.http_wire.specs.Feeds.{Fed};
+    ghost use Rattle.request_hearing.specs.declared.listener.TheConstants.{PIECE};
 
     ghost Value = { Fed };
 
