@@ -1,6 +1,6 @@
 -- How many turns can change something: each removes a segment or an object, or works a delete request off, and each of these has a serial of its own.
 use Rattle.std.proofs.Common.{◌≡◌, ◌≤◌, ◌<◌, ◌+◌, ◌∙◌, ◌==◌, ℕ, Bool, true, false, not, cond, List, [], ◌∷◌, ◌++◌, All, map, filter, length, take, Option, Some, None, inl, inr, refl, sym, ap, subst, arith, suc, length-append}
-use Rattle.std.specs.Prelude.{is_some, nat_lt, nat_le, ◌&&◌, ◌^◌}
+use Rattle.std.specs.Prelude.{is_some, nat_lt, nat_le, ◌&&◌}
 use Rattle.std.specs.List.{AllByRecursion, IsDistinct, list_all, list_any}
 use Rattle.std.proofs.lemmas.Bool.{and_parts, cond_both, eq-eqb, eqb-true, false≢true, not-true}
 use Rattle.std.proofs.lemmas.Bool.Decides.{leb_tells}
@@ -19,14 +19,14 @@ use Rattle.media_rows.specs.Catalog.{after_touch}
 use Rattle.media_rows.specs.declared.change.Change.{Change}
 use Rattle.media_rows.specs.Good.{Good}
 use Rattle.media_rows.specs.Library.{Library, last_serial, serials_of}
-use Rattle.media_rows.specs.Lists.{are_distinct, in_order, rises}
+use Rattle.media_rows.specs.Lists.{are_distinct, rises}
 use Rattle.media_rows.specs.Objects.{due_objects, idled_row, is_due, swept_objects, without_objects}
 use Rattle.media_rows.specs.declared.request.DeleteStatus.TheVariants.{Done}
 use Rattle.media_rows.specs.Requests.{after_end, after_step, done_kept, done_count, ended_row, first_unfinished, is_done, is_finished_by_step, is_unfinished, left_by_step, newest_done, removed_by_step, requested, stepped_row}
 use Rattle.media_rows.specs.Segments.{covered, segments_of, without_segments}
 use Rattle.library_laws.specs.MediaLaws.{IsGoodArchive}
-use Rattle.library_laws.proofs.KeptLemmas.{Serials, same_by_key}
-use Rattle.library_laws.proofs.ListLemmas.{In, in_order-In, In-append, In-filter, In-from_Contains, In-in_order, In-take, count-le, count-same, filter-In, find-In, length-filter_passing, list_all-In, list_any-In, list_any-from_In}
+use Rattle.library_laws.proofs.KeptLemmas.{same_by_key}
+use Rattle.library_laws.proofs.ListLemmas.{In, in_order-In, In-filter, In-in_order, In-take, count-le, count-same, filter-In, find-In, length-filter_passing, list_any-In, list_any-from_In}
 use Rattle.library_laws.proofs.OutboxKept.{Names-from}
 use Rattle.run_history.specs.Steps.{last_or}
 use Rattle.store_states.specs.States.{StoreState}
