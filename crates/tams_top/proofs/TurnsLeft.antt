@@ -82,7 +82,8 @@ sweep_less : (library : Library) (moment : ℕ) → nat_lt 0 (length (swept_obje
 sweep_less library moment some =
     let first = some_item (swept_objects library.segments library.objects moment) some in
     let due = In-take 16 (due_objects library.segments library.objects moment) first.0 first.1 in
-    let kept = In-filter (is_due library.segments moment) library.objects first.0 (In-in_order _ (filter (is_due library.segments moment) library.objects) first.0 due) in
+    let kept = In-filter (is_due library.segments moment) library.objects first.0
+    (In-in_order _ (filter (is_due library.segments moment) library.objects) first.0 due) in
     without_less (λ (row : ObjectRow). row.serial) (swept_objects library.segments library.objects moment) library.objects first.0 first.1 kept.0
 
 -- ---- delete requests
@@ -94,7 +95,8 @@ kept_fewer false x xs ys le = le
 done_fewer : (b : Bool) (row : DeleteRow) (later : List DeleteRow) → length (filter is_unfinished (newest_done later)) ≤ length (filter is_unfinished later)
     → (b ≡ true → is_done row.status ≡ true)
     → length (filter is_unfinished (cond b (newest_done later) (row ∷ newest_done later))) ≤ length (filter is_unfinished (row ∷ later))
-done_fewer true row later le done = omega (arith, le, ap (λ c. length (cond (not c) (row ∷ filter is_unfinished later) (filter is_unfinished later))) (done refl))
+done_fewer true row later le done =
+    omega (arith, le, ap (λ c. length (cond (not c) (row ∷ filter is_unfinished later) (filter is_unfinished later))) (done refl))
 done_fewer false row later le done = kept_fewer (is_unfinished row) row (filter is_unfinished (newest_done later)) (filter is_unfinished later) le
 
 newest_fewer : (requests : List DeleteRow) → length (filter is_unfinished (newest_done requests)) ≤ length (filter is_unfinished requests)
@@ -103,12 +105,14 @@ newest_fewer (row ∷ later) =
     done_fewer (is_done row.status && nat_le done_kept (done_count later)) row later (newest_fewer later)
     (λ e. (and_parts (is_done row.status) (nat_le done_kept (done_count later)) e).0)
 
-ended_was : (b : Bool) (row : DeleteRow) (moment : ℕ) → is_unfinished (cond b (record row { status = Done; updated = moment }) row) ≡ true → is_unfinished row ≡ true
+ended_was : (b : Bool) (row : DeleteRow) (moment : ℕ) → is_unfinished (cond b (record row { status = Done; updated = moment }) row) ≡ true
+    → is_unfinished row ≡ true
 ended_was true row moment e = absurd (false≢true e)
 ended_was false row moment e = e
 
 -- rows that become done or stay
-ended_fewer : (flow moment : ℕ) (requests : List DeleteRow) → length (filter is_unfinished (after_end flow moment requests)) ≤ length (filter is_unfinished requests)
+ended_fewer : (flow moment : ℕ) (requests : List DeleteRow)
+    → length (filter is_unfinished (after_end flow moment requests)) ≤ length (filter is_unfinished requests)
 ended_fewer flow moment requests =
     omega (
       arith,
@@ -148,7 +152,8 @@ module _ (library : Library) (moment : ℕ) (good : Good library) (request : Del
   was : (done : Bool) (row : DeleteRow) → In row library.requests → is_unfinished (stepped done row) ≡ true → is_unfinished row ≡ true
   was done row here = was_by (row.serial == request.serial) done row here refl
 
-  requests_fewer : (done : Bool) → length (filter is_unfinished (after_step request.serial done moment library.requests)) ≤ length (filter is_unfinished library.requests)
+  requests_fewer : (done : Bool) → length (filter is_unfinished (after_step request.serial done moment library.requests))
+      ≤ length (filter is_unfinished library.requests)
   requests_fewer done =
       omega (
         arith,
@@ -185,7 +190,8 @@ module _ (library : Library) (moment : ℕ) (good : Good library) (request : Del
       let covering = In-filter _ (segments_of request.flow segments) row (In-in_order _ _ row early.0) in
       (In-filter _ segments row covering.0).0
 
-  still_asked : (segments fewer : List SegmentRow) → ((row : SegmentRow) → In row fewer → In row segments) → (row : SegmentRow) → In row (requested fewer request)
+  still_asked : (segments fewer : List SegmentRow) → ((row : SegmentRow) → In row fewer → In row segments) → (row : SegmentRow)
+      → In row (requested fewer request)
       → In row (requested segments request)
   still_asked segments fewer among row here =
       let early = In-filter (λ (s : SegmentRow). nat_lt s.serial request.serial) (covered fewer request.flow request.range) row here in
@@ -200,7 +206,8 @@ module _ (library : Library) (moment : ℕ) (good : Good library) (request : Del
       let left = left_by_step library.segments request in
       let some : (row : SegmentRow) × In row left = some_left left more in
       let asked = still_asked library.segments (without_segments removed library.segments)
-      (λ row here. (In-filter (λ (s : SegmentRow). not (list_any (λ (gone : SegmentRow). gone.serial == s.serial) removed)) library.segments row here).0) some.0 some.1 in
+      (λ row here. (In-filter (λ (s : SegmentRow). not (list_any (λ (gone : SegmentRow). gone.serial == s.serial) removed)) library.segments row here).0)
+      some.0 some.1 in
       let first = some_taken 31 (requested library.segments request) some.0 asked in
       without_less (λ (row : SegmentRow). row.serial) removed library.segments first.0 first.1
       (asked_in library.segments first.0 (In-take 32 (requested library.segments request) first.0 first.1))
@@ -217,7 +224,8 @@ module _ (library : Library) (moment : ℕ) (good : Good library) (request : Del
 
   left_after : (gone : Bool) (touched : Library) → touched.segments ≡ library.segments → touched.objects ≡ library.objects
       → touched.requests ≡ after_step request.serial finished moment library.requests
-      → turns_left (cond gone (remove_flow request.flow moment (remove_segments removed moment touched)) (remove_segments removed moment touched)) < turns_left library
+      → turns_left (cond gone (remove_flow request.flow moment (remove_segments removed moment touched)) (remove_segments removed moment touched))
+      < turns_left library
   left_after true touched segments objects requests =
       omega (
         arith,
