@@ -30,7 +30,7 @@ use Rattle.library_laws.proofs.ListLemmas.{In, in_order-In, In-filter, In-in_ord
 use Rattle.library_laws.proofs.OutboxKept.{Names-from}
 use Rattle.run_history.specs.Steps.{last_or}
 use Rattle.store_states.specs.States.{StoreState}
-use Rattle.tams_machine.specs.Answers.{state_with_change, turn_in, turned_by}
+use Rattle.tams_machine.specs.Answers.{state_with_change, turned_by}
 use Rattle.tams_top.specs.Working.{HaveTurned}
 
 -- the segments, the objects and the delete requests that aren't worked off

@@ -235,7 +235,7 @@ module _ (b : Beginning StoreState) (moments : List ℕ) (states : List StoreSta
   works_no_more is keeps sound honest shows tells later later_is turns number on =
       ended (Ok turns) (t ∷ []) new later later_is moments_are
       (kept_calls (tams_machine []) b (turns_trace b.state states) false mid new w.reached (over_keeps [] w.keeps.state keeps)) sound honest shows tells
-      (sym number, refl, t, refl, turn_is None is) (omega (arith, on, ap (bytes_if (journal_of store.kept)) is))
+      (sym number, refl, (t, refl, turn_is None is)) (omega (arith, on, ap (bytes_if (journal_of store.kept)) is))
 
   -- There was no memory for it.
   pub works_starved : new ≡ mid → is_some (turn store.kept.library t) ≡ true → IsDevice new → new.honest ≡ true → new.shows ≡ true → new.tells ≡ true

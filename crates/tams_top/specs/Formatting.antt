@@ -1,5 +1,5 @@
 -- The store that `format` makes: its rows, and the state for which it stands.
-use Rattle.std.specs.Prelude.{◌-◌, ◌*◌, ℕ, List, [], ◌∷◌}
+use Rattle.std.specs.Prelude.{◌+◌, ◌-◌, ◌*◌, ℕ, List, [], ◌∷◌}
 use Rattle.media_rows.specs.declared.row.Row.TheVariants.{Numbers}
 use Rattle.media_rows.specs.Library.{empty_library}
 use Rattle.snapshot_rows.specs.Texts.{text_of_rows}

@@ -1,4 +1,4 @@
-use Rattle.std.proofs.Common.{◌∙◌, inl, inr, ap, subst, arith}
+use Rattle.std.proofs.Common.{inl, inr, ap, subst, arith}
 use Rattle.std.proofs.lemmas.Result.{err_from_is_err_and}
 use Rattle.media_rows.specs.declared.change.Change.TheVariants.{DeleteStep, SweepStep}
 use Rattle.media_rows.specs.Apply.{turn}
