@@ -18,6 +18,9 @@ use std::{io, str};
 /// Where the system shows the files that are open as standard input, output and error.
 const STREAMS: [&str; 3] = ["/proc/self/fd/0", "/proc/self/fd/1", "/proc/self/fd/2"];
 
+/// How many bytes lie between two places of the file behind which writing to the disk begins.
+const STRETCH: u64 = 524_288;
+
 /// A file of fixed size that this process holds the lock of while it is open.
 ///
 /// A sync that failed may have left bytes in the system's copies of the file's pages that the disk doesn't
@@ -114,12 +117,27 @@ impl Disk for StoreFile {
 
     fn write_at(&mut self, at: u64, bytes: &[u8]) -> Result<(), Failed> {
         let answer = self.file.write_all_at(bytes, at);
+        begin_writing(&self.file, at, bytes.len() as u64);
         counted(answer, &mut self.faults, Failed)
     }
 
     fn sync(&mut self) -> Result<(), Failed> {
         let answer = self.file.sync_data();
         counted(answer, &mut self.faults, Failed)
+    }
+}
+
+/// Where so many bytes from this place on come to the end of a stretch, the system is told that the stretch isn't
+/// read soon. It begins to write it to the disk then, so that the next sync has less to wait for. Nothing rests on
+/// the answer: a write that fails is told by that sync.
+fn begin_writing(file: &File, at: u64, count: u64) {
+    let ended = at.saturating_add(count) / STRETCH;
+    if at / STRETCH == ended {
+        return;
+    }
+    if let Ok(start) = i64::try_from((ended - 1) * STRETCH) {
+        let advice = libc::POSIX_FADV_DONTNEED;
+        libc::posix_fadvise(file.as_raw_fd(), start, STRETCH as i64, advice);
     }
 }
 
