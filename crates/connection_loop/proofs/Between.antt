@@ -34,8 +34,8 @@ same_connected old new time =
 
 -- It was closed.
 pub ends_closed : {State Request : Type 0} (m : Machine State Request) (b : Beginning State) (old new : Device) (given : List ℕ)
-    (keeps keeps_now : State → Type 0) (finished : List (Session Request)) (n : RunCounts) (ending : ConnectionEnd) → EndsAs m b old given keeps finished n ending
-    → Elapses Unchanged Unchanged old new → new.link.connections ≡ old.link.connections → new.handed ≡ old.handed
+    (keeps keeps_now : State → Type 0) (finished : List (Session Request)) (n : RunCounts) (ending : ConnectionEnd)
+    → EndsAs m b old given keeps finished n ending → Elapses Unchanged Unchanged old new → new.link.connections ≡ old.link.connections → new.handed ≡ old.handed
     → ((s : State) → keeps s → keeps_now s) → EndsAs m b new given keeps_now finished n ending
 ends_closed m b old new given keeps keeps_now finished n ending e time same handed kept = record {
   session = e.session;

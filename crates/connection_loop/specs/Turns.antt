@@ -75,8 +75,8 @@ pub record GoesOn {State Request : Type 0} (m : Machine State Request) (b : Begi
 
 -- what a turn leads to: the connection goes on, or it has ended
 abbrev pub TurnLeads : {State Request : Type 0} → Machine State Request → Beginning State → Device
-    → List ℕ → List ℕ → ℕ → (State → Type 0) → List (Session Request) → RunCounts → Option ConnectionEnd
-    → Type 0
+    → List ℕ → List ℕ → ℕ → (State → Type 0) → List (Session Request) → RunCounts
+    → Option ConnectionEnd → Type 0
 TurnLeads m b d given unread taken keeps finished n None =
     GoesOn m b d given unread taken keeps finished n
 TurnLeads m b d given unread taken keeps finished n (Some ending) =

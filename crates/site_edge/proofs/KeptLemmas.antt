@@ -10,7 +10,8 @@ use Rattle.site_edge.specs.declared.span.Added.{Added}
 use Rattle.site_edge.specs.MemorySite.{SiteState, IsKeptBySite, add_to, told_after, told_of, disk_calls}
 use Rattle.site_edge.proofs.ConnectionLemmas.{length-change_last, told_kept}
 
-told_after-push : (spans : List ToldSpan) (span : ToldSpan) (told : List (List ℕ)) → told_after (spans ++ span ∷ []) told ≡ add_to (told_after spans told) span.adds
+told_after-push : (spans : List ToldSpan) (span : ToldSpan) (told : List (List ℕ))
+    → told_after (spans ++ span ∷ []) told ≡ add_to (told_after spans told) span.adds
 told_after-push [] span told = refl
 told_after-push (first ∷ spans) span told = told_after-push spans span (add_to told first.adds)
 

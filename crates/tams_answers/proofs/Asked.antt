@@ -9,16 +9,16 @@ use Rattle.tams_http.specs.declared.ask.Ask.TheVariants.{GetMedia, Run}
 use Rattle.tams_answers.specs.Within.{PlansAsked}
 use Rattle.tams_answers.specs.declared.plans.PlannedAnswer.{PlannedAnswer}
 
-pub of_command : {E : Type 0} (kept : StoreView) (moment : ℕ) (head_only : Bool) (asked : Result Ask Refusal) (command : Command) (result : Result PlannedAnswer E)
-    → asked ≡ Ok (Run command)
+pub of_command : {E : Type 0} (kept : StoreView) (moment : ℕ) (head_only : Bool) (asked : Result Ask Refusal) (command : Command)
+    (result : Result PlannedAnswer E) → asked ≡ Ok (Run command)
     → IfOk result (λ made. (head : Bool) → PlansAsked kept moment head (Ok (Run command)) made.planned made.media)
     → IfOk result (λ made. PlansAsked kept moment head_only asked made.planned made.media)
 of_command kept moment head_only asked command (Ok made) is plans =
     subst (λ (a : Result Ask Refusal). PlansAsked kept moment head_only a made.planned made.media) (sym is) (plans head_only)
 of_command kept moment head_only asked command (Err e) is plans = tt
 
-pub of_get : {E : Type 0} (kept : StoreView) (moment : ℕ) (head_only head : Bool) (asked : Result Ask Refusal) (object : List ℕ) (result : Result PlannedAnswer E)
-    → asked ≡ Ok (GetMedia object) → head ≡ head_only
+pub of_get : {E : Type 0} (kept : StoreView) (moment : ℕ) (head_only head : Bool) (asked : Result Ask Refusal) (object : List ℕ)
+    (result : Result PlannedAnswer E) → asked ≡ Ok (GetMedia object) → head ≡ head_only
     → IfOk result (λ made. (moment : ℕ) → PlansAsked kept moment head (Ok (GetMedia object)) made.planned made.media)
     → IfOk result (λ made. PlansAsked kept moment head_only asked made.planned made.media)
 of_get kept moment head_only head asked object (Ok made) is same plans =

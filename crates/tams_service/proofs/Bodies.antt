@@ -246,7 +246,8 @@ module _ (old mid : Device) (s store : StoreSeen) (from fed : Fed) (shown : Head
   take_failed new now body stops p all asks keeps o answers few =
       failed_so s from shown old moment n p all asks keeps o tells mid store fed put kept_is stays new now body stops
 
-  pub take_whole : (new : Device) (now : RunCounts) (next : StoreSeen) (result : Option ConnectionEnd) → TakesBody s.kept shown.length from fed put old mid taken.Whole
+  pub take_whole : (new : Device) (now : RunCounts) (next : StoreSeen) (result : Option ConnectionEnd)
+      → TakesBody s.kept shown.length from fed put old mid taken.Whole
       → store.spent ≡ false → plan_of put ≡ plan_of begun → IfSome put (IsFilled s.kept shown.length)
       → PutLeads mid new store next n now put responses moment shown.ends result
       → TakeLeads s next from fed shown begun responses old new moment n now result
@@ -270,8 +271,8 @@ module _ (s next : ServiceSeen) (shown : Head) (old new : Device) (begun given :
         (ap (λ g. g ++ moment ∷ []) same ∙ sym given_is) (leads p all base asks keeps o few)
 
     -- It was planned.
-    pub media_planned : (result : Option ConnectionEnd) (put : Option PutSeen) (responses : Responses) (target : List ℕ) → target ≡ span_bytes s.fed shown.target
-        → ((r : TamsRequest) → IsMediaSent (record { target = target; size = shown.length; ends = shown.ends }) r
+    pub media_planned : (result : Option ConnectionEnd) (put : Option PutSeen) (responses : Responses) (target : List ℕ)
+        → target ≡ span_bytes s.fed shown.target → ((r : TamsRequest) → IsMediaSent (record { target = target; size = shown.length; ends = shown.ends }) r
         → MediaAnswers s.base r moment s.store.kept put responses)
         → TakeLeads s.store next.store s.fed next.fed shown put responses old new moment n now result
         → MediaLeads s next shown old new begun given n now result

@@ -37,8 +37,8 @@ use Rattle.tams_service.proofs.PutReplies.{IsFull, came_is, change, changes_so, 
 use Rattle.tams_service.proofs.States.{keeps_next}
 
 -- There is no put.
-pub none_leads : (old new : Device) (n now : RunCounts) (store next : StoreSeen) (responses : Responses) (moment : ℕ) (ends : Bool) (result : Option ConnectionEnd)
-    → FinishLeads old new store next n now (responses.reply ++ []) 0 moment ends result
+pub none_leads : (old new : Device) (n now : RunCounts) (store next : StoreSeen) (responses : Responses) (moment : ℕ) (ends : Bool)
+    (result : Option ConnectionEnd) → FinishLeads old new store next n now (responses.reply ++ []) 0 moment ends result
     → PutLeads old new store next n now None responses moment ends result
 none_leads old new n now store next responses moment ends result finishes p text rest r asks keeps request is few = by_begun is.begun is.answers is.plan
   where
@@ -192,8 +192,8 @@ pub tells_on : (old new : Device) → SameDevice old new → TellsAllOf old → 
 tells_on old new same all = record { honest = same.honest ∙ all.honest; shows = same.shows ∙ all.shows; tells = same.tells ∙ all.tells }
 
 -- a reply with a response alone
-pub finishes_with : (old new : Device) (store next : StoreSeen) (n now : RunCounts) (moment : ℕ) (result : Option ConnectionEnd) (reply : DueReply) (response : List ℕ)
-    (area count : ℕ) (ends : Bool)
+pub finishes_with : (old new : Device) (store next : StoreSeen) (n now : RunCounts) (moment : ℕ) (result : Option ConnectionEnd) (reply : DueReply)
+    (response : List ℕ) (area count : ℕ) (ends : Bool)
     → FinishLeads old new store next n now (reply.response.now ++ following_bytes area reply.media old.seen) reply.changes moment reply.ends result
     → reply.response.now ≡ response → (reply.media ≡ None) × (reply.changes ≡ count) × (reply.ends ≡ ends)
     → FinishLeads old new store next n now (response ++ []) count moment ends result

@@ -122,7 +122,8 @@ pub record IsMachineReply (p : RunPlace) (r : TamsRequest) (moment : ℕ) (bytes
 
 -- The connection goes on behind a request at a moment, or has ended, and what the store keeps then
 -- is the state to which it led.
-abbrev pub LeadsTo : RunPlace → Device → StoreSeen → ℕ → List ℕ → RunCounts → Option ConnectionEnd → Type 0
+abbrev pub LeadsTo : RunPlace → Device → StoreSeen → ℕ → List ℕ → RunCounts
+    → Option ConnectionEnd → Type 0
 LeadsTo p d store moment rest n result =
     TurnLeads (tams_machine p.base) p.beginning d (p.given ++ moment ∷ []) rest (p.taken + 1)
     (KeepsState store d) p.finished n result
@@ -226,7 +227,8 @@ abbrev pub MediaLeads : ServiceSeen → ServiceSeen → Head → Device → Devi
     → RunCounts → RunCounts → Option ConnectionEnd → Type 0
 MediaLeads s next head old new begun given n now result =
     (p : RunPlace) (all : List ℕ) → p.base ≡ s.base → p.given ≡ begun → AsksAt p old all n
-    → KeepsState s.store old p.state → OpensMedia p.taken all p.said s.fed head → p.taken < most_answers
+    → KeepsState s.store old p.state → OpensMedia p.taken all p.said s.fed head
+    → p.taken < most_answers
     → TurnLeads (tams_machine p.base) p.beginning new given next.fed.unread (p.taken + 1)
     (KeepsState next.store new) p.finished now result
 
