@@ -1,9 +1,9 @@
 //! An index of segments: pages of it, and a segment that is added and removed.
 ghost use Rattle.std.specs.Prelude.{◌≡◌, ◌<◌};
-ghost use Rattle.media_rows.specs.Ranges.{has_both_ends};
 
 use crate::places::Places;
 use disk_trait::{Memory, Text};
+use good_values::has_both_ends;
 use media_rows::{Segment, SegmentRow};
 use segment_index::SegmentIndex;
 use shared_tree::Steps;
@@ -47,13 +47,6 @@ fn segment(alloc: Global, range: TimeRange, start: Ts) -> Result<Rc<SegmentRow>,
         },
     };
     Ok(Rc::new(alloc, row)?)
-}
-
-/// Whether a range isn't never and is open at neither end.
-fn has_both_ends(range: &TimeRange) -> bool
-    ensures { result ≡ has_both_ends range.now }
-{
-    range.low().is_some() && range.high().is_some()
 }
 
 /// The index with a segment; one that overlaps another, or is open, finds no memory.
