@@ -222,29 +222,27 @@ module _ (library : Library) (moment : ℕ) (good : Good library) (request : Del
   less_by true e = omega (arith, requests_less, segments_fewer)
   less_by false e = omega (arith, requests_fewer false, segments_less e)
 
+  segments_go : (touched : Library) → touched.segments ≡ library.segments → touched.objects ≡ library.objects
+      → touched.requests ≡ after_step request.serial finished moment library.requests
+      → turns_left (remove_segments removed moment touched) < turns_left library
+  segments_go touched segments objects requests =
+      omega (
+        arith,
+        less_by finished refl,
+        ap (λ (s : List SegmentRow). length (without_segments removed s)) segments,
+        length-map touched.objects (idled_row touched.segments (without_segments removed touched.segments) moment),
+        ap (λ (o : List ObjectRow). length o) objects,
+        ap (λ (r : List DeleteRow). length (filter is_unfinished r)) requests,
+      )
+
+  -- and the flow with the last ones, where that was asked for
   left_after : (gone : Bool) (touched : Library) → touched.segments ≡ library.segments → touched.objects ≡ library.objects
       → touched.requests ≡ after_step request.serial finished moment library.requests
       → turns_left (cond gone (remove_flow request.flow moment (remove_segments removed moment touched)) (remove_segments removed moment touched))
       < turns_left library
   left_after true touched segments objects requests =
-      omega (
-        arith,
-        less_by finished refl,
-        ap (λ (s : List SegmentRow). length (without_segments removed s)) segments,
-        length-map touched.objects (idled_row touched.segments (without_segments removed touched.segments) moment),
-        ap (λ (o : List ObjectRow). length o) objects,
-        ended_fewer request.flow moment touched.requests,
-        ap (λ (r : List DeleteRow). length (filter is_unfinished r)) requests,
-      )
-  left_after false touched segments objects requests =
-      omega (
-        arith,
-        less_by finished refl,
-        ap (λ (s : List SegmentRow). length (without_segments removed s)) segments,
-        length-map touched.objects (idled_row touched.segments (without_segments removed touched.segments) moment),
-        ap (λ (o : List ObjectRow). length o) objects,
-        ap (λ (r : List DeleteRow). length (filter is_unfinished r)) requests,
-      )
+      omega (arith, segments_go touched segments objects requests, ended_fewer request.flow moment touched.requests)
+  left_after false touched segments objects requests = segments_go touched segments objects requests
 
   step_less : turns_left (after_request_step moment request library) < turns_left library
   step_less =
