@@ -14,7 +14,7 @@ import subprocess
 import sys
 
 # as ./tams runs the store: memory in large pages
-os.environ.setdefault("GLIBC_TUNABLES", "glibc.malloc.hugetlb=1")
+os.environ.setdefault("GLIBC_TUNABLES", "glibc.malloc.hugetlb=1:glibc.malloc.tcache_count=127")
 HERE = os.path.dirname(os.path.abspath(__file__))
 PROGRAM = os.path.join(HERE, "..", "crates", "book_measure", "out", "book_measure")
 SIZES = [10, 1000, 100000, 1000000]

@@ -11,7 +11,7 @@ mod places;
 mod segments;
 
 use crate::flows::{looks, opened, puts};
-use crate::objects::{BookCall, calls, references};
+use crate::objects::{BookCall, ReferenceCall, calls, references};
 use crate::segments::{adds, pages};
 use disk_trait::Memory;
 use std::alloc::Global;
@@ -59,8 +59,8 @@ fn measured(alloc: Global, what: &str, size: u64, times: u64) -> Result<u64, Mem
         "mark-stored" => calls(alloc, BookCall::MarkStored, size, times),
         "first-idle" => calls(alloc, BookCall::FirstIdle, size, times),
         "find" => calls(alloc, BookCall::Find, size, times),
-        "refer" => references(alloc, false, size, times),
-        "unrefer" => references(alloc, true, size, times),
+        "refer" => references(alloc, ReferenceCall::Refer, size, times),
+        "unrefer" => references(alloc, ReferenceCall::Unrefer, size, times),
         _ => Ok(0),
     }
 }

@@ -23,6 +23,13 @@ pub(crate) enum BookCall {
     Find,
 }
 
+/// A call on a book whose objects have bytes.
+#[derive(Clone, Copy)]
+pub(crate) enum ReferenceCall {
+    Refer,
+    Unrefer,
+}
+
 /// The id of an object: its number in eight bytes.
 fn id_of(alloc: Global, number: u64) -> Result<Text, Memory> {
     Text::from_bytes(alloc, &number.to_le_bytes())
@@ -165,23 +172,23 @@ pub(crate) fn calls(alloc: Global, call: BookCall, size: u64, times: u64) -> Res
 }
 
 /// How many objects there are once one has a reference, or once it went back.
-fn after_refer(
+fn after_reference(
     alloc: Global,
+    call: ReferenceCall,
     book: &ObjectBook,
     id: &Text,
-    goes_back: bool,
 ) -> Result<u64, Memory> {
     let more = referred(alloc, book, id, FLOW)?;
-    if !goes_back {
-        return Ok(more.object_count());
+    match call {
+        ReferenceCall::Refer => Ok(more.object_count()),
+        ReferenceCall::Unrefer => Ok(more.unrefer(alloc, id, FLOW, 1)?.object_count()),
     }
-    Ok(more.unrefer(alloc, id, FLOW, 1)?.object_count())
 }
 
 /// What the answers of references to objects of one book add up to.
 pub(crate) fn references(
     alloc: Global,
-    goes_back: bool,
+    call: ReferenceCall,
     size: u64,
     times: u64,
 ) -> Result<u64, Memory> {
@@ -190,7 +197,7 @@ pub(crate) fn references(
     let mut sum = 0_u64;
     for _time in 0..times {
         let id = id_of(alloc, places.next())?;
-        sum = sum.wrapping_add(after_refer(alloc, &book, &id, goes_back)?);
+        sum = sum.wrapping_add(after_reference(alloc, call, &book, &id)?);
     }
     Ok(sum)
 }

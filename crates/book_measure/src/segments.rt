@@ -4,7 +4,7 @@ ghost use Rattle.std.specs.Prelude.{◌≡◌, ◌<◌};
 use crate::places::Places;
 use disk_trait::{Memory, Text};
 use good_values::has_both_ends;
-use media_rows::{Segment, SegmentRow};
+use media_rows::{Page, Segment, SegmentRow};
 use segment_index::SegmentIndex;
 use shared_tree::Steps;
 use std::alloc::Global;
@@ -13,7 +13,7 @@ use std::sync::ledger::{Blank, Ledger};
 use time_range::{End, TimeRange, Ts};
 
 /// How many segments a page has at most.
-const PAGE: usize = 100;
+const PAGE: u64 = 100;
 
 /// The nanoseconds from one segment to the next, of which each takes the first half.
 const STEP: i128 = 2_000_000_000;
@@ -108,8 +108,13 @@ fn page<L: Ledger>(
 ) -> Result<u64, Memory> {
     let low = i128::from(place) * STEP;
     let wanted = range(low, low + STEP * 1_000_000_000);
-    let mut rows: Vec<&SegmentRow> = Vec::with_capacity(alloc, PAGE)?;
-    index.range(&wanted, None, PAGE, false, &mut rows, steps);
+    let mut rows: Vec<&SegmentRow> = Vec::with_capacity(alloc, PAGE as usize)?;
+    let page = Page {
+        after: None,
+        limit: PAGE,
+        reverse: false,
+    };
+    index.range(&wanted, &page, &mut rows, steps);
     Ok(rows.len() as u64)
 }
 

@@ -1,5 +1,5 @@
 //! Parts that are set or cleared: which isn't set, and what each makes.
-ghost use Rattle.std.specs.Prelude.{◌≡◌};
+ghost use Rattle.std.specs.Prelude.{◌≡◌, Some};
 ghost use Rattle.media_rows.specs.declared.refusal.Refusal.TheVariants as refusals;
 ghost use Rattle.media_rows.specs.Catalog.{body_with, clears_nothing, collects_nothing, flow_part_unset, sets_mark, source_part_unset, source_with, tag_of};
 ghost use Rattle.media_rows.specs.Refusals.{when};
@@ -19,34 +19,34 @@ pub fn flow_part_unset(
     ensures { Computes result (flow_part_unset body.now part.now) }
 {
     match part {
-        Part::Tag(name, new) => not_set(
+        Part::Tag(name, new) => not_set_if(
             alloc,
             clears_no_tag(body.tags.items(), name, new),
             b"tags",
         ),
-        Part::Label(new) => not_set(alloc, clears_nothing(&body.label, new), b"label"),
+        Part::Label(new) => not_set_if(alloc, clears_nothing(&body.label, new), b"label"),
         Part::Description(new) => {
-            not_set(
+            not_set_if(
                 alloc,
                 clears_nothing(&body.description, new),
                 b"description",
             )
         }
         Part::ReadOnly(_) => Ok(None),
-        Part::Collection(new) => not_set(
+        Part::Collection(new) => not_set_if(
             alloc,
             collects_nothing(body.members.items(), new.items()),
             b"flow_collection",
         ),
         Part::MaxBitRate(new) => {
-            not_set(
+            not_set_if(
                 alloc,
                 clears_nothing(&body.max_bit_rate, new),
                 b"max_bit_rate",
             )
         }
         Part::AvgBitRate(new) => {
-            not_set(
+            not_set_if(
                 alloc,
                 clears_nothing(&body.avg_bit_rate, new),
                 b"avg_bit_rate",
@@ -65,26 +65,37 @@ pub fn source_part_unset(
     ensures { Computes result (source_part_unset row.now part.now) }
 {
     match part {
-        Part::Tag(name, new) => not_set(alloc, clears_no_tag(row.tags.items(), name, new), b"tags"),
-        Part::Label(new) => not_set(alloc, clears_nothing(&row.label, new), b"label"),
+        Part::Tag(name, new) => not_set_if(
+            alloc,
+            clears_no_tag(row.tags.items(), name, new),
+            b"tags",
+        ),
+        Part::Label(new) => not_set_if(alloc, clears_nothing(&row.label, new), b"label"),
         Part::Description(new) => {
-            not_set(alloc, clears_nothing(&row.description, new), b"description")
+            not_set_if(alloc, clears_nothing(&row.description, new), b"description")
         }
-        Part::ReadOnly(_) => not_set(alloc, true, b"read_only"),
-        Part::Collection(_) => not_set(alloc, true, b"flow_collection"),
-        Part::MaxBitRate(_) => not_set(alloc, true, b"max_bit_rate"),
-        Part::AvgBitRate(_) => not_set(alloc, true, b"avg_bit_rate"),
+        Part::ReadOnly(_) => not_set(alloc, b"read_only"),
+        Part::Collection(_) => not_set(alloc, b"flow_collection"),
+        Part::MaxBitRate(_) => not_set(alloc, b"max_bit_rate"),
+        Part::AvgBitRate(_) => not_set(alloc, b"avg_bit_rate"),
     }
 }
 
 /// The refusal that names a part, where the test holds.
-fn not_set(alloc: Global, test: bool, name: &[u8]) -> Result<Option<Refusal>, Memory>
+fn not_set_if(alloc: Global, test: bool, name: &[u8]) -> Result<Option<Refusal>, Memory>
     ensures { Computes result (when test (refusals.NotSet name.now)) }
 {
     if test {
-        return Ok(Some(Refusal::NotSet(Text::from_bytes(alloc, name)?)));
+        return not_set(alloc, name);
     }
     Ok(None)
+}
+
+/// The refusal that names a part.
+fn not_set(alloc: Global, name: &[u8]) -> Result<Option<Refusal>, Memory>
+    ensures { Computes result (Some (refusals.NotSet name.now)) }
+{
+    Ok(Some(Refusal::NotSet(Text::from_bytes(alloc, name)?)))
 }
 
 fn clears_nothing<X, Y>(old: &Option<X>, new: &Option<Y>) -> bool

@@ -193,20 +193,14 @@ fn installed(core: Result<Core, Memory>, made: Prepared) -> Result<(), Stop> {
     }
 }
 
-/// Prepares a change of a kind, and installs it where that is wanted. The library itself stays.
+/// Prepares a change of a kind, and installs it. The library itself stays.
 pub(crate) fn changed(
     site: &Measured<'_>,
     base: &Core,
     kind: ChangeKind,
     place: u64,
-    installs: bool,
 ) -> Result<(), Stop> {
-    let made = prepared(site, base, kind, place)?;
-    if installs {
-        return installed(base.share(), made);
-    }
-    let_go::prepared(made);
-    Ok(())
+    installed(base.share(), prepared(site, base, kind, place)?)
 }
 
 /// Prepares a kind of change so often, each time on the same library, and installs one in ten.
@@ -218,7 +212,12 @@ pub(crate) fn repeated(
 ) -> Result<(), Stop> {
     let mut places = Places::new(site.near);
     for time in 0..times {
-        changed(site, base, kind, places.next(), time % INSTALLED == 0)?;
+        let place = places.next();
+        if time % INSTALLED == 0 {
+            changed(site, base, kind, place)?;
+        } else {
+            let_go::prepared(prepared(site, base, kind, place)?);
+        }
     }
     Ok(())
 }

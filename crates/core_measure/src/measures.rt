@@ -72,7 +72,7 @@ fn best(
     kind: ChangeKind,
     times: u64,
 ) -> Result<u128, Stop> {
-    changed(site, base, kind, 0, true)?;
+    changed(site, base, kind, 0)?;
     let mut least = u128::MAX;
     for _round in 0..ROUNDS {
         least = least.min(round(rt, site, base, kind, times)?);

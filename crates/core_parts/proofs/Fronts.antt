@@ -1,11 +1,12 @@
 -- Ids that a client names: those before the first that begins as the store's own. And the store's own ids.
-use Rattle.std.proofs.Common.{◌≡◌, ℕ, zero, suc, ◌+◌, ◌<◌, Bool, true, false, List, [], ◌∷◌, ◌++◌, Option, Some, None, take, drop, drop-cons, get_or, map, length, refl, sym, ap, ◌∙◌, arith}
+use Rattle.std.proofs.Common.{◌≡◌, ℕ, zero, suc, ◌+◌, ◌<◌, Bool, true, false, List, [], ◌∷◌, ◌++◌, Option, Some, take, drop, get_or, map, length, refl, sym, ap, ◌∙◌, arith}
 use Rattle.std.specs.Prelude.{◌||◌, nat_eq, if◌then◌else◌, slice_get}
 use Rattle.std.specs.List.{starts_with}
 use Rattle.std.proofs.lemmas.List.{map-append}
 use Rattle.media_rows.specs.Answer.{first_taken}
 use Rattle.media_rows.specs.Lists.{has_text, numbers_below, or_else}
 use Rattle.core_parts.specs.Within.{front_length}
+use Rattle.webhook_outbox.proofs.Posting.{item_first}
 
 -- ---- names
 
@@ -42,12 +43,6 @@ first_of_front kept prefix earlier (id ∷ later) = by (starts_with nat_eq id pr
         (first_taken kept (id ∷ earlier) (take (front_length prefix later) later)) (slice_get later (front_length prefix later)) rest
 
 -- ---- their front
-
--- the item that a loop looks at, and those behind it
-item_first : {X : Type 0} (xs : List X) (i : ℕ) (x : X) → i < length xs → x ≡ get_or xs i x → drop i xs ≡ x ∷ drop (i + 1) xs
-item_first xs i x lt at =
-    let next : suc i ≡ i + 1 = omega arith in
-    drop-cons xs i x lt ∙ ap (λ y. y ∷ drop (suc i) xs) (sym at) ∙ ap (λ j. x ∷ drop j xs) next
 
 -- the first that begins in this way ends the front
 pub front_ends : (prefix : List ℕ) (ids : List (List ℕ)) (i : ℕ) (id : List ℕ) → i < length ids → id ≡ get_or ids i id

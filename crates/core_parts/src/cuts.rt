@@ -17,7 +17,7 @@ ghost use Rattle.core_parts.specs.Within.{after_going};
 use crate::Parts;
 use core_registry::{going_is_told, hull_if_any};
 use disk_trait::Memory;
-use media_rows::{BookFault, SegmentRow};
+use media_rows::{BookFault, Deletion, SegmentRow};
 use std::alloc::Global;
 use time_range::TimeRange;
 
@@ -88,27 +88,23 @@ impl Parts {
         Ok(self.with_both(alloc, media, registry)?)
     }
 
-    /// Makes a request that the segments of a flow go that a range covers, and with the last of them the flow
-    /// where `delete_flow` says so. It takes the next serial.
+    /// Makes a delete request. It takes the next serial.
     pub fn ask_delete(
         &self,
         alloc: Global,
-        flow: u128,
-        range: &TimeRange,
-        delete_flow: bool,
+        asked: &Deletion,
         now: u64,
     ) -> Result<Option<Parts>, BookFault>
         requires ready { IsReady self.now }
-        ensures { IsChange (change_refusal self.now flow)
-            (within_serials (after (changes.AskDelete now flow range.now delete_flow) self.now)) result }
+        ensures { IsChange (change_refusal self.now asked.now.flow)
+            (within_serials (after (changes.AskDelete now asked.now.flow asked.now.range
+            asked.now.delete_flow) self.now)) result }
     {
-        let refusal = self.registry.change_refusal(flow);
+        let refusal = self.registry.change_refusal(asked.flow);
         if let Some(why) = refusal {
             return Err(BookFault::Refused(why));
         }
-        let registry = self
-            .registry
-            .ask_delete(alloc, flow, *range, delete_flow, now)?;
+        let registry = self.registry.ask_delete(alloc, asked, now)?;
         Ok(self.with_registry(registry)?)
     }
 

@@ -1,7 +1,6 @@
 -- Hulls of posts and of rows, and what happens when segments and flows go.
-use Rattle.std.proofs.Common.{◌≡◌, ℕ, ℤ, Bool, true, false, not, cond, List, [], ◌∷◌, ◌++◌, Option, Some, None, is_some, is_none, drop, drop-cons, get_or, filter, find, map, refl, sym, ap, ap₂, subst, ◌∙◌, arith}
-use Rattle.std.specs.Prelude.{◌+◌, ◌==◌, ◌≤◌, ◌<◌, if◌then◌else◌, length, suc}
-use Rattle.std.specs.Int.{int_min, int_max}
+use Rattle.std.proofs.Common.{◌≡◌, ℕ, ℤ, Bool, true, false, not, cond, List, [], ◌∷◌, ◌++◌, Option, Some, None, is_some, is_none, drop, filter, find, map, refl, sym, ap, ap₂, subst, ◌∙◌, arith}
+use Rattle.std.specs.Prelude.{◌+◌, ◌==◌, ◌≤◌, if◌then◌else◌, length, suc}
 use Rattle.std.specs.List.{list_all, list_any}
 use Rattle.std.proofs.lemmas.Bool.{and_parts, eqb-true}
 use Rattle.std.proofs.lemmas.Int.{ints, clamps}
@@ -213,12 +212,6 @@ behind_more serial later [] le behind = tt
 behind_more serial later (row ∷ rows) le behind = (omega (arith, le, behind.0), behind_more serial later rows le behind.1)
 
 -- ---- loops
-
--- the item that a loop looks at, and those behind it
-pub item_first : {X : Type 0} (xs : List X) (i : ℕ) (x : X) → i < length xs → x ≡ get_or xs i x → drop i xs ≡ x ∷ drop (i + 1) xs
-item_first xs i x lt at =
-    let next : suc i ≡ i + 1 = omega arith in
-    drop-cons xs i x lt ∙ ap (λ y. y ∷ drop (suc i) xs) (sym at) ∙ ap (λ j. x ∷ drop j xs) next
 
 -- one range more
 pub hull_more : (acc : Option Span) (posts : List Segment) (i : ℕ) (post : Segment) → drop i posts ≡ post ∷ drop (i + 1) posts

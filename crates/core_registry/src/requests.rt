@@ -7,33 +7,29 @@ ghost use Rattle.core_registry.specs.Registry.{after_change, within};
 
 use crate::Registry;
 use disk_trait::Memory;
+use media_rows::Deletion;
 use std::alloc::Global;
-use time_range::TimeRange;
 
 /// The last serial that a library may come to.
 pub(crate) const LAST_SERIAL: u64 = 9_223_372_036_854_775_807;
 
 impl Registry {
-    /// Adds a request to delete the segments of a flow that a range covers, and with the last of
-    /// them the flow where `delete_flow` says so. It takes the next serial, and is made now.
+    /// Adds a delete request. It takes the next serial, and is made now.
     pub fn ask_delete(
         &self,
         alloc: Global,
-        flow: u128,
-        range: TimeRange,
-        delete_flow: bool,
+        asked: &Deletion,
         now: u64,
     ) -> Result<Option<Registry>, Memory>
         requires behind { IsTrue (are_requests_below self.now.next_serial self.now.requests) }
         ensures { IfOk result (λ next. next
-            ≡ within (after_change (changes.AskDelete now flow range delete_flow) self.now)) }
+            ≡ within (after_change (changes.AskDelete now asked.now.flow asked.now.range
+            asked.now.delete_flow) self.now)) }
     {
         let Some(next_serial) = next_within(self.next_serial) else {
             return Ok(None);
         };
-        let requests = self
-            .requests
-            .request(alloc, flow, range, delete_flow, self.next_serial, now)?;
+        let requests = self.requests.request(alloc, asked, self.next_serial, now)?;
         Ok(Some(self.with_requests(alloc, requests)?.at_serial(next_serial)?))
     }
 

@@ -2,51 +2,27 @@
 use Rattle.std.proofs.Common.{◌≡◌, inl, inr, ℕ, Bool, true, false, ◌&&◌, ◌||◌, List, [], ◌∷◌, nat_lt, refl, sym, ap, ◌∙◌, arith}
 use Rattle.std.specs.Prelude.{◌==◌}
 use Rattle.std.specs.List.{list_all}
-use Rattle.std.proofs.lemmas.Bool.{and_parts, cond-true, cond-false, cond_both, false≢true}
+use Rattle.std.proofs.lemmas.Bool.{and_parts, cond_both, false≢true}
 use Rattle.std.proofs.lemmas.Bool.Decides.{nat_tests}
 use Rattle.media_rows.specs.Lists.{rises, inserted, in_order}
 use Rattle.media_rows.specs.Segments.{starts_before}
 use Rattle.media_rows.specs.Snapshot.{segment_row_before}
 use Rattle.library_laws.proofs.ListLemmas.{In, In-in_order, list_all-In}
 use Rattle.library_laws.proofs.PageLemmas.{IsOrder, starts_in_order}
+use Rattle.segment_book.proofs.Ordered.{here, swap_below}
 
 module _ {X : Type 0} (t : X → X → Bool) (is : IsOrder t) where
-  past : (x y : X) (ys : List X) → t y x ≡ true → inserted t x (y ∷ ys) ≡ y ∷ inserted t x ys
-  past x y ys e = cond-true (t y x) (y ∷ inserted t x ys) (x ∷ y ∷ ys) e
-
-  here : (x y : X) (ys : List X) → t y x ≡ false → inserted t x (y ∷ ys) ≡ x ∷ y ∷ ys
-  here x y ys e = cond-false (t y x) (y ∷ inserted t x ys) (x ∷ y ∷ ys) e
-
-  swap_past : (x y z : X) (zs : List X) (p q : Bool) → t z x ≡ p → t z y ≡ q → t y x ≡ true
-      → inserted t x (inserted t y zs) ≡ inserted t y (inserted t x zs)
-      → inserted t x (inserted t y (z ∷ zs)) ≡ inserted t y (inserted t x (z ∷ zs))
-  swap_past x y z zs true true zx zy yx rest =
-      ap (inserted t x) (past y z zs zy) ∙ past x z (inserted t y zs) zx ∙ ap (λ l. z ∷ l) rest ∙ sym (past y z (inserted t x zs) zy)
-      ∙ sym (ap (inserted t y) (past x z zs zx))
-  swap_past x y z zs true false zx zy yx rest =
-      ap (inserted t x) (here y z zs zy) ∙ past x y (z ∷ zs) yx ∙ ap (λ l. y ∷ l) (past x z zs zx) ∙ sym (here y z (inserted t x zs) zy)
-      ∙ sym (ap (inserted t y) (past x z zs zx))
-  swap_past x y z zs false true zx zy yx rest = absurd (false≢true (sym (is.passes_on y x z (is.one_way y x yx) zx) ∙ zy))
-  swap_past x y z zs false false zx zy yx rest =
-      ap (inserted t x) (here y z zs zy) ∙ past x y (z ∷ zs) yx ∙ ap (λ l. y ∷ l) (here x z zs zx) ∙ sym (here y x (z ∷ zs) (is.one_way y x yx))
-      ∙ sym (ap (inserted t y) (here x z zs zx))
-
-  -- of two that are put in, either may be the first
-  swap : (x y : X) (zs : List X) → t y x ≡ true → inserted t x (inserted t y zs) ≡ inserted t y (inserted t x zs)
-  swap x y [] e = past x y [] e ∙ sym (here y x [] (is.one_way y x e))
-  swap x y (z ∷ zs) e = swap_past x y z zs (t z x) (t z y) refl refl e (swap x y zs e)
-
   -- one that stands before all others comes to its place from any place
   from_any : (other : X → X → Bool) (x : X) (ys : List X) → ((y : X) → In y ys → t x y ≡ true)
       → in_order t (inserted other x ys) ≡ inserted t x (in_order t ys)
   from_any other x [] low = refl
   from_any other x (y ∷ ys) low =
       cond_both (other y x) (y ∷ inserted other x ys) (x ∷ y ∷ ys) (λ l. in_order t l ≡ inserted t x (inserted t y (in_order t ys)))
-      (λ e. ap (inserted t y) (from_any other x ys (λ z there. low z (inr there))) ∙ swap y x (in_order t ys) (low y (inl refl))) (λ e. refl)
+      (λ e. ap (inserted t y) (from_any other x ys (λ z there. low z (inr there))) ∙ swap_below t is y x (in_order t ys) (low y (inl refl))) (λ e. refl)
 
   first_stays : (x : X) (xs : List X) → list_all (t x) xs ≡ true → inserted t x xs ≡ x ∷ xs
   first_stays x [] e = refl
-  first_stays x (y ∷ ys) e = here x y ys (is.one_way x y (and_parts (t x y) (list_all (t x) ys) e).0)
+  first_stays x (y ∷ ys) e = here t is x y ys (is.one_way x y (and_parts (t x y) (list_all (t x) ys) e).0)
 
   -- what rises is the same once it was put in another order and back
   pub back : (other : X → X → Bool) (xs : List X) → rises t xs ≡ true → in_order t (in_order other xs) ≡ xs

@@ -24,18 +24,13 @@ use Rattle.core_parts.specs.Parts.{library_of_parts}
 use Rattle.core_registry.specs.Registry.{Registry, registry_of}
 use Rattle.core_registry.specs.Restoring.{can_restore, registry_of_rows}
 use Rattle.core_rows.specs.Kinds.{Kinds, kinds_of, library_of_kinds}
-use Rattle.media_book.specs.Media.{Media, are_media_good, are_objects_good, are_rows_good, media_if, media_of}
+use Rattle.media_book.specs.Media.{Media, are_media_good, are_objects_good, are_rows_good, media_of}
 use Rattle.library_laws.proofs.RestoreLemmas.{stays}
 use Rattle.core_restore.specs.Restored.{are_rows_of_good}
 use Rattle.core_restore.specs.Within.{AreInOrder, are_parts_good, are_tied, are_values_good, is_rest_good, library_from_kinds, registry_rows}
+use Rattle.media_rows.proofs.RestoringLemmas.{handed_on}
 
 -- ---- answers
-
--- a fault of a part is one of the whole, where the whole isn't good without it
-pub handed_on : {T S : Type 0} (fault : ApplyFault) (good all : Bool) (part : T) (whole : S) → (good ≡ false → all ≡ false) → Restores good part (Err fault)
-    → Restores all whole (Err fault)
-handed_on faults.Refused good all part whole follows h = follows h
-handed_on faults.Memory good all part whole follows h = h
 
 pub none_first : (a b : Bool) → a ≡ false → (a && b) ≡ false
 none_first true b e = absurd (cc)
@@ -50,14 +45,6 @@ both_first true b e = refl
 both_first false b e = absurd (cc)
 
 -- ---- media
-
-pub told_some : (good : Bool) (next media : Media) → Some next ≡ media_if good media → (good ≡ true) × (next ≡ media)
-told_some true next media e = (refl, cc)
-told_some false next media e = absurd (cc)
-
-pub told_none : (good : Bool) (media : Media) → None ≡ media_if good media → good ≡ false
-told_none true media e = absurd (cc)
-told_none false media e = refl
 
 -- the segments of good media rise
 pub media_rise : (media : Media) → are_media_good media ≡ true → rises_by (λ (row : SegmentRow). row.serial) media.segments ≡ true

@@ -22,8 +22,8 @@ use Rattle.library_laws.proofs.ListLemmas.{list_all-In, list_all-from_In}
 use Rattle.library_laws.proofs.OutboxKept.{Names-from, Names-test}
 use Rattle.library_laws.proofs.RestoreLemmas.{books_are_restored}
 use Rattle.core_rows.specs.Kinds.{Kinds}
-use Rattle.core_restore.proofs.Numbered.{one_test}
 use Rattle.core_restore.specs.Within.{AreInOrder, library_from_kinds, are_parts_good, are_tied, are_values_good, is_rest_good, registry_rows}
+use Rattle.library_laws.proofs.SoundLemmas.{same_test}
 
 -- ---- a good library is so in its parts
 
@@ -118,5 +118,5 @@ pub good_is_parts : MediaAreGood → (id blocks next : ℕ) (kinds : Kinds) → 
     → is_good (library_from_kinds id blocks next kinds) ≡ are_parts_good (library_from_kinds id blocks next kinds)
 good_is_parts media id blocks next kinds order =
     let library = library_from_kinds id blocks next kinds in
-    one_test (is_good library) (are_parts_good library) (λ e. parts_of_good media library ((good_is_tested library).0 e))
+    same_test (is_good library) (are_parts_good library) (λ e. parts_of_good media library ((good_is_tested library).0 e))
     (λ e. (good_is_tested library).1 (good_of_parts id blocks next kinds order e))

@@ -1,5 +1,5 @@
 -- Rows that rise are laid out kind by kind, and so are those of the library that they make.
-use Rattle.std.proofs.Common.{◌≡◌, inl, ℕ, Bool, true, false, ◌&&◌, ◌||◌, List, [], ◌∷◌, ◌++◌, map, nat_lt, Option, Some, None, is_some, refl, sym, ap, ◌∙◌, append_assoc}
+use Rattle.std.proofs.Common.{◌≡◌, inl, ℕ, Bool, true, false, ◌&&◌, ◌||◌, List, [], ◌∷◌, ◌++◌, map, nat_lt, Option, Some, None, is_some, refl, sym, ap, ◌∙◌}
 use Rattle.std.specs.Prelude.{unwrap_or, ◌==◌}
 use Rattle.std.specs.List.{list_all}
 use Rattle.std.proofs.lemmas.Bool.{and_parts, and_from, false≢true}
@@ -25,6 +25,7 @@ use Rattle.core_restore.specs.Restored.{RowsOfALibraryPass, PassingRowsAreOfALib
 use Rattle.core_restore.proofs.Backed.{back, by_flow}
 use Rattle.core_restore.proofs.Handing.{numbers_are}
 use Rattle.core_restore.proofs.Parted.{absent_of, flows, hooks, objects, requests, rise_of, segments, sources}
+use Rattle.library_laws.proofs.RowOrder.{nested}
 
 -- ---- rows laid out by their kinds
 
@@ -123,12 +124,6 @@ laid_out (row ∷ later) e =
     laid_first row later parts.0 ∙ ap (λ l. row ∷ l) (laid_out later parts.1)
 
 -- ---- and those of the library that they make are the same
-
-nested : {X : Type 0} (a b c d e f g h : List X) → a ++ b ++ c ++ d ++ e ++ f ++ g ++ h ≡ a ++ (b ++ (c ++ (d ++ (e ++ (f ++ (g ++ h))))))
-nested a b c d e f g h =
-    append_assoc (a ++ b ++ c ++ d ++ e ++ f) g h ∙ append_assoc (a ++ b ++ c ++ d ++ e) f (g ++ h) ∙ append_assoc (a ++ b ++ c ++ d) e (f ++ (g ++ h))
-    ∙ append_assoc (a ++ b ++ c) d (e ++ (f ++ (g ++ h))) ∙ append_assoc (a ++ b) c (d ++ (e ++ (f ++ (g ++ h))))
-    ∙ append_assoc a b (c ++ (d ++ (e ++ (f ++ (g ++ h)))))
 
 lower_first : (a b : SegmentRow) → row_before (rows.Segment a) (rows.Segment b) ≡ true → segment_row_before a b ≡ true
 lower_first a b e = by (nat_lt a.flow b.flow) (a.flow == b.flow) (low_before (low_of a.segment.range) (low_of b.segment.range)) _ e

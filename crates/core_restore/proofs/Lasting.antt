@@ -1,15 +1,10 @@
 -- The last segments of flows, and flows that are kept.
-use Rattle.std.proofs.Common.{◌≡◌, inl, ℕ, zero, suc, ℤ, ◌<◌, ◌+◌, ◌==◌, Bool, true, false, not, ◌&&◌, ◌||◌, cond, List, [], ◌∷◌, ◌++◌, Option, Some, None, find, is_some, nat_lt, get_or, take, length, refl, sym, ap, subst, ◌∙◌, arith}
-use Rattle.std.specs.Borrow.{Bor}
-use Rattle.std.specs.Prelude.{option_copied}
-use Rattle.std.specs.List.{list_all, list_any}
+use Rattle.std.proofs.Common.{◌≡◌, inl, ℕ, zero, suc, ℤ, ◌<◌, ◌+◌, ◌==◌, Bool, true, false, not, ◌&&◌, ◌||◌, cond, List, [], ◌∷◌, ◌++◌, Some, nat_lt, get_or, take, length, refl, sym, ap, subst, ◌∙◌, arith}
+use Rattle.std.specs.List.{list_all}
 use Rattle.std.proofs.lemmas.Bool.{and_parts, and_from}
 use Rattle.std.proofs.lemmas.Bool.Decides.{nat_tests}
 use Rattle.std.proofs.lemmas.Grind.{take_at_read}
-use Rattle.media_rows.specs.declared.flow.FlowRow.{FlowRow}
 use Rattle.media_rows.specs.declared.segment.SegmentRow.{SegmentRow}
-use Rattle.media_rows.specs.Catalog.{flow_of}
-use Rattle.media_rows.specs.Collections.{is_kept}
 use Rattle.media_rows.specs.Good.{rises_by}
 use Rattle.media_rows.specs.Lists.{is_behind, rises}
 use Rattle.media_rows.specs.Views.{id_key}
@@ -21,23 +16,6 @@ use Rattle.library_laws.proofs.KeptLemmas.{rises-parts}
 use Rattle.core_restore.specs.Within.{AreLast, is_behind_flow}
 
 -- ---- flows that are kept
-
--- what is found is there
-found_any : {X : Type 0} (test : X → Bool) (xs : List X) → is_some (find test xs) ≡ list_any test xs
-found_any test [] = refl
-found_any test (x ∷ xs) = by (test x) (found_any test xs)
-  where
-    by : (t : Bool) → is_some (find test xs) ≡ list_any test xs → is_some (cond t (Some x) (find test xs)) ≡ (t || list_any test xs)
-    by true rest = refl
-    by false rest = rest
-
--- what is copied is there where it was
-pub copied_some : {X : Type 0} (o : Option (Bor X)) → is_some (option_copied o) ≡ is_some o
-copied_some None = refl
-copied_some (Some x) = refl
-
-pub found_kept : (id : ℕ) (flows : List FlowRow) → is_some (flow_of id flows) ≡ is_kept flows id
-found_kept id flows = found_any (λ row. row.body.id == id) flows
 
 -- ---- the last segments of flows
 

@@ -1,5 +1,5 @@
 -- Serials in any order are good where those in order rise from 1 up to the next one.
-use Rattle.std.proofs.Common.{◌≡◌, inl, inr, ℕ, ◌≤◌, ◌<◌, Bool, true, false, not, ◌&&◌, cond, List, [], ◌∷◌, ◌++◌, nat_lt, refl, sym, ap, ◌∙◌, arith}
+use Rattle.std.proofs.Common.{◌≡◌, inl, inr, ℕ, ◌≤◌, ◌<◌, Bool, true, false, not, ◌&&◌, cond, List, [], ◌∷◌, ◌++◌, nat_lt, refl, ap, ◌∙◌, arith}
 use Rattle.std.specs.Prelude.{◌==◌, nat_le}
 use Rattle.std.specs.List.{list_all}
 use Rattle.std.proofs.lemmas.Bool.{and_parts, and_from, ltb-true, leb-true, lt-ltb, le-leb}
@@ -12,6 +12,7 @@ use Rattle.library_laws.proofs.KeptLemmas.{Serials-from, Serials-test, rises-bot
 use Rattle.library_laws.proofs.RestoreLemmas.{apart_keys}
 use Rattle.core_restore.specs.Within.{rise_within}
 use Rattle.core_restore.proofs.Sorting.{AreRising, put_in_order}
+use Rattle.library_laws.proofs.SoundLemmas.{same_test}
 
 -- ---- tests that don't see the order
 
@@ -78,12 +79,6 @@ good_in_order next xs =
       all_in_order nat_lt (λ serial. nat_le 1 serial && nat_lt serial next) xs,
     ) refl
 
--- two tests that follow from one another
-pub one_test : (a b : Bool) → (a ≡ true → b ≡ true) → (b ≡ true → a ≡ true) → a ≡ b
-one_test true b f g = sym (f refl)
-one_test false true f g = g refl
-one_test false false f g = refl
-
 -- distinct numbers that don't fall rise
 strict : (xs : List ℕ) → AreRising (λ n. n) xs → are_distinct xs ≡ true → rises nat_lt xs ≡ true
 strict [] up e = refl
@@ -143,6 +138,6 @@ rise_from next xs up e =
 
 pub serials_are_tested : (next : ℕ) (xs : List ℕ) → rise_within next (in_order nat_lt xs) ≡ are_serials_good next xs
 serials_are_tested next xs =
-    one_test (rise_within next (in_order nat_lt xs)) (are_serials_good next (in_order nat_lt xs)) (good_from next (in_order nat_lt xs))
+    same_test (rise_within next (in_order nat_lt xs)) (are_serials_good next (in_order nat_lt xs)) (good_from next (in_order nat_lt xs))
     (rise_from next (in_order nat_lt xs) (put_in_order (λ n. n) xs))
     ∙ good_in_order next xs

@@ -1,15 +1,14 @@
 -- Lists that rise by a test that passes on: neighbours tell.
-use Rattle.std.proofs.Common.{◌≡◌, ℕ, ℤ, zero, suc, ◌<◌, ◌≤◌, ◌+◌, ◌-◌, Bool, true, false, ◌&&◌, ◌||◌, List, [], ◌∷◌, ◌++◌, Option, Some, None, drop, get_or, length, nat_lt, refl, sym, ap, ◌∙◌, arith}
-use Rattle.std.specs.Prelude.{◌==◌, slice_index_or}
+use Rattle.std.proofs.Common.{◌≡◌, ℕ, zero, suc, ◌<◌, ◌≤◌, ◌+◌, ◌-◌, Bool, true, false, ◌&&◌, List, [], ◌∷◌, ◌++◌, drop, get_or, length, nat_lt, refl, sym, ap, ◌∙◌, arith}
+use Rattle.std.specs.Prelude.{slice_index_or}
 use Rattle.std.specs.List.{list_all}
 use Rattle.std.proofs.Math.Seq.{drop-cons}
 use Rattle.std.proofs.lemmas.Bool.{and_parts, and_from, false≢true, lt-ltb}
-use Rattle.std.proofs.lemmas.Bool.Decides.{nat_tests}
-use Rattle.std.proofs.lemmas.Int.{ints}
 use Rattle.media_rows.specs.declared.row.Row.{Row}
 use Rattle.media_rows.specs.Lists.{rises}
-use Rattle.media_rows.specs.Segments.{low_before}
-use Rattle.media_rows.specs.Snapshot.{kind_number, place_number, place_point, row_before}
+use Rattle.media_rows.specs.Snapshot.{row_before}
+use Rattle.media_rows.proofs.RowLemmas.{rows_pass}
+use Rattle.delete_work.proofs.Orders.{through}
 
 module _ {X : Type 0} (t : X → X → Bool) (passes : (a b c : X) → t a b ≡ true → t b c ≡ true → t a c ≡ true) where
   all_behind : (a b : X) (xs : List X) → t a b ≡ true → list_all (t b) xs ≡ true → list_all (t a) xs ≡ true
@@ -32,9 +31,6 @@ module _ {X : Type 0} (t : X → X → Bool) (passes : (a b c : X) → t a b ≡
   pub next_passes : (a b : X) (xs : List X) → t a b ≡ true → rises t (a ∷ b ∷ xs) ≡ rises t (b ∷ xs)
   next_passes a b xs e = next_tells a b xs ∙ ap (λ p. p && rises t (b ∷ xs)) e
 
-pub below_passes : (a b c : ℕ) → nat_lt a b ≡ true → nat_lt b c ≡ true → nat_lt a c ≡ true
-below_passes a b c e f = grind (arith, nat_tests)
-
 -- of numbers that are left, the first one stands behind the last of those that came
 pub one_less : (last i next : ℕ) (all : List ℕ) → i < length all → last < slice_index_or all i 0
     → rises nat_lt (last ∷ (drop i all ++ next ∷ [])) ≡ rises nat_lt (slice_index_or all i 0 ∷ (drop (i + 1) all ++ next ∷ []))
@@ -42,28 +38,9 @@ one_less last i next all lt below =
     let more : suc i ≡ i + 1 = omega arith in
     let here : drop i all ≡ slice_index_or all i 0 ∷ drop (i + 1) all = drop-cons all i 0 lt ∙ ap (λ k. slice_index_or all i 0 ∷ drop k all) more in
     ap (λ l. rises nat_lt (last ∷ (l ++ next ∷ []))) here
-    ∙ next_passes nat_lt below_passes last (slice_index_or all i 0) (drop (i + 1) all ++ next ∷ []) (lt-ltb last (slice_index_or all i 0) below)
+    ∙ next_passes nat_lt through last (slice_index_or all i 0) (drop (i + 1) all ++ next ∷ []) (lt-ltb last (slice_index_or all i 0) below)
 
 -- ---- rows of a snapshot
-
-by_points : (a b c : Option ℤ) → low_before a b ≡ true → low_before b c ≡ true → low_before a c ≡ true
-by_points a b None before then = absurd (false≢true then)
-by_points None b (Some z) before then = refl
-by_points (Some x) None (Some z) before then = absurd (false≢true before)
-by_points (Some x) (Some y) (Some z) before then = grind (arith, ints)
-
--- by a number, and behind it by another order
-by_numbers : (a b c : ℕ) (p q r : Bool) → (p ≡ true → q ≡ true → r ≡ true) → (nat_lt a b || ((a == b) && p)) ≡ true → (nat_lt b c || ((b == c) && q)) ≡ true
-    → (nat_lt a c || ((a == c) && r)) ≡ true
-by_numbers a b c true true true then first second = grind (arith, nat_tests)
-by_numbers a b c true true false then first second = absurd (false≢true (then refl refl))
-by_numbers a b c true false r then first second = grind (arith, nat_tests)
-by_numbers a b c false q r then first second = grind (arith, nat_tests)
-
-rows_pass : (a b c : Row) → row_before a b ≡ true → row_before b c ≡ true → row_before a c ≡ true
-rows_pass a b c =
-    by_numbers (kind_number a) (kind_number b) (kind_number c) _ _ _
-    (by_numbers (place_number a) (place_number b) (place_number c) _ _ _ (by_points (place_point a) (place_point b) (place_point c)))
 
 -- two neighbours, and what stands behind them
 neighbours : {X : Type 0} (xs : List X) (i : ℕ) (a b : X) → 0 < i → i < length xs → a ≡ get_or xs (i - 1) a → b ≡ get_or xs i b

@@ -11,7 +11,7 @@ use Rattle.shared_tree.proofs.Counted.{all_kept}
 use Rattle.shared_tree.proofs.Rising.{all_map, filter_all}
 use Rattle.object_refs.specs.declared.kept.Kept.{Kept}
 use Rattle.object_refs.specs.References.{objects_in, reference_of, references_in, references_to, without_id}
-use Rattle.object_refs.proofs.Theorems.{due_unnamed}
+use Rattle.object_refs.proofs.Theorems.{any_append, due_unnamed}
 use Rattle.id_index.proofs.Pairs.{filter_swap}
 use Rattle.delete_work.specs.Work.{without_swept}
 use Rattle.delete_work.specs.Within.Seeking.{Sweeping}
@@ -99,15 +99,6 @@ rows_without id (k ∷ kept) = by (bytes_eq k.row.id id) (rows_without id kept)
         (filter (is_other id) (objects_in kept))
     by true ih = ih
     by false ih = ap (λ l. k.row ∷ l) ih
-
-any_append : {X : Type 0} (test : X → Bool) (l r : List X) → list_any test (l ++ r) ≡ (list_any test l || list_any test r)
-any_append test [] r = refl
-any_append test (x ∷ l) r = by (test x) (any_append test l r)
-  where
-    by : (t : Bool) → list_any test (l ++ r) ≡ (list_any test l || list_any test r)
-        → (t || list_any test (l ++ r)) ≡ ((t || list_any test l) || list_any test r)
-    by true ih = refl
-    by false ih = ih
 
 neither : (a b : Bool) → (a || b) ≡ false → (a ≡ false) × (b ≡ false)
 neither true b e = absurd (grind (arith, e))

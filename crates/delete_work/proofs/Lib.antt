@@ -1,6 +1,6 @@
 mod Lists
 mod Kept
-mod Orders
+pub mod Orders
 mod Newest
 mod Wanted
 mod Removed
@@ -9,5 +9,5 @@ mod Ordered
 mod DueObjects
 mod Restored
 mod Paging
-mod Stepping
+pub mod Stepping
 pub mod Theorems

@@ -62,7 +62,7 @@ third a b e f = by (nat_lt b a) refl
     by true g = g
     by false g = absurd (grind (arith, nat_tests))
 
-through : (a b c : ℕ) → nat_lt a b ≡ true → nat_lt b c ≡ true → nat_lt a c ≡ true
+pub through : (a b c : ℕ) → nat_lt a b ≡ true → nat_lt b c ≡ true → nat_lt a c ≡ true
 through a b c e f = by (nat_lt a c) refl
   where
     by : (t : Bool) → nat_lt a c ≡ t → nat_lt a c ≡ true

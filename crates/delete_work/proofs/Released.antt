@@ -17,6 +17,7 @@ use Rattle.id_index.proofs.Pairs.{filter_swap}
 use Rattle.delete_work.specs.Work.{HasReferences, released_by}
 use Rattle.delete_work.specs.Within.Seeking.{Releasing, are_of}
 use Rattle.delete_work.proofs.Lists.{not_true, parts, some_any}
+use Rattle.object_refs.proofs.Theorems.{any_append}
 
 abbrev one_if : Bool → ℕ
 one_if b = if b then 1 else 0
@@ -138,15 +139,6 @@ count_refers flow rows object le =
     (subst (λ l. 1 ≤ length l) (filter_swap (λ (row : SegmentRow). row.flow == flow) (λ (row : SegmentRow). bytes_eq row.segment.object object) rows) le)
 
 -- ---- which objects are named
-
-any_append : {X : Type 0} (test : X → Bool) (l r : List X) → list_any test (l ++ r) ≡ (list_any test l || list_any test r)
-any_append test [] r = refl
-any_append test (x ∷ l) r = by (test x) (any_append test l r)
-  where
-    by : (t : Bool) → list_any test (l ++ r) ≡ (list_any test l || list_any test r)
-        → (t || list_any test (l ++ r)) ≡ ((t || list_any test l) || list_any test r)
-    by true ih = refl
-    by false ih = ih
 
 less_named : (flow : ℕ) (own object : List ℕ) (flows : List ℕ) → is_named (map (reference_of own) (less_one flow flows)) object ≡ true
     → is_named (map (reference_of own) flows) object ≡ true

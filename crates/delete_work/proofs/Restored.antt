@@ -1,7 +1,6 @@
 -- Rows in any order: when their serials are distinct, and what book they make.
-use Rattle.std.proofs.Common.{◌≡◌, ℕ, zero, suc, ◌<◌, ◌≤◌, ◌+◌, ◌-◌, ◌==◌, nat_le, Bool, true, false, not, ◌&&◌, ◌||◌, cond, List, [], ◌∷◌, Result, Ok, Err, map, filter, drop, get_or, length, refl, sym, ap, subst, ◌∙◌, arith}
+use Rattle.std.proofs.Common.{◌≡◌, ℕ, zero, suc, ◌<◌, ◌≤◌, ◌==◌, nat_le, Bool, true, false, not, ◌&&◌, ◌||◌, cond, List, [], ◌∷◌, Result, Ok, Err, map, filter, drop, length, refl, sym, ap, subst, ◌∙◌, arith}
 use Rattle.std.specs.List.{list_all, list_any}
-use Rattle.std.proofs.Math.Seq.{drop-cons}
 use Rattle.std.proofs.lemmas.Bool.Decides.{nat_tests}
 use Rattle.media_rows.specs.declared.refusal.ApplyFault.{ApplyFault}
 use Rattle.media_rows.specs.declared.refusal.ApplyFault.TheVariants as faults
@@ -77,20 +76,6 @@ not_gathered n row rows all kept was new shape =
     names_tail n all (ap (λ l. are_distinct (map serial_of_row l)) shape
     ∙ first_fails (list_all (λ other. not (row.serial == other)) (map serial_of_row rows)) (are_distinct (map serial_of_row rows))
     (sym (new_serial row.serial rows) ∙ ap (λ k. not (has_request row.serial k)) (sym was.is) ∙ new))
-
-pub handed_on : {T S : Type 0} (fault : ApplyFault) (good all : Bool) (part : T) (whole : S) → (good ≡ false → all ≡ false) → Restores good part (Err fault)
-    → Restores all whole (Err fault)
-handed_on faults.Refused good all part whole follows h = follows h
-handed_on faults.Memory good all part whole follows h = h
-
-pub one_more : {X : Type 0} (xs : List X) (n : ℕ) (x : X) → n < length xs → x ≡ get_or xs (length xs - 1 - n) x
-    → drop (length xs - (n + 1)) xs ≡ x ∷ drop (length xs - n) xs
-one_more xs n x lt at =
-    let j = length xs - (n + 1) in
-    let same : j ≡ length xs - 1 - n = omega (arith, lt) in
-    let next : suc j ≡ length xs - n = omega (arith, lt) in
-    drop-cons xs j x (omega (arith, lt)) ∙ ap (λ i. get_or xs i x ∷ drop (suc j) xs) same ∙ ap (λ v. v ∷ drop (suc j) xs) (sym at)
-    ∙ ap (λ i. x ∷ drop i xs) next
 
 -- ---- how many are done
 

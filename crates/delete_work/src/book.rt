@@ -16,11 +16,10 @@ use crate::rows::{
 };
 use disk_trait::Memory;
 use id_index::{IdIndex, all_rows, row_at};
-use media_rows::{ApplyFault, DeleteList, DeleteRow, DeleteStatus};
+use media_rows::{ApplyFault, DeleteList, DeleteRow, DeleteStatus, Deletion};
 use shared_tree::Version;
 use std::alloc::Global;
 use std::marker::Model;
-use time_range::TimeRange;
 
 /// The most done requests that are kept.
 const DONE_KEPT: u64 = 64;
@@ -130,32 +129,18 @@ impl DeleteBook {
         self.rows.keys_rise();
     }
 
-    /// Adds a request, made now, whose serial is above all others: that the segments of a flow that the range
-    /// covers be deleted, and with the last of them the flow where `delete_flow` says so.
+    /// Adds a request, made now, whose serial is above all others.
     pub fn request(
         &self,
         alloc: Global,
-        flow: u128,
-        range: TimeRange,
-        delete_flow: bool,
+        asked: &Deletion,
         serial: u64,
         now: u64,
     ) -> Result<DeleteBook, Memory>
         requires above { IsTrue (are_requests_below serial self.now) }
-        ensures { IfOk result (λ next. next ≡ self.now
-            ++ asked_row (record { flow = flow; range = range; delete_flow = delete_flow })
-            serial now ∷ []) }
+        ensures { IfOk result (λ next. next ≡ self.now ++ asked_row asked.now serial now ∷ []) }
     {
-        let row = DeleteRow {
-            serial,
-            flow,
-            range,
-            delete_flow,
-            status: DeleteStatus::Created,
-            created: now,
-            updated: now,
-        };
-        self.put(alloc, &row)
+        self.put(alloc, &asked.row(serial, now))
     }
 
     /// Makes the unfinished requests of a flow that goes done. Of more than 64 done requests those of least

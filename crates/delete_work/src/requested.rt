@@ -7,7 +7,7 @@ ghost use Rattle.shared_tree.specs.Pairs.{values_of};
 ghost use Rattle.delete_work.specs.Within.Seeking.{ahead, is_wanted_by, left_behind, page_size};
 
 use disk_trait::{Duplicate, Memory};
-use media_rows::{DeleteRow, SegmentList, SegmentRow, range_covers};
+use media_rows::{DeleteRow, Page, SegmentList, SegmentRow, range_covers};
 use segment_index::SegmentIndex;
 use shared_tree::Steps;
 use std::alloc::Global;
@@ -121,7 +121,12 @@ fn page_behind<'a, L: Ledger>(
         ≡ take page_size (ahead index.now request.now after.now)) }
 {
     let mut page = Vec::with_capacity(alloc, PAGE)?;
-    index.range(&request.range, *after, PAGE, false, &mut page, steps);
+    let wanted = Page {
+        after: *after,
+        limit: PAGE as u64,
+        reverse: false,
+    };
+    index.range(&request.range, &wanted, &mut page, steps);
     Ok(page)
 }
 

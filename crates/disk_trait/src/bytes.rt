@@ -17,6 +17,7 @@ pub fn overwrite(bytes: &mut Vec<u8>, at: usize, new: &[u8])
     requires { at + length new.now ≤ vec_len bytes.old }
     ensures { bytes.new.items ≡ overwritten at new.now bytes.old.items }
 {
+    // The length fits a `usize`, and so does the end of what is written.
     let _size = bytes.len();
     bytes[at..at + new.len()].copy_from_slice(new);
 }

@@ -9,7 +9,7 @@ use Rattle.time_range.specs.Points.{instant, IsNanos, is_nanos, IsRange}
 use Rattle.time_range.specs.Ends.{low_point, high_point, are_ordered, IsEndWithin}
 use Rattle.time_range.specs.Spelling.{half, low_end, high_end}
 use Rattle.time_range.proofs.EndTests.{nanos_from_test, test_from_nanos, ordered_from_test, test_from_order, low_within, high_within}
-use Rattle.time_range.proofs.Theorems.{low_end-low_point, high_end-high_point}
+use Rattle.time_range.proofs.Theorems.{low_end-low_point, high_end-high_point, half_bounds}
 use Rattle.time_range.specs.declared.ranges.Span.{Span}
 use Rattle.time_range.specs.declared.ends.End.{End}
 use Rattle.time_range.specs.declared.ends.End.TheVariants.{Unbounded, Including, Excluding}
@@ -93,11 +93,6 @@ end_fits (Including t) h = ts_fits t h
 end_fits (Excluding t) h = ts_fits t h
 
 -- ---- ranges
-
--- the ends of a range that holds a point
-half_bounds : (p : ℤ) → (instant (half p) ≤ℤ p) × (p ≤ℤ (instant (half p) +ℤ pos 1))
-half_bounds (pos a) = (omega (arith, ints), omega (arith, ints))
-half_bounds (negsuc a) = (omega (arith, ints), omega (arith, ints))
 
 gap_is : (a p : ℤ) → a ≤ℤ p → p ≤ℤ (a +ℤ pos 1) → (a ≡ p → ⊥) → a +ℤ pos 1 ≡ p
 gap_is a p low high apart = omega (arith, ints, apart)

@@ -61,6 +61,7 @@ fn bits_of(ts: Ts) -> u128
 pub fn write_ts(out: &mut Text, ts: Ts) -> Result<(), Memory>
     ensures { OnOk result (WritesValue ts_spelling out.old ts out.new) }
 {
+    // Tells that it is within the limit of timestamps.
     let _nanos = ts.nanos();
     write_u128(out, bits_of(ts))?;
     Ok(())
@@ -100,6 +101,7 @@ pub fn write_end(out: &mut Text, end: End) -> Result<(), Memory>
 pub fn write_range(out: &mut Text, range: &TimeRange) -> Result<(), Memory>
     ensures { OnOk result (WritesValue range_spelling out.old range.now out.new) }
 {
+    // Tells what is true of each range.
     let _known = has_points(range);
     match range.ends() {
         None => out.push(0)?,
@@ -117,6 +119,7 @@ pub fn write_range(out: &mut Text, range: &TimeRange) -> Result<(), Memory>
 fn has_points(range: &TimeRange) -> bool
     ensures { IsRange range.now }
 {
+    // Each call tells its part.
     let _low = range.low();
     let _high = range.high();
     !range.is_never()

@@ -1,23 +1,13 @@
 -- Each change of a row keeps its id, and what a filter leaves of rising rows rises.
 use Rattle.std.proofs.Common.{◌≡◌, Bool, true, List, filter, refl, ap, ◌∙◌}
-use Rattle.media_rows.specs.declared.flow.FlowBody.{FlowBody}
 use Rattle.media_rows.specs.declared.part.Part.{Part}
 use Rattle.media_rows.specs.declared.part.Part.TheVariants as parts
 use Rattle.media_rows.specs.declared.source.SourceRow.{SourceRow}
-use Rattle.media_rows.specs.Catalog.{body_with, source_with}
+use Rattle.media_rows.specs.Catalog.{source_with}
 use Rattle.media_rows.specs.Lists.{rises}
 use Rattle.library_laws.proofs.ListLemmas.{rises-filter}
 
 -- ---- ids stay
-
-pub set_stays : (part : Part) (body : FlowBody) → (body_with part body).id ≡ body.id
-set_stays (parts.Tag name new) body = refl
-set_stays (parts.Label new) body = refl
-set_stays (parts.Description new) body = refl
-set_stays (parts.ReadOnly new) body = refl
-set_stays (parts.Collection new) body = refl
-set_stays (parts.MaxBitRate new) body = refl
-set_stays (parts.AvgBitRate new) body = refl
 
 pub set_source_stays : (part : Part) (row : SourceRow) → (source_with part row).id ≡ row.id
 set_source_stays (parts.Tag name new) row = refl

@@ -27,10 +27,11 @@ use Rattle.id_index.proofs.Named.{index_changed, index_kept, index_none, index_w
 use Rattle.id_index.proofs.Pairs.{standing, value_at_with}
 use Rattle.flow_book.specs.Within.Answers.{catalog_with}
 use Rattle.flow_book.specs.Within.Order.{AreUsed, IsByCollected, IsBySource, IsKeptInOrder, SourceLinked, all_cleared, collection_of, flow_id, flows_named, source_named, source_put}
-use Rattle.flow_book.proofs.CatalogOrder.{set_source_stays, set_stays}
+use Rattle.flow_book.proofs.CatalogOrder.{set_source_stays}
 use Rattle.flow_book.proofs.Changes.{found_id, left_values}
 use Rattle.flow_book.proofs.DropSteps.{clear_keyed, clear_values, entries_stay, has_flow_is, sources_stay}
 use Rattle.flow_book.proofs.Keys.{flow_found}
+use Rattle.library_laws.proofs.SettingsKept.{with_id, with_source_id}
 
 -- ---- a flow that is put
 
@@ -113,15 +114,6 @@ module _ (body : FlowBody) (moment : ℕ) (sources : List (ℤ × SourceRow)) (f
 
 -- ---- a part that is set, and segments that change
 
-source_stays : (part : Part) (body : FlowBody) → (body_with part body).source ≡ body.source
-source_stays (parts.Tag name new) body = refl
-source_stays (parts.Label new) body = refl
-source_stays (parts.Description new) body = refl
-source_stays (parts.ReadOnly new) body = refl
-source_stays (parts.Collection new) body = refl
-source_stays (parts.MaxBitRate new) body = refl
-source_stays (parts.AvgBitRate new) body = refl
-
 pub members_stay : (part : Part) (body : FlowBody) → collection_of part ≡ None → (body_with part body).members ≡ body.members
 members_stay (parts.Tag name new) body e = refl
 members_stay (parts.Label new) body e = refl
@@ -147,7 +139,7 @@ pub set_by_source : (part : Part) (moment id : ℕ) (flows next : List (ℤ × F
     → IsBySource flows by_source → next ≡ changed_row (id_key id) (set_row part moment) (value_at (id_key id) flows) flows → IsBySource next by_source
 set_by_source part moment id flows next by_source rising indexed is =
     subst (λ l. IsBySource l by_source) (sym is) (index_changed flow_id source_named id (set_row part moment) flows by_source rising
-    (λ row. ap (λ s. s ∷ []) (source_stays part row.body)) (λ row. set_stays part row.body) indexed)
+    (λ row. ap (λ s. s ∷ []) (with_source_id part row.body)) (λ row. with_id part row.body) indexed)
 
 pub touch_kept : (moment id : ℕ) (sources next_sources : List (ℤ × SourceRow)) (flows next : List (ℤ × FlowRow))
     (by_source collectors next_by next_col : List (ℤ × List (ℤ × ℕ))) → IsRising flows → IsKeptInOrder sources flows by_source collectors → next_sources

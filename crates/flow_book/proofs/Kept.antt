@@ -8,7 +8,7 @@ use Rattle.media_rows.specs.Collections.{collected_by, is_kept, reached}
 use Rattle.media_rows.specs.Refusals.{first_refusal}
 
 -- what is found is there
-found_any : {X : Type 0} (test : X → Bool) (xs : List X) → is_some (find test xs) ≡ list_any test xs
+pub found_any : {X : Type 0} (test : X → Bool) (xs : List X) → is_some (find test xs) ≡ list_any test xs
 found_any test [] = refl
 found_any test (x ∷ xs) = by (test x) (found_any test xs)
   where

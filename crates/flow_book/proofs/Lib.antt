@@ -1,6 +1,6 @@
 mod CatalogOrder
 mod Keys
-mod Kept
+pub mod Kept
 mod Changes
 mod DropSteps
 mod Gathering

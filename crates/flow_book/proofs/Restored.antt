@@ -1,7 +1,6 @@
 -- What is gathered from rows that can be restored.
-use Rattle.std.proofs.Common.{◌≡◌, ℕ, ℤ, ◌+◌, ◌-◌, ◌<◌, length, drop, get_or, ◌==◌, Bool, true, false, not, ◌&&◌, List, [], ◌∷◌, Option, Some, None, is_some, option_copied, map, refl, sym, ap, subst, ◌∙◌, arith, Bor}
+use Rattle.std.proofs.Common.{◌≡◌, ℕ, ℤ, ◌==◌, Bool, true, false, not, ◌&&◌, List, [], ◌∷◌, Option, Some, None, is_some, option_copied, map, refl, sym, ap, subst, ◌∙◌, arith, Bor}
 use Rattle.std.specs.List.{AllByRecursion, list_all}
-use Rattle.std.proofs.lemmas.List.{drop_more}
 use Rattle.media_rows.specs.declared.flow.FlowRow.{FlowRow}
 use Rattle.media_rows.specs.declared.source.SourceRow.{SourceRow}
 use Rattle.media_rows.specs.Catalog.{has_flow, source_of}
@@ -27,15 +26,6 @@ copied_there (Some row) = refl
 none_some : {V : Type 0} (o : Option V) → is_some o ≡ false → o ≡ None
 none_some None h = refl
 none_some (Some x) h = absurd (grind (arith, h))
-
--- the last rows but one more
-pub one_more : {X : Type 0} (xs : List X) (n : ℕ) (x : X) → n < length xs → get_or xs (length xs - 1 - n) x ≡ x
-    → drop (length xs - (n + 1)) xs ≡ x ∷ drop (length xs - n) xs
-one_more xs n x within at =
-    let i = length xs - (n + 1) in
-    let place : length xs - 1 - n ≡ i = omega (arith, within) in
-    let next : i + 1 ≡ length xs - n = omega (arith, within) in
-    drop_more xs i x (omega (arith, within)) ∙ ap (λ y. y ∷ drop (i + 1) xs) (ap (λ k. get_or xs k x) (sym place) ∙ at) ∙ ap (λ k. x ∷ drop k xs) next
 
 turned : (t : Bool) → not t ≡ false → t ≡ true
 turned true e = refl

@@ -20,6 +20,7 @@ use Rattle.flow_book.specs.Within.Order.{flow_id, flows_named}
 use Rattle.flow_book.specs.Within.Ways.{AreFollowed, leads, moved_to_waiting}
 use Rattle.flow_book.proofs.Keys.{flow_found}
 use Rattle.flow_book.proofs.Kept.{found_kept}
+use Rattle.library_laws.proofs.SoundLemmas.{same_test}
 
 -- ---- what an index tells of those that collect a flow
 
@@ -300,17 +301,12 @@ pub followed_all : (flows apart : List (ℤ × FlowRow)) (to : ℕ) → AreFollo
     → (leads flows apart to from ≡ true) ↔ Reaches (values flows) to from
 followed_all flows apart to h from = (h.sound from, all_found flows apart to h from)
 
-same_tests : (a b : Bool) → (a ≡ true → b ≡ true) → (b ≡ true → a ≡ true) → a ≡ b
-same_tests true b onward back = sym (onward refl)
-same_tests false true onward back = back refl
-same_tests false false onward back = refl
-
 -- a flow reaches itself where a way leads from one of its entries
 pub itself_is : (flows apart : List (ℤ × FlowRow)) (id : ℕ) (members : List Member)
     → (IsTrue (collects_itself (values flows) id members) ↔ AnyReaches (values flows) members id)
     → ((from : ℕ) → (leads flows apart id from ≡ true) ↔ Reaches (values flows) id from)
     → list_any (λ m. leads flows apart id m.flow) members ≡ collects_itself (values flows) id members
-itself_is flows apart id members law ways = same_tests (list_any (λ m. leads flows apart id m.flow) members) (collects_itself (values flows) id members)
+itself_is flows apart id members law ways = same_test (list_any (λ m. leads flows apart id m.flow) members) (collects_itself (values flows) id members)
     (λ e. let found = list_any-In (λ (m : Member). leads flows apart id m.flow) members e in
     law.1 (record {
       first = found.0.flow;

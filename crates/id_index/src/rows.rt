@@ -102,6 +102,6 @@ fn rows_from<V: Drop, L: Ledger>(
     }
     let mut steps = Steps::<L>::new(blank);
     let mut list = Vec::with_capacity(alloc, count as usize)?;
-    rows.walk_from(key, count as usize, false, &mut list, &mut steps);
+    rows.walk_from(key, count as usize, &mut list, &mut steps);
     Ok(list)
 }

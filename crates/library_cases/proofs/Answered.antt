@@ -10,6 +10,7 @@ use Rattle.media_rows.specs.Answer.{Outcome, answer_by, shown_reply}
 use Rattle.media_rows.specs.Library.{Library}
 use Rattle.store_core.specs.declared.prepare.Prepared.{Prepared}
 use Rattle.store_core.specs.Prepared.{prepared_by, prepared_of, unless_refused}
+use Rattle.store_core.proofs.Prepares.{passed}
 
 -- what is shown as a reply
 pub shown_ok : (shown : Option (Result View Refusal)) (reply : Reply) → option_map replied shown ≡ Some (Ok reply)
@@ -30,15 +31,6 @@ pub shown_is : (shown : Option (Result View Refusal)) (refusal : Option Refusal)
     → option_map shown_reply shown ≡ Some reply → reply ≡ (answer_by shown refusal made).reply
 shown_is None refusal made reply e = absurd (cc)
 shown_is (Some shown) refusal made reply e = cc
-
-passed : (reply : Reply) (q p : Prepared) → unless_refused reply q ≡ Ok p → q ≡ p
-passed (replies.Refused why) q p e = absurd (cc)
-passed replies.Created q p e = cc
-passed replies.Done q p e = cc
-passed (replies.CreatedObjects ids) q p e = cc
-passed (replies.Accepted row) q p e = cc
-passed (replies.Shown view) q p e = cc
-passed (replies.Media size) q p e = cc
 
 refused : (reply : Reply) (q : Prepared) (why : Refusal) → unless_refused reply q ≡ Err why → replies.Refused why ≡ reply
 refused (replies.Refused other) q why e = cc

@@ -21,6 +21,9 @@ use tams_http::{Ask, AskFault, Routes};
 /// What the addresses of the store begin with.
 const BASE: &str = "http://s";
 
+/// How many bytes a block has.
+const BLOCK: u64 = 4096;
+
 /// A method, a target and a body.
 #[derive(Drop)]
 pub(crate) struct CaseRequest<'a> {
@@ -156,7 +159,7 @@ fn put_first(
     requires id { IsTrue (is_object_id object) }
     ensures texts { IfOk result (λ reply. IsTrue (has_reply_texts reply)) }
 {
-    let Some(start_block) = kept.core.place(length.div_ceil(4096)) else {
+    let Some(start_block) = kept.core.place(length.div_ceil(BLOCK)) else {
         return Ok(Reply::Refused(Refusal::MediaFull));
     };
     let command = Command::Keep {

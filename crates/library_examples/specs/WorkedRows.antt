@@ -3,11 +3,12 @@ use Rattle.std.specs.Prelude.{◌≡◌, ℕ, ◌+◌, [], ◌∷◌, true, fals
 use Rattle.media_rows.specs.declared.event.EventKind.TheVariants.{FlowUpdated, SegmentsAdded, SourceUpdated}
 use Rattle.media_rows.specs.declared.request.DeleteRow.{DeleteRow}
 use Rattle.media_rows.specs.declared.request.DeleteStatus.TheVariants as statuses
+use Rattle.media_rows.specs.declared.request.Deletion.{Deletion}
 use Rattle.media_rows.specs.Changes.{after}
 use Rattle.media_rows.specs.Library.{Library}
 use Rattle.media_rows.specs.Lists.{rises, numbers_below}
 use Rattle.media_rows.specs.Ranges.{eternity}
-use Rattle.media_rows.specs.Requests.{Deletion, newest_done, asked_row}
+use Rattle.media_rows.specs.Requests.{newest_done, asked_row}
 use Rattle.media_rows.specs.Restoring.{catalog_of, can_restore_catalog, can_restore_requests}
 use Rattle.media_rows.specs.Snapshot.{library_of, rows_of, row_before, kind_number}
 use Rattle.library_examples.specs.Examples.{first_flow, one_source, empty_store, seconds, shared, listen}

@@ -47,11 +47,11 @@ hex_is_byte d small = grind (arith, nat_tests)
 nibble_small : (xs : List ℕ) (k : ℕ) → nibble xs k < 16
 nibble_small xs k = grind arith
 
-place_is_byte : (xs : List ℕ) (k : ℕ) → is_id_byte (cond (is_hyphen_place k) 45 (hex_digit lower (nibble xs (digit_place k)))) ≡ true
+pub place_is_byte : (xs : List ℕ) (k : ℕ) → is_id_byte (cond (is_hyphen_place k) 45 (hex_digit lower (nibble xs (digit_place k)))) ≡ true
 place_is_byte xs k = cond_both (is_hyphen_place k) 45 (hex_digit lower (nibble xs (digit_place k))) (λ b. is_id_byte b ≡ true) (λ e. refl)
     (λ e. hex_is_byte (nibble xs (digit_place k)) (nibble_small xs (digit_place k)))
 
-all_places : (n : ℕ) (f : ℕ → ℕ) → ((k : ℕ) → is_id_byte (f k) ≡ true) → list_all is_id_byte (by_index n f) ≡ true
+pub all_places : (n : ℕ) (f : ℕ → ℕ) → ((k : ℕ) → is_id_byte (f k) ≡ true) → list_all is_id_byte (by_index n f) ≡ true
 unfolding by_index
 all_places zero f h = refl
 all_places (suc n) f h = list_all-both is_id_byte (by_index n f) (f n ∷ []) (all_places n f h) (and_from (is_id_byte (f n)) true (h n) refl)
@@ -64,7 +64,7 @@ id_is_bytes id = all_places 36 (λ k. cond (is_hyphen_place k) 45 (hex_digit low
 digit_is_byte : (n : ℕ) → n < 10 → is_id_byte (48 + n) ≡ true
 digit_is_byte n less = and_from (nat_le 33 (48 + n)) (nat_le (48 + n) 126) (le-leb 33 (48 + n) (omega arith)) (le-leb (48 + n) 126 (omega arith))
 
-digits_are_bytes : (n : ℕ) → n < 2 ^ 64 → list_all is_id_byte (decimal n) ≡ true
+pub digits_are_bytes : (n : ℕ) → n < 2 ^ 64 → list_all is_id_byte (decimal n) ≡ true
 digits_are_bytes n small =
     decimal_by_steps (λ m ds. list_all is_id_byte ds ≡ true) (λ m less. and_from (is_id_byte (48 + m)) true (digit_is_byte m less) refl)
     (λ m ds more before. list_all-both is_id_byte ds ((48 + m % 10) ∷ []) before

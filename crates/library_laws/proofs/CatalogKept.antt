@@ -193,7 +193,7 @@ put_text (Some row) body moment at text old =
     let t = RowTexts-from row (old row refl) in RowTexts-test (put_row (Some row) body moment)
     (record { body = text; created = t.created; updated = at; segments = t.segments })
 
-put_body : (o : Option FlowRow) (body : FlowBody) (moment : ℕ) → (put_row o body moment).body ≡ body
+pub put_body : (o : Option FlowRow) (body : FlowBody) (moment : ℕ) → (put_row o body moment).body ≡ body
 put_body None body moment = refl
 put_body (Some old) body moment = refl
 

@@ -24,6 +24,7 @@ use Rattle.library_laws.proofs.ListLemmas.{In, In-filter, filter-In, map-In, In-
 use Rattle.library_laws.proofs.KeptLemmas.{same_by_key, Sub, fewer_requests, rises-Sub, Serials, counted-New, rises-counted, serials_requests, map-kept, list_all-both, rises-mapped, rises-keys}
 use Rattle.library_laws.proofs.CircleLemmas.{collects_itself_is}
 use Rattle.library_laws.proofs.CatalogKept.{BodyTexts-from, BodyTexts-test, RowTexts-from, RowTexts-test}
+use Rattle.library_laws.proofs.FlowsKept.{kept_source}
 use Rattle.library_laws.proofs.RequestLemmas.{request_stays_good, Sub-newest, In-newest, newest_few}
 use Rattle.library_laws.proofs.OutboxKept.{request_below, segment_below, Names-from, Names-test, Texts-from, Texts-test}
 
@@ -290,10 +291,6 @@ ended_good flows segments gone moment row e =
 fits_format_same : (o : Option SourceRow) (row old : FlowRow) → row.body.format ≡ old.body.format → fits_kept o row ≡ fits_kept o old
 fits_format_same None row old same = refl
 fits_format_same (Some source) row old same = ap (fits_format source.format) same
-
-kept_source : (o : Option SourceRow) (row : FlowRow) → fits_kept o row ≡ true → (s : SourceRow) × (o ≡ Some s)
-kept_source None row e = absurd (false≢true e)
-kept_source (Some s) row e = (s, refl)
 
 -- the source of a flow that stays stays
 source_left : (library : Library) (left : List FlowRow) (row old : FlowRow) (gone : ℕ) → row ≡ without_entries gone old → In row left

@@ -173,7 +173,7 @@ looked_up sources s rise here =
     let found = find-some (λ r. r.id == s.id) sources s here (eq-eqb s.id s.id refl) in
     found.1 ∙ ap Some (same_by_key (λ r. r.id) sources rise found.0 s found.2 here (eqb-true found.0.id s.id found.3))
 
-kept_source : (o : Option SourceRow) (row : FlowRow) → fits_kept o row ≡ true → (s : SourceRow) × (o ≡ Some s)
+pub kept_source : (o : Option SourceRow) (row : FlowRow) → fits_kept o row ≡ true → (s : SourceRow) × (o ≡ Some s)
 kept_source None row e = absurd (false≢true e)
 kept_source (Some s) row e = (s, refl)
 

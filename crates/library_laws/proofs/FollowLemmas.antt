@@ -42,7 +42,7 @@ last-In key [] k e = absurd (cc)
 last-In key (x ∷ []) k e = (x, inl refl, same_some (key x) k e)
 last-In key (x ∷ y ∷ ys) k e = let found = last-In key (y ∷ ys) k e in (found.0, inr found.1, found.2)
 
-filter-whole : {X : Type 0} (p : X → Bool) (xs : List X) → list_all p xs ≡ true → filter p xs ≡ xs
+pub filter-whole : {X : Type 0} (p : X → Bool) (xs : List X) → list_all p xs ≡ true → filter p xs ≡ xs
 filter-whole p [] e = refl
 filter-whole p (x ∷ xs) e =
     let parts = and_parts (p x) (list_all p xs) e in
@@ -64,7 +64,7 @@ filter-both p q (x ∷ xs) h = filter-step p q x xs (p x) (q x) refl refl (h x) 
 reverse-first : {X : Type 0} (x : X) (xs : List X) → reverse (x ∷ xs) ≡ reverse xs ++ x ∷ []
 reverse-first x xs = reverse-append (x ∷ []) xs
 
-In-reverse : {X : Type 0} (xs : List X) (x : X) → In x (reverse xs) → In x xs
+pub In-reverse : {X : Type 0} (xs : List X) (x : X) → In x (reverse xs) → In x xs
 In-reverse [] x h = absurd h
 In-reverse (y ∷ ys) x h = elim (In-append (reverse ys) (y ∷ []) x (subst (In x) (reverse-first y ys) h))
     [ inl front ↦ inr (In-reverse ys x front) | inr (inl same) ↦ inl same | inr (inr none) ↦ absurd none ]

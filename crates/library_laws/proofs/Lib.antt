@@ -4,22 +4,22 @@ mod CircleLemmas
 pub mod KeptLemmas
 pub mod OutboxKept
 mod RequestLemmas
-mod ObjectsKept
+pub mod ObjectsKept
 mod NewObjectsKept
 mod HooksKept
 mod FlowsKept
-mod CatalogKept
-mod SettingsKept
+pub mod CatalogKept
+pub mod SettingsKept
 mod PostsKept
 mod DeletionKept
 pub mod ChangesKept
 mod BoundLemmas
 mod FirstBytes
 pub mod PageLemmas
-mod AppliesLemmas
+pub mod AppliesLemmas
 mod PlaceLemmas
 pub mod RestoreLemmas
-mod FollowLemmas
+pub mod FollowLemmas
 mod ListsFollow
 pub mod RowOrder
 mod RowLibrary

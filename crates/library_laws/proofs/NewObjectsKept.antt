@@ -52,7 +52,7 @@ untaken taken earlier (id ∷ later) e = untaken_step taken earlier id later (ta
 
 -- ---- an allocation
 
-ids-allocated : (serial moment : ℕ) (ids : List (List ℕ)) → map (λ row. row.id) (allocated_rows serial moment ids) ≡ ids
+pub ids-allocated : (serial moment : ℕ) (ids : List (List ℕ)) → map (λ row. row.id) (allocated_rows serial moment ids) ≡ ids
 ids-allocated serial moment [] = refl
 ids-allocated serial moment (id ∷ later) = ap (λ l. id ∷ l) (ids-allocated (serial + 1) moment later)
 

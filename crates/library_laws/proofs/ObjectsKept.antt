@@ -132,7 +132,7 @@ stored_idled : (before after : List SegmentRow) (moment : ℕ) (o : Option Objec
 stored_idled before after moment None = refl
 stored_idled before after moment (Some row) = ap is_stored (idled_state before after moment row)
 
-stored_object_idled : (before after : List SegmentRow) (moment : ℕ) (objects : List ObjectRow) (id : List ℕ)
+pub stored_object_idled : (before after : List SegmentRow) (moment : ℕ) (objects : List ObjectRow) (id : List ℕ)
     → is_stored_object (idled before after moment objects) id ≡ is_stored_object objects id
 stored_object_idled before after moment objects id =
     ap is_stored_row (find-map (λ row. bytes_eq row.id id) (idled_row before after moment) objects

@@ -21,6 +21,7 @@ use Rattle.media_rows.specs.Outbox.{hook_of}
 use Rattle.media_rows.specs.Segments.{covered, segments_of}
 use Rattle.media_rows.specs.Catalog.{flow_of}
 use Rattle.library_laws.specs.ChangeLaws.{TellsRows, RepliesTell}
+use Rattle.library_laws.proofs.NewObjectsKept.{ids-allocated}
 
 -- a reply that names no row
 abbrev pub is_plain : Reply → Bool
@@ -33,10 +34,6 @@ plain library outcome e = record {
   request = λ row is. absurd (false≢true (sym (ap is_plain is) ∙ e));
   objects = λ ids is. absurd (false≢true (sym (ap is_plain is) ∙ e));
 }
-
-ids-allocated : (serial moment : ℕ) (ids : List (List ℕ)) → map (λ row. row.id) (allocated_rows serial moment ids) ≡ ids
-ids-allocated serial moment [] = refl
-ids-allocated serial moment (id ∷ later) = ap (λ l. id ∷ l) (ids-allocated (serial + 1) moment later)
 
 -- the rows that two equal replies name are equal
 row_of : {a b : DeleteRow} → replies.Accepted a ≡ replies.Accepted b → a ≡ b

@@ -111,7 +111,7 @@ touch_keeps_good library id moment old good at is =
 
 -- ---- a part that is set
 
-with_id : (part : Part) (body : FlowBody) → (body_with part body).id ≡ body.id
+pub with_id : (part : Part) (body : FlowBody) → (body_with part body).id ≡ body.id
 with_id (parts.Tag name new) body = refl
 with_id (parts.Label new) body = refl
 with_id (parts.Description new) body = refl
@@ -120,7 +120,7 @@ with_id (parts.Collection new) body = refl
 with_id (parts.MaxBitRate new) body = refl
 with_id (parts.AvgBitRate new) body = refl
 
-with_source_id : (part : Part) (body : FlowBody) → (body_with part body).source ≡ body.source
+pub with_source_id : (part : Part) (body : FlowBody) → (body_with part body).source ≡ body.source
 with_source_id (parts.Tag name new) body = refl
 with_source_id (parts.Label new) body = refl
 with_source_id (parts.Description new) body = refl
@@ -282,14 +282,14 @@ kept_format (parts.MaxBitRate new) moment row = refl
 kept_format (parts.AvgBitRate new) moment row = refl
 
 -- the texts and moments of a source, as facts
-record SourceTexts (row : SourceRow) : Type 0 where
-  label : if_there is_utf8 row.label ≡ true
-  description : if_there is_utf8 row.description ≡ true
-  tags : list_all is_tag_text row.tags ≡ true
-  created : is_moment row.created ≡ true
-  updated : is_moment row.updated ≡ true
+pub record SourceTexts (row : SourceRow) : Type 0 where
+  pub label : if_there is_utf8 row.label ≡ true
+  pub description : if_there is_utf8 row.description ≡ true
+  pub tags : list_all is_tag_text row.tags ≡ true
+  pub created : is_moment row.created ≡ true
+  pub updated : is_moment row.updated ≡ true
 
-SourceTexts-from : (row : SourceRow) → is_source_text row ≡ true → SourceTexts row
+pub SourceTexts-from : (row : SourceRow) → is_source_text row ≡ true → SourceTexts row
 SourceTexts-from row e =
     let a = and_parts _ (is_moment row.updated) e in
     let b = and_parts _ (is_moment row.created) a.0 in

@@ -37,7 +37,7 @@ use Rattle.media_rows.specs.Sound.{is_part_good, has_good_values, is_sound}
 use Rattle.library_laws.specs.ChangeLaws.{AppliedIsSound, AppliesIsTested}
 use Rattle.library_laws.specs.Laws.{IsSound}
 use Rattle.library_laws.proofs.AnswerLemmas.{neither}
-use Rattle.library_laws.proofs.CatalogKept.{BodyTexts, BodyTexts-from, RowTexts-from}
+use Rattle.library_laws.proofs.CatalogKept.{BodyTexts, BodyTexts-from, RowTexts-from, put_body}
 use Rattle.library_laws.proofs.ChangesKept.{none_from, good_is_tested, changes_keep_good}
 use Rattle.library_laws.proofs.KeptLemmas.{chosen, list_all-parts}
 use Rattle.library_laws.proofs.ListLemmas.{In, In-back, map-In, find-In, list_all-In}
@@ -47,10 +47,6 @@ use Rattle.library_laws.proofs.OutboxKept.{Names-from, Texts-from}
 
 placed-has : {X : Type 0} (less : X → X → Bool) (x : X) (xs : List X) → In x (placed less x xs)
 placed-has less x xs = In-back (filter (λ y. less y x) xs) (x ∷ filter (λ y. less x y) xs) x (inl refl)
-
-put_body : (o : Option FlowRow) (body : FlowBody) (moment : ℕ) → (put_row o body moment).body ≡ body
-put_body None body moment = refl
-put_body (Some old) body moment = refl
 
 -- ---- a part
 
@@ -200,7 +196,7 @@ applied_is_sound library change next e =
     record { allowed = is.0; sound = is.1; gives = by.1 }
 
 -- two tests that follow from one another are one
-same_test : (a b : Bool) → (a ≡ true → b ≡ true) → (b ≡ true → a ≡ true) → a ≡ b
+pub same_test : (a b : Bool) → (a ≡ true → b ≡ true) → (b ≡ true → a ≡ true) → a ≡ b
 same_test true b f g = sym (f refl)
 same_test false true f g = absurd (false≢true (g refl))
 same_test false false f g = refl

@@ -1,6 +1,6 @@
 -- The segments that a cut or a delete step takes, among all segments by rising serial.
-use Rattle.std.proofs.Common.{◌≡◌, ℕ, zero, suc, ◌-◌, nat_le, nat_lt, Bool, true, false, not, ◌||◌, cond, List, [], ◌∷◌, ◌++◌, Option, Some, None, drop, filter, length, take, refl, sym, subst, ap, ◌∙◌, arith}
-use Rattle.std.specs.Prelude.{◌==◌, is_some}
+use Rattle.std.proofs.Common.{◌≡◌, ℕ, zero, suc, ◌-◌, nat_le, nat_lt, Bool, true, false, not, ◌||◌, cond, List, [], ◌∷◌, ◌++◌, Option, Some, drop, filter, length, take, refl, sym, subst, ap, ◌∙◌, arith}
+use Rattle.std.specs.Prelude.{◌==◌}
 use Rattle.std.specs.List.{list_all, list_any}
 use Rattle.std.proofs.lemmas.Bool.{and_parts}
 use Rattle.std.proofs.lemmas.Bool.Decides.{nat_tests}
@@ -22,6 +22,7 @@ use Rattle.segment_book.proofs.Ordered.{kept_in_order}
 use Rattle.media_book.specs.Media.{AreSome, Media, are_segments_below, without_rows}
 use Rattle.media_book.proofs.Removals.{serial_of}
 use Rattle.media_book.proofs.Serials.{all_ordered, are_two, distinct_of_two, pairs_ordered, pairs_taken, there_of, two_of_rising, two_turned, without, without_ordered}
+use Rattle.library_laws.proofs.FollowLemmas.{filter-whole}
 
 -- ---- the segments of a flow, by rising first point
 
@@ -87,16 +88,12 @@ removed_some request segments rise =
 
 -- ---- a request that all segments were there before
 
-all_pass : {X : Type 0} (p : X → Bool) (xs : List X) → list_all p xs ≡ true → filter p xs ≡ xs
-all_pass p [] e = refl
-all_pass p (x ∷ xs) e = let parts = and_parts (p x) (list_all p xs) e in rw parts.0 (ap (λ l. x ∷ l) (all_pass p xs parts.1))
-
 pub requested_all : (request : DeleteRow) (segments : List SegmentRow) → are_segments_below request.serial segments ≡ true
     → requested segments request ≡ covered segments request.flow request.range
 requested_all request segments below =
     let all = covered segments request.flow request.range in
     let was_there : SegmentRow → Bool = λ row. nat_lt row.serial request.serial in
-    all_pass was_there all
+    filter-whole was_there all
     (list_all-from_In was_there all (λ row here. list_all-In was_there segments below row (covered_there segments request.flow request.range row here)))
 
 pub removed_all : (request : DeleteRow) (segments : List SegmentRow) → are_segments_below request.serial segments ≡ true
@@ -129,7 +126,7 @@ agreed p q t (x ∷ xs) e same =
     by false true s rest = absurd (grind (arith, s))
 
 pub without_front : (n : ℕ) (rows : List SegmentRow) → each_pair (are_two serial_of) rows ≡ true → without serial_of (take n rows) rows ≡ drop n rows
-without_front zero rows e = all_pass (λ row. not (list_any (λ (gone : SegmentRow). gone.serial == row.serial) [])) rows
+without_front zero rows e = filter-whole (λ row. not (list_any (λ (gone : SegmentRow). gone.serial == row.serial) [])) rows
     (list_all-from_In (λ row. not (list_any (λ (gone : SegmentRow). gone.serial == row.serial) [])) rows (λ row here. refl))
 without_front (suc n) [] e = refl
 without_front (suc n) (row ∷ rows) e =
@@ -179,10 +176,6 @@ whole_taken rows all whole taken told e =
 pub asked_due : (asked empty : List DeleteRow) (row : DeleteRow) → empty ≡ [] → asked ≡ empty ++ row ∷ [] → is_unfinished row ≡ true
     → first_unfinished asked ≡ Some row
 asked_due asked empty row none is unfinished = ap first_unfinished (is ∙ ap (λ l. l ++ row ∷ []) none) ∙ rw unfinished refl
-
-pub not_due : (found : Option DeleteRow) → is_some found ≡ true → None ≡ found → ⊥
-not_due None e is = grind (arith, e)
-not_due (Some row) e is = grind (arith, is)
 
 one_due : (requests : List DeleteRow) (row other : DeleteRow) → first_unfinished requests ≡ Some row → first_unfinished requests ≡ Some other → row ≡ other
 one_due requests row other e f = let same = sym e ∙ f in grind (arith, same)

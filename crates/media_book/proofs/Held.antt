@@ -4,18 +4,19 @@ use Rattle.std.specs.Prelude.{◌==◌}
 use Rattle.std.specs.List.{list_all, sum, sum_by}
 use Rattle.std.proofs.lemmas.Bool.{and_from, and_parts, le-leb, leb-true, lt-ltb, not_from_false, or_left, or_right, or_cases}
 use Rattle.std.proofs.lemmas.Bool.Decides.{nat_tests}
-use Rattle.std.proofs.lemmas.List.Folds.{list_all-append, list_all-map}
+use Rattle.std.proofs.lemmas.List.Folds.{list_all-map}
 use Rattle.std.proofs.lemmas.List.Sums.{sum-map, sum_by-append, sum_by-cons}
 use Rattle.media_rows.specs.declared.object.ObjectRow.{ObjectRow}
 use Rattle.media_rows.specs.declared.object.ObjectState.{ObjectState}
 use Rattle.media_rows.specs.declared.object.ObjectState.TheVariants.{Allocated, Stored}
 use Rattle.media_rows.specs.Good.{are_states_apart, is_extent_good}
-use Rattle.media_rows.specs.Lists.{each_pair, numbers_below}
+use Rattle.media_rows.specs.Lists.{each_pair}
 use Rattle.media_rows.specs.Objects.{are_apart, blocks_of, is_clear_of}
-use Rattle.object_blobs.specs.Holes.{Area, IsAllFree, GivesBlocks, IsPlaceTaken, LeavesFree, each_block, has_block, is_free_block, is_free_place, is_taken_place}
+use Rattle.object_blobs.specs.Holes.{Area, IsAllFree, GivesBlocks, IsPlaceTaken, LeavesFree, has_block, is_free_block, is_free_place, is_taken_place}
 use Rattle.media_book.specs.Media.{stored_size}
 use Rattle.media_book.specs.Within.Ties.{AreHeld, object_states}
 use Rattle.media_book.proofs.Serials.{all_amid, pairs_amid}
+use Rattle.object_blobs.proofs.Runs.{each_from}
 
 -- ---- an item amid others
 
@@ -200,18 +201,6 @@ without_extent f b start size area new bytes h given =
     minus n e = omega (arith, e)
 
 -- ---- places
-
--- what each block of a run passes
-all_from : (p : ℕ → Bool) (n : ℕ) → ((i : ℕ) → i < n → p i ≡ true) → list_all p (numbers_below n) ≡ true
-unfolding numbers_below
-all_from p zero h = refl
-all_from p (suc n) h =
-    list_all-append p (numbers_below n) (n ∷ [])
-    ∙ and_from (list_all p (numbers_below n)) (list_all p (n ∷ [])) (all_from p n (λ i lt. h i (omega arith))) (and_from (p n) true (h n (omega arith)) refl)
-
-each_from : (test : ℕ → Bool) (count start : ℕ) → ((block : ℕ) → start ≤ block → block < start + count → test block ≡ true)
-    → each_block test count start ≡ true
-each_from test count start h = all_from (λ k. test (start + k)) count (λ i lt. h (start + i) (omega arith) (omega arith))
 
 -- what is clear of a run is clear of each block in it
 clear_within : (start count block : ℕ) (s : ObjectState) → is_clear_of start count s ≡ true → start ≤ block → block < start + count

@@ -26,10 +26,12 @@ use Rattle.reference_laws.specs.Ties.{AreTied}
 use Rattle.media_book.specs.Media.{are_segments_below, can_take, no_media, with_allocated, with_posts, with_stored, without_rows}
 use Rattle.media_book.specs.Within.Ties.{AreHeld, IsMedia, media_seen, object_states}
 use Rattle.media_book.proofs.Held.{may_take, none_held, with_empty, with_extent, without_empty}
-use Rattle.media_book.proofs.ObjectRows.{filled, good_still, new_objects, referred_objects, states_append, stored_after, stored_behind, stored_objects, unkept_unnamed}
+use Rattle.media_book.proofs.ObjectRows.{filled, good_still, new_objects, states_append, stored_after, stored_behind, stored_objects, unkept_unnamed}
 use Rattle.media_book.proofs.Posts.{rises_last}
-use Rattle.media_book.proofs.Removals.{idled_states, idled_stored, row_refers, serial_of}
+use Rattle.media_book.proofs.Removals.{idled_states, row_refers, serial_of}
 use Rattle.media_book.proofs.Serials.{amid, left_out}
+use Rattle.library_laws.proofs.ObjectsKept.{stored_object_idled}
+use Rattle.object_refs.proofs.Gathered.{objects_same}
 
 -- ---- a test that refuses
 
@@ -144,7 +146,7 @@ pub added_is : ReferencesCome → (segments : List SegmentRow) (kept : List Kept
     → are_segments_below row.serial segments ≡ true
     → IsMedia (segments ++ row ∷ []) (changed_at row.segment.object (referred row.flow) kept) area bytes
 added_is comes segments kept area bytes row why was free below =
-    let objects = referred_objects row.segment.object row.flow kept in
+    let objects = objects_same row.segment.object row.flow kept in
     let stored =
     untrue (is_stored_object (objects_in kept) row.segment.object) (unless (not (is_stored_object (objects_in kept) row.segment.object)) why free) in
     record {
@@ -161,7 +163,7 @@ pub added_seen : (segments : List SegmentRow) (kept : List Kept) (area : Area) (
     → media_seen (segments ++ row ∷ []) (changed_at row.segment.object (referred row.flow) kept) area
     ≡ with_posts row.flow row.serial (row.segment ∷ []) (media_seen segments kept area)
 added_seen segments kept area row =
-    ap (λ l. record { blocks = area.blocks; segments = segments ++ row ∷ []; objects = l }) (referred_objects row.segment.object row.flow kept)
+    ap (λ l. record { blocks = area.blocks; segments = segments ++ row ∷ []; objects = l }) (objects_same row.segment.object row.flow kept)
 
 -- ---- a segment that goes
 
@@ -194,7 +196,7 @@ less_is goes segments kept next area bytes row moment was there objects flows =
         tied = subst (λ l. AreTied l next) (sym left) law.tied;
         named = ap (λ l. are_references_good l (without_segments (row ∷ []) segments)) rows
             ∙ good_still (objects_in kept) (idled segments (without_segments (row ∷ []) segments) moment (objects_in kept))
-            (λ id e. idled_stored segments (without_segments (row ∷ []) segments) moment (objects_in kept) id ∙ e)
+            (λ id e. stored_object_idled segments (without_segments (row ∷ []) segments) moment (objects_in kept) id ∙ e)
             (without_segments (row ∷ []) segments)
             (list_all-filter (λ r. is_stored_object (objects_in kept) r.segment.object) _ segments was.named);
         held = subst (λ l. AreHeld l area bytes)

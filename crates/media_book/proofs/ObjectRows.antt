@@ -18,7 +18,7 @@ use Rattle.media_rows.specs.Objects.{allocated_rows, flows_naming, is_named, is_
 use Rattle.media_rows.specs.Views.{shown_object}
 use Rattle.library_laws.proofs.ListLemmas.{find-In}
 use Rattle.object_refs.specs.declared.kept.Kept.{Kept}
-use Rattle.object_refs.specs.References.{are_below, changed_at, objects_in, referred, stored_at, with_new}
+use Rattle.object_refs.specs.References.{are_below, changed_at, objects_in, stored_at, with_new}
 use Rattle.media_book.specs.Media.{Media, are_objects_below, library_with}
 use Rattle.media_book.specs.Within.Ties.{object_states}
 
@@ -58,15 +58,6 @@ stored_objects id extent moment (k ∷ ks) = by (bytes_eq k.row.id id) (stored_o
         ≡ cond p (stored_row extent.start extent.length moment k.row) k.row
         ∷ with_object id (stored_row extent.start extent.length moment) (objects_in ks)
     by true rest = ap (λ l. stored_row extent.start extent.length moment k.row ∷ l) rest
-    by false rest = ap (λ l. k.row ∷ l) rest
-
-pub referred_objects : (id : List ℕ) (flow : ℕ) (kept : List Kept) → objects_in (changed_at id (referred flow) kept) ≡ objects_in kept
-referred_objects id flow [] = refl
-referred_objects id flow (k ∷ ks) = by (bytes_eq k.row.id id) (referred_objects id flow ks)
-  where
-    by : (p : Bool) → objects_in (changed_at id (referred flow) ks) ≡ objects_in ks
-        → (cond p (referred flow k) k).row ∷ objects_in (changed_at id (referred flow) ks) ≡ k.row ∷ objects_in ks
-    by true rest = ap (λ l. k.row ∷ l) rest
     by false rest = ap (λ l. k.row ∷ l) rest
 
 -- ---- what segments name is kept

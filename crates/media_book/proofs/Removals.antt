@@ -79,21 +79,6 @@ idled_states before after moment (row ∷ rows) =
     ap₂ (λ s l. s ∷ l) ((idled_keeps before after moment row (is_named before row.id && not (is_named after row.id))).0)
     (idled_states before after moment rows)
 
-pub idled_stored : (before after : List SegmentRow) (moment : ℕ) (objects : List ObjectRow) (id : List ℕ)
-    → is_stored_object (idled before after moment objects) id ≡ is_stored_object objects id
-idled_stored before after moment [] id = refl
-idled_stored before after moment (row ∷ rows) id =
-    by (is_named before row.id && not (is_named after row.id)) (bytes_eq row.id id) refl (idled_stored before after moment rows id)
-  where
-    by : (b p : Bool) → bytes_eq row.id id ≡ p
-        → is_stored_object (idled before after moment rows) id ≡ is_stored_object rows id
-        → is_stored_object (cond b (record row { idle_since = moment }) row ∷ idled before after moment rows) id
-        ≡ is_stored_row (cond p (Some row) (object_of id rows))
-    by true true e rest = rw e refl
-    by true false e rest = rw e rest
-    by false true e rest = rw e refl
-    by false false e rest = rw e rest
-
 -- ---- one after the other
 
 -- what is named by fewer segments

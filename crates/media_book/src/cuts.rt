@@ -10,7 +10,7 @@ ghost use Rattle.media_book.specs.Media.{AreSome, are_segments_below, without_ro
 use crate::MediaBook;
 use delete_work::{DeleteBook, DueStep};
 use disk_trait::Memory;
-use media_rows::SegmentList;
+use media_rows::{Deletion, SegmentList};
 use std::alloc::Global;
 use time_range::TimeRange;
 
@@ -42,7 +42,12 @@ impl MediaBook {
         ensures some { IfOk result (λ cut. AreSome cut.rows self.now.segments) }
     {
         // They are those of the first step of a request for them.
-        let asked = DeleteBook::empty().request(alloc, flow, *range, false, serial, 0)?;
+        let deletion = Deletion {
+            flow,
+            range: *range,
+            delete_flow: false,
+        };
+        let asked = DeleteBook::empty().request(alloc, &deletion, serial, 0)?;
         let index = self.segments.index(flow)?;
         let step = asked.due_step(alloc, &index, 0)?;
         Ok(Covered {

@@ -1,5 +1,5 @@
 mod AnswerLemmas
-mod AppendLemmas
+pub mod AppendLemmas
 mod ChainLemmas
 mod CheckpointLemmas
 mod CrashLemmas

@@ -1,8 +1,8 @@
 -- What a crash at each moment of an append or of formatting may leave, by what the images give.
-use Rattle.std.specs.Prelude.{◌≡◌, ◌+◌, ◌⊎◌, ℕ, Bool, true, false, List, [], ◌∷◌, ◌++◌, drop, length, slice_index, Result, Ok, Err}
+use Rattle.std.specs.Prelude.{◌≡◌, ◌+◌, ◌-◌, ◌⊎◌, ℕ, Bool, true, false, List, [], ◌∷◌, ◌++◌, drop, length, slice_index, Result, Ok, Err}
 use Rattle.disk_trait.specs.Device.{Device, Left, may_leave}
 use Rattle.disk_trait.specs.Calls.{LeavesOnly, Torn, Unchanged, bytes_at}
-use Rattle.media_journal.specs.declared.header.TheConstants.{HALVES, SELECTOR}
+use Rattle.media_journal.specs.declared.header.TheConstants.{BLOCK, HALVES, HEADER, SELECTOR}
 use Rattle.media_journal.specs.declared.header.Header.{Header}
 use Rattle.media_journal.specs.declared.fault.FormatFault.{FormatFault}
 use Rattle.media_journal.specs.declared.fault.FormatFault.TheVariants.{AlreadyStore, TooSmall, Disk, Memory}
@@ -78,8 +78,8 @@ FormattingEnds (Err Memory) h rows = Unchanged
 -- those of the header's block behind its gate, those of the selector's block behind its first, and
 -- all behind the closed gate of half A, half B and the media blocks among them.
 pub record KeepsOthers (size : ℕ) (old new : List ℕ) : Type 0 where
-  pub header : bytes_at new 41 4055 ≡ bytes_at old 41 4055
-  pub selector : bytes_at new 4097 4095 ≡ bytes_at old 4097 4095
+  pub header : bytes_at new HEADER (BLOCK - HEADER) ≡ bytes_at old HEADER (BLOCK - HEADER)
+  pub selector : bytes_at new (SELECTOR + 1) (BLOCK - 1) ≡ bytes_at old (SELECTOR + 1) (BLOCK - 1)
   pub rest : drop (HALVES + size) new ≡ drop (HALVES + size) old
   pub same_length : length new ≡ length old
 

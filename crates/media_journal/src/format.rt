@@ -7,7 +7,7 @@ ghost use Rattle.media_journal.specs.Formatting.{FitsStore, FormatAnswer, GateIs
 ghost use Rattle.media_journal.specs.JournalMoments.{FormattingEnds, IsAtRest, NoneOrNew, WritesStore};
 ghost use Rattle.media_journal.specs.Within.Steps.{KeepsGate, LeavesNone, NoneOrFormatted, StoreEnds};
 
-use crate::header::{BLOCK, HALVES, MOST_BLOCKS, MOST_HALF, SELECTOR, is_open, magic};
+use crate::header::{BLOCK, HALVES, HEADER, MOST_BLOCKS, MOST_HALF, SELECTOR, is_open, magic};
 use crate::write::write_synced;
 use crate::{FormatFault, Header};
 use disk_trait::numbers::{u64_bytes, u128_bytes};
@@ -124,7 +124,7 @@ fn read_gate<D: Disk>(disk: &mut D) -> Result<Gate, Failed>
 
 /// What stands at the gate of a file that begins with these bytes.
 fn gate_of(bytes: &[u8]) -> Gate
-    requires { length bytes.now ≡ 41 }
+    requires { length bytes.now ≡ HEADER }
     ensures { GateIs bytes.now result }
 {
     if is_open(bytes) {
@@ -138,7 +138,7 @@ fn gate_of(bytes: &[u8]) -> Gate
 
 /// Closes the gate where it stands open without a header.
 fn close_stray<D: Disk>(disk: &mut D, gate: Gate) -> Result<(), Failed>
-    requires { 41 ≤ (D.device disk.old).size }
+    requires { HEADER ≤ (D.device disk.old).size }
     ensures calls { DiskCalls (is_ok result) (D.device disk.old) (D.device disk.new) }
     ensures length { (D.device disk.old).shows ≡ true → OnOk result
         (length (D.device disk.new).seen ≡ length (D.device disk.old).seen) }

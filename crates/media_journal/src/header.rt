@@ -9,6 +9,9 @@ use disk_trait::{Disk, Failed, same_bytes};
 /// The bytes of a block.
 pub const BLOCK: u64 = 4096;
 
+/// The bytes of the header, with its gate.
+pub const HEADER: u64 = 41;
+
 /// Where the first half begins: behind the block of the header and that of the selector.
 pub const HALVES: u64 = 2 * BLOCK;
 
@@ -52,7 +55,7 @@ pub(crate) fn magic() -> [u8; 8]
 
 /// Reads the header: none where it isn't an open one.
 pub(crate) fn read_header<D: Disk>(disk: &mut D) -> Result<Option<Header>, Failed>
-    requires { 41 ≤ (D.device disk.old).size }
+    requires { HEADER ≤ (D.device disk.old).size }
     ensures reads { DiskReads (is_ok result) (D.device disk.old) (D.device disk.new) }
     ensures header { (D.device disk.old).shows ≡ true
         → IfOk result (HeaderAnswer (D.device disk.old).seen) }
@@ -64,7 +67,7 @@ pub(crate) fn read_header<D: Disk>(disk: &mut D) -> Result<Option<Header>, Faile
 
 /// The header that a file begins with whose first 41 bytes are these.
 fn header_of(bytes: &[u8]) -> Option<Header>
-    requires { length bytes.now ≡ 41 }
+    requires { length bytes.now ≡ HEADER }
     ensures { HeaderAnswer bytes.now result }
 {
     if !is_open(bytes) {
@@ -83,7 +86,7 @@ fn header_of(bytes: &[u8]) -> Option<Header>
 
 /// Whether a file that begins with these bytes has an open header.
 pub(crate) fn is_open(bytes: &[u8]) -> bool
-    requires { length bytes.now ≡ 41 }
+    requires { length bytes.now ≡ HEADER }
     ensures { IsTrue result ↔ HasOpenHeader bytes.now }
 {
     let (begin, _) = bytes.split_at(8);

@@ -2,3 +2,5 @@ pub mod IdLemmas
 mod CalendarLemmas
 pub mod RangeLemmas
 mod TextLemmas
+pub mod RestoringLemmas
+pub mod RowLemmas

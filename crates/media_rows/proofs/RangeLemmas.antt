@@ -11,6 +11,7 @@ use Rattle.time_range.specs.declared.ranges.Span.{Span}
 use Rattle.time_range.proofs.SpanPoints.{point_between, covers_from_reach, reach_from_covers, not_covered_by_never, hull_least}
 use Rattle.time_range.proofs.Theorems.{same_range}
 use Rattle.media_rows.specs.Ranges.{overlaps, covers, reaches_down, reaches_up, lower, higher, hull}
+use Rattle.time_range.proofs.EndTests.{order_from_point}
 
 le_true : (a b : ℤ) → int_le a b ≡ true → a ≤ℤ b
 le_true a b e = grind (arith, ints)
@@ -19,12 +20,6 @@ true_le : (a b : ℤ) → a ≤ℤ b → int_le a b ≡ true
 true_le a b h = grind (arith, ints)
 
 -- ---- ends in order
-
--- ends that have a point between them are in order
-order_from_point : (low high : Option ℤ) (p : ℤ) → From low p → UpTo high p → are_ordered low high ≡ true
-order_from_point None high p from up = refl
-order_from_point (Some a) None p from up = refl
-order_from_point (Some a) (Some b) p from up = grind (arith, ints)
 
 -- the later of two low ends, and the earlier of two high ends
 later : Option ℤ → Option ℤ → Option ℤ

@@ -19,6 +19,7 @@ use Rattle.media_rows.specs.declared.refusal.Refusal.TheVariants as refusals
 use Rattle.media_rows.specs.declared.reply.Reply.{Reply}
 use Rattle.media_rows.specs.declared.reply.Reply.TheVariants as replies
 use Rattle.media_rows.specs.declared.reply.View.{View}
+use Rattle.media_rows.specs.declared.request.Deletion.{Deletion}
 use Rattle.media_rows.specs.declared.segment.Segment.{Segment}
 use Rattle.media_rows.specs.declared.segment.SegmentRow.{SegmentRow}
 use Rattle.media_rows.specs.Catalog.{flow_of, put_refusal, set_refusal, set_source_refusal, flow_refusal}
@@ -29,7 +30,7 @@ use Rattle.media_rows.specs.Objects.{object_of, is_stored_object, free_place, bl
 use Rattle.media_rows.specs.Outbox.{hook_of}
 use Rattle.media_rows.specs.Ranges.{eternity}
 use Rattle.media_rows.specs.Refusals.{when, first_refusal}
-use Rattle.media_rows.specs.Requests.{Deletion, step_size, is_deleting, asked_row}
+use Rattle.media_rows.specs.Requests.{step_size, is_deleting, asked_row}
 use Rattle.media_rows.specs.Segments.{segments_of, overlapping, covered, posted}
 use Rattle.media_rows.specs.Views.{asked}
 

@@ -10,6 +10,7 @@ use Rattle.media_rows.specs.declared.flow.FlowBody.{FlowBody}
 use Rattle.media_rows.specs.declared.hook.Hook.{Hook}
 use Rattle.media_rows.specs.declared.part.Part.{Part}
 use Rattle.media_rows.specs.declared.request.DeleteRow.{DeleteRow}
+use Rattle.media_rows.specs.declared.request.Deletion.{Deletion}
 use Rattle.media_rows.specs.declared.segment.Segment.{Segment}
 use Rattle.media_rows.specs.declared.segment.SegmentRow.{SegmentRow}
 use Rattle.media_rows.specs.Catalog.{after_put, after_set, after_set_source, after_touch, after_drop}
@@ -17,7 +18,7 @@ use Rattle.media_rows.specs.Events.{put_events, set_events, source_event, added_
 use Rattle.media_rows.specs.Library.{Library, with_happened}
 use Rattle.media_rows.specs.Objects.{allocated_rows, stored_row, with_object, idled, swept_objects, without_objects}
 use Rattle.media_rows.specs.Outbox.{after_put_hook, after_drop_hook}
-use Rattle.media_rows.specs.Requests.{Deletion, asked_row, first_unfinished, removed_by_step, is_finished_by_step, after_step, after_end}
+use Rattle.media_rows.specs.Requests.{asked_row, first_unfinished, removed_by_step, is_finished_by_step, after_step, after_end}
 use Rattle.media_rows.specs.Segments.{segments_of, covered, posted, without_segments}
 
 -- ---- parts that several changes share

@@ -1,6 +1,6 @@
 -- Media objects by rising serial: what refers to them, where their bytes lie, which are due to be
 -- swept, and what each change of them makes. Our own rules.
-use Rattle.std.specs.Prelude.{ℕ, ◌+◌, ◌/◌, ◌==◌, nat_lt, nat_le, List, [], ◌∷◌, Bool, true, false, not, ◌&&◌, ◌||◌, Option, Some, None, if◌then◌else◌, filter, map, find, take, length, bytes_eq}
+use Rattle.std.specs.Prelude.{ℕ, ◌+◌, ◌-◌, ◌/◌, ◌==◌, nat_lt, nat_le, List, [], ◌∷◌, Bool, true, false, not, ◌&&◌, ◌||◌, Option, Some, None, if◌then◌else◌, filter, map, find, take, length, bytes_eq}
 use Rattle.std.specs.List.{list_any, list_all}
 use Rattle.media_rows.specs.declared.object.ObjectRow.{ObjectRow}
 use Rattle.media_rows.specs.declared.object.ObjectState.{ObjectState}
@@ -47,11 +47,15 @@ abbrev pub flows_naming : List SegmentRow → List ℕ → List ℕ
 flows_naming segments object =
     placed_all nat_lt (map (λ row. row.flow) (references segments object))
 
--- ---- places of media blocks, each of 4,096 bytes
+-- ---- places of media blocks
+
+-- the bytes of a block
+abbrev pub block_size : ℕ
+block_size = 4096
 
 -- the blocks that so many bytes take
 abbrev pub blocks_of : ℕ → ℕ
-blocks_of bytes = (bytes + 4095) / 4096
+blocks_of bytes = (bytes + (block_size - 1)) / block_size
 
 -- two places of so many blocks have no block in common
 abbrev pub are_apart : ℕ → ℕ → ℕ → ℕ → Bool

@@ -1,10 +1,10 @@
 -- Delete requests by rising serial, and the steps that work them off. Our own rules.
 use Rattle.std.specs.Prelude.{ℕ, ◌==◌, nat_lt, nat_le, List, [], ◌∷◌, Bool, true, false, not, ◌&&◌, Option, if◌then◌else◌, filter, map, find, take, length}
 use Rattle.std.specs.List.{list_any}
-use Rattle.time_range.specs.declared.ranges.Span.{Span}
 use Rattle.media_rows.specs.declared.request.DeleteRow.{DeleteRow}
 use Rattle.media_rows.specs.declared.request.DeleteStatus.{DeleteStatus}
 use Rattle.media_rows.specs.declared.request.DeleteStatus.TheVariants.{Created, Started, Done}
+use Rattle.media_rows.specs.declared.request.Deletion.{Deletion}
 use Rattle.media_rows.specs.declared.segment.SegmentRow.{SegmentRow}
 use Rattle.media_rows.specs.Segments.{covered, without_segments}
 
@@ -49,13 +49,6 @@ newest_done [] = []
 newest_done (row ∷ later) =
     if is_done row.status
     && nat_le done_kept (done_count later) then newest_done later else row ∷ newest_done later
-
--- what a delete request asks for: that the segments of a flow go that a range covers, and, if so
--- asked, the flow with them
-pub record Deletion : Type 0 where
-  pub flow : ℕ
-  pub range : Option Span
-  pub delete_flow : Bool
 
 -- a request that is asked for, of this serial and at this moment
 abbrev pub asked_row : Deletion → ℕ → ℕ → DeleteRow

@@ -38,7 +38,7 @@ pub use crate::part::{Part, PartName};
 pub use crate::ranges::{range_covers, range_hull, range_overlaps};
 pub use crate::refusal::{ApplyFault, BookFault, Refusal};
 pub use crate::reply::{FlowShown, FlowShownList, HookShown, HookShownList, Reply, View};
-pub use crate::request::{DeleteList, DeleteRow, DeleteStatus};
+pub use crate::request::{DeleteList, DeleteRow, DeleteStatus, Deletion};
 pub use crate::row::{Row, RowList};
 pub use crate::segment::{PostList, Segment, SegmentList, SegmentRow};
 pub use crate::source::{IdList, SourceList, SourceRow};

@@ -45,6 +45,7 @@ pub fn range_hull(left: &TimeRange, right: &TimeRange) -> TimeRange
 fn range_is_sound(range: &TimeRange)
     ensures { IsRange range.now }
 {
+    // Each call tells its part.
     let _low = range.low();
     let _high = range.high();
     let _never = range.is_never();

@@ -5,5 +5,5 @@ mod Written
 mod Places
 mod Storing
 mod Outcomes
-mod PutFacts
+pub mod PutFacts
 mod PutReplies

@@ -1,5 +1,5 @@
 -- A change that is written makes the archive after it, whose bytes are there.
-use Rattle.std.proofs.Common.{◌≡◌, ◌≤◌, ◌+◌, ◌*◌, ℕ, Bool, true, List, length, Option, Some, None, refl, sym, ap, subst, ◌∙◌, arith}
+use Rattle.std.proofs.Common.{◌≡◌, ◌≤◌, ◌+◌, ◌*◌, ℕ, Bool, true, List, length, Option, Some, None, sym, ap, subst, ◌∙◌, arith}
 use Rattle.media_rows.specs.declared.change.Change.{Change}
 use Rattle.media_rows.specs.Apply.{applied}
 use Rattle.media_rows.specs.Changes.{after}
@@ -15,11 +15,12 @@ use Rattle.store_states.specs.Kept.{AgreesWith, HoldsEach, StoreView, kept_state
 use Rattle.store_states.specs.States.{StepOf, held_in, media_start}
 use Rattle.store_states.proofs.Held.{changes_find_bytes}
 use Rattle.store_states.proofs.Making.{libraries_are_good}
-use Rattle.store_commits.specs.Carrying.{AreRowsOf, Carries, ReplaceEnds, Replaces, journal_for, kept_written}
+use Rattle.store_commits.specs.Carrying.{AreRowsOf, Carries, ReplaceEnds, Replaces, kept_written}
 use Rattle.store_plans.specs.declared.outcome.Planned.{Planned}
 use Rattle.store_plans.specs.Plans.{ComesFirst, MakesChange}
 use Rattle.media_store.specs.Changes.{CameThere, ChangesStore, archive_next, kept_by, kept_with}
 use Rattle.media_store.specs.Stores.{archive_of, journal_of}
+use Rattle.store_commits.proofs.Writing.{half_for}
 
 -- ---- the bytes of the next library's objects
 
@@ -51,10 +52,6 @@ next_bytes d kept held change came next agrees made fits there left could =
 
 -- ---- a change that was written
 
-half_stays : (p : Position) (rows : Option (List ℕ)) → (journal_for p rows).half ≡ p.half
-half_stays p None = refl
-half_stays p (Some text) = refl
-
 pub carried : (ok : Bool) (old new : Device) (kept : StoreView) (held : List (List ℕ)) (change : Change) (came : List ℕ) (rows : Option (List ℕ))
     (next : Library) (payload : List ℕ) → next ≡ after change kept.library
     → Carries ok (archive_of kept held) (kept_written kept rows next payload) (archive_next kept held change came).held old new
@@ -64,7 +61,7 @@ carried ok old new kept held change came rows next payload is carries =
     let halved = subst
     (λ (half : ℕ). Elapses (Replaces (4096 * half) (archive_of kept held) (record { library = next; held = bytes }))
     (ReplaceEnds ok (4096 * half) (archive_of kept held) (record { library = next; held = bytes })) old new)
-    (half_stays kept.journal rows) carries.moments in
+    (half_for kept.journal rows) carries.moments in
     record {
       moments = subst
           (λ (library : Library). Elapses

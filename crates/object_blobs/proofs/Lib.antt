@@ -4,7 +4,7 @@ mod PieceLemmas
 pub mod Places
 mod Placing
 mod Placed
-mod Runs
+pub mod Runs
 mod Seen
 mod Spaced
 mod Spread

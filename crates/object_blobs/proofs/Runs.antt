@@ -17,7 +17,7 @@ all_at p (suc n) i h lt =
     let own = and_parts (p n) true both.1 in
     elim (cases_eq i n) [ inl same ↦ ap p same ∙ own.0 | inr other ↦ all_at p n i both.0 (omega arith) ]
 
-all_from : (p : ℕ → Bool) (n : ℕ) → ((i : ℕ) → i < n → p i ≡ true) → list_all p (numbers_below n) ≡ true
+pub all_from : (p : ℕ → Bool) (n : ℕ) → ((i : ℕ) → i < n → p i ≡ true) → list_all p (numbers_below n) ≡ true
 unfolding numbers_below
 all_from p zero h = refl
 all_from p (suc n) h =

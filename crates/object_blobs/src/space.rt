@@ -69,6 +69,7 @@ impl Space {
         ensures holes { HasHoles self.now }
         ensures told { IsToldByFree self.now }
     {
+        // Where a field is read, the invariant is known.
         let _blocks = self.blocks;
     }
 

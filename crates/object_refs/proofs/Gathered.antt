@@ -1,7 +1,6 @@
 -- Rows in any order: when their ids and serials are distinct, and what book they make.
-use Rattle.std.proofs.Common.{◌≡◌, ℕ, zero, suc, ◌<◌, ◌==◌, nat_lt, Bool, true, false, not, ◌&&◌, ◌||◌, cond, if◌then◌else◌, List, [], ◌∷◌, Some, None, Result, Ok, Err, bytes_eq, find, is_none, map, drop, get_or, length, ◌-◌, ◌+◌, refl, sym, ap, ◌∙◌, arith}
+use Rattle.std.proofs.Common.{◌≡◌, ℕ, zero, suc, ◌==◌, nat_lt, Bool, true, false, not, ◌&&◌, ◌||◌, cond, if◌then◌else◌, List, [], ◌∷◌, Some, None, Result, Ok, Err, bytes_eq, find, is_none, map, drop, refl, sym, ap, ◌∙◌, arith}
 use Rattle.std.specs.List.{list_all, list_any}
-use Rattle.std.proofs.Math.Seq.{drop-cons}
 use Rattle.std.proofs.lemmas.Bool.Decides.{nat_tests}
 use Rattle.media_rows.specs.declared.refusal.ApplyFault.{ApplyFault}
 use Rattle.media_rows.specs.declared.refusal.ApplyFault.TheVariants as faults
@@ -160,7 +159,7 @@ not_gathered n row rows all kept was new shape =
 
 -- ---- references of segments
 
-objects_same : (id : List ℕ) (flow : ℕ) (kept : List Kept) → objects_in (changed_at id (referred flow) kept) ≡ objects_in kept
+pub objects_same : (id : List ℕ) (flow : ℕ) (kept : List Kept) → objects_in (changed_at id (referred flow) kept) ≡ objects_in kept
 objects_same id flow [] = refl
 objects_same id flow (k ∷ kept) = by (bytes_eq k.row.id id) (objects_same id flow kept)
   where
@@ -300,24 +299,6 @@ pub references_refused : (rows : List ObjectRow) (segments : List SegmentRow) (b
 references_refused rows segments bare_book names bare_is stored =
     rw names (sym (references_good rows segments (and_parts (are_object_ids_distinct rows) (are_distinct (map (λ r. r.serial) rows)) names).0)
     ∙ sym (ap (λ k. list_all (λ s. is_stored_object (objects_in k) s.segment.object) segments) bare_is) ∙ stored)
-
--- ---- faults that are handed on
-
-pub handed_on : {T S : Type 0} (fault : ApplyFault) (good all : Bool) (part : T) (whole : S) → (good ≡ false → all ≡ false) → Restores good part (Err fault)
-    → Restores all whole (Err fault)
-handed_on faults.Refused good all part whole follows h = follows h
-handed_on faults.Memory good all part whole follows h = h
-
--- ---- a list from its end
-
-pub one_more : {X : Type 0} (xs : List X) (n : ℕ) (x : X) → n < length xs → x ≡ get_or xs (length xs - 1 - n) x
-    → drop (length xs - (n + 1)) xs ≡ x ∷ drop (length xs - n) xs
-one_more xs n x lt at =
-    let j = length xs - (n + 1) in
-    let same : j ≡ length xs - 1 - n = omega (arith, lt) in
-    let next : suc j ≡ length xs - n = omega (arith, lt) in
-    drop-cons xs j x (omega (arith, lt)) ∙ ap (λ i. get_or xs i x ∷ drop (suc j) xs) same ∙ ap (λ v. v ∷ drop (suc j) xs) (sym at)
-    ∙ ap (λ i. x ∷ drop i xs) next
 
 -- ---- what the references of segments make of a book without references
 

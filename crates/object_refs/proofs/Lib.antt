@@ -1,4 +1,4 @@
-mod Lists
+pub mod Lists
 mod Looks
 mod Numbers
 mod Counting
@@ -13,5 +13,5 @@ mod Sweeping
 mod Ordering
 mod Restoring
 mod Coming
-mod Gathered
+pub mod Gathered
 pub mod Theorems

@@ -46,7 +46,7 @@ due_unnamed segments objects moment row e =
 
 -- ---- a flow that was referred refers
 
-any_append : {X : Type 0} (test : X → Bool) (l r : List X) → list_any test (l ++ r) ≡ (list_any test l || list_any test r)
+pub any_append : {X : Type 0} (test : X → Bool) (l r : List X) → list_any test (l ++ r) ≡ (list_any test l || list_any test r)
 any_append test [] r = refl
 any_append test (x ∷ l) r = by (test x) (any_append test l r)
   where

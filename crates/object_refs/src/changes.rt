@@ -116,6 +116,7 @@ impl ObjectBook {
 fn tell_small(serial: u64)
     ensures { serial < 2 ^ 64 }
 {
+    // Where it is read, its type is known.
     let _serial = serial;
 }
 

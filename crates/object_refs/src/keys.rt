@@ -94,7 +94,7 @@ fn all_looked_up<V: Drop, L: Ledger>(
     }
     let mut steps = Steps::<L>::new(blank);
     let mut list = Vec::with_capacity(alloc, count as usize)?;
-    rows.walk_from(i128::MIN, count as usize, false, &mut list, &mut steps);
+    rows.walk_from(i128::MIN, count as usize, &mut list, &mut steps);
     Ok(list)
 }
 

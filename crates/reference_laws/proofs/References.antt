@@ -10,7 +10,7 @@ use Rattle.std.specs.Cmp.Lexicographic.{bytes_decides}
 use Rattle.media_rows.specs.declared.object.ObjectRow.{ObjectRow}
 use Rattle.media_rows.specs.declared.segment.SegmentRow.{SegmentRow}
 use Rattle.media_rows.specs.Lists.{inserted, in_order}
-use Rattle.media_rows.specs.Objects.{due_objects, idle_time, idled, idled_row, idles_before, is_due, is_named, references}
+use Rattle.media_rows.specs.Objects.{due_objects, idle_time, idled, idles_before, is_due, is_named, references}
 use Rattle.shared_tree.proofs.Counted.{all_append, all_kept}
 use Rattle.shared_tree.proofs.Rising.{all_map}
 use Rattle.library_laws.proofs.ListLemmas.{In, In-from_Contains}
@@ -21,6 +21,8 @@ use Rattle.object_refs.specs.declared.kept.Kept.{Kept}
 use Rattle.object_refs.specs.References.{changed_at, flows_in, less_one, objects_in, reference_of, references_in, references_to, referred, released}
 use Rattle.reference_laws.specs.Ties.{AreTied, flows_to}
 use Rattle.reference_laws.specs.Laws.{DueAreSame, NamesAreSame, ObjectsChange, ObjectsCome, ObjectsGo, ReferencesCome, ReferencesGo}
+use Rattle.object_refs.proofs.Theorems.{any_append}
+use Rattle.library_laws.proofs.ObjectsKept.{idled_id}
 
 -- ---- numbers in order
 
@@ -81,15 +83,6 @@ named_filled (row ∷ rows) id = by (bytes_eq row.segment.object id) (named_fill
 
 flows_filled : (segments : List SegmentRow) (id : List ℕ) → is_filled (flows_to segments id) ≡ is_named segments id
 flows_filled segments id = order_filled (map (λ row. row.flow) (references segments id)) ∙ named_filled segments id
-
-any_append : {X : Type 0} (test : X → Bool) (l r : List X) → list_any test (l ++ r) ≡ (list_any test l || list_any test r)
-any_append test [] r = refl
-any_append test (x ∷ l) r = by (test x) (any_append test l r)
-  where
-    by : (t : Bool) → list_any test (l ++ r) ≡ (list_any test l || list_any test r)
-        → (t || list_any test (l ++ r)) ≡ ((t || list_any test l) || list_any test r)
-    by true ih = refl
-    by false ih = ih
 
 -- references to an object name just that
 references_name : (object id : List ℕ) (flows : List ℕ) → is_named (map (reference_of object) flows) id ≡ (bytes_eq object id && is_filled flows)
@@ -231,13 +224,6 @@ objects_ids rows = map (λ row. row.id) rows
 ids_are : (kept : List Kept) → objects_ids (objects_in kept) ≡ ids_in kept
 ids_are [] = refl
 ids_are (k ∷ ks) = ap (λ l. k.row.id ∷ l) (ids_are ks)
-
-idled_id : (before after : List SegmentRow) (moment : ℕ) (row : ObjectRow) → (idled_row before after moment row).id ≡ row.id
-idled_id before after moment row = by (is_named before row.id && not (is_named after row.id))
-  where
-    by : (p : Bool) → (cond p (record row { idle_since = moment }) row).id ≡ row.id
-    by true = refl
-    by false = refl
 
 idled_ids : (before after : List SegmentRow) (moment : ℕ) (rows : List ObjectRow) → objects_ids (idled before after moment rows) ≡ objects_ids rows
 idled_ids before after moment [] = refl

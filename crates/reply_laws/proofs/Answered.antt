@@ -18,6 +18,7 @@ use Rattle.media_rows.specs.declared.object.ObjectState.TheVariants.{Allocated, 
 use Rattle.media_rows.specs.declared.refusal.Refusal.{Refusal}
 use Rattle.media_rows.specs.declared.refusal.Refusal.TheVariants as refusals
 use Rattle.media_rows.specs.declared.reply.View.TheVariants as views
+use Rattle.media_rows.specs.declared.request.Deletion.{Deletion}
 use Rattle.media_rows.specs.declared.segment.Segment.{Segment}
 use Rattle.media_rows.specs.Answer.{Outcome, created_unless, changing_answer, accepted_request, accepted_drop, accepted_cut, accepted_drop_hook, wanted_ids, is_taken, first_taken, taken_refusal, change_refusal, keep_refusal, keep_state}
 use Rattle.media_rows.specs.Catalog.{flow_of, source_of}
@@ -29,7 +30,7 @@ use Rattle.media_rows.specs.Moments.{is_moment}
 use Rattle.media_rows.specs.Objects.{object_of}
 use Rattle.media_rows.specs.Outbox.{hook_of}
 use Rattle.media_rows.specs.Ranges.{eternity}
-use Rattle.media_rows.specs.Requests.{Deletion, request_of}
+use Rattle.media_rows.specs.Requests.{request_of}
 use Rattle.media_rows.specs.Segments.{segments_of, covered, overlapping}
 use Rattle.media_rows.specs.Views.{asked, flow_key, source_key, listed_flows, listed_sources, passes_flow, passes_range, passes_source, shown_flow, shown_hook, shown_flows, shown_sources, shown_segments, flow_part, source_part, shown_object}
 use Rattle.library_laws.proofs.ChangeFacts.{serials_end}

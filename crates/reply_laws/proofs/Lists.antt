@@ -1,16 +1,11 @@
 -- What holds of each row of a list holds of each of its pages.
-use Rattle.std.proofs.Common.{◌≡◌, inl, inr, ℤ, Bool, true, false, List, [], ◌∷◌, subst}
+use Rattle.std.proofs.Common.{◌≡◌, ℤ, Bool, true, false, List}
 use Rattle.std.specs.Prelude.{reverse, if◌then◌else◌}
 use Rattle.std.specs.List.{list_all}
-use Rattle.std.proofs.lemmas.List.{reverse-append}
 use Rattle.media_rows.specs.declared.command.Page.{Page}
 use Rattle.media_rows.specs.Lists.{page_items}
-use Rattle.library_laws.proofs.ListLemmas.{In, In-append, In-filter, In-take, list_all-In, list_all-from_In}
-
-In-reverse : {X : Type 0} (xs : List X) (x : X) → In x (reverse xs) → In x xs
-In-reverse [] x h = absurd h
-In-reverse (y ∷ ys) x h = elim (In-append (reverse ys) (y ∷ []) x (subst (In x) (reverse-append (y ∷ []) ys) h))
-    [ inl front ↦ inr (In-reverse ys x front) | inr (inl same) ↦ inl same | inr (inr none) ↦ absurd none ]
+use Rattle.library_laws.proofs.ListLemmas.{In, In-filter, In-take, list_all-In, list_all-from_In}
+use Rattle.library_laws.proofs.FollowLemmas.{In-reverse}
 
 In-turned : {X : Type 0} (back : Bool) (xs : List X) (x : X) → In x (if back then reverse xs else xs) → In x xs
 In-turned true xs x h = In-reverse xs x h

@@ -1,12 +1,11 @@
 -- The ids that the store makes have the form of ids: their bytes are digits and hyphens, and they are short.
-use Rattle.std.proofs.Common.{◌≡◌, inl, inr, ℕ, zero, suc, ◌+◌, ◌<◌, ◌≤◌, ◌^◌, ◌%◌, true, cond, List, [], ◌∷◌, length, codes, length-append, refl, arith}
-use Rattle.std.specs.Prelude.{decimal, nat_le}
+use Rattle.std.proofs.Common.{◌≡◌, inl, inr, ℕ, zero, suc, ◌+◌, ◌<◌, ◌≤◌, ◌^◌, true, cond, [], ◌∷◌, length, codes, length-append, refl, arith}
+use Rattle.std.specs.Prelude.{decimal}
 use Rattle.std.specs.Int.{w128, to_be_bytes}
 use Rattle.std.specs.List.{list_all}
-use Rattle.std.proofs.lemmas.Bool.{and_from, cond_both, le-leb, leb-true}
-use Rattle.std.proofs.lemmas.Bool.Decides.{nat_tests}
-use Rattle.std.proofs.lemmas.Fmt.{decimal_by_steps, length-decimal-le}
-use Rattle.uuid.specs.Text.{by_index, hex_digit, lower, nibble, digit_place, is_hyphen_place}
+use Rattle.std.proofs.lemmas.Bool.{and_from, le-leb, leb-true}
+use Rattle.std.proofs.lemmas.Fmt.{length-decimal-le}
+use Rattle.uuid.specs.Text.{hex_digit, lower, nibble, digit_place, is_hyphen_place}
 use Rattle.media_rows.proofs.IdLemmas.{length-id_text}
 use Rattle.media_rows.specs.declared.command.Want.{Want}
 use Rattle.media_rows.specs.declared.command.Want.TheVariants.{Count, Named}
@@ -18,35 +17,12 @@ use Rattle.media_rows.specs.Sound.{is_want_good}
 use Rattle.library_laws.proofs.KeptLemmas.{list_all-both, list_all-mapped}
 use Rattle.library_laws.proofs.ListLemmas.{In, In-append}
 use Rattle.reply_laws.specs.Asks.{is_few}
-
-hex_is_byte : (d : ℕ) → d < 16 → is_id_byte (hex_digit lower d) ≡ true
-hex_is_byte d small = grind (arith, nat_tests)
-
-nibble_small : (xs : List ℕ) (k : ℕ) → nibble xs k < 16
-nibble_small xs k = grind arith
-
-place_is_byte : (xs : List ℕ) (k : ℕ) → is_id_byte (cond (is_hyphen_place k) 45 (hex_digit lower (nibble xs (digit_place k)))) ≡ true
-place_is_byte xs k = cond_both (is_hyphen_place k) 45 (hex_digit lower (nibble xs (digit_place k))) (λ b. is_id_byte b ≡ true) (λ e. refl)
-    (λ e. hex_is_byte (nibble xs (digit_place k)) (nibble_small xs (digit_place k)))
-
-all_places : (n : ℕ) (f : ℕ → ℕ) → ((k : ℕ) → is_id_byte (f k) ≡ true) → list_all is_id_byte (by_index n f) ≡ true
-unfolding by_index
-all_places zero f h = refl
-all_places (suc n) f h = list_all-both is_id_byte (by_index n f) (f n ∷ []) (all_places n f h) (and_from (is_id_byte (f n)) true (h n) refl)
+use Rattle.library_laws.proofs.AppliesLemmas.{all_places, digits_are_bytes, place_is_byte}
 
 id_is_bytes : (id : ℕ) → list_all is_id_byte (id_text id) ≡ true
 unfolding id_text
 id_is_bytes id = all_places 36 (λ k. cond (is_hyphen_place k) 45 (hex_digit lower (nibble (to_be_bytes w128 id) (digit_place k))))
     (place_is_byte (to_be_bytes w128 id))
-
-digit_is_byte : (n : ℕ) → n < 10 → is_id_byte (48 + n) ≡ true
-digit_is_byte n less = and_from (nat_le 33 (48 + n)) (nat_le (48 + n) 126) (le-leb 33 (48 + n) (omega arith)) (le-leb (48 + n) 126 (omega arith))
-
-digits_are_bytes : (n : ℕ) → n < 2 ^ 64 → list_all is_id_byte (decimal n) ≡ true
-digits_are_bytes n small =
-    decimal_by_steps (λ m ds. list_all is_id_byte ds ≡ true) (λ m less. and_from (is_id_byte (48 + m)) true (digit_is_byte m less) refl)
-    (λ m ds more before. list_all-both is_id_byte ds ((48 + m % 10) ∷ []) before
-    (and_from (is_id_byte (48 + m % 10)) true (digit_is_byte (m % 10) (omega arith)) refl)) n small
 
 made_is_id : (store serial : ℕ) → serial < 2 ^ 64 → is_object_id (made_id store serial) ≡ true
 made_is_id store serial small =

@@ -32,6 +32,8 @@ use Rattle.media_rows.specs.Views.{part_or, text_part, rate_part, tag_part, coll
 use Rattle.library_laws.proofs.KeptLemmas.{same_text}
 use Rattle.library_laws.proofs.ListLemmas.{In-filter, In-in_order, find-In, list_all-In, list_all-from_In}
 use Rattle.reply_laws.proofs.Lists.{In-page}
+use Rattle.library_laws.proofs.SettingsKept.{SourceTexts-from}
+use Rattle.library_laws.proofs.CatalogKept.{BodyTexts-from}
 
 -- what is shown, or the refusal to show it, has its texts
 pub record Fine (shown : Result View Refusal) : Type 0 where
@@ -79,22 +81,15 @@ pub record BodyTexts (body : FlowBody) : Type 0 where
   pub tags : list_all is_tag_text body.tags ≡ true
   pub members : list_all is_member_text body.members ≡ true
 
-body_texts : (body : FlowBody) → is_body_text body ≡ true → BodyTexts body
-body_texts body e =
-    let to_members = and_parts _ _ (and_parts _ _ e).0 in
-    let to_tags = and_parts _ _ to_members.0 in
-    let to_description = and_parts _ _ to_tags.0 in
-    record { label = (and_parts _ _ to_description.0).1; description = to_description.1; tags = to_tags.1; members = to_members.1 }
-
 pub of_flow : (body : FlowBody) (name : PartName) → is_body_text body ≡ true → Fine (flow_part body name)
 unfolding is_utf8 chars encode
-of_flow body (names.Tag name) e = one_part _ (codes "tags") (tag name body.tags (body_texts body e).tags) refl
-of_flow body names.Tags e = record { is = (body_texts body e).tags }
-of_flow body names.Label e = one_part _ (codes "label") (text parts.Label body.label (λ t h. h) (body_texts body e).label) refl
+of_flow body (names.Tag name) e = one_part _ (codes "tags") (tag name body.tags (BodyTexts-from body e).tags) refl
+of_flow body names.Tags e = record { is = (BodyTexts-from body e).tags }
+of_flow body names.Label e = one_part _ (codes "label") (text parts.Label body.label (λ t h. h) (BodyTexts-from body e).label) refl
 of_flow body names.Description e =
-    one_part _ (codes "description") (text parts.Description body.description (λ t h. h) (body_texts body e).description) refl
+    one_part _ (codes "description") (text parts.Description body.description (λ t h. h) (BodyTexts-from body e).description) refl
 of_flow body names.ReadOnly e = record { is = refl }
-of_flow body names.Collection e = one_part _ (codes "flow_collection") (members body.members (body_texts body e).members) refl
+of_flow body names.Collection e = one_part _ (codes "flow_collection") (members body.members (BodyTexts-from body e).members) refl
 of_flow body names.MaxBitRate e = one_part _ (codes "max_bit_rate") (rate parts.MaxBitRate body.max_bit_rate (λ n. refl)) refl
 of_flow body names.AvgBitRate e = one_part _ (codes "avg_bit_rate") (rate parts.AvgBitRate body.avg_bit_rate (λ n. refl)) refl
 
@@ -104,19 +99,13 @@ pub record SourceTexts (row : SourceRow) : Type 0 where
   pub description : if_there is_utf8 row.description ≡ true
   pub tags : list_all is_tag_text row.tags ≡ true
 
-source_texts : (row : SourceRow) → is_source_text row ≡ true → SourceTexts row
-source_texts row e =
-    let to_tags = and_parts _ _ (and_parts _ _ (and_parts _ _ e).0).0 in
-    let to_description = and_parts _ _ to_tags.0 in
-    record { label = to_description.0; description = to_description.1; tags = to_tags.1 }
-
 pub of_source : (row : SourceRow) (name : PartName) → is_source_text row ≡ true → Fine (source_part row name)
 unfolding is_utf8 chars encode
-of_source row (names.Tag name) e = one_part _ (codes "tags") (tag name row.tags (source_texts row e).tags) refl
-of_source row names.Tags e = record { is = (source_texts row e).tags }
-of_source row names.Label e = one_part _ (codes "label") (text parts.Label row.label (λ t h. h) (source_texts row e).label) refl
+of_source row (names.Tag name) e = one_part _ (codes "tags") (tag name row.tags (SourceTexts-from row e).tags) refl
+of_source row names.Tags e = record { is = (SourceTexts-from row e).tags }
+of_source row names.Label e = one_part _ (codes "label") (text parts.Label row.label (λ t h. h) (SourceTexts-from row e).label) refl
 of_source row names.Description e =
-    one_part _ (codes "description") (text parts.Description row.description (λ t h. h) (source_texts row e).description) refl
+    one_part _ (codes "description") (text parts.Description row.description (λ t h. h) (SourceTexts-from row e).description) refl
 of_source row other e = record { is = refl }
 
 -- ---- objects that segments name

@@ -1,6 +1,6 @@
 -- A request begins on a connection: what is known of it while it is heard, and while the disk is read and written for it.
 use Rattle.std.proofs.Common.{◌≡◌, ◌-◌, ℕ, Bool, true, false, List, [], ◌∷◌, ◌++◌, length, map, refl, sym, ap, ◌∙◌, subst, arith, length-append}
-use Rattle.std.proofs.lemmas.List.{append-nil, append_assoc, take_all}
+use Rattle.std.proofs.lemmas.List.{append-nil, append_assoc}
 use Rattle.disk_trait.specs.Device.{Device, Left, Link}
 use Rattle.disk_trait.specs.Calls.{Elapses, Unchanged}
 use Rattle.site_edge.specs.Links.{change_last}
@@ -14,10 +14,10 @@ use Rattle.run_history.specs.Laws.{Wrote, under_way}
 use Rattle.run_history.specs.Serving.{RunCounts, Going, Held, connection_with}
 use Rattle.run_history.proofs.Pieces.{begun-most}
 use Rattle.run_history.proofs.Pairs.{calls_add_up, state_after-change}
-use Rattle.run_history.proofs.Growth.{stages_count}
+use Rattle.run_history.proofs.Growth.{last_or-append, stages_count}
 use Rattle.run_history.proofs.Ends.{stage-sessions}
 use Rattle.run_history.proofs.Going.{last_changed}
-use Rattle.run_history.proofs.Invariant.{quiet_calls}
+use Rattle.run_history.proofs.Invariant.{quiet_calls, state_now-after}
 use Rattle.request_hearing.specs.Hearing.{HearsAndSays, after_hearing, interim_bytes, with_interim}
 use Rattle.request_hearing.specs.Asking.{Asking, IsUnderWay, Open, asked_trace, with_states}
 use Rattle.request_hearing.proofs.SiteLemmas.{sends_none}
@@ -25,20 +25,9 @@ use Rattle.request_hearing.proofs.Theorems.{reached_heard}
 
 -- ---- the states of a trace
 
-pub last_behind : {State : Type 0} (s : State) (xs ys : List State) → last_or (last_or s xs) ys ≡ last_or s (xs ++ ys)
-last_behind s [] ys = refl
-last_behind s (x ∷ xs) ys = last_behind x xs ys
-
 -- changes more are the last ones
 pub state_now-states : {State : Type 0} (t : Trace State) (states : List State) → state_now (with_states states t) ≡ last_or (state_now t) states
-state_now-states t states = sym (last_behind t.first t.changes states)
-
-pub state_now-change : {State : Type 0} (t : Trace State) (s : State) → state_now (then_change s t) ≡ s
-state_now-change t s = state_now-states t (s ∷ [])
-
--- the state after all changes is the last one
-state_now-after : {State : Type 0} (t : Trace State) → state_after (length t.changes) t ≡ state_now t
-state_now-after t = ap (last_or t.first) (take_all (length t.changes) t.changes (omega arith))
+state_now-states t states = sym (last_or-append t.first t.changes states)
 
 -- and the one before a change is the last one so far
 pub state_before-change : {State : Type 0} (t : Trace State) (s : State) → state_after (length (t.changes ++ s ∷ []) - 1) (then_change s t) ≡ state_now t
@@ -54,7 +43,7 @@ state-sessions {State} {Request} m at (x ∷ sessions) =
     let next = after_steps m at x.steps in
     state-sessions m next sessions
     ∙ ap (λ s. last_or s (all_changes m next sessions)) (stages_count State Request m at x.steps).1
-    ∙ last_behind at.state (changes_of m at x.steps) (all_changes m next sessions)
+    ∙ last_or-append at.state (changes_of m at x.steps) (all_changes m next sessions)
 
 pub changes-interim : {State : Type 0} (said : Bool) (t : Trace State) → (with_interim said t).changes ≡ t.changes
 changes-interim true t = refl

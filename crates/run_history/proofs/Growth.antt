@@ -49,7 +49,7 @@ steps_grow State Request m at steps step = record {
 
 -- ---- stages
 
-last_or-append : {State : Type 0} (s : State) (xs ys : List State) → last_or (last_or s xs) ys ≡ last_or s (xs ++ ys)
+pub last_or-append : {State : Type 0} (s : State) (xs ys : List State) → last_or (last_or s xs) ys ≡ last_or s (xs ++ ys)
 last_or-append s [] ys = refl
 last_or-append s (x ∷ xs) ys = last_or-append x xs ys
 

@@ -19,14 +19,14 @@ use Rattle.run_history.proofs.Pairs.{all_grown, calls_add_up, right_grows, state
 
 -- ---- the states of a trace
 
-state_now-after : {State : Type 0} (t : Trace State) → state_after (length t.changes) t ≡ state_now t
+pub state_now-after : {State : Type 0} (t : Trace State) → state_after (length t.changes) t ≡ state_now t
 state_now-after t = ap (last_or t.first) (take-length t.changes)
 
 last_or-push : {State : Type 0} (s x : State) (xs : List State) → last_or s (xs ++ x ∷ []) ≡ x
 last_or-push s x [] = refl
 last_or-push s x (y ∷ ys) = last_or-push y x ys
 
-state_now-change : {State : Type 0} (t : Trace State) (s : State) → state_now (then_change s t) ≡ s
+pub state_now-change : {State : Type 0} (t : Trace State) (s : State) → state_now (then_change s t) ≡ s
 state_now-change t s = last_or-push t.first s t.changes
 
 state_before-change : {State : Type 0} (t : Trace State) (s : State) → state_after (length (then_change s t).changes - 1) (then_change s t) ≡ state_now t

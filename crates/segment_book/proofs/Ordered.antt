@@ -47,7 +47,7 @@ module _ {X : Type 0} (t : X → X → Bool) (is : IsOrder t) where
   past : (x y : X) (ys : List X) → t y x ≡ true → inserted t x (y ∷ ys) ≡ y ∷ inserted t x ys
   past x y ys e = cond-true (t y x) (y ∷ inserted t x ys) (x ∷ y ∷ ys) e
 
-  here : (x y : X) (ys : List X) → t y x ≡ false → inserted t x (y ∷ ys) ≡ x ∷ y ∷ ys
+  pub here : (x y : X) (ys : List X) → t y x ≡ false → inserted t x (y ∷ ys) ≡ x ∷ y ∷ ys
   here x y ys e = cond-false (t y x) (y ∷ inserted t x ys) (x ∷ y ∷ ys) e
 
   between : (x y z : X) → t z x ≡ false → t z y ≡ true → t y x ≡ true → ⊥
@@ -67,7 +67,7 @@ module _ {X : Type 0} (t : X → X → Bool) (is : IsOrder t) where
       ap (inserted t x) (here y z zs zy) ∙ past x y (z ∷ zs) yx ∙ ap (λ l. y ∷ l) (here x z zs zx)
       ∙ sym (here y x (z ∷ zs) (is.one_way y x yx)) ∙ sym (ap (inserted t y) (here x z zs zx))
 
-  swap_below : (x y : X) (zs : List X) → t y x ≡ true → inserted t x (inserted t y zs) ≡ inserted t y (inserted t x zs)
+  pub swap_below : (x y : X) (zs : List X) → t y x ≡ true → inserted t x (inserted t y zs) ≡ inserted t y (inserted t x zs)
   swap_below x y [] e = past x y [] e ∙ sym (here y x [] (is.one_way y x e))
   swap_below x y (z ∷ zs) e = swap_past x y z zs (t z x) (t z y) refl refl e (swap_below x y zs e)
 

@@ -241,7 +241,12 @@ fn met_rows<'a, L: Ledger>(
 {
     let mut steps = Steps::<L>::new(blank);
     let mut rows = Vec::with_capacity(alloc, limit)?;
-    index.range(range, None, limit, false, &mut rows, &mut steps);
+    let page = Page {
+        after: None,
+        limit: limit as u64,
+        reverse: false,
+    };
+    index.range(range, &page, &mut rows, &mut steps);
     Ok(rows)
 }
 

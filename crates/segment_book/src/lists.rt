@@ -10,7 +10,7 @@ use crate::SegmentBook;
 use crate::pages::few;
 use disk_trait::{Duplicate, Memory};
 use id_index::all_rows;
-use media_rows::{SegmentList, SegmentRow};
+use media_rows::{Page, SegmentList, SegmentRow};
 use segment_index::SegmentIndex;
 use shared_tree::Steps;
 use std::alloc::Global;
@@ -69,11 +69,16 @@ fn append_rows<L: Ledger>(
     ensures { OnOk result (list.new ≡ list.old ++ index.now) }
 {
     index.is_in_order();
-    let count = few(index)? as usize;
+    let count = few(index)?;
     let mut steps = Steps::<L>::new(blank);
-    let mut rows = Vec::with_capacity(alloc, count)?;
+    let mut rows = Vec::with_capacity(alloc, count as usize)?;
     let all = TimeRange::eternity();
-    index.range(&all, None, count, false, &mut rows, &mut steps);
+    let page = Page {
+        after: None,
+        limit: count,
+        reverse: false,
+    };
+    index.range(&all, &page, &mut rows, &mut steps);
     append_copies(alloc, &rows, list)
 }
 

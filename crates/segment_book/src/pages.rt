@@ -32,17 +32,15 @@ pub(crate) fn rows_past<'a, L: Ledger>(
         (filter (names_object wanted.now.object) (met index.now wanted.now.range)))) }
 {
     let count = few(index)?;
-    let most = front_len(count, &wanted.object, page.limit) as usize;
+    let most = front_len(count, &wanted.object, page.limit);
+    let front = Page {
+        after: page.after,
+        limit: most,
+        reverse: page.reverse,
+    };
     let mut steps = Steps::<L>::new(blank);
-    let mut rows = Vec::with_capacity(alloc, most)?;
-    index.range(
-        &wanted.range,
-        page.after,
-        most,
-        page.reverse,
-        &mut rows,
-        &mut steps,
-    );
+    let mut rows = Vec::with_capacity(alloc, most as usize)?;
+    index.range(&wanted.range, &front, &mut rows, &mut steps);
     named(alloc, &rows, &wanted.object)
 }
 

@@ -13,7 +13,7 @@ use Rattle.media_rows.specs.declared.segment.SegmentRow.{SegmentRow}
 use Rattle.media_rows.specs.Lists.{is_past}
 use Rattle.media_rows.specs.Ranges.{overlaps}
 use Rattle.media_rows.specs.Segments.{first_point}
-use Rattle.shared_tree.specs.Pairs.{IsRising, is_from, is_up_to, values, values_of, walk_of}
+use Rattle.shared_tree.specs.Pairs.{IsRising, is_from, is_up_to, values, values_of}
 use Rattle.shared_tree.proofs.Counted.{all_append, all_kept, each_passes, rising_kept}
 use Rattle.shared_tree.proofs.Rising.{all_map, filter_none}
 use Rattle.segment_index.specs.Answers.{is_met, met_page, page_of}
@@ -244,7 +244,7 @@ kept_so : (test : Pair → Bool) (P : Pair → Type 0) (ps : List Pair) → AllB
 kept_so test P ps h = all_two (λ p. test p ≡ true → P p) (λ p. test p ≡ true) P (λ p f e. f e) (filter test ps) (all_kept _ test ps h) (each_passes test ps)
 
 pub page_rising : (range : Option Span) (after : Option ℤ) (limit : ℕ) (key : ℤ) (ps : List Pair) → IsIndex ps → IsRising ps → StartsPage range after key ps
-    → take_while (is_met range) (take limit (values (walk_of false key ps))) ≡ met_page (values ps) range (page_of after limit false)
+    → take_while (is_met range) (take limit (values (filter (is_from key) ps))) ≡ met_page (values ps) range (page_of after limit false)
 page_rising range after limit key ps index rising starts =
     let walked = walked_rows (λ k. int_le key k) ps index.keyed in
     let leads = leads_rising range (filter (is_from key) ps) (all_kept IsKeyed (is_from key) ps index.keyed) (rising_kept (is_from key) ps rising)
@@ -254,7 +254,7 @@ page_rising range after limit key ps index rising starts =
     (wanted_rows (λ k. int_le key k) (is_past after false) range ps index.keyed starts.wanted) (subst (Leads (is_met range)) (sym walked) leads)
 
 pub page_falling : (range : Option Span) (after : Option ℤ) (limit : ℕ) (key : ℤ) (ps : List Pair) → IsIndex ps → StartsReverse range after key ps
-    → take_while (is_met range) (take limit (values (walk_of true key ps))) ≡ met_page (values ps) range (page_of after limit true)
+    → take_while (is_met range) (take limit (values (reverse (filter (is_up_to key) ps)))) ≡ met_page (values ps) range (page_of after limit true)
 page_falling range after limit key ps index starts =
     let walk : SegmentRow → Bool = λ row. int_le (first_point row) key in
     let past : SegmentRow → Bool = λ row. is_past after true (first_point row) in

@@ -5,14 +5,14 @@ ghost use Rattle.media_rows.specs.Lists.{each_pair, rises};
 ghost use Rattle.media_rows.specs.Ranges.{has_both_ends};
 ghost use Rattle.media_rows.specs.Segments.{hull_of_segments};
 ghost use Rattle.shared_tree.specs.Pairs.{digits, values_of};
-ghost use Rattle.segment_index.specs.Answers.{Adds, are_apart_rows, begins_before, is_bounded, met_page, page_of, without_start};
+ghost use Rattle.segment_index.specs.Answers.{Adds, are_apart_rows, begins_before, is_bounded, met_page, without_start};
 ghost use Rattle.segment_index.specs.Within.Keyed.{segment_or};
 
 use crate::AddFault;
 use crate::pages::{append_falling, append_rising};
 use crate::points::{first_met, first_point, first_segment, last_point, last_segment};
 use disk_trait::Memory;
-use media_rows::{SegmentRow, range_hull};
+use media_rows::{Page, SegmentRow, range_hull};
 use shared_tree::{Steps, Version};
 use std::alloc::Global;
 use std::marker::{Brand, Model};
@@ -79,28 +79,26 @@ impl SegmentIndex {
         }
     }
 
-    /// Appends a page of the segments that have a point in a range: by rising first points, or backwards by
-    /// falling ones, the first `limit` of those behind the key `after`, a first point. `out` must have room
-    /// for them.
+    /// Appends a page of the segments that have a point in a range. `out` must have room for them.
     pub fn range<'a, L: Ledger>(
         &'a self,
         range: &TimeRange,
-        after: Option<i128>,
-        limit: usize,
-        backwards: bool,
+        page: &Page,
         out: &mut Vec<&'a SegmentRow>,
         steps: &mut Steps<L>,
     )
-        requires room { vec_len out.old + limit ≤ vec_capacity out.old }
+        requires room { vec_len out.old + page.now.limit ≤ vec_capacity out.old }
         ensures page { values_of out.new.items ≡ values_of out.old.items
-            ++ met_page self.now range.now (page_of after limit backwards) }
+            ++ met_page self.now range.now page.now }
         ensures capacity { vec_capacity out.old ≤ vec_capacity out.new }
-        ensures cost { steps.new ≤ steps.old + 6 * (digits (length self.now) + 1) + 2 * limit }
+        ensures cost { steps.new ≤ steps.old + 6 * (digits (length self.now) + 1)
+            + 2 * page.now.limit }
     {
-        if backwards {
-            append_falling(&self.rows, range, &after, limit, out, steps);
+        let limit = page.limit as usize;
+        if page.reverse {
+            append_falling(&self.rows, range, &page.after, limit, out, steps);
         } else {
-            append_rising(&self.rows, range, &after, limit, out, steps);
+            append_rising(&self.rows, range, &page.after, limit, out, steps);
         }
     }
 

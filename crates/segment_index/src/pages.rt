@@ -2,7 +2,7 @@
 ghost use Rattle.std.specs.Prelude.{◌≡◌, ◌+◌, ◌*◌, ◌<◌, ◌≤◌, ◌++◌, ℤ, drop, filter, false, int_le, length, take, take_while, true, vec_capacity, vec_len};
 ghost use Rattle.std.specs.List.{prefix_len};
 ghost use Rattle.media_rows.specs.Lists.{is_past};
-ghost use Rattle.shared_tree.specs.Pairs.{digits, is_up_to, last, values, values_of, walk_of};
+ghost use Rattle.shared_tree.specs.Pairs.{digits, is_up_to, last, values, values_of};
 ghost use Rattle.segment_index.specs.Answers.{is_met, met_page, page_of};
 ghost use Rattle.segment_index.specs.Within.Keyed.{IsIndex};
 ghost use Rattle.segment_index.specs.Within.Walks.{StartsPage, IsInner, StartsReverse, walk_start};
@@ -98,29 +98,8 @@ fn keep_met(range: &TimeRange, start: usize, out: &mut Vec<&SegmentRow>)
     out.truncate(start + met);
 }
 
-/// Appends the first segments of a walk from a key, as many as are asked for, up to the first one that has no
-/// point in the range.
-fn append_walked<'a, L: Ledger>(
-    rows: &'a Version<SegmentRow>,
-    range: &TimeRange,
-    key: &i128,
-    limit: usize,
-    backwards: bool,
-    out: &mut Vec<&'a SegmentRow>,
-    steps: &mut Steps<L>,
-)
-    requires { vec_len out.old + limit ≤ vec_capacity out.old }
-    ensures rows { values_of out.new.items ≡ values_of out.old.items
-        ++ take_while (is_met range.now) (take limit (values (walk_of backwards key.now rows.now))) }
-    ensures capacity { vec_capacity out.old ≤ vec_capacity out.new }
-    ensures cost { steps.new ≤ steps.old + 4 * digits (length rows.now) + limit }
-{
-    let start = out.len();
-    rows.walk_from(*key, limit, backwards, out, steps);
-    keep_met(range, start, out);
-}
-
-/// Appends a page by rising first points.
+/// Appends a page by rising first points: a walk from its key up to the first segment that has no point in the
+/// range.
 pub(crate) fn append_rising<'a, L: Ledger>(
     rows: &'a Version<SegmentRow>,
     range: &TimeRange,
@@ -138,10 +117,12 @@ pub(crate) fn append_rising<'a, L: Ledger>(
 {
     rows.keys_rise();
     let key = first_key(rows, range, after, steps);
-    append_walked(rows, range, &key, limit, false, out, steps);
+    let start = out.len();
+    rows.walk_from(key, limit, out, steps);
+    keep_met(range, start, out);
 }
 
-/// Appends a page by falling first points.
+/// Appends a page by falling first points, likewise.
 pub(crate) fn append_falling<'a, L: Ledger>(
     rows: &'a Version<SegmentRow>,
     range: &TimeRange,
@@ -158,5 +139,7 @@ pub(crate) fn append_falling<'a, L: Ledger>(
     ensures cost { steps.new ≤ steps.old + 4 * digits (length rows.now) + limit }
 {
     let key = last_key(rows, range, after);
-    append_walked(rows, range, &key, limit, true, out, steps);
+    let start = out.len();
+    rows.walk_back_from(key, limit, out, steps);
+    keep_met(range, start, out);
 }

@@ -1,5 +1,5 @@
 -- What a version is seen as: pairs of a key and a value, by rising key. Our own.
-use Rattle.std.specs.Prelude.{ℕ, ℤ, ◌<ℤ◌, int_lt, int_le, Bool, List, [], ◌∷◌, ◌++◌, Option, Some, None, map, filter, reverse, length, option_map, true, false, ⊤, FitsSigned}
+use Rattle.std.specs.Prelude.{ℕ, ℤ, ◌<ℤ◌, int_lt, int_le, Bool, List, [], ◌∷◌, ◌++◌, Option, Some, None, map, filter, length, option_map, ⊤, FitsSigned}
 use mir.Syntax.{w128}
 use Rattle.std.proofs.Common.{int_eq}
 use Rattle.std.specs.List.{AllByRecursion, last_or}
@@ -58,12 +58,6 @@ values ps = map (λ p. p.1) ps
 -- the values that references point to
 abbrev pub values_of : {V : Type 0} → List (Bor V) → List V
 values_of refs = map (λ r. r.now) refs
-
--- The pairs that a walk from a key passes, in its order: those from the key on by rising key, or
--- backwards those up to the key by falling key.
-abbrev pub walk_of : {V : Type 0} → Bool → ℤ → List (ℤ × V) → List (ℤ × V)
-walk_of false key ps = filter (is_from key) ps
-walk_of true key ps = reverse (filter (is_up_to key) ps)
 
 -- how many binary digits a number has
 abbrev pub digits : ℕ → ℕ

@@ -1,6 +1,6 @@
 //! A version of a sorted list of pairs, and its public calls.
-ghost use Rattle.std.specs.Prelude.{◌≡◌, ◌+◌, ◌-◌, ◌*◌, ◌^◌, ◌≤◌, ◌<◌, ◌++◌, [], IfOk, IsTrue, Bool, ◌↔◌, filter, is_some, length, min, option_copied, option_map, take, vec_capacity, vec_len};
-ghost use Rattle.shared_tree.specs.Pairs.{AreKeys, IsRising, digits, first, is_above, is_below, is_up_to, last, value_at, values, walk_of, with_pair, without_key};
+ghost use Rattle.std.specs.Prelude.{◌≡◌, ◌+◌, ◌-◌, ◌*◌, ◌^◌, ◌≤◌, ◌<◌, ◌++◌, [], IfOk, ◌↔◌, filter, is_some, length, min, option_copied, option_map, reverse, take, vec_capacity, vec_len};
+ghost use Rattle.shared_tree.specs.Pairs.{AreKeys, IsRising, digits, first, is_above, is_below, is_from, is_up_to, last, value_at, values, with_pair, without_key};
 ghost use Rattle.shared_tree.specs.Pairs.{values_of};
 
 use crate::steps::Steps;
@@ -70,6 +70,7 @@ impl<V: Drop> Version<V> {
     pub fn keys_rise(&self)
         ensures { IsRising self.now }
     {
+        // Where a field is read, the invariant is known.
         let _more = self.more;
     }
 
@@ -77,6 +78,7 @@ impl<V: Drop> Version<V> {
     pub fn keys_fit(&self)
         ensures { AreKeys self.now }
     {
+        // Where a field is read, the invariant is known.
         let _more = self.more;
     }
 
@@ -119,29 +121,44 @@ impl<V: Drop> Version<V> {
         self.tree.last_below(&key, steps)
     }
 
-    /// Appends the first values from this key on by rising key, at most `limit`, or backwards those up to
-    /// this key by falling key. `out` must have room for them.
+    /// Appends the first values from this key on by rising key, at most `limit`. `out` must have room for them.
     pub fn walk_from<'a, L: Ledger>(
         &'a self,
         key: i128,
         limit: usize,
-        backwards: bool,
         out: &mut Vec<&'a V>,
         steps: &mut Steps<L>,
     )
         requires { vec_len out.old + limit ≤ vec_capacity out.old }
         ensures values { values_of out.new.items
-            ≡ values_of out.old.items ++ take limit (values (walk_of backwards key self.now)) }
+            ≡ values_of out.old.items ++ take limit (values (filter (is_from key) self.now)) }
         ensures length { vec_len out.new ≤ vec_len out.old + limit }
         ensures capacity { vec_capacity out.old ≤ vec_capacity out.new }
         ensures cost { steps.new ≤ steps.old + 4 * digits (length self.now) + limit }
     {
         self.tree.tell_low();
-        if backwards {
-            let _room = self.tree.append_up_to(&key, limit, out, steps);
-        } else {
-            let _room = self.tree.append_from(&key, limit, out, steps);
-        }
+        let _room = self.tree.append_from(&key, limit, out, steps);
+    }
+
+    /// Appends the first values from this key back by falling key, at most `limit`. `out` must have room for
+    /// them.
+    pub fn walk_back_from<'a, L: Ledger>(
+        &'a self,
+        key: i128,
+        limit: usize,
+        out: &mut Vec<&'a V>,
+        steps: &mut Steps<L>,
+    )
+        requires { vec_len out.old + limit ≤ vec_capacity out.old }
+        ensures values { values_of out.new.items
+            ≡ values_of out.old.items
+            ++ take limit (values (reverse (filter (is_up_to key) self.now))) }
+        ensures length { vec_len out.new ≤ vec_len out.old + limit }
+        ensures capacity { vec_capacity out.old ≤ vec_capacity out.new }
+        ensures cost { steps.new ≤ steps.old + 4 * digits (length self.now) + limit }
+    {
+        self.tree.tell_low();
+        let _room = self.tree.append_up_to(&key, limit, out, steps);
     }
 
     /// A version with this pair at its place, instead of the one that has its key, where there is one.
@@ -172,6 +189,7 @@ impl<V: Drop> Version<V> {
     fn tell_few(&self)
         ensures { length self.now ≤ 2 ^ 128 }
     {
+        // Where a field is read, the invariant is known.
         let _more = self.more;
     }
 

@@ -282,8 +282,9 @@ impl Site for MemorySite {
         match count(&mut self.tally, numbered, passes) {
             Ok(()) => Ok(hear_last(&mut self.lines, out, self.piece)),
             Err(failed) => {
-                mark_last(&mut self.lines, false);
-                Err(failed)
+                let answer = Err(failed);
+                mark_last(&mut self.lines, answer.is_ok());
+                answer
             }
         }
     }

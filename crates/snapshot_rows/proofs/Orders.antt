@@ -1,45 +1,21 @@
 -- Rows in their order, and one more behind the last of them.
-use Rattle.std.proofs.Common.{◌≡◌, ℕ, ℤ, Bool, true, false, ◌&&◌, ◌||◌, List, [], ◌∷◌, ◌++◌, Option, Some, None, nat_lt, refl, sym, ap, ap₂, ◌∙◌, arith}
-use Rattle.std.specs.Prelude.{◌==◌, int_lt}
+use Rattle.std.proofs.Common.{◌≡◌, Bool, true, false, ◌&&◌, List, [], ◌∷◌, ◌++◌, Some, refl, ap, ◌∙◌, arith}
 use Rattle.std.specs.List.{list_all}
-use Rattle.std.proofs.lemmas.Bool.{and_from, and_parts, false≢true}
-use Rattle.std.proofs.lemmas.Bool.Decides.{nat_tests}
-use Rattle.std.proofs.lemmas.Int.{ints}
+use Rattle.std.proofs.lemmas.Bool.{and_from, and_parts}
 use Rattle.media_rows.specs.declared.row.Row.{Row}
 use Rattle.media_rows.specs.Lists.{rises}
-use Rattle.media_rows.specs.Segments.{low_before}
-use Rattle.media_rows.specs.Snapshot.{kind_number, place_number, place_point, row_before}
+use Rattle.media_rows.specs.Snapshot.{row_before}
+use Rattle.media_rows.proofs.RowLemmas.{rows_pass}
 use Rattle.snapshot_rows.specs.declared.places.Place.{Place}
 use Rattle.snapshot_rows.specs.Within.Fronts.{IsLastPlace, is_behind_last}
 use Rattle.snapshot_rows.specs.Within.Places.{IsPlaceOf, stands_behind}
-
--- ---- one order
-
-by_points : (a b c : Option ℤ) → low_before a b ≡ true → low_before b c ≡ true → low_before a c ≡ true
-by_points a b None before then = absurd (false≢true then)
-by_points None b (Some z) before then = refl
-by_points (Some x) None (Some z) before then = absurd (false≢true before)
-by_points (Some x) (Some y) (Some z) before then = grind (arith, ints)
-
--- by a number, and behind it by another order
-by_numbers : (a b c : ℕ) (p q r : Bool) → (p ≡ true → q ≡ true → r ≡ true) → (nat_lt a b || ((a == b) && p)) ≡ true → (nat_lt b c || ((b == c) && q)) ≡ true
-    → (nat_lt a c || ((a == c) && r)) ≡ true
-by_numbers a b c true true true then first second = grind (arith, nat_tests)
-by_numbers a b c true true false then first second = absurd (false≢true (then refl refl))
-by_numbers a b c true false r then first second = grind (arith, nat_tests)
-by_numbers a b c false q r then first second = grind (arith, nat_tests)
-
-passes_on : (a b c : Row) → row_before a b ≡ true → row_before b c ≡ true → row_before a c ≡ true
-passes_on a b c =
-    by_numbers (kind_number a) (kind_number b) (kind_number c) _ _ _
-    (by_numbers (place_number a) (place_number b) (place_number c) _ _ _ (by_points (place_point a) (place_point b) (place_point c)))
 
 -- ---- one more behind the last
 
 -- those that stand before an item that stands before the next one
 behind_all : (x y : Row) (rows : List Row) (row : Row) → row_before x y ≡ true → list_all (row_before x) rows ≡ true → rises row_before (y ∷ rows) ≡ true
     → is_behind_last (y ∷ rows) row ≡ true → row_before x row ≡ true
-behind_all x y [] row before all rising last = passes_on x y row before last
+behind_all x y [] row before all rising last = rows_pass x y row before last
 behind_all x y (z ∷ rows) row before all rising last =
     let parts = and_parts (row_before x z) (list_all (row_before x) rows) all in
     let rest = and_parts (list_all (row_before y) (z ∷ rows)) (rises row_before (z ∷ rows)) rising in

@@ -1,2 +1,2 @@
 pub mod Theorems
-mod Writing
+pub mod Writing

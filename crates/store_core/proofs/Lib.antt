@@ -1,4 +1,4 @@
-mod Prepares
+pub mod Prepares
 mod Due
 mod Applied
 mod Texts

@@ -191,7 +191,7 @@ applies_by library reply (Some made) applies_then = λ change e past.
     ap (λ c. applied c library) (sym same) ∙ applies_then past ∙ ap (λ t. Some (cond t library (after made library))) (sym past)
 
 -- nothing but what was given comes of a reply that isn't a refusal
-passed : (reply : Reply) (q p : Prepared) → unless_refused reply q ≡ Ok p → q ≡ p
+pub passed : (reply : Reply) (q p : Prepared) → unless_refused reply q ≡ Ok p → q ≡ p
 passed (replies.Refused why) q p e = absurd (cc)
 passed replies.Created q p e = cc
 passed replies.Done q p e = cc

@@ -16,7 +16,7 @@ use core_parts::{Cut, Parts, good_is_ready};
 use disk_trait::Text;
 use good_values::{has_good_values, is_moment};
 use library_laws::{applies_is_tested, good_is_tested};
-use media_rows::{ApplyFault, BookFault, Change, Extent};
+use media_rows::{ApplyFault, BookFault, Change, Deletion, Extent};
 use std::alloc::Global;
 use time_range::TimeRange;
 
@@ -94,7 +94,14 @@ fn next_parts(alloc: Global, parts: &Parts, change: &Change) -> Result<Option<Pa
             flow,
             range,
             delete_flow,
-        } => ask_delete(alloc, parts, *flow, range, *delete_flow, *moment),
+        } => {
+            let asked = Deletion {
+                flow: *flow,
+                range: *range,
+                delete_flow: *delete_flow,
+            };
+            ask_delete(alloc, parts, &asked, *moment)
+        }
         Change::DeleteStep { moment } => delete_step(alloc, parts, *moment),
         Change::SweepStep { moment } => sweep_step(alloc, parts, *moment),
         Change::PutHook { hook, .. } => Ok(parts.put_hook(alloc, hook)?),
@@ -161,19 +168,19 @@ fn cut_segments(
 fn ask_delete(
     alloc: Global,
     parts: &Parts,
-    flow: u128,
-    range: &TimeRange,
-    delete_flow: bool,
+    asked: &Deletion,
     now: u64,
 ) -> Result<Option<Parts>, ApplyFault>
     requires ready { IsReady parts.now }
-    ensures { Restores (is_allowed parts.now (changes.AskDelete now flow range.now delete_flow))
-        (within_serials (after (changes.AskDelete now flow range.now delete_flow) parts.now)) result }
+    ensures { Restores (is_allowed parts.now (changes.AskDelete now asked.now.flow asked.now.range
+        asked.now.delete_flow))
+        (within_serials (after (changes.AskDelete now asked.now.flow asked.now.range
+        asked.now.delete_flow) parts.now)) result }
 {
-    if !parts.covers_many(alloc, flow, range)? {
+    if !parts.covers_many(alloc, asked.flow, &asked.range)? {
         return Err(ApplyFault::Refused);
     }
-    without_reason(parts.ask_delete(alloc, flow, range, delete_flow, now))
+    without_reason(parts.ask_delete(alloc, asked, now))
 }
 
 /// The delete request that is due is worked off by one step.

@@ -14,7 +14,7 @@ use core_parts::{Cut, Parts, good_is_ready};
 use disk_trait::{Duplicate, Text};
 use library_laws::{answers_apply, applied_is_sound};
 use media_rows::{
-    BookFault, Change, DeleteRow, DeleteStatus, Extent, FlowBody, Hook, Part, PostList, Reply, Want,
+    BookFault, Change, Deletion, Extent, FlowBody, Hook, Part, PostList, Reply, Want,
 };
 use std::alloc::Global;
 use time_range::TimeRange;
@@ -113,7 +113,12 @@ pub(crate) fn drop_flow(
     ensures { MakesAnswer parts.now (commands.DropFlow flow) now result }
 {
     if parts.media().flow_len(flow) > STEP_SIZE {
-        return ask_delete(alloc, parts, flow, &TimeRange::eternity(), true, now);
+        let asked = Deletion {
+            flow,
+            range: TimeRange::eternity(),
+            delete_flow: true,
+        };
+        return ask_delete(alloc, parts, &asked, now);
     }
     match parts.drop_flow(alloc, flow, now) {
         Ok(next) => Ok(Made::changed(Reply::Done, Change::DropFlow { moment: now, flow }, next)),
@@ -230,41 +235,32 @@ pub(crate) fn cut_segments(
             };
             Ok(Made::changed(Reply::Done, change, next))
         }
-        Ok(Cut::Many) => ask_delete(alloc, parts, flow, range, false, now),
+        Ok(Cut::Many) => {
+            let asked = Deletion {
+                flow,
+                range: *range,
+                delete_flow: false,
+            };
+            ask_delete(alloc, parts, &asked, now)
+        }
         Err(fault) => Err(fault),
     }
 }
 
 /// A delete request is made, which is the reply.
-fn ask_delete(
-    alloc: Global,
-    parts: &Parts,
-    flow: u128,
-    range: &TimeRange,
-    delete_flow: bool,
-    now: u64,
-) -> Result<Made, BookFault>
+fn ask_delete(alloc: Global, parts: &Parts, asked: &Deletion, now: u64) -> Result<Made, BookFault>
     requires ready { IsReady parts.now }
-    ensures { IsChange (change_refusal parts.now flow)
-        (made_by parts.now (accepted_request parts.now
-        (record { flow = flow; range = range.now; delete_flow = delete_flow }) now)) result }
+    ensures { IsChange (change_refusal parts.now asked.now.flow)
+        (made_by parts.now (accepted_request parts.now asked.now now)) result }
 {
-    let row = DeleteRow {
-        serial: parts.registry().next_serial(),
-        flow,
-        range: *range,
-        delete_flow,
-        status: DeleteStatus::Created,
-        created: now,
-        updated: now,
-    };
-    match parts.ask_delete(alloc, flow, range, delete_flow, now) {
+    let row = asked.row(parts.registry().next_serial(), now);
+    match parts.ask_delete(alloc, asked, now) {
         Ok(next) => {
             let change = Change::AskDelete {
                 moment: now,
-                flow,
-                range: *range,
-                delete_flow,
+                flow: asked.flow,
+                range: asked.range,
+                delete_flow: asked.delete_flow,
             };
             Ok(Made::changed(Reply::Accepted(row), change, next))
         }

@@ -65,6 +65,7 @@ impl Core {
     pub fn keeps_good(&self)
         ensures { Good self.now }
     {
+        // Where a field is read, the invariant is known.
         let _parts = &self.parts;
     }
 

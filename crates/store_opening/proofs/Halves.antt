@@ -1,5 +1,5 @@
 -- What an image reads as: its header, and the rows and whole records of its active half.
-use Rattle.std.proofs.Common.{◌≡◌, ◌<◌, ◌≤◌, ◌+◌, ◌*◌, ◌^◌, ◌%◌, ◌==◌, ℕ, true, false, if◌then◌else◌, List, [], ◌∷◌, length, slice_index, Option, Some, None, Ok, Err, subst, arith, refl}
+use Rattle.std.proofs.Common.{◌≡◌, ◌<◌, ◌≤◌, ◌+◌, ◌^◌, ℕ, List, [], ◌∷◌, length, Option, Some, None, Ok, Err, subst, arith, refl}
 use Rattle.media_journal.specs.declared.header.Header.{Header}
 use Rattle.media_journal.specs.declared.record.Record.{Record}
 use Rattle.media_journal.specs.declared.open.Opened.{Opened}
@@ -11,6 +11,7 @@ use Rattle.media_journal.specs.Readings.{HasOneAnswer}
 use Rattle.media_journal.proofs.OpeningLemmas.{damaged_unreadable}
 use Rattle.media_journal.proofs.ReadingLemmas.{HasReading, gives_reads, one_of_both, torn_reading, whole_reading}
 use Rattle.store_opening.specs.Opening.{ReadsHalf, Closed, Torn}
+use Rattle.media_journal.proofs.AppendLemmas.{active_start-most}
 
 reading_of : (image : List ℕ) (h : Header) (text : List ℕ) (records : List Record) → ReadsHalf image h text records
     → (gate : ℕ) × HasReading image h gate text records
@@ -85,10 +86,6 @@ opened_torn image o at torn is =
     let half : OpenedHalf image o (Some at) = subst (OpenedHalf image o) torn is.half in
     half.reads
 
-start_most : (image : List ℕ) (half : ℕ) → active_start image half ≤ 8192 + 4096 * half
-start_most image half =
-    elim (slice_index image 4096 % 2 == 0) as (λ b. (if b then 8192 else 8192 + 4096 * half) ≤ 8192 + 4096 * half) [ true ↦ omega arith | false ↦ omega arith ]
-
 chain_end : (image : List ℕ) (from : ℕ) (records : List Record) (to : ℕ) → AreRecords image from records to → from ≤ to
 chain_end image from [] to e = omega (arith, e)
 chain_end image from (r ∷ records) to h = omega (arith, chain_end image (from + (5 + length r.payload)) records to h.2)
@@ -97,9 +94,9 @@ chain_end image from (r ∷ records) to h = omega (arith, chain_end image (from 
 rows_end : (image : List ℕ) (h : Header) (text : List ℕ) (records : List Record) → ReadsHalf image h text records
     → active_start image h.half + 8 + length text < 2 ^ 63
 rows_end image h text records (Closed gate reads) =
-    omega (arith, chain_end image _ records gate reads.half.chain, reads.half.within, reads.sizes.half, start_most image h.half)
+    omega (arith, chain_end image _ records gate reads.half.chain, reads.half.within, reads.sizes.half, active_start-most image h.half)
 rows_end image h text records (Torn at reads) =
-    omega (arith, chain_end image _ records at reads.half.chain, reads.half.within, reads.sizes.half, start_most image h.half)
+    omega (arith, chain_end image _ records at reads.half.chain, reads.half.within, reads.sizes.half, active_start-most image h.half)
 
 pub rows_within : (image : List ℕ) (o : Opened) → IsOpened image o → o.rows_at + length o.rows < 2 ^ 63
 rows_within image o is = omega (arith, is.rows_at, rows_end image (header_of o) o.rows o.found (opened_half image o is))

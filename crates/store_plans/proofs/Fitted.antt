@@ -10,23 +10,15 @@ use Rattle.media_rows.specs.Answer.{Outcome, unchanged}
 use Rattle.media_rows.specs.Library.{Library}
 use Rattle.change_codec.specs.Fitting.{State}
 use Rattle.store_core.specs.declared.prepare.Prepared.{Prepared}
-use Rattle.store_core.specs.Prepared.{AppliesTo, would_pass_serials, prepared_by, prepared_of, unless_refused}
+use Rattle.store_core.specs.Prepared.{AppliesTo, would_pass_serials, prepared_by, prepared_of}
 use Rattle.store_states.specs.Fitting.{fitted_by}
 use Rattle.store_plans.specs.declared.outcome.Planned.{Planned}
 use Rattle.store_plans.specs.Plans.{IsPlanOf, IsPlanned}
 use Rattle.store_plans.specs.Within.{IsFitted, IsPreparedFor, fits_if, prepared_outcome, still}
 use Rattle.store_plans.proofs.Answered.{still_plan}
+use Rattle.store_core.proofs.Prepares.{passed}
 
 -- ---- what was prepared
-
-passed : (reply : Reply) (q p : Prepared) → unless_refused reply q ≡ Ok p → q ≡ p
-passed (replies.Refused why) q p e = absurd (cc)
-passed replies.Created q p e = cc
-passed replies.Done q p e = cc
-passed (replies.CreatedObjects ids) q p e = cc
-passed (replies.Accepted row) q p e = cc
-passed (replies.Shown view) q p e = cc
-passed (replies.Media size) q p e = cc
 
 same_core : (library : Library) (reply : Reply) (change : Option Change) → change ≡ None
     → (prepared_by library (record { reply = reply; change = change })).core ≡ library

@@ -1,16 +1,16 @@
 -- A checkpoint keeps the library, and at each moment the state before it or the one after it stands.
-use Rattle.std.proofs.Common.{◌≡◌, ◌≤◌, ◌+◌, ◌*◌, ◌==◌, ℕ, Bool, true, false, cond, List, [], length, refl, sym, subst, ◌∙◌, arith, inl, inr}
+use Rattle.std.proofs.Common.{◌≡◌, ◌≤◌, ◌+◌, ◌*◌, ◌==◌, ℕ, Bool, true, false, cond, List, [], length, refl, subst, ◌∙◌, arith, inl, inr}
 use Rattle.disk_trait.specs.Device.{Device, Left, may_leave}
 use Rattle.disk_trait.specs.Calls.{Elapses}
 use Rattle.disk_trait.proofs.Theorems.{elapses_weaker}
-use Rattle.media_journal.specs.Checkpoint.{CheckpointEnds, KeepsOrSwitches, Switches, WritesOther, after_checkpoint, other_start, with_rows}
+use Rattle.media_journal.specs.Checkpoint.{CheckpointEnds, KeepsOrSwitches, WritesOther, after_checkpoint, other_start, with_rows}
 use Rattle.media_journal.specs.Journal.{Contents, Gives}
-use Rattle.store_states.specs.Kept.{AgreesWith, StoreView, MoveEnds, Moved, Moves, half_of, kept_checked, kept_state}
-use Rattle.store_states.specs.States.{IsSnapshot, Makes, StandsFor, StoreState, held_in, media_start}
+use Rattle.store_states.specs.Kept.{AgreesWith, StoreView, MoveEnds, Moves, half_of, kept_checked, kept_state}
+use Rattle.store_states.specs.States.{IsSnapshot, Makes, StandsFor, held_in, media_start}
 use Rattle.store_states.proofs.Agreeing.{image_stands}
 use Rattle.store_states.proofs.Bytes.{early_writes}
 
-other_by : (half n : ℕ) (first : Bool) → n + 9 ≤ 4096 * half → cond first (8192 + 4096 * half) 8192 + (9 + n) ≤ 4096 * (2 * half + 2)
+pub other_by : (half n : ℕ) (first : Bool) → n + 9 ≤ 4096 * half → cond first (8192 + 4096 * half) 8192 + (9 + n) ≤ 4096 * (2 * half + 2)
 other_by half n true fits = omega (arith, fits)
 other_by half n false fits = omega (arith, fits)
 

@@ -1,5 +1,5 @@
 -- What is kept, over each call.
-use Rattle.std.proofs.Common.{◌≡◌, ◌≤◌, ◌+◌, ◌*◌, ◌/◌, ◌∙◌, ◌==◌, ℕ, Bool, true, false, cond, List, length, refl, sym, arith, subst, ap, inl, inr}
+use Rattle.std.proofs.Common.{◌≡◌, ◌≤◌, ◌+◌, ◌*◌, ◌∙◌, ◌==◌, ℕ, Bool, true, false, List, length, arith, subst, ap, inl, inr}
 use Rattle.media_rows.specs.declared.object.Extent.{Extent}
 use Rattle.media_rows.specs.declared.object.ObjectRow.{ObjectRow}
 use Rattle.media_rows.specs.Library.{Library}
@@ -18,7 +18,7 @@ use Rattle.store_states.specs.States.{IsTextOf, StepOf, StoreState, held_in, med
 use Rattle.store_states.proofs.Agreeing.{agreed_images_stand, free_writes_keep, free_writes_stand, quiet_calls_keep, quiet_calls_stand}
 use Rattle.store_states.proofs.Appending.{appends_keep, appends_stand}
 use Rattle.store_states.proofs.Bytes.{early_writes}
-use Rattle.store_states.proofs.Checking.{checkpoints_keep, checkpoints_stand}
+use Rattle.store_states.proofs.Checking.{checkpoints_keep, checkpoints_stand, other_by}
 use Rattle.store_states.proofs.Making.{text_under}
 use Rattle.store_writes.specs.Writes.{Advances, IsFree, Keeps}
 
@@ -153,16 +153,11 @@ checked_at old new kept held rows ok journal agrees text same =
     → Advances ok (kept_state kept held) (kept_checked kept (length rows)) held old new)
     same (λ fits time. checked old new kept held rows ok agrees text fits time)
 
--- the other half ends before the media blocks
-other_ends : (half n : ℕ) (first : Bool) → n + 9 ≤ 4096 * half → cond first (8192 + 4096 * half) 8192 + (9 + n) ≤ 4096 * (2 * half + 2)
-other_ends half n true fits = omega (arith, fits)
-other_ends half n false fits = omega (arith, fits)
-
 -- where a checkpoint writes, no object has bytes
 other_bytes : (p : Position) (n : ℕ) (image other : List ℕ) (objects : List ObjectRow) → n + 9 ≤ 4096 * p.half → WritesOther p n image other
     → held_in other (media_start p.half) objects ≡ held_in image (media_start p.half) objects
 other_bytes p n image other objects fits writes =
-    let early : other_start p + (9 + n) ≤ media_start p.half = other_ends p.half n (p.start == 8192) fits in
+    let early : other_start p + (9 + n) ≤ media_start p.half = other_by p.half n (p.start == 8192) fits in
     early_writes writes.between other (media_start p.half) 4096 1 objects writes.selector (omega arith)
     ∙ early_writes image writes.between (media_start p.half) (other_start p) (9 + n) objects writes.half early
 

@@ -1,9 +1,8 @@
 -- The states of a run of the machine are a chain.
 use Rattle.std.proofs.Common.{◌≡◌, ℕ, Bool, true, false, List, [], ◌∷◌, Option, Some, None, Result, Ok, Err, refl, subst, unwrap_or, arith}
-use Rattle.std.specs.Prelude.{◌||◌, IfOk, IfSome, IsTrue, nat_le, if◌then◌else◌, option_map}
+use Rattle.std.specs.Prelude.{IfOk, IfSome, IsTrue, if◌then◌else◌, option_map}
 use Rattle.std.specs.List.{AllByRecursion}
-use Rattle.std.proofs.lemmas.Bool.{and_parts, false≢true}
-use Rattle.std.proofs.lemmas.Bool.Decides.{nat_tests}
+use Rattle.std.proofs.lemmas.Bool.{false≢true}
 use Rattle.change_codec.specs.Fitting as journals
 use Rattle.http_wire.specs.Framing.{method_kind}
 use Rattle.library_laws.specs.Laws.{AnswersAreAllowed, AppliesWithin, HasPlace, IsAllowedAt, TurnsApply}
@@ -18,9 +17,8 @@ use Rattle.media_rows.specs.declared.refusal.Refusal.TheVariants.{JournalFull}
 use Rattle.media_rows.specs.declared.reply.Reply.{Reply}
 use Rattle.media_rows.specs.declared.reply.Reply.TheVariants as replies
 use Rattle.media_rows.specs.Answer.{unchanged}
-use Rattle.media_rows.specs.Apply.{is_allowed, passes_serials, turn}
-use Rattle.media_rows.specs.Changes.{after}
-use Rattle.media_rows.specs.Library.{Library, last_serial}
+use Rattle.media_rows.specs.Apply.{is_allowed, turn}
+use Rattle.media_rows.specs.Library.{Library}
 use Rattle.media_rows.specs.Media.{answer_to}
 use Rattle.media_rows.specs.Moments.{is_moment}
 use Rattle.run_history.specs.Machine.{Failure, BeforeAnswer, InAnswer, InTurn}
@@ -39,6 +37,7 @@ use Rattle.tams_machine.specs.Requests.{TamsRequest}
 use Rattle.tams_histories.specs.Along.{RunsKeepBytes}
 use Rattle.tams_histories.proofs.Chains.{Chain, Link, all_by_recursion, all_parts, chain_append, chain_both, chain_done, keep_along}
 use Rattle.tams_histories.proofs.Following.{follows_change}
+use Rattle.tams_machine.proofs.Keeping.{within}
 
 -- ---- one change
 
@@ -49,13 +48,6 @@ Fine s change = IsGoodArchive s.archive → journals.fits (journal_of_state s) c
 fine_link : (s : StoreState) (change : Change) (came : List ℕ) → Fine s change → journals.fits (journal_of_state s) change ≡ true
     → Link s (state_with_change s change came)
 fine_link s change came fine fits good = follows_change s.archive change came good (fine good fits)
-
--- what fits the journal doesn't end the serials
-within : (s : StoreState) (change : Change) → journals.fits (journal_of_state s) change ≡ true → passes_serials change s.archive.library ≡ false
-within s change fits =
-    let low = (and_parts (nat_le (after change s.archive.library).next_serial last_serial)
-    (journals.fits_room (journal_of_state s) change || journals.fits_behind_rows (journal_of_state s) change) fits).0 in
-    grind (arith, nat_tests, low)
 
 applies_fine : (s : StoreState) (change : Change) → (IsGoodArchive s.archive → AppliesWithin s.archive.library change) → Fine s change
 applies_fine s change applies good fits = (applied_is_sound s.archive.library change _ (applies good (within s change fits))).allowed

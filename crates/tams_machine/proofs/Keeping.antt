@@ -43,7 +43,7 @@ pub record Kept (s next : StoreState) : Type 0 where
   pub bytes : KeepsBytes s next
 
 -- what fits the journal doesn't end the serials
-within : (s : StoreState) (change : Change) → journals.fits (journal_of_state s) change ≡ true → passes_serials change s.archive.library ≡ false
+pub within : (s : StoreState) (change : Change) → journals.fits (journal_of_state s) change ≡ true → passes_serials change s.archive.library ≡ false
 within s change fit =
     let low = (and_parts (nat_le (after change s.archive.library).next_serial last_serial)
     (journals.fits_room (journal_of_state s) change || journals.fits_behind_rows (journal_of_state s) change) fit).0 in

@@ -1,3 +1,3 @@
 mod Sending
 mod Fronts
-mod Keeping
+pub mod Keeping

@@ -30,7 +30,7 @@ use Rattle.tams_machine.specs.Laws.{TurnsKeepGood}
 use Rattle.tams_machine.specs.Machine.{tams_machine}
 use Rattle.tams_machine.specs.Requests.{TamsRequest, ends_behind}
 use Rattle.request_hearing.specs.Asking.{IsAnswerStep, asked_trace, counted_more, replied_trace, with_states}
-use Rattle.request_hearing.proofs.Asking.{kept_calls, last_behind}
+use Rattle.request_hearing.proofs.Asking.{kept_calls}
 use Rattle.request_hearing.proofs.AskingReached.{changed_none, changed_one, changed_torn, replied, state_now-replied, told_between}
 use Rattle.tams_service.specs.Answering.{ChangedAt, EndsThere, HandedAt, IsMachineReply, IsRequest, LeadsTo, RunPlace}
 use Rattle.tams_service.specs.Keeping.{KeepsState}
@@ -42,6 +42,7 @@ use Rattle.tams_service.proofs.Moments.{over_change, over_keeps, over_torn}
 use Rattle.tams_service.proofs.States.{keeps_next, last_of, turn_of}
 use Rattle.tams_service.proofs.Keeping.{keeps_so}
 use Rattle.tams_service.proofs.Stepping.{answer_leads, answered_ending, step_ends}
+use Rattle.run_history.proofs.Growth.{last_or-append}
 
 -- a request that doesn't end its connection isn't the last that it may have
 pub few_behind : (taken : ℕ) (head : RequestHead) → ends_behind taken head ≡ false → taken < 1000000 → taken + 1 < most_answers
@@ -207,7 +208,7 @@ module _ (p : RunPlace) (old mid : Device) (n : RunCounts) (bytes : List ℕ) (m
             turned_leads Made (after ∷ []) 1 false (ap (where_done true) (turn_is (Some change) is)) (request.spells, tt)
             (changed_one reached_reply (over_change p.base told_trace state_here keeps.state makes))
             (All-cons is_good after [] (turn_good keep here after moment here_good at (turn_is (Some change) is)) (All-nil is_good))
-            (subst (KeepsState next new) (last_behind p.state states (after ∷ []))
+            (subst (KeepsState next new) (last_or-append p.state states (after ∷ []))
             (keeps_next store next mid new here change [] keeps unspent is_next (makes.agrees refl)))
             (turn_handed_on on)
             (ap (λ k. plus_answer k false n) (omega (arith, length-append states (after ∷ []), counts)))

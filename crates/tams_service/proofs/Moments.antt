@@ -14,7 +14,8 @@ use Rattle.run_history.specs.Laws.{Writes, Wrote}
 use Rattle.run_history.specs.Traces.{Trace, state_now}
 use Rattle.tams_machine.specs.Answers.{state_with_change}
 use Rattle.tams_machine.specs.Machine.{tams_machine}
-use Rattle.request_hearing.proofs.Asking.{state_before-change, state_now-change}
+use Rattle.request_hearing.proofs.Asking.{state_before-change}
+use Rattle.run_history.proofs.Invariant.{state_now-change}
 
 -- ---- the state behind a change
 

@@ -24,8 +24,8 @@ use Rattle.media_store.specs.declared.turns.TurnMade.{TurnMade}
 use Rattle.media_store.specs.Faults.{OnCalls, OnDisk, OnMemory, not_disk_fault}
 use Rattle.media_store.specs.Stores.{StoreSeen, journal_of, size_of}
 use Rattle.media_store.specs.Turns.{TurnIs, turn_change}
-use Rattle.request_hearing.proofs.Asking.{kept_calls, state_now-change}
-use Rattle.run_history.proofs.Invariant.{durable_changes, torn_changes}
+use Rattle.request_hearing.proofs.Asking.{kept_calls}
+use Rattle.run_history.proofs.Invariant.{durable_changes, state_now-change, torn_changes}
 use Rattle.run_history.specs.Runs.{Beginning, Reached}
 use Rattle.run_history.specs.Steps.{last_or}
 use Rattle.site_edge.specs.Clocks.{IsMoment}

@@ -44,7 +44,7 @@ same_range (Some s) (Some t) fine_a fine_b same =
 -- ---- ends and their points
 
 -- a point is the instant of its half or the gap after it
-half_bounds : (p : ℤ) → (instant (half p) ≤ℤ p) × (p ≤ℤ (instant (half p) +ℤ pos 1))
+pub half_bounds : (p : ℤ) → (instant (half p) ≤ℤ p) × (p ≤ℤ (instant (half p) +ℤ pos 1))
 half_bounds (pos a) = (omega (arith, ints), omega (arith, ints))
 half_bounds (negsuc a) = (omega (arith, ints), omega (arith, ints))
 

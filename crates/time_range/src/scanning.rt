@@ -1,7 +1,6 @@
 //! Reading a text byte by byte: what has been read so far, and which byte may follow.
 ghost use Rattle.std.specs.Prelude.{◌≡◌, Option, ℕ, IfOk, IfErr, Some, None};
 ghost use Rattle.time_range.specs.Within.Scanning.{run, StopsAt, capped, digit_of, stamp_read, left_bracket, right_bracket, after_bracket, longer, closed, range_read};
-ghost use Rattle.std.specs.Option.{option_map};
 
 use crate::spelling::{Bracket, Middle, RangeParts, TsParts};
 
@@ -57,8 +56,14 @@ impl Scan for TsScan {
     fn next(self, byte: u8) -> Option<TsScan> {
         match self {
             TsScan::Start if byte == b'-' => Some(TsScan::Signed),
-            TsScan::Start => TsScan::first_digit(false, byte),
-            TsScan::Signed => TsScan::first_digit(true, byte),
+            TsScan::Start => Some(TsScan::Seconds {
+                negative: false,
+                seconds: u64::from(digit(byte)?),
+            }),
+            TsScan::Signed => Some(TsScan::Seconds {
+                negative: true,
+                seconds: u64::from(digit(byte)?),
+            }),
             TsScan::Seconds { negative, seconds } if byte == b':' => {
                 Some(TsScan::Colon { negative, seconds })
             }
@@ -91,13 +96,6 @@ impl Scan for TsScan {
 }
 
 impl TsScan {
-    fn first_digit(negative: bool, byte: u8) -> Option<TsScan>
-        ensures { result ≡ option_map (λ d. TsScan.Seconds negative d) (digit_of byte) }
-    {
-        let seconds = u64::from(digit(byte)?);
-        Some(TsScan::Seconds { negative, seconds })
-    }
-
     /// The parts of what has been read, where it is a whole timestamp.
     pub(crate) fn parts(self) -> Option<TsParts>
         ensures { result ≡ stamp_read self }

@@ -4,7 +4,7 @@ mod Dropping
 mod Found
 mod Listing
 mod Placing
-mod Posting
+pub mod Posting
 mod Restoring
 mod StandardFacts
 mod Waiting

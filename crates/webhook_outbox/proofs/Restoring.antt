@@ -1,8 +1,7 @@
 -- Rows that come to an outbox one after the other: which are refused, and what they make.
-use Rattle.std.proofs.Common.{◌≡◌, ◌≤◌, ◌<◌, ◌+◌, ◌-◌, nat_le, nat_lt, length, ℕ, zero, suc, Bool, true, false, not, ◌&&◌, ◌||◌, cond, List, [], ◌∷◌, ◌++◌, Result, Ok, Err, filter, map, drop, get_or, refl, sym, ap, ◌∙◌, arith}
+use Rattle.std.proofs.Common.{◌≡◌, ◌≤◌, ◌+◌, ◌-◌, nat_le, nat_lt, length, ℕ, zero, suc, Bool, true, false, not, ◌&&◌, ◌||◌, cond, List, [], ◌∷◌, ◌++◌, Result, Ok, Err, filter, map, drop, refl, sym, ap, ◌∙◌, arith}
 use Rattle.std.specs.Prelude.{◌==◌, ⊤}
 use Rattle.std.specs.List.{AllByRecursion, list_all, list_any}
-use Rattle.std.proofs.Math.Seq.{drop-cons}
 use Rattle.std.proofs.lemmas.Bool.{and_parts, and_from, eq-eqb, eqb-true, le-leb, leb-true, lt-ltb, or_left, or_right}
 use Rattle.media_rows.specs.declared.refusal.ApplyFault.{ApplyFault}
 use Rattle.media_rows.specs.declared.refusal.ApplyFault.TheVariants as faults
@@ -77,22 +76,6 @@ module _ {R T : Type 0} (fits : R → T → Bool) (step : R → T → T) where
   not_gathered n row rows all start now was fails shape =
       fit_tail n all start (ap (λ l. all_fit fits step l start) shape
       ∙ first_fails (fits row (folded step rows start)) (all_fit fits step rows start) (ap (fits row) (sym was.is) ∙ fails))
-
--- a fault that is handed on
-pub handed_on : {T S : Type 0} (fault : ApplyFault) (good all : Bool) (part : T) (whole : S) → (good ≡ false → all ≡ false) → Restores good part (Err fault)
-    → Restores all whole (Err fault)
-handed_on faults.Refused good all part whole follows h = follows h
-handed_on faults.Memory good all part whole follows h = h
-
--- a list from its end
-pub one_more : {X : Type 0} (xs : List X) (n : ℕ) (x : X) → n < length xs → x ≡ get_or xs (length xs - 1 - n) x
-    → drop (length xs - (n + 1)) xs ≡ x ∷ drop (length xs - n) xs
-one_more xs n x lt at =
-    let j = length xs - (n + 1) in
-    let same : j ≡ length xs - 1 - n = omega (arith, lt) in
-    let next : suc j ≡ length xs - n = omega (arith, lt) in
-    drop-cons xs j x (omega (arith, lt)) ∙ ap (λ i. get_or xs i x ∷ drop (suc j) xs) same ∙ ap (λ v. v ∷ drop (suc j) xs) (sym at)
-    ∙ ap (λ i. x ∷ drop i xs) next
 
 -- ---- tests over rows in order
 

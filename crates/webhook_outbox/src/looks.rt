@@ -78,7 +78,7 @@ fn all_looked_up<V: Drop, L: Ledger>(
     }
     let mut steps = Steps::<L>::new(blank);
     let mut list = Vec::with_capacity(alloc, count as usize)?;
-    rows.walk_from(0, count as usize, false, &mut list, &mut steps);
+    rows.walk_from(0, count as usize, &mut list, &mut steps);
     Ok(list)
 }
 

@@ -200,6 +200,7 @@ impl Outbox {
     pub(crate) fn full_have_failed(&self)
         ensures { with_events [] self.now ≡ self.now }
     {
+        // Where a field is read, the invariant is known.
         let _ = &self.slots;
     }
 

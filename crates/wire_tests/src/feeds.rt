@@ -285,7 +285,8 @@ fn response(alloc: Global) -> Result<Text, Memory> {
         name: Text::from_bytes(alloc, b"Content-Length")?,
         value: Text::from_bytes(alloc, b"2")?,
     })?;
-    write_response(alloc, 413, &fields, b"{}", false)
+    let head_only = false;
+    write_response(alloc, 413, &fields, b"{}", head_only)
 }
 
 #[test]

@@ -1,8 +1,9 @@
 use Rattle.std.proofs.Common.{◌<◌, ◌+◌, drop, length, ap, ◌∙◌, arith}
 use Rattle.media_rows.specs.Ranges.{hull}
 use Rattle.media_rows.specs.Segments.{hull_of_segments}
-use Rattle.core_registry.proofs.Happening.{hull_row_more, item_first}
+use Rattle.core_registry.proofs.Happening.{hull_row_more}
 use Rattle.core_registry.proofs.events.hull_if_any.Goals as goal
+use Rattle.webhook_outbox.proofs.Posting.{item_first}
 
 -- one range more
 pub loop-row-preserved : goal.loop-row-preserved

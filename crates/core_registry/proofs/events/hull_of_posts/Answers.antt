@@ -1,8 +1,9 @@
 use Rattle.std.proofs.Common.{◌<◌, ◌+◌, drop, length, map, ap, ◌∙◌, arith}
 use Rattle.media_rows.specs.Ranges.{hull, hull_of}
 use Rattle.media_rows.specs.declared.segment.Segment.{Segment}
-use Rattle.core_registry.proofs.Happening.{hull_more, item_first}
+use Rattle.core_registry.proofs.Happening.{hull_more}
 use Rattle.core_registry.proofs.events.hull_of_posts.Goals as goal
+use Rattle.webhook_outbox.proofs.Posting.{item_first}
 
 -- one range more
 pub loop-post-preserved : goal.loop-post-preserved

@@ -2,9 +2,10 @@ use Rattle.std.proofs.Common.{◌&&◌, sym, ◌∙◌}
 use Rattle.media_rows.specs.Good.{is_good}
 use Rattle.media_book.specs.Media.{are_media_good, media_of}
 use Rattle.core_restore.specs.Within.{are_values_good, is_rest_good, library_from_kinds}
-use Rattle.core_restore.proofs.Handing.{from_rest, handed_on, none_first, none_second}
+use Rattle.core_restore.proofs.Handing.{from_rest, none_first, none_second}
 use Rattle.core_restore.proofs.Joined.{good_is_parts}
 use Rattle.core_restore.proofs.parts.parts_of_lists.Goals as goal
+use Rattle.media_rows.proofs.RestoringLemmas.{handed_on}
 
 -- values that aren't good are those of no good library
 pub returns-then-not-branch : goal.returns-then-not-branch

@@ -1,6 +1,7 @@
 use Rattle.std.proofs.Common.{ap, sym, is_some, ◌∙◌}
-use Rattle.core_restore.proofs.Lasting.{copied_some, found_kept}
 use Rattle.core_restore.proofs.ties.is_kept.Goals as goal
+use Rattle.flow_book.proofs.Kept.{found_kept}
+use Rattle.object_refs.proofs.Lists.{copied_some}
 
 -- a flow is kept where it is found
 pub returns : goal.returns

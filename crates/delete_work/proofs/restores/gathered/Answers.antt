@@ -2,8 +2,9 @@ use Rattle.std.proofs.Common.{◌≡◌, ◌∷◌, ◌-◌, ◌+◌, drop, leng
 use Rattle.media_rows.specs.Lists.{are_distinct, inserted}
 use Rattle.media_rows.specs.Restoring.{requests_of}
 use Rattle.delete_work.specs.Within.Keeping.{has_request, request_before, serial_of_row}
-use Rattle.delete_work.proofs.Restored.{gathered_more, handed_on, not_gathered, one_more}
+use Rattle.delete_work.proofs.Restored.{gathered_more, not_gathered}
 use Rattle.delete_work.proofs.restores.gathered.Goals as goal
+use Rattle.media_rows.proofs.RestoringLemmas.{handed_on, one_more}
 
 -- a row whose serial stands again refuses all
 pub returns-in-Err : goal.returns-in-Err

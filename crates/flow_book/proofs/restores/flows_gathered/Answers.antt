@@ -4,7 +4,7 @@ use Rattle.media_rows.specs.Lists.{are_distinct}
 use Rattle.flow_book.specs.Within.Order.{AreGathered, flow_id}
 use Rattle.flow_book.specs.Within.Gathering.{GathersFlows}
 use Rattle.flow_book.proofs.Gathering.{not_distinct}
-use Rattle.flow_book.proofs.Restored.{one_more}
+use Rattle.media_rows.proofs.RestoringLemmas.{one_more}
 use Rattle.flow_book.proofs.restores.flows_gathered.Goals as goal
 
 -- an id that stands twice among the last rows stands twice

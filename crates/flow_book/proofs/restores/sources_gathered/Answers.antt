@@ -6,7 +6,8 @@ use Rattle.media_rows.specs.Views.{id_key}
 use Rattle.shared_tree.specs.Pairs.{with_pair}
 use Rattle.flow_book.specs.Within.Gathering.{GathersSources}
 use Rattle.flow_book.proofs.Gathering.{not_distinct}
-use Rattle.flow_book.proofs.Restored.{copied_there, one_more, stands_once, stands_twice}
+use Rattle.media_rows.proofs.RestoringLemmas.{one_more}
+use Rattle.flow_book.proofs.Restored.{copied_there, stands_once, stands_twice}
 use Rattle.flow_book.proofs.restores.sources_gathered.Goals as goal
 
 -- an id that stands twice among the last rows stands twice

@@ -7,12 +7,12 @@ use Rattle.id_index.specs.Index.{changed_row}
 use Rattle.id_index.proofs.Named.{index_changed}
 use Rattle.id_index.proofs.Pairs.{if_ok}
 use Rattle.flow_book.specs.Within.Order.{IsByCollected, collection_of, flow_id, flows_named}
-use Rattle.flow_book.proofs.CatalogOrder.{set_stays}
 use Rattle.flow_book.proofs.Changes.{found_id}
 use Rattle.flow_book.proofs.Indexed.{members_set, members_stay}
 use Rattle.flow_book.proofs.Keys.{flow_found}
 use Rattle.shared_tree.specs.Pairs.{values}
 use Rattle.flow_book.proofs.sets.collectors_after_set.Goals as goal
+use Rattle.library_laws.proofs.SettingsKept.{with_id}
 
 -- the flow collects what it collected
 pub returns-in_default : goal.returns-in_default
@@ -21,7 +21,7 @@ returns-in_default c =
     if_ok c.share.result (λ next is moment. subst (IsByCollected (changed_row (id_key c.args.id) (set_row c.args.part.now moment)
     (value_at (id_key c.args.id) c.args.flows.now) c.args.flows.now)) (sym is)
     (index_changed flow_id flows_named c.args.id (set_row c.args.part.now moment) c.args.flows.now c.args.collectors.now c.keys_rise.ensures
-    (λ row. ap member_ids (members_stay c.args.part.now row.body none)) (λ row. set_stays c.args.part.now row.body) c.requires.index)) c.share.ensures
+    (λ row. ap member_ids (members_stay c.args.part.now row.body none)) (λ row. with_id c.args.part.now row.body) c.requires.index)) c.share.ensures
 
 -- no flow stands at the id, so none changes
 pub returns-in-None : goal.returns-in-None
@@ -40,5 +40,5 @@ returns-in-Some-find_flow c =
     let set = sym c.in-Some.ensures in
     if_ok c.collectors_with.result (λ next is moment. subst (λ l.
     IsByCollected (changed_row (id_key c.args.id) (set_row c.args.part.now moment) l c.args.flows.now) next) (sym found)
-    (is (set_row c.args.part.now moment old) (set_stays c.args.part.now old.body ∙ found_id flow_id c.args.id (values c.args.flows.now) old
+    (is (set_row c.args.part.now moment old) (with_id c.args.part.now old.body ∙ found_id flow_id c.args.id (values c.args.flows.now) old
     c.in-Some-find_flow.ensures) (members_set c.args.part.now old.body c.in-Some.members.now set ∙ sym c.items.ensures))) c.collectors_with.ensures

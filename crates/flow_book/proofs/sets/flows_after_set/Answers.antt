@@ -5,10 +5,10 @@ use Rattle.id_index.specs.Index.{changed_row}
 use Rattle.flow_book.proofs.Keys.{flow_found}
 use Rattle.media_rows.specs.declared.flow.FlowRow.{FlowRow}
 use Rattle.media_rows.specs.Catalog.{set_row}
-use Rattle.flow_book.proofs.CatalogOrder.{set_stays}
 use Rattle.id_index.proofs.Pairs.{if_ok}
 use Rattle.flow_book.proofs.Changes.{changed_keyed, changed_values, unchanged_values}
 use Rattle.flow_book.proofs.sets.flows_after_set.Goals as goal
+use Rattle.library_laws.proofs.SettingsKept.{with_id}
 
 -- no row has the id, and all stay
 pub returns-in-None-clause-rows : goal.returns-in-None-clause-rows
@@ -26,7 +26,7 @@ returns-in_ok-set_row-in-Some-clause-rows c =
 pub returns-in_ok-set_row-in-Some-clause-keyed : goal.returns-in_ok-set_row-in-Some-clause-keyed
 returns-in_ok-set_row-in-Some-clause-keyed c =
     if_ok c.with_row.result (λ next is. changed_keyed (λ (row : FlowRow). row.body.id) c.args.id (set_row c.args.part.now c.args.now) c.in-Some.row.now
-    c.in_ok-set_row-in-Some.field-0 c.args.flows.now next (λ row. set_stays c.args.part.now row.body) c.requires.keyed c.in-Some.ensures
+    c.in_ok-set_row-in-Some.field-0 c.args.flows.now next (λ row. with_id c.args.part.now row.body) c.requires.keyed c.in-Some.ensures
     c.in_ok-set_row-in-Some.ensures is) c.with_row.ensures
 
 pub returns-in-None-clause-pairs : goal.returns-in-None-clause-pairs

@@ -1,6 +1,7 @@
 use Rattle.std.proofs.Common.{◌≡◌, ◌∷◌, ◌-◌, ◌+◌, drop, length, arith}
 use Rattle.object_refs.specs.Within.Books.{are_names_distinct, bare_objects, with_new_object}
-use Rattle.object_refs.proofs.Gathered.{gathered_more, handed_on, is_new, not_gathered, one_more}
+use Rattle.media_rows.proofs.RestoringLemmas.{handed_on, one_more}
+use Rattle.object_refs.proofs.Gathered.{gathered_more, is_new, not_gathered}
 use Rattle.object_refs.proofs.restores.gathered.Goals as goal
 
 -- a row whose id or serial stands again refuses all

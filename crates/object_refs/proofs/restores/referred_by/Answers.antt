@@ -3,7 +3,8 @@ use Rattle.std.specs.List.{list_all}
 use Rattle.media_rows.specs.Objects.{is_stored_object}
 use Rattle.object_refs.specs.References.{changed_at, objects_in, referred}
 use Rattle.object_refs.specs.Within.Books.{referring}
-use Rattle.object_refs.proofs.Gathered.{handed_on, not_referred, one_more, referred_more}
+use Rattle.media_rows.proofs.RestoringLemmas.{handed_on, one_more}
+use Rattle.object_refs.proofs.Gathered.{not_referred, referred_more}
 use Rattle.object_refs.proofs.restores.referred_by.Goals as goal
 
 -- a segment whose object has no bytes refuses all

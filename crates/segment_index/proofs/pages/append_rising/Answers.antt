@@ -1,19 +1,24 @@
-use Rattle.std.proofs.Common.{rules, FitsSigned, false, take, take_while}
+use Rattle.std.proofs.Common.{rules, ◌≡◌, FitsSigned, false, filter, length, sym, take, take_while, ◌∙◌}
 use mir.Syntax.{w128}
 use Rattle.std.proofs.lemmas.Int.{to_z-of_z}
-use Rattle.shared_tree.specs.Pairs.{values, values_of, walk_of}
+use Rattle.std.proofs.lemmas.List.{length-map}
+use Rattle.shared_tree.specs.Pairs.{is_from, values, values_of}
 use Rattle.segment_index.specs.Answers.{is_met, met_page, page_of}
-use Rattle.segment_index.proofs.PageWalks.{appended, page_rising}
+use Rattle.segment_index.proofs.PageWalks.{appended, kept_behind, page_rising}
 use Rattle.segment_index.proofs.pages.append_rising.Goals as goal
 
--- what the walk appends is the page
+-- the walk's segments up to the first one that isn't met are the page
 pub returns-clause-page : goal.returns-clause-page
 returns-clause-page g c =
     let range = c.args.range.now in
     let rows = c.args.rows.now in
     let key = c.first_key-key.result in
     let fit : FitsSigned w128 c.first_key-key.result = search rules in
-    appended (values_of c.args.out.now.items) (values_of c.append_walked.new.out.items)
-    (take_while (is_met range) (take c.args.limit (values (walk_of false key rows))))
-    (met_page (values rows) range (page_of c.args.after.now c.args.limit false)) (simp to_z-of_z at c.append_walked.ensures.rows)
+    let size : c.len-start.result ≡ length c.args.out.now.items = search rules in
+    let walk = take c.args.limit (values (filter (is_from key) rows)) in
+    appended (values_of c.args.out.now.items) (values_of c.keep_met.new.out.items) (take_while (is_met range) walk)
+    (met_page (values rows) range (page_of c.args.after.now c.args.limit false))
+    (kept_behind (is_met range) c.len-start.result (values_of c.args.out.now.items) walk (values_of c.walk_from.new.out.items)
+    (values_of c.keep_met.new.out.items)
+    (size ∙ sym (length-map c.args.out.now.items (λ r. r.now))) (simp to_z-of_z at c.walk_from.ensures.values) c.keep_met.ensures.rows)
     (page_rising range c.args.after.now c.args.limit key rows c.requires.kept c.keys_rise.ensures c.first_key-key.ensures.first)

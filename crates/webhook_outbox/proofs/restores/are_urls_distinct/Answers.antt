@@ -1,7 +1,7 @@
 use Rattle.std.proofs.Common.{◌≡◌, ◌∷◌, ◌-◌, ◌+◌, drop, length, ap, sym, ◌∙◌, arith}
 use Rattle.media_rows.specs.declared.hook.HookRow.{HookRow}
 use Rattle.webhook_outbox.proofs.Addresses.{has_key, seen_more, seen_twice, was_new, was_there}
-use Rattle.webhook_outbox.proofs.Restoring.{one_more}
+use Rattle.media_rows.proofs.RestoringLemmas.{one_more}
 use Rattle.webhook_outbox.proofs.restores.are_urls_distinct.Goals as goal
 
 -- an address that was seen stands twice

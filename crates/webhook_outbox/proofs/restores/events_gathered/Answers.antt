@@ -1,6 +1,7 @@
 use Rattle.std.proofs.Common.{◌≡◌, ◌∷◌, ◌-◌, ◌+◌, drop, length, arith}
 use Rattle.webhook_outbox.specs.Within.Restored.{all_fit, folded, waits, may_wait}
-use Rattle.webhook_outbox.proofs.Restoring.{gathers_more, handed_on, not_gathered, one_more}
+use Rattle.media_rows.proofs.RestoringLemmas.{handed_on, one_more}
+use Rattle.webhook_outbox.proofs.Restoring.{gathers_more, not_gathered}
 use Rattle.webhook_outbox.proofs.restores.events_gathered.Goals as goal
 
 -- an event that may not wait refuses all

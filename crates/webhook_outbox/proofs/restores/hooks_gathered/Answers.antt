@@ -1,6 +1,7 @@
 use Rattle.std.proofs.Common.{◌≡◌, ◌∷◌, ◌-◌, ◌+◌, drop, length, arith}
 use Rattle.webhook_outbox.specs.Within.Restored.{all_fit, folded, with_hook_joined, may_join, no_rows}
-use Rattle.webhook_outbox.proofs.Restoring.{gathers_more, handed_on, not_gathered, one_more}
+use Rattle.media_rows.proofs.RestoringLemmas.{handed_on, one_more}
+use Rattle.webhook_outbox.proofs.Restoring.{gathers_more, not_gathered}
 use Rattle.webhook_outbox.proofs.restores.hooks_gathered.Goals as goal
 
 -- a serial that stands again refuses all

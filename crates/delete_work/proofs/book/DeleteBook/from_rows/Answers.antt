@@ -3,8 +3,9 @@ use Rattle.media_rows.specs.Lists.{are_distinct}
 use Rattle.media_rows.specs.Refusals.{Restores}
 use Rattle.media_rows.specs.Restoring.{can_restore_requests, requests_of}
 use Rattle.delete_work.specs.Within.Keeping.{serial_of_row}
-use Rattle.delete_work.proofs.Restored.{both_restore, handed_on, restored_twice}
+use Rattle.delete_work.proofs.Restored.{both_restore, restored_twice}
 use Rattle.delete_work.proofs.book.DeleteBook.from_rows.Goals as goal
+use Rattle.media_rows.proofs.RestoringLemmas.{handed_on}
 
 -- distinct serials make a book, unless too many are done
 pub returns-in-Ok : goal.returns-in-Ok

@@ -4,12 +4,13 @@ use Rattle.delete_work.specs.Work.{AreOfFlow}
 use Rattle.delete_work.proofs.Theorems.{finished_of_all, removed_of_all}
 use Rattle.id_index.proofs.Pairs.{if_ok}
 use Rattle.media_book.specs.Media.{AreSome}
-use Rattle.media_book.proofs.Covering.{index_is, not_due, of_flow, removed_some}
+use Rattle.media_book.proofs.Covering.{index_is, of_flow, removed_some}
 use Rattle.media_book.proofs.book.MediaBook.due_step.Goals as goal
+use Rattle.delete_work.proofs.Stepping.{some_due}
 
 -- a request is due
 pub unreachable-requires : goal.unreachable-requires
-unreachable-requires c = absurd (not_due (first_unfinished c.args.requests.now) c.requires.due c.in_default.ensures)
+unreachable-requires c = absurd (some_due (first_unfinished c.args.requests.now) c.requires.due c.in_default.ensures)
 
 pub due_step-requires-clause-flow : goal.due_step-requires-clause-flow
 due_step-requires-clause-flow c = λ request due.

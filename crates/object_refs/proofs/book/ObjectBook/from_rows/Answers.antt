@@ -5,7 +5,8 @@ use Rattle.media_rows.specs.Refusals.{Restores}
 use Rattle.media_rows.specs.Restoring.{can_restore_objects}
 use Rattle.object_refs.specs.References.{book_of, objects_in}
 use Rattle.object_refs.specs.Within.Books.{are_names_distinct, bare_objects, referring}
-use Rattle.object_refs.proofs.Gathered.{book_refused, both_restore, handed_on}
+use Rattle.media_rows.proofs.RestoringLemmas.{handed_on}
+use Rattle.object_refs.proofs.Gathered.{book_refused, both_restore}
 use Rattle.object_refs.proofs.book.ObjectBook.from_rows.Goals as goal
 
 -- the references of the segments come to the objects

@@ -12,7 +12,9 @@ invariant_of-self c =
     (told-heard_more c.hear_last.result c.hear_last.new.out) c.hear_last.ensures.heard c.self.invariant
 
 pub invariant_of-self-in-Err : goal.invariant_of-self-in-Err
-invariant_of-self-in-Err c = kept_changed (with_passed false) _ c.count.new.tally c.mark_last.new.lines.items (λ k. refl) c.mark_last.ensures c.self.invariant
+invariant_of-self-in-Err c =
+    let marks = rw c.is_ok.ensures.value at c.mark_last.ensures in
+    kept_changed (with_passed false) _ c.count.new.tally c.mark_last.new.lines.items (λ k. refl) marks c.self.invariant
 
 -- What the connection heard is added, and nothing else.
 pub returns-in-Ok-clause-call : goal.returns-in-Ok-clause-call
@@ -29,13 +31,15 @@ returns-in-Ok-clause-heard c =
 -- A failing call marks the connection, and nothing else.
 pub returns-in-Err-clause-call : goal.returns-in-Err-clause-call
 returns-in-Err-clause-call c =
-    rw (← c.self.view_is) (silent_call _ (with_passed false) _ c.count.new.tally c.mark_last.new.lines.items (λ k. refl) c.mark_last.ensures
+    let marks = rw c.is_ok.ensures.value at c.mark_last.ensures in
+    rw (← c.self.view_is) (silent_call _ (with_passed false) _ c.count.new.tally c.mark_last.new.lines.items (λ k. refl) marks
     c.in-Err.ensures.counts.counted)
 
 pub returns-in-Err-clause-heard : goal.returns-in-Err-clause-heard
 returns-in-Err-clause-heard c =
+    let marks = rw c.is_ok.ensures.value at c.mark_last.ensures in
     rw (← c.self.view_is) (heard_clause LinkFailed (Err c.in-Err.failed) c.args.out.now _ c.count.new.tally c.mark_last.new.lines.items
-    c.in-Err.ensures.peer_faults (changed_to (with_passed false) _ _ _ (failed_mark LinkFailed c.in-Err.failed c.args.out.now) c.mark_last.ensures))
+    c.in-Err.ensures.peer_faults (changed_to (with_passed false) _ _ _ (failed_mark LinkFailed c.in-Err.failed c.args.out.now) marks))
 
 pub returns-in-Ok-clause-fails : goal.returns-in-Ok-clause-fails
 returns-in-Ok-clause-fails c =
@@ -44,4 +48,5 @@ returns-in-Ok-clause-fails c =
 
 pub returns-in-Err-clause-fails : goal.returns-in-Err-clause-fails
 returns-in-Err-clause-fails c =
-    rw (← c.self.view_is) (changed_fails _ (with_passed false) _ c.count.new.tally c.mark_last.new.lines.items c.mark_last.ensures c.in-Err.ensures.counts)
+    let marks = rw c.is_ok.ensures.value at c.mark_last.ensures in
+    rw (← c.self.view_is) (changed_fails _ (with_passed false) _ c.count.new.tally c.mark_last.new.lines.items marks c.in-Err.ensures.counts)

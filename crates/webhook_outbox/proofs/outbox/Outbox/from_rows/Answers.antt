@@ -3,7 +3,8 @@ use Rattle.media_rows.specs.Good.{are_urls_distinct}
 use Rattle.media_rows.specs.Refusals.{Restores}
 use Rattle.media_rows.specs.Restoring.{can_restore_outbox, outbox_of}
 use Rattle.webhook_outbox.specs.Within.Restored.{all_fit, folded, with_hook_joined, may_join, may_wait, no_rows, waits}
-use Rattle.webhook_outbox.proofs.Restoring.{both_restore, handed_on, hooks_refuse}
+use Rattle.media_rows.proofs.RestoringLemmas.{handed_on}
+use Rattle.webhook_outbox.proofs.Restoring.{both_restore, hooks_refuse}
 use Rattle.webhook_outbox.proofs.outbox.Outbox.from_rows.Goals as goal
 
 -- the events come to the hooks
