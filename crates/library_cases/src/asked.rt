@@ -16,7 +16,7 @@ use http_wire::MethodKind;
 use media_rows::{Command, ObjectState, Refusal, Reply};
 use reply_laws::{answers_have_texts, ask_refusals_have_texts, asks_are_good};
 use std::alloc::Global;
-use tams_http::{Ask, AskFault, Routes};
+use tams_http::{AnswerContext, Ask, AskFault, Routes};
 
 /// What the addresses of the store begin with.
 const BASE: &str = "http://s";
@@ -44,14 +44,13 @@ pub(crate) fn response_to(
 {
     let reply = reply_to(alloc, routes, kept, request, now)?;
     let base = text_of(alloc, BASE)?;
-    routes.response_of(
-        alloc,
-        &reply,
-        request.target.as_bytes(),
-        &base,
-        false,
-        false,
-    )
+    let context = AnswerContext {
+        target: request.target.as_bytes(),
+        base: &base,
+        ends: false,
+        head_only: false,
+    };
+    routes.response_of(alloc, &reply, &context)
 }
 
 /// What is answered to a request. The body of a media object is the number of its bytes, which nobody has.

@@ -17,7 +17,7 @@ use media_rows::Extent;
 use media_store::Store;
 use std::alloc::Global;
 use store_plans::Planned;
-use tams_http::Routes;
+use tams_http::{AnswerContext, Routes};
 
 /// A request that came whole.
 #[derive(Drop)]
@@ -67,14 +67,13 @@ pub fn plan_answer(
     ensures media { IfOk result (λ answer. IfSome answer.media (IsExtent store.now.kept.library)) }
 {
     let PlannedAnswer { planned, media } = plan_asked(alloc, routes, store, request, now)?;
-    let response = routes.response_of(
-        alloc,
-        &planned.reply,
-        request.target,
+    let context = AnswerContext {
+        target: request.target,
         base,
-        request.ends,
-        is_head_only(request.method),
-    )?;
+        ends: request.ends,
+        head_only: is_head_only(request.method),
+    };
+    let response = routes.response_of(alloc, &planned.reply, &context)?;
     Ok(Answer {
         planned,
         response,

@@ -17,7 +17,7 @@ use reply_laws::{
     answers_have_texts, ask_refusals_have_texts, media_answers_have_texts, media_puts_agree,
 };
 use std::alloc::Global;
-use tams_http::{Ask, AskFault, Routes};
+use tams_http::{AnswerContext, Ask, AskFault, Routes};
 
 /// The head of a media PUT, as it is answered.
 #[derive(Drop)]
@@ -180,5 +180,11 @@ fn response_of(
     ensures { IfOk result (λ text. text ≡ response_to
         (put_context routes.now base.now head.now.target.now head.now.ends) reply) }
 {
-    routes.response_of(alloc, &reply, head.target, base, head.ends, false)
+    let context = AnswerContext {
+        target: head.target,
+        base,
+        ends: head.ends,
+        head_only: false,
+    };
+    routes.response_of(alloc, &reply, &context)
 }

@@ -13,7 +13,7 @@ ghost use Rattle.tams_answers.specs.Within.{ending_context};
 use disk_trait::{Memory, Text};
 use media_rows::{Refusal, Reply};
 use std::alloc::Global;
-use tams_http::Routes;
+use tams_http::{AnswerContext, Routes};
 
 /// The five responses.
 #[derive(Drop)]
@@ -80,5 +80,11 @@ fn response_of(
         ≡ response_to (ending_context routes.now base.now) (Refused refusal)) }
 {
     let reply = Reply::Refused(refusal);
-    routes.response_of(alloc, &reply, b"", base, true, false)
+    let context = AnswerContext {
+        target: b"",
+        base,
+        ends: true,
+        head_only: false,
+    };
+    routes.response_of(alloc, &reply, &context)
 }

@@ -16,4 +16,5 @@ mod routes;
 pub use crate::ask::{Ask, AskFault};
 pub use crate::constants::{server_error, unavailable};
 pub use crate::laws::refusals_are_of_requests;
+pub use crate::response::AnswerContext;
 pub use crate::routes::Routes;

@@ -13,15 +13,21 @@ use http_wire::FieldList;
 use media_rows::Reply;
 use std::alloc::Global;
 
-/// A request as it is answered.
+/// A request as it is answered: its target, what the store's addresses begin with, whether the connection ends
+/// behind the answer, and whether the answer is a head alone.
 #[derive(Drop)]
-pub(crate) struct Context<'a> {
-    pub(crate) store: u128,
+pub struct AnswerContext<'a> {
+    pub target: &'a [u8],
+    pub base: &'a Text,
+    pub ends: bool,
+    pub head_only: bool,
+}
+
+/// The store that answers.
+#[derive(Drop)]
+pub(crate) struct StoreContext<'a> {
+    pub(crate) id: u128,
     pub(crate) table: &'a RouteTable,
-    pub(crate) base: &'a Text,
-    pub(crate) target: &'a [u8],
-    pub(crate) ends: bool,
-    pub(crate) head_only: bool,
 }
 
 /// The link to the page behind a key, where there is one.
@@ -43,12 +49,13 @@ fn page_link(
 /// The fields of the response to a reply with this body.
 pub(crate) fn response_fields(
     alloc: Global,
-    context: &Context,
+    store: &StoreContext<'_>,
+    context: &AnswerContext<'_>,
     reply: &Reply,
     body: &[u8],
 ) -> Result<FieldList, Memory>
     ensures { IfOk result (λ fields. fields ≡ response_fields (record {
-      store = context.now.store;
+      store = store.now.id;
       base = context.now.base.now;
       target = context.now.target.now;
       ends = context.now.ends;
@@ -68,13 +75,13 @@ pub(crate) fn response_fields(
         alloc,
         to,
         "Allow",
-        allow(alloc, context.table, reply, context.target)?,
+        allow(alloc, store.table, reply, context.target)?,
     )?;
     push_field(
         alloc,
         to,
         "Location",
-        location(alloc, reply, context.store, context.base)?,
+        location(alloc, reply, store.id, context.base)?,
     )?;
     let key = next_key_text(alloc, reply)?;
     let page_link = page_link(alloc, context.base, context.target, &key)?;

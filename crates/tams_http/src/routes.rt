@@ -10,7 +10,7 @@ ghost use Rattle.tams_http.specs.Good.{is_ask_good};
 use crate::ask::{Ask, AskFault};
 use crate::asked::asked_by;
 use crate::fields::reply_status;
-use crate::response::{Context, response_fields};
+use crate::response::{AnswerContext, StoreContext, response_fields};
 use disk_trait::{Memory, Text};
 use http_routes::{RouteTable, path_of};
 use http_wire::{MethodKind, write_response};
@@ -66,38 +66,36 @@ impl Routes {
     }
 
     /// The bytes of the response to a reply (RFC 9112, section 2.1): for `Media` the head alone, and the
-    /// object's bytes follow. A HEAD has no body. `target` is the request's, `base` what the store's
-    /// addresses begin with, and `ends` whether the connection ends behind the answer.
+    /// object's bytes follow. A HEAD has no body.
     #[tactic(auto, unfolding(crate::specs::Answered::response_to))]
     pub fn response_of(
         &self,
         alloc: Global,
         reply: &Reply,
-        target: &[u8],
-        base: &Text,
-        ends: bool,
-        head_only: bool,
+        context: &AnswerContext<'_>,
     ) -> Result<Text, Memory>
         requires texts { IsTrue (has_reply_texts reply.now) }
-        requires base { IsTrue (is_utf8 base.now) }
+        requires base { IsTrue (is_utf8 context.now.base.now) }
         ensures { IfOk result (λ text. text ≡ response_to (record {
           store = self.now;
-          base = base.now;
-          target = target.now;
-          ends = ends;
-          head_only = head_only;
+          base = context.now.base.now;
+          target = context.now.target.now;
+          ends = context.now.ends;
+          head_only = context.now.head_only;
         }) reply.now) }
     {
-        let body = print_reply(alloc, reply, self.store, base)?;
-        let context = Context {
-            store: self.store,
+        let body = print_reply(alloc, reply, self.store, context.base)?;
+        let store = StoreContext {
+            id: self.store,
             table: &self.table,
-            base,
-            target,
-            ends,
-            head_only,
         };
-        let fields = response_fields(alloc, &context, reply, body.bytes())?;
-        write_response(alloc, reply_status(reply), &fields, body.bytes(), head_only)
+        let fields = response_fields(alloc, &store, context, reply, body.bytes())?;
+        write_response(
+            alloc,
+            reply_status(reply),
+            &fields,
+            body.bytes(),
+            context.head_only,
+        )
     }
 }
