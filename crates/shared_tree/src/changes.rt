@@ -1,11 +1,11 @@
 //! Changes of a tree: a pair put at its key, and a pair taken out. Each makes new nodes on the way to the
 //! key, and shares all others with the old tree.
-ghost use Rattle.std.specs.Prelude.{◌≡◌, ◌+◌, ◌^◌, ◌<◌, ◌≤◌, [], ◌∷◌, ◌++◌, length, max, IfOk};
+ghost use Rattle.std.specs.Prelude.{◌≡◌, ◌+◌, ◌^◌, ◌<◌, ◌≤◌, [], ◌∷◌, ◌++◌, length, max, IfOk, is_some, true};
 ghost use Rattle.shared_tree.specs.Within.Forks.{IsTakenFrom};
 ghost use Rattle.shared_tree.specs.Within.Heights.{DifferByAtMost, SettlesTo};
-ghost use Rattle.shared_tree.specs.Pairs.{IsRising, with_pair, without_key};
+ghost use Rattle.shared_tree.specs.Pairs.{IsRising, value_at, with_pair, without_key};
 
-use crate::tree::{Fork, Tree, balance};
+use crate::tree::{Fork, Tree, balance, node};
 use std::alloc::{AllocError, Global};
 use std::cmp::Ordering;
 use std::rc::Rc;
@@ -54,6 +54,40 @@ impl<V: Drop> Tree<V> {
             }
             Ordering::Equal => {
                 balance(alloc, fork.left.share()?, key, value, fork.right.share()?)
+            }
+        }
+    }
+
+    /// The tree with this value at a key that it has. Each new node is as high as the one in its place.
+    pub(crate) fn replace(
+        &self,
+        alloc: Global,
+        key: &i128,
+        value: Rc<V>,
+    ) -> Result<Tree<V>, AllocError>
+        requires rising { IsRising self.now.0 }
+        requires held { is_some (value_at key.now self.now.0) ≡ true }
+        ensures pairs { IfOk result (λ t. t.0 ≡ with_pair (key.now, value.value) self.now.0) }
+        ensures height { IfOk result (λ t. t.1 ≡ self.now.1) }
+    {
+        let Some(fork) = &self.root else {
+            unreachable!()
+        };
+        let fork: &Fork<V> = fork;
+        match key.cmp(&fork.key) {
+            Ordering::Less => {
+                let left = fork.left.replace(alloc, key, value)?;
+                let (own, other) = (fork.value.clone()?, fork.right.share()?);
+                node(alloc, left, &fork.key, own, other, fork.height)
+            }
+            Ordering::Greater => {
+                let right = fork.right.replace(alloc, key, value)?;
+                let (own, other) = (fork.value.clone()?, fork.left.share()?);
+                node(alloc, other, &fork.key, own, right, fork.height)
+            }
+            Ordering::Equal => {
+                let (left, right) = (fork.left.share()?, fork.right.share()?);
+                node(alloc, left, key, value, right, fork.height)
             }
         }
     }

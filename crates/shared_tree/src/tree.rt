@@ -24,7 +24,7 @@ pub(crate) struct Fork<V> {
     pub(crate) key: i128,
     pub(crate) value: Rc<V>,
     pub(crate) right: Tree<V>,
-    height: u16,
+    pub(crate) height: u16,
 }
 
 impl<V> Model for Tree<V> {
@@ -104,6 +104,38 @@ impl<V: Drop> Tree<V> {
     }
 }
 
+/// A node of this height with these sides, whose heights differ by at most one.
+pub(crate) fn node<V: Drop>(
+    alloc: Global,
+    left: Tree<V>,
+    key: &i128,
+    value: Rc<V>,
+    right: Tree<V>,
+    height: u16,
+) -> Result<Tree<V>, AllocError>
+    requires level { DifferByAtMost 1 left.1 right.1 }
+    requires height { height ≡ max left.1 right.1 + 1 }
+    ensures pairs { IfOk result (λ t. t.0 ≡ left.0 ++ (key.now, value.value) ∷ right.0) }
+    ensures height { IfOk result (λ t. t.1 ≡ height) }
+{
+    left.tell_filled();
+    right.tell_filled();
+    let fork = Rc::new(
+        alloc,
+        Fork {
+            left,
+            key: *key,
+            value,
+            right,
+            height,
+        },
+    );
+    match fork {
+        Ok(fork) => Ok(Tree { root: Some(fork) }),
+        Err(_) => Err(AllocError),
+    }
+}
+
 /// A node with these sides, whose heights differ by at most one.
 fn join<V: Drop>(
     alloc: Global,
@@ -120,20 +152,7 @@ fn join<V: Drop>(
     left.tell_filled();
     right.tell_filled();
     let height = left.height().max(right.height()) + 1;
-    let fork = Rc::new(
-        alloc,
-        Fork {
-            left,
-            key: *key,
-            value,
-            right,
-            height,
-        },
-    );
-    match fork {
-        Ok(fork) => Ok(Tree { root: Some(fork) }),
-        Err(_) => Err(AllocError),
-    }
+    node(alloc, left, key, value, right, height)
 }
 
 /// A node with these sides, whose heights differ by at most two: a side that is too high is turned.

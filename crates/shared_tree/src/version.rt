@@ -1,5 +1,5 @@
 //! A version of a sorted list of pairs, and its public calls.
-ghost use Rattle.std.specs.Prelude.{◌≡◌, ◌+◌, ◌-◌, ◌*◌, ◌^◌, ◌≤◌, ◌<◌, ◌++◌, [], IfOk, ◌↔◌, filter, is_some, length, min, option_copied, option_map, reverse, take, vec_capacity, vec_len};
+ghost use Rattle.std.specs.Prelude.{◌≡◌, ◌+◌, ◌-◌, ◌*◌, ◌^◌, ◌≤◌, ◌<◌, ◌++◌, [], false, IfOk, ◌↔◌, filter, is_some, length, min, option_copied, option_map, reverse, take, vec_capacity, vec_len};
 ghost use Rattle.shared_tree.specs.Pairs.{AreKeys, IsRising, digits, first, is_above, is_below, is_from, is_up_to, last, value_at, values, with_pair, without_key};
 ghost use Rattle.shared_tree.specs.Pairs.{values_of};
 
@@ -166,7 +166,13 @@ impl<V: Drop> Version<V> {
         ensures { IfOk result (λ version. version ≡ with_pair (key, value.value) self.now) }
     {
         self.tell_few();
-        let more = self.others(&key);
+        if self.has(&key) {
+            return Ok(Version {
+                tree: self.tree.replace(alloc, &key, value)?,
+                more: self.more,
+            });
+        }
+        let more = self.all_others(&key);
         Ok(Version {
             tree: self.tree.put(alloc, &key, value)?,
             more,
@@ -197,15 +203,32 @@ impl<V: Drop> Version<V> {
     fn others(&self, key: &i128) -> u128
         ensures { result ≡ length (without_key key.now self.now) }
     {
+        if self.has(key) {
+            self.more
+        } else {
+            self.all_others(key)
+        }
+    }
+
+    /// The same where none has this key: all of them.
+    fn all_others(&self, key: &i128) -> u128
+        requires other { is_some (value_at key.now self.now) ≡ false }
+        ensures { result ≡ length (without_key key.now self.now) }
+    {
         // Its value is an `i128`, so there are fewer pairs than keys where none has it.
         let _value = *key;
-        if holds::<V, Brand>(&self.tree, key, Blank::new(1)) {
-            self.more
-        } else if self.tree.is_empty() {
+        if self.tree.is_empty() {
             0
         } else {
             self.more + 1
         }
+    }
+
+    /// Whether a pair has this key.
+    fn has(&self, key: &i128) -> bool
+        ensures { result ≡ is_some (value_at key.now self.now) }
+    {
+        holds::<V, Brand>(&self.tree, key, Blank::new(1))
     }
 }
 

@@ -1,4 +1,4 @@
-use Rattle.shared_tree.proofs.version.Version.others.Given as goal
+use Rattle.shared_tree.proofs.version.Version.has.Given as goal
 
 -- the steps of the look are counted from a ledger of its own
 abbrev pub ghosts-holds : goal.ghosts-holds
