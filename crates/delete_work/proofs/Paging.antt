@@ -1,5 +1,5 @@
 -- Pages of the segments that have a point in a request's range.
-use Rattle.std.proofs.Common.{◌≡◌, ◌<◌, ◌≤◌, ℤ, true, false, [], ◌∷◌, ◌++◌, Option, Some, None, IfSome, is_some, filter, take, drop, length, option_map, refl, sym, ap, subst, ◌∙◌, arith}
+use Rattle.std.proofs.Common.{◌≡◌, ◌<◌, ◌≤◌, ℕ, suc, ℤ, true, false, [], ◌∷◌, ◌++◌, Option, Some, None, IfSome, is_some, filter, take, drop, length, option_map, refl, sym, ap, subst, ◌∙◌, arith}
 use Rattle.std.specs.List.{list_all, slice_get}
 use Rattle.std.proofs.lemmas.List.{take-append-drop}
 use Rattle.std.proofs.lemmas.List.Elements.{filter-append}
@@ -16,56 +16,46 @@ append_twice : (a b c : Segments) → (a ++ b) ++ c ≡ a ++ (b ++ c)
 append_twice [] b c = refl
 append_twice (x ∷ a) b c = ap (λ l. x ∷ l) (append_twice a b c)
 
--- a page, and what is left behind it
-page_and_rest : (index page : Segments) (request : DeleteRow) (after next : Option ℤ) → rises begins_before index ≡ true
-    → page ≡ take 64 (ahead index request after) → next ≡ option_map first_point (slice_get page 63)
-    → page ++ left_behind index request next ≡ ahead index request after
-page_and_rest index page request after next up is e = by (slice_get (take 64 (ahead index request after)) 63) refl
-  where
-    all : Segments
-    all = ahead index request after
+-- A page of at most so many and one, and what is left behind it.
+module _ (most : ℕ) (index page : Segments) (request : DeleteRow) (after next : Option ℤ) (up : rises begins_before index ≡ true)
+    (is : page ≡ take (suc most) (ahead index request after)) (e : next ≡ option_map first_point (slice_get page most)) where
+  abbrev those : Segments
+  those = ahead index request after
 
-    key : next ≡ option_map first_point (slice_get (take 64 all) 63)
-    key = e ∙ ap (λ l. option_map first_point (slice_get l 63)) is
+  key_is : next ≡ option_map first_point (slice_get (take (suc most) those) most)
+  key_is = e ∙ ap (λ l. option_map first_point (slice_get l most)) is
 
-    by : (found : Option SegmentRow) → slice_get (take 64 all) 63 ≡ found → page ++ left_behind index request next ≡ all
-    by None f =
-        ap (λ n. page ++ left_behind index request n) (key ∙ ap (option_map first_point) f)
-        ∙ append_nothing page ∙ is ∙ page_all 63 all f
-    by (Some x) f =
-        ap (λ n. page ++ left_behind index request n) (key ∙ ap (option_map first_point) f)
-        ∙ ap (λ l. page ++ l) (page_rest 63 index request after x (starts index up) f)
-        ∙ ap (λ l. l ++ drop 64 all) is ∙ take-append-drop 64 all
+  page_and_rest : page ++ left_behind index request next ≡ those
+  page_and_rest = by (slice_get (take (suc most) those) most) refl
+    where
+      by : (found : Option SegmentRow) → slice_get (take (suc most) those) most ≡ found → page ++ left_behind index request next ≡ those
+      by None f =
+          ap (λ n. page ++ left_behind index request n) (key_is ∙ ap (option_map first_point) f)
+          ∙ append_nothing page ∙ is ∙ page_all most those f
+      by (Some x) f =
+          ap (λ n. page ++ left_behind index request n) (key_is ∙ ap (option_map first_point) f)
+          ∙ ap (λ l. page ++ l) (page_rest most index request after x (starts index up) f)
+          ∙ ap (λ l. l ++ drop (suc most) those) is ∙ take-append-drop (suc most) those
 
-pub page_found : (index page old new : Segments) (request : DeleteRow) (after next : Option ℤ) → rises begins_before index ≡ true
-    → page ≡ take 64 (ahead index request after) → next ≡ option_map first_point (slice_get page 63)
-    → new ≡ old ++ filter (is_wanted_by request) page
-    → new ++ filter (is_wanted_by request) (left_behind index request next) ≡ old ++ filter (is_wanted_by request) (ahead index request after)
-page_found index page old new request after next up is e more =
-    ap (λ l. l ++ filter (is_wanted_by request) (left_behind index request next)) more
-    ∙ append_twice old (filter (is_wanted_by request) page) (filter (is_wanted_by request) (left_behind index request next))
-    ∙ ap (λ l. old ++ l) (sym (filter-append (is_wanted_by request) page (left_behind index request next))
-    ∙ ap (filter (is_wanted_by request)) (page_and_rest index page request after next up is e))
+  pub page_found : (old new : Segments) → new ≡ old ++ filter (is_wanted_by request) page
+      → new ++ filter (is_wanted_by request) (left_behind index request next) ≡ old ++ filter (is_wanted_by request) (ahead index request after)
+  page_found old new more =
+      ap (λ l. l ++ filter (is_wanted_by request) (left_behind index request next)) more
+      ∙ append_twice old (filter (is_wanted_by request) page) (filter (is_wanted_by request) (left_behind index request next))
+      ∙ ap (λ l. old ++ l) (sym (filter-append (is_wanted_by request) page (left_behind index request next))
+      ∙ ap (filter (is_wanted_by request)) page_and_rest)
 
-pub page_leaves_fewer : (index page : Segments) (request : DeleteRow) (after next : Option ℤ) → rises begins_before index ≡ true
-    → page ≡ take 64 (ahead index request after) → next ≡ option_map first_point (slice_get page 63)
-    → IfSome next (λ key. length (ahead index request (Some key)) < length (ahead index request after))
-page_leaves_fewer index page request after next up is e = by (slice_get (take 64 (ahead index request after)) 63) refl
-  where
-    all : Segments
-    all = ahead index request after
+  pub page_leaves_fewer : IfSome next (λ k. length (ahead index request (Some k)) < length (ahead index request after))
+  page_leaves_fewer = by (slice_get (take (suc most) those) most) refl
+    where
+      Fewer : Option ℤ → Type 0
+      Fewer n = IfSome n (λ k. length (ahead index request (Some k)) < length those)
 
-    key : next ≡ option_map first_point (slice_get (take 64 all) 63)
-    key = e ∙ ap (λ l. option_map first_point (slice_get l 63)) is
-
-    Fewer : Option ℤ → Type 0
-    Fewer n = IfSome n (λ k. length (ahead index request (Some k)) < length all)
-
-    by : (found : Option SegmentRow) → slice_get (take 64 all) 63 ≡ found → Fewer next
-    by None f = subst Fewer (sym (key ∙ ap (option_map first_point) f)) tt
-    by (Some x) f =
-        subst Fewer (sym (key ∙ ap (option_map first_point) f))
-        (subst (λ l. length l < length all) (sym (page_rest 63 index request after x (starts index up) f)) (page_fewer 63 all x f))
+      by : (found : Option SegmentRow) → slice_get (take (suc most) those) most ≡ found → Fewer next
+      by None f = subst Fewer (sym (key_is ∙ ap (option_map first_point) f)) tt
+      by (Some x) f =
+          subst Fewer (sym (key_is ∙ ap (option_map first_point) f))
+          (subst (λ l. length l < length those) (sym (page_rest most index request after x (starts index up) f)) (page_fewer most those x f))
 
 -- ---- all pages
 

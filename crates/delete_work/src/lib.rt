@@ -12,5 +12,5 @@ mod step;
 mod sweep;
 
 pub use crate::book::DeleteBook;
-pub use crate::step::{DueStep, Stepped};
+pub use crate::step::{DueStep, StepRows, Stepped, step_rows};
 pub use crate::sweep::{Swept, sweep_step};

@@ -1,10 +1,10 @@
 //! The segments on which a request works, found page by page.
-ghost use Rattle.std.specs.Prelude.{◌≡◌, ◌+◌, ◌<◌, ◌++◌, IfOk, IfSome, OnOk, Some, filter, length, option_map, slice_get, take};
+ghost use Rattle.std.specs.Prelude.{◌≡◌, ◌+◌, ◌-◌, ◌<◌, ◌++◌, IfOk, IfSome, OnOk, Some, filter, length, option_map, slice_get, take};
 ghost use Rattle.media_rows.specs.Requests.{step_size};
 ghost use Rattle.media_rows.specs.Segments.{first_point};
 ghost use Rattle.segment_index.specs.Answers.{met};
 ghost use Rattle.shared_tree.specs.Pairs.{values_of};
-ghost use Rattle.delete_work.specs.Within.Seeking.{ahead, is_wanted_by, left_behind, page_size};
+ghost use Rattle.delete_work.specs.Within.Seeking.{ahead, is_wanted_by, left_behind};
 
 use disk_trait::{Duplicate, Memory};
 use media_rows::{DeleteRow, Page, SegmentList, SegmentRow, range_covers};
@@ -17,8 +17,11 @@ use std::sync::ledger::{Blank, Ledger};
 /// The most segments that one step removes.
 pub(crate) const STEP_SIZE: usize = 32;
 
-/// The segments that are looked at together.
-const PAGE: usize = 64;
+/// How many segments are looked at first: a request often takes one alone.
+const FIRST_PAGE: usize = 2;
+
+/// How many are looked at together behind them.
+const PAGE: usize = 32;
 
 /// The first point of a segment, or 0 where it has none.
 pub(crate) fn first_point(row: &SegmentRow) -> i128
@@ -65,26 +68,28 @@ fn collect<'a, L: Ledger>(
 {
     index.is_in_order();
     let mut steps = Steps::<L>::new(blank);
-    let mut after = append_page(alloc, index, request, &None, list, &mut steps)?;
+    let mut after = append_page(alloc, index, request, &None, FIRST_PAGE, list, &mut steps)?;
     'pages: while after.is_some() {
         if STEP_SIZE < list.len() {
             return Ok(());
         }
-        after = append_page(alloc, index, request, &after, list, &mut steps)?;
+        after = append_page(alloc, index, request, &after, PAGE, list, &mut steps)?;
     }
     Ok(())
 }
 
-/// Appends those segments of a page on which a request works. The answer is the key behind which more may
-/// stand, if any may.
+/// Appends those segments of a page of so many on which a request works. The answer is the key behind which more
+/// may stand, if any may.
 fn append_page<'a, L: Ledger>(
     alloc: Global,
     index: &'a SegmentIndex,
     request: &DeleteRow,
     after: &Option<i128>,
+    limit: usize,
     list: &mut Vec<&'a SegmentRow>,
     steps: &mut Steps<L>,
 ) -> Result<Option<i128>, Memory>
+    requires some { 0 < limit }
     ensures rows { IfOk result (λ next. values_of list.new.items
         ++ filter (is_wanted_by request.now) (left_behind index.now request.now next)
         ≡ values_of list.old.items
@@ -94,36 +99,38 @@ fn append_page<'a, L: Ledger>(
         < length (ahead index.now request.now after.now))) }
 {
     index.is_in_order();
-    let page = page_behind(alloc, index, request, after, steps)?;
+    let page = page_behind(alloc, index, request, after, limit, steps)?;
     append_wanted(request, &page, list)?;
-    Ok(next_start(&page))
+    Ok(next_start(&page, limit))
 }
 
-/// The first point of the last segment of a full page.
-fn next_start(page: &[&SegmentRow]) -> Option<i128>
-    ensures { result ≡ option_map first_point (slice_get (values_of page.now) 63) }
+/// The first point of the last segment of a page that has so many.
+fn next_start(page: &[&SegmentRow], limit: usize) -> Option<i128>
+    requires some { 0 < limit }
+    ensures { result ≡ option_map first_point (slice_get (values_of page.now) (limit - 1)) }
 {
-    if page.len() < PAGE {
+    if page.len() < limit {
         return None;
     }
-    Some(first_point(page[PAGE - 1]))
+    Some(first_point(page[limit - 1]))
 }
 
-/// A page of the segments that have a point in a request's range.
+/// A page of so many of the segments that have a point in a request's range.
 fn page_behind<'a, L: Ledger>(
     alloc: Global,
     index: &'a SegmentIndex,
     request: &DeleteRow,
     after: &Option<i128>,
+    limit: usize,
     steps: &mut Steps<L>,
 ) -> Result<Vec<&'a SegmentRow>, Memory>
     ensures { IfOk result (λ page. values_of page.items
-        ≡ take page_size (ahead index.now request.now after.now)) }
+        ≡ take limit (ahead index.now request.now after.now)) }
 {
-    let mut page = Vec::with_capacity(alloc, PAGE)?;
+    let mut page = Vec::with_capacity(alloc, limit)?;
     let wanted = Page {
         after: *after,
-        limit: PAGE as u64,
+        limit: limit as u64,
         reverse: false,
     };
     index.range(&request.range, &wanted, &mut page, steps);

@@ -15,6 +15,13 @@ use object_refs::ObjectBook;
 use segment_index::SegmentIndex;
 use std::alloc::Global;
 
+/// What a step takes: the segments, and whether nothing is left then of what the request asked for.
+#[derive(Drop)]
+pub struct StepRows {
+    pub removed: SegmentList,
+    pub finished: bool,
+}
+
 /// What a step of the request that is due comes to: the requests after it, which segments go, and whether
 /// nothing is left of what the request asked for. Where it deletes its flow, the flow goes then.
 #[derive(Drop)]
@@ -53,14 +60,11 @@ impl DeleteBook {
         let Some(request) = self.first_due() else {
             unreachable!()
         };
-        index.is_in_order();
-        let mut found = requested(alloc, index, request)?;
-        let finished = found.len() <= STEP_SIZE;
-        found.truncate(STEP_SIZE);
+        let rows = step_rows(alloc, index, request)?;
         Ok(DueStep {
-            book: self.stepped(alloc, request, finished, now)?,
-            removed: copies(alloc, &found)?,
-            finished,
+            book: self.stepped(alloc, request, rows.finished, now)?,
+            removed: rows.removed,
+            finished: rows.finished,
         })
     }
 
@@ -127,6 +131,30 @@ impl DeleteBook {
         let row = stepped_row(request, finished, now);
         self.put(alloc, &row)?.newest(alloc)
     }
+}
+
+/// What a step of a request takes of the segments of its flow: the first 32 by first point that its range covers and
+/// that were there before it.
+pub fn step_rows(
+    alloc: Global,
+    index: &SegmentIndex,
+    request: &DeleteRow,
+) -> Result<StepRows, Memory>
+    requires flow { AreOfFlow request.now.flow index.now }
+    ensures removed { IfOk result
+        (λ step. step.removed ≡ removed_by_step index.now request.now) }
+    ensures few { IfOk result (λ step. length step.removed ≤ step_size) }
+    ensures finished { IfOk result
+        (λ step. step.finished ≡ is_finished_by_step index.now request.now) }
+{
+    index.is_in_order();
+    let mut found = requested(alloc, index, request)?;
+    let finished = found.len() <= STEP_SIZE;
+    found.truncate(STEP_SIZE);
+    Ok(StepRows {
+        removed: copies(alloc, &found)?,
+        finished,
+    })
 }
 
 /// A request after a step.

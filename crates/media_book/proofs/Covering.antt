@@ -1,5 +1,5 @@
 -- The segments that a cut or a delete step takes, among all segments by rising serial.
-use Rattle.std.proofs.Common.{◌≡◌, ℕ, zero, suc, ◌-◌, nat_le, nat_lt, Bool, true, false, not, ◌||◌, cond, List, [], ◌∷◌, ◌++◌, Option, Some, drop, filter, length, take, refl, sym, subst, ap, ◌∙◌, arith}
+use Rattle.std.proofs.Common.{◌≡◌, ℕ, zero, suc, ◌-◌, nat_le, nat_lt, Bool, true, false, not, ◌||◌, cond, List, [], ◌∷◌, Option, Some, drop, filter, length, take, refl, sym, subst, ap, ◌∙◌, arith}
 use Rattle.std.specs.Prelude.{◌==◌}
 use Rattle.std.specs.List.{list_all, list_any}
 use Rattle.std.proofs.lemmas.Bool.{and_parts}
@@ -12,7 +12,7 @@ use Rattle.media_rows.specs.Good.{rises_by}
 use Rattle.media_rows.specs.Lists.{each_pair, in_order}
 use Rattle.media_rows.specs.Objects.{idled}
 use Rattle.media_rows.specs.Ranges.{covers}
-use Rattle.media_rows.specs.Requests.{first_unfinished, is_finished_by_step, is_unfinished, removed_by_step, requested, step_size}
+use Rattle.media_rows.specs.Requests.{first_unfinished, is_finished_by_step, removed_by_step, requested, step_size}
 use Rattle.media_rows.specs.Segments.{covered, segments_of, starts_before, without_segments}
 use Rattle.delete_work.specs.Work.{AreOfFlow}
 use Rattle.id_index.proofs.Pairs.{filter_swap}
@@ -171,11 +171,6 @@ whole_taken rows all whole taken told e =
     taken ∙ take-whole step_size all (let few : nat_le (length all) step_size ≡ true = sym told ∙ e in grind (arith, nat_tests))
 
 -- ---- the request that is due
-
--- a request that was asked for is the only one
-pub asked_due : (asked empty : List DeleteRow) (row : DeleteRow) → empty ≡ [] → asked ≡ empty ++ row ∷ [] → is_unfinished row ≡ true
-    → first_unfinished asked ≡ Some row
-asked_due asked empty row none is unfinished = ap first_unfinished (is ∙ ap (λ l. l ++ row ∷ []) none) ∙ rw unfinished refl
 
 one_due : (requests : List DeleteRow) (row other : DeleteRow) → first_unfinished requests ≡ Some row → first_unfinished requests ≡ Some other → row ≡ other
 one_due requests row other e f = let same = sym e ∙ f in grind (arith, same)

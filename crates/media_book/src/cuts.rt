@@ -8,7 +8,7 @@ ghost use Rattle.delete_work.specs.Work.{OfDue};
 ghost use Rattle.media_book.specs.Media.{AreSome, are_segments_below, without_rows};
 
 use crate::MediaBook;
-use delete_work::{DeleteBook, DueStep};
+use delete_work::{DeleteBook, DueStep, step_rows};
 use disk_trait::Memory;
 use media_rows::{Deletion, SegmentList};
 use std::alloc::Global;
@@ -47,9 +47,8 @@ impl MediaBook {
             range: *range,
             delete_flow: false,
         };
-        let asked = DeleteBook::empty().request(alloc, &deletion, serial, 0)?;
         let index = self.segments.index(flow)?;
-        let step = asked.due_step(alloc, &index, 0)?;
+        let step = step_rows(alloc, &index, &deletion.row(serial, 0))?;
         Ok(Covered {
             rows: step.removed,
             whole: step.finished,

@@ -36,10 +36,6 @@ abbrev pub looks_left : List SegmentRow → DeleteRow → Option ℤ → ℕ
 looks_left rows request None = 0
 looks_left rows request (Some key) = suc (length (ahead rows request (Some key)))
 
--- how many segments are looked at together
-abbrev pub page_size : ℕ
-page_size = 64
-
 -- the segments but those that begin where one of these does
 abbrev pub without_starts : List SegmentRow → List SegmentRow → List SegmentRow
 without_starts [] rows = rows
