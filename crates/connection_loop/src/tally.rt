@@ -1,5 +1,5 @@
 //! The numbers of a run: its answers, its changes and the turns that it skipped.
-ghost use Rattle.std.specs.Prelude.{◌≡◌, ◌≤◌, ◌<◌, ◌+◌, ◌^◌, if◌then◌else◌};
+ghost use Rattle.std.specs.Prelude.{◌≡◌, ◌≤◌, ◌<◌, ◌+◌, ◌^◌, if◌then◌else◌, true, false};
 ghost use Rattle.run_history.specs.Serving.{RunCounts};
 
 use std::marker::Model;
@@ -38,17 +38,25 @@ impl RunTally {
         }
     }
 
-    /// Counts an answer, with so many changes, and whether the turn behind it was skipped.
-    pub fn count(&mut self, changes: u64, skipped: bool)
+    /// Counts an answer, with so many changes.
+    pub fn count(&mut self, changes: u64)
         requires room { self.old.answers < 2 ^ 60 }
         requires few { changes ≤ 2 }
-        ensures { self.new ≡ plus_answer changes skipped self.old }
+        ensures { self.new ≡ plus_answer changes false self.old }
     {
         self.answers += 1;
         self.changes += changes;
-        if skipped {
-            self.skipped += 1;
-        }
+    }
+
+    /// Counts an answer, with so many changes, behind which the turn was skipped.
+    pub fn count_skipped(&mut self, changes: u64)
+        requires room { self.old.answers < 2 ^ 60 }
+        requires few { changes ≤ 2 }
+        ensures { self.new ≡ plus_answer changes true self.old }
+    {
+        self.answers += 1;
+        self.changes += changes;
+        self.skipped += 1;
     }
 
     pub fn answers(&self) -> u64

@@ -194,14 +194,17 @@ tells_on old new same all = record { honest = same.honest ∙ all.honest; shows 
 -- a reply with a response alone
 pub finishes_with : (old new : Device) (store next : StoreSeen) (n now : RunCounts) (moment : ℕ) (result : Option ConnectionEnd) (reply : DueReply)
     (response : List ℕ) (area count : ℕ) (ends : Bool)
-    → FinishLeads old new store next n now (reply.response.now ++ following_bytes area reply.media old.seen) reply.changes moment reply.ends result
-    → reply.response.now ≡ response → (reply.media ≡ None) × (reply.changes ≡ count) × (reply.ends ≡ ends)
+    → FinishLeads old new store next n now (reply.response.now ++ following_bytes area reply.media old.seen) reply.changes reply.moment reply.ends result
+    → reply.response.now ≡ response
+    → (reply.media ≡ None) × (reply.changes ≡ count) × (reply.moment ≡ moment) × (reply.ends ≡ ends)
     → FinishLeads old new store next n now (response ++ []) count moment ends result
 finishes_with old new store next n now moment result reply response area count ends leads same rest =
-    subst (λ e. FinishLeads old new store next n now (response ++ []) count moment e result) rest.2
-    (subst (λ k. FinishLeads old new store next n now (response ++ []) k moment reply.ends result) rest.1
-    (subst (λ m. FinishLeads old new store next n now (response ++ following_bytes area m old.seen) reply.changes moment reply.ends result) rest.0
-    (subst (λ b. FinishLeads old new store next n now (b ++ following_bytes area reply.media old.seen) reply.changes moment reply.ends result) same leads)))
+    subst (λ e. FinishLeads old new store next n now (response ++ []) count moment e result) rest.3
+    (subst (λ t. FinishLeads old new store next n now (response ++ []) count t reply.ends result) rest.2
+    (subst (λ k. FinishLeads old new store next n now (response ++ []) k reply.moment reply.ends result) rest.1
+    (subst (λ m. FinishLeads old new store next n now (response ++ following_bytes area m old.seen) reply.changes reply.moment reply.ends result) rest.0
+    (subst (λ b. FinishLeads old new store next n now (b ++ following_bytes area reply.media old.seen) reply.changes reply.moment reply.ends result)
+    same leads))))
 
 -- what a put leaves of the file
 size_behind : (kept : StoreView) (plan : PutPlan) → size_of (kept_after_put kept plan) ≡ size_of kept

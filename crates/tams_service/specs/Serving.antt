@@ -35,10 +35,6 @@ needs_in store = needs_by store.spent (size_of store.kept)
 abbrev pub needs_of : ServiceSeen → ℕ
 needs_of s = needs_in s.store
 
--- a store that isn't spent has the id of the one before
-abbrev pub KeepsId : StoreSeen → StoreSeen → Type 0
-KeepsId store next = next.spent ≡ false → next.kept.library.id ≡ store.kept.library.id
-
 -- what opening a service answers over an image
 abbrev pub ServiceOpens : List ℕ → Result ServiceSeen JournalFault → Type 0
 ServiceOpens image (Ok service) = OpensAs image (Ok service.store)

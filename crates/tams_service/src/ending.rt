@@ -28,7 +28,7 @@ pub(crate) fn starve<X: Site>(site: &mut X, tally: &mut RunTally) -> ConnectionE
     ensures leads { TellsAllOf (X.device site.old) → StarveLeads (X.device site.old)
         (X.device site.new) tally.old tally.new }
 {
-    tally.count(0, false);
+    tally.count(0);
     let _ = site.say(server_error().as_bytes());
     ConnectionEnd::Starved
 }
@@ -44,7 +44,7 @@ pub(crate) fn stop<X: Site>(site: &mut X, tally: &mut RunTally, changes: u64) ->
     ensures leads { TellsAllOf (X.device site.old) → StopLeads (X.device site.old)
         (X.device site.new) tally.old tally.new changes }
 {
-    tally.count(changes, false);
+    tally.count(changes);
     let _ = site.say(unavailable().as_bytes());
     ConnectionEnd::Stopped
 }
@@ -80,7 +80,7 @@ fn refuse<X: Site>(site: &mut X, tally: &mut RunTally, response: &[u8]) -> Conne
         → RefuseLeads base (X.device site.old) (X.device site.new) store tally.old tally.new
         refusal result }
 {
-    tally.count(0, false);
+    tally.count(0);
     match site.say(response) {
         Ok(()) => ConnectionEnd::Complete,
         Err(LinkFailed) => ConnectionEnd::Unlinked,

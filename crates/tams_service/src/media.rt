@@ -1,27 +1,25 @@
 //! PUTs of objects' bytes.
-ghost use Rattle.std.specs.Prelude.{◌≡◌, ◌≤◌, ◌<◌, ◌+◌, ◌^◌, ℕ, List, Bool, true, None, length, IfSome, IsFalse, IsNone, IsSome, IsTrue};
+ghost use Rattle.std.specs.Prelude.{◌≡◌, ◌≤◌, ◌<◌, ◌+◌, ◌^◌, ℕ, List, Bool, true, None, IfSome, IsFalse, IsNone, IsSome, IsTrue};
 ghost use Rattle.http_wire.specs.Agreeing.{MayTurn};
 ghost use Rattle.http_wire.specs.declared.stage.FeedStage.TheVariants as stages;
 ghost use Rattle.media_rows.specs.Moments.{is_moment};
 ghost use Rattle.media_store.specs.Stores.{size_of};
-ghost use Rattle.media_store.specs.declared.puts.TheConstants.{PIECE};
 ghost use Rattle.connection_loop.specs.Turns.{GivesMore, SiteCalls};
 ghost use Rattle.request_hearing.specs.Hearing.{OpensMedia};
 ghost use Rattle.tams_service.specs.Answering.{EndKeepsId, IsWholePut, MediaLeads, PutLeads, TakeLeads, TellsAllOf, written_by};
-ghost use Rattle.tams_service.specs.Serving.{KeepsId, needs_in};
+ghost use Rattle.tams_service.specs.Serving.{needs_in};
 ghost use Rattle.tams_service.specs.Taking.{IsPutBegun};
 
 use crate::TamsService;
-use crate::answering::{DueReply, finish};
+use crate::answering::{DueReply, TimedHead};
 use crate::body::{BodyTaken, take_body};
 use crate::ending::{starve, stop};
 use connection_loop::{ConnectionEnd, RunTally};
 use http_wire::Head;
-use media_store::{Put, Store};
-use request_hearing::Hearing;
+use media_store::Put;
 use site_edge::{Clock, Site};
 use std::alloc::Global;
-use tams_answers::{MediaHead, MediaPlan, Responses, plan_media};
+use tams_answers::{MediaHead, MediaPlan, plan_media};
 
 impl TamsService {
     /// Answers a media PUT whose head came: its body is heard to its end, also where it is refused. It takes its
@@ -64,123 +62,116 @@ impl TamsService {
         match plan_media(alloc, &self.routes, &self.base, &self.store, &media, now) {
             Err(_) => Some(starve(site, tally)),
             Ok(plan) => {
-                let room = self.room.as_mut_slice();
-                take_put(
-                    alloc,
-                    &mut self.store,
-                    &mut self.hearing,
-                    site,
-                    tally,
-                    plan,
-                    &head,
-                    now,
-                    room,
-                )
+                let request = TimedHead { head, moment: now };
+                self.take_put(alloc, site, tally, plan, request)
             }
         }
     }
-}
 
-/// Hears the body of a media PUT that was planned, and answers it.
-fn take_put<X: Site>(
-    alloc: Global,
-    store: &mut Store,
-    hearing: &mut Hearing,
-    site: &mut X,
-    tally: &mut RunTally,
-    plan: MediaPlan,
-    head: &Head,
-    now: u64,
-    room: &mut [u8],
-) -> Option<ConnectionEnd>
-    requires unspent { IsFalse store.old.spent }
-    requires device { size_of store.old.kept ≤ (X.device site.old).size }
-    requires under_way { (X.device site.old).link.under_way ≡ true }
-    requires stage { hearing.old.stage ≡ stages.Media head.now.length }
-    requires ended { hearing.old.ended ≡ head.now.ends }
-    requires put { IfSome plan.put (IsPutBegun store.old.kept head.now.length) }
-    requires id { IfSome plan.put (EndKeepsId store.old.kept) }
-    requires moment { IsTrue (is_moment now) }
-    requires counts { tally.old.answers < 2 ^ 60 }
-    requires room { length room.old ≡ PIECE }
-    ensures calls { SiteCalls result (X.device site.old) (X.device site.new) }
-    ensures needs { needs_in store.new ≤ needs_in store.old }
-    ensures id { KeepsId store.old store.new }
-    ensures room { length room.new ≡ length room.old }
-    ensures requests { hearing.new.requests ≡ hearing.old.requests }
-    ensures counted { IsNone result → tally.new.answers ≡ tally.old.answers + 1 }
-    ensures counted_last { tally.new.answers ≤ tally.old.answers + 1 }
-    ensures ready { IsNone result → MayTurn hearing.new }
-    ensures ends { head.now.ends ≡ true → IsSome result }
-    ensures leads { TellsAllOf (X.device site.old) → TakeLeads store.old store.new hearing.old
-        hearing.new head.now plan.put plan.responses (X.device site.old) (X.device site.new) now
-        tally.old tally.new result }
-{
-    let MediaPlan { mut put, responses } = plan;
-    match take_body(store, hearing, site, &mut put, head.length, room) {
-        BodyTaken::Whole => give_put(
-            alloc, store, site, tally, put, &responses, now, head.ends, room,
-        ),
-        BodyTaken::Ended => {
-            let_go(put);
-            Some(ConnectionEnd::Cut)
+    /// Hears the body of a media PUT that was planned, and answers it.
+    fn take_put<X: Site>(
+        &mut self,
+        alloc: Global,
+        site: &mut X,
+        tally: &mut RunTally,
+        plan: MediaPlan,
+        request: TimedHead,
+    ) -> Option<ConnectionEnd>
+        requires unspent { IsFalse self.old.store.spent }
+        requires device { size_of self.old.store.kept ≤ (X.device site.old).size }
+        requires under_way { (X.device site.old).link.under_way ≡ true }
+        requires stage { self.old.fed.stage ≡ stages.Media request.head.length }
+        requires ended { self.old.fed.ended ≡ request.head.ends }
+        requires put { IfSome plan.put (IsPutBegun self.old.store.kept request.head.length) }
+        requires id { IfSome plan.put (EndKeepsId self.old.store.kept) }
+        requires moment { IsTrue (is_moment request.moment) }
+        requires counts { tally.old.answers < 2 ^ 60 }
+        ensures calls { SiteCalls result (X.device site.old) (X.device site.new) }
+        ensures needs { needs_in self.new.store ≤ needs_in self.old.store }
+        ensures requests { self.new.fed.requests ≡ self.old.fed.requests }
+        ensures base { self.new.base ≡ self.old.base }
+        ensures counted { IsNone result → tally.new.answers ≡ tally.old.answers + 1 }
+        ensures counted_last { tally.new.answers ≤ tally.old.answers + 1 }
+        ensures ready { IsNone result → MayTurn self.new.fed }
+        ensures ends { request.head.ends ≡ true → IsSome result }
+        ensures leads { TellsAllOf (X.device site.old) → TakeLeads self.old.store self.new.store
+            self.old.fed self.new.fed request.head plan.put plan.responses (X.device site.old)
+            (X.device site.new) request.moment tally.old tally.new result }
+    {
+        let MediaPlan { mut put, responses } = plan;
+        let room = self.room.as_mut_slice();
+        let size = request.head.length;
+        match take_body(
+            &mut self.store,
+            &mut self.hearing,
+            site,
+            &mut put,
+            size,
+            room,
+        ) {
+            BodyTaken::Whole => {
+                let plan = MediaPlan { put, responses };
+                self.give_put(alloc, site, tally, plan, request)
+            }
+            BodyTaken::Ended => {
+                let_go(put);
+                Some(ConnectionEnd::Cut)
+            }
+            BodyTaken::Unheard => {
+                let_go(put);
+                Some(ConnectionEnd::Unlinked)
+            }
+            BodyTaken::Failed => {
+                let_go(put);
+                Some(stop(site, tally, 0))
+            }
         }
-        BodyTaken::Unheard => {
-            let_go(put);
-            Some(ConnectionEnd::Unlinked)
-        }
-        BodyTaken::Failed => {
-            let_go(put);
-            Some(stop(site, tally, 0))
+    }
+
+    /// Ends a put whose bytes are all there, where there is one, and says its answer.
+    fn give_put<X: Site>(
+        &mut self,
+        alloc: Global,
+        site: &mut X,
+        tally: &mut RunTally,
+        plan: MediaPlan,
+        request: TimedHead,
+    ) -> Option<ConnectionEnd>
+        requires unspent { IsFalse self.old.store.spent }
+        requires device { size_of self.old.store.kept ≤ (X.device site.old).size }
+        requires under_way { (X.device site.old).link.under_way ≡ true }
+        requires filled { IfSome plan.put (IsWholePut self.old.store.kept) }
+        requires id { IfSome plan.put (EndKeepsId self.old.store.kept) }
+        requires moment { IsTrue (is_moment request.moment) }
+        requires counts { tally.old.answers < 2 ^ 60 }
+        ensures calls { SiteCalls result (X.device site.old) (X.device site.new) }
+        ensures counted { tally.new.answers ≡ tally.old.answers + 1 }
+        ensures ends { request.head.ends ≡ true → IsSome result }
+        ensures needs { needs_in self.new.store ≤ needs_in self.old.store }
+        ensures fed { self.new.fed ≡ self.old.fed }
+        ensures base { self.new.base ≡ self.old.base }
+        ensures leads { TellsAllOf (X.device site.old) → PutLeads (X.device site.old)
+            (X.device site.new) self.old.store self.new.store tally.old tally.new plan.put
+            plan.responses request.moment request.head.ends result }
+    {
+        let MediaPlan { put, responses } = plan;
+        let Some(put) = put else {
+            let reply = reply_with(responses.reply.bytes(), 0, request);
+            return self.finish(alloc, site, tally, &reply);
+        };
+        let changes = changes_of(&put);
+        match self.store.put_end(site, put) {
+            Err(_) => Some(stop(site, tally, changes)),
+            Ok(reply) => {
+                let reply = reply_with(responses.of(&reply), changes, request);
+                self.finish(alloc, site, tally, &reply)
+            }
         }
     }
 }
 
 /// Lets a put go whose bytes didn't come.
 fn let_go(put: Option<Put>) {}
-
-/// Ends a put whose bytes are all there, where there is one, and says its answer.
-fn give_put<X: Site>(
-    alloc: Global,
-    store: &mut Store,
-    site: &mut X,
-    tally: &mut RunTally,
-    put: Option<Put>,
-    responses: &Responses,
-    now: u64,
-    ends: bool,
-    room: &mut [u8],
-) -> Option<ConnectionEnd>
-    requires unspent { IsFalse store.old.spent }
-    requires device { size_of store.old.kept ≤ (X.device site.old).size }
-    requires under_way { (X.device site.old).link.under_way ≡ true }
-    requires filled { IfSome put (IsWholePut store.old.kept) }
-    requires id { IfSome put (EndKeepsId store.old.kept) }
-    requires moment { IsTrue (is_moment now) }
-    requires counts { tally.old.answers < 2 ^ 60 }
-    requires room { length room.old ≡ PIECE }
-    ensures calls { SiteCalls result (X.device site.old) (X.device site.new) }
-    ensures counted { tally.new.answers ≡ tally.old.answers + 1 }
-    ensures ends { ends ≡ true → IsSome result }
-    ensures needs { needs_in store.new ≤ needs_in store.old }
-    ensures id { KeepsId store.old store.new }
-    ensures room { length room.new ≡ length room.old }
-    ensures leads { TellsAllOf (X.device site.old) → PutLeads (X.device site.old)
-        (X.device site.new) store.old store.new tally.old tally.new put responses.now now ends result }
-{
-    let Some(put) = put else {
-        let reply = reply_with(responses.reply.bytes(), 0, ends);
-        return finish(alloc, store, site, tally, &reply, now, room);
-    };
-    let changes = changes_of(&put);
-    match store.put_end(site, put) {
-        Err(_) => Some(stop(site, tally, changes)),
-        Ok(reply) => {
-            let reply = reply_with(responses.of(&reply), changes, ends);
-            finish(alloc, store, site, tally, &reply, now, room)
-        }
-    }
-}
 
 /// How many changes the end of a put writes.
 fn changes_of(put: &Put) -> u64
@@ -189,15 +180,17 @@ fn changes_of(put: &Put) -> u64
     if put.writes() { 1 } else { 0 }
 }
 
-/// A reply behind which no bytes of an object follow.
-fn reply_with(response: &[u8], changes: u64, ends: bool) -> DueReply<'_>
+/// A reply to a request, behind which no bytes of an object follow.
+fn reply_with(response: &[u8], changes: u64, request: TimedHead) -> DueReply<'_>
     ensures response { result.response.now ≡ response.now }
-    ensures rest { (result.media ≡ None) × (result.changes ≡ changes) × (result.ends ≡ ends) }
+    ensures rest { (result.media ≡ None) × (result.changes ≡ changes) × (result.moment ≡ request.moment)
+        × (result.ends ≡ request.head.ends) }
 {
     DueReply {
         response,
         media: None,
         changes,
-        ends,
+        moment: request.moment,
+        ends: request.head.ends,
     }
 }

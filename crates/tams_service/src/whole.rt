@@ -1,21 +1,19 @@
 //! Requests that came whole.
-ghost use Rattle.std.specs.Prelude.{◌≡◌, ◌≤◌, ◌<◌, ◌+◌, ◌^◌, ℕ, List, Bool, true, None, length, IfSome, IsFalse, IsSome, IsTrue};
+ghost use Rattle.std.specs.Prelude.{◌≡◌, ◌≤◌, ◌<◌, ◌+◌, ◌^◌, ℕ, List, Bool, true, None, IfSome, IsFalse, IsSome, IsTrue};
 ghost use Rattle.media_rows.specs.Moments.{is_moment};
 ghost use Rattle.media_store.specs.Changes.{CanCommit};
 ghost use Rattle.media_store.specs.Pieces.{IsExtent};
 ghost use Rattle.media_store.specs.Stores.{size_of};
-ghost use Rattle.media_store.specs.declared.puts.TheConstants.{PIECE};
 ghost use Rattle.connection_loop.specs.Turns.{GivesMore, SiteCalls};
 ghost use Rattle.request_hearing.specs.Hearing.{GivesRequest};
 ghost use Rattle.tams_service.specs.Answering.{GiveLeads, PlanKeepsId, TellsAllOf, WholeLeads, changes_in};
-ghost use Rattle.tams_service.specs.Serving.{KeepsId, needs_in};
+ghost use Rattle.tams_service.specs.Serving.{needs_in};
 
 use crate::TamsService;
-use crate::answering::{DueReply, finish};
+use crate::answering::{DueReply, TimedHead};
 use crate::ending::{starve, stop};
 use connection_loop::{ConnectionEnd, RunTally};
 use http_wire::Head;
-use media_store::Store;
 use reply_laws::media_puts_agree;
 use site_edge::{Clock, Site};
 use std::alloc::Global;
@@ -62,69 +60,59 @@ impl TamsService {
         match plan_answer(alloc, &self.routes, &self.base, &self.store, &request, now) {
             Err(_) => Some(starve(site, tally)),
             Ok(answer) => {
-                let room = self.room.as_mut_slice();
-                give_answer(
-                    alloc,
-                    &mut self.store,
-                    site,
-                    tally,
-                    answer,
-                    now,
-                    head.ends,
-                    room,
-                )
+                let request = TimedHead { head, moment: now };
+                self.give_answer(alloc, site, tally, answer, request)
             }
         }
     }
-}
 
-/// Writes the change of an answer that was planned, and says the answer.
-fn give_answer<X: Site>(
-    alloc: Global,
-    store: &mut Store,
-    site: &mut X,
-    tally: &mut RunTally,
-    answer: Answer,
-    now: u64,
-    ends: bool,
-    room: &mut [u8],
-) -> Option<ConnectionEnd>
-    requires unspent { IsFalse store.old.spent }
-    requires device { size_of store.old.kept ≤ (X.device site.old).size }
-    requires under_way { (X.device site.old).link.under_way ≡ true }
-    requires ready { CanCommit store.old.kept answer.planned }
-    requires media { IfSome answer.media (λ extent. IsExtent store.old.kept.library extent
-        × (answer.planned.frame ≡ None)) }
-    requires id { PlanKeepsId store.old.kept answer.planned }
-    requires moment { IsTrue (is_moment now) }
-    requires counts { tally.old.answers < 2 ^ 60 }
-    requires room { length room.old ≡ PIECE }
-    ensures calls { SiteCalls result (X.device site.old) (X.device site.new) }
-    ensures counted { tally.new.answers ≡ tally.old.answers + 1 }
-    ensures ends { ends ≡ true → IsSome result }
-    ensures needs { needs_in store.new ≤ needs_in store.old }
-    ensures id { KeepsId store.old store.new }
-    ensures room { length room.new ≡ length room.old }
-    ensures leads { TellsAllOf (X.device site.old) → GiveLeads (X.device site.old)
-        (X.device site.new) store.old store.new tally.old tally.new answer now ends result }
-{
-    media_follows();
-    let Answer {
-        planned,
-        response,
-        media,
-    } = answer;
-    let changes = changes_of(&planned);
-    match store.commit(site, planned) {
-        Err(_) => Some(stop(site, tally, changes)),
-        Ok(_) => {
-            let reply = DueReply {
-                response: response.bytes(),
-                media,
-                changes,
-                ends,
-            };
-            finish(alloc, store, site, tally, &reply, now, room)
+    /// Writes the change of an answer that was planned, and says the answer.
+    fn give_answer<X: Site>(
+        &mut self,
+        alloc: Global,
+        site: &mut X,
+        tally: &mut RunTally,
+        answer: Answer,
+        request: TimedHead,
+    ) -> Option<ConnectionEnd>
+        requires unspent { IsFalse self.old.store.spent }
+        requires device { size_of self.old.store.kept ≤ (X.device site.old).size }
+        requires under_way { (X.device site.old).link.under_way ≡ true }
+        requires ready { CanCommit self.old.store.kept answer.planned }
+        requires media { IfSome answer.media (λ extent. IsExtent self.old.store.kept.library extent
+            × (answer.planned.frame ≡ None)) }
+        requires id { PlanKeepsId self.old.store.kept answer.planned }
+        requires moment { IsTrue (is_moment request.moment) }
+        requires counts { tally.old.answers < 2 ^ 60 }
+        ensures calls { SiteCalls result (X.device site.old) (X.device site.new) }
+        ensures counted { tally.new.answers ≡ tally.old.answers + 1 }
+        ensures ends { request.head.ends ≡ true → IsSome result }
+        ensures needs { needs_in self.new.store ≤ needs_in self.old.store }
+        ensures fed { self.new.fed ≡ self.old.fed }
+        ensures base { self.new.base ≡ self.old.base }
+        ensures leads { TellsAllOf (X.device site.old) → GiveLeads (X.device site.old)
+            (X.device site.new) self.old.store self.new.store tally.old tally.new answer
+            request.moment request.head.ends result }
+    {
+        media_follows();
+        let Answer {
+            planned,
+            response,
+            media,
+        } = answer;
+        let changes = changes_of(&planned);
+        match self.store.commit(site, planned) {
+            Err(_) => Some(stop(site, tally, changes)),
+            Ok(_) => {
+                let reply = DueReply {
+                    response: response.bytes(),
+                    media,
+                    changes,
+                    moment: request.moment,
+                    ends: request.head.ends,
+                };
+                self.finish(alloc, site, tally, &reply)
+            }
         }
     }
 }

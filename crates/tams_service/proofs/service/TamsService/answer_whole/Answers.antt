@@ -1,6 +1,6 @@
 use Rattle.std.proofs.Common.{[], refl, subst, sym}
 use Rattle.request_hearing.specs.Hearing.{GivesRequest}
-use Rattle.tams_service.specs.Answering.{WholeLeads}
+use Rattle.tams_service.specs.Answering.{PlanKeepsId}
 use Rattle.tams_service.specs.Serving.{ServiceSeen}
 use Rattle.tams_service.proofs.Ids.{planned_id}
 use Rattle.tams_service.proofs.Wholes.{media_still, no_put, parts_are, whole_given, whole_starved}
@@ -19,14 +19,15 @@ give_answer-requires-clause-media g c =
     let (so_far, all, said, given) = c.requires.given in
     let here = subst (λ (s : ServiceSeen). GivesRequest so_far all said s.fed c.args.head) (sym c.self.view_is) given in
     let planned = rw (c.bytes.ensures, c.bytes-2.ensures) at c.in-Ok.ensures.answers [] here.request in
-    media_still c.self.inside.store.kept (planned (parts_are here)) c.in-Ok.ensures.media
+    rw (← c.self.view_is) (media_still c.self.inside.store.kept (planned (parts_are here)) c.in-Ok.ensures.media)
 
 pub give_answer-requires-clause-id : goal.give_answer-requires-clause-id
 give_answer-requires-clause-id g c =
     let (so_far, all, said, given) = c.requires.given in
     let here = subst (λ (s : ServiceSeen). GivesRequest so_far all said s.fed c.args.head) (sym c.self.view_is) given in
     let planned = rw (c.bytes.ensures, c.bytes-2.ensures) at c.in-Ok.ensures.answers [] here.request in
-    planned_id c.self.inside.store.kept _ c.in-Ok.answer.planned (planned (parts_are here)).planned.step
+    subst (λ (s : ServiceSeen). PlanKeepsId s.store.kept c.in-Ok.answer.planned) c.self.view_is
+    (planned_id c.self.inside.store.kept _ c.in-Ok.answer.planned (planned (parts_are here)).planned.step)
 
 -- There was no memory.
 pub returns-in-Err-clause-leads : goal.returns-in-Err-clause-leads
@@ -42,13 +43,10 @@ returns-in-Err-clause-leads g c = λ tells clock.
 -- The answer was planned.
 pub returns-in-Ok-clause-leads : goal.returns-in-Ok-clause-leads
 returns-in-Ok-clause-leads g c = λ tells clock.
-    let old = g.X.Disk.device c.args.site.now in
-    let new = g.X.Disk.device c.give_answer.new.site in
-    let begun = g.C.Clock.given c.args.clock.now in
-    let given = g.C.Clock.given c.now-now.new.self in
     let seen : ServiceSeen = record { store = c.self.inside.store; fed = c.self.inside.hearing; base = c.self.inside.base } in
-    let next : ServiceSeen = record { store = c.give_answer.new.store; fed = c.self.inside.hearing; base = c.self.inside.base } in
-    subst (λ (s : ServiceSeen). WholeLeads s next c.args.head old new begun given c.args.tally.now c.give_answer.new.tally c.give_answer.result) c.self.view_is
-    (whole_given seen next old new begun given c.args.tally.now c.give_answer.new.tally c.now-now.result (c.now-now.ensures.given clock) refl
-    c.args.head c.in-Ok.answer c.give_answer.result
-    (λ held r is. (rw (c.bytes.ensures, c.bytes-2.ensures) at c.in-Ok.ensures.answers held r) is) (c.give_answer.ensures.leads tells))
+    rw (← c.self.view_is)
+    (whole_given seen c.give_answer.new.self (g.X.Disk.device c.args.site.now) (g.X.Disk.device c.give_answer.new.site) (g.C.Clock.given c.args.clock.now)
+    (g.C.Clock.given c.now-now.new.self) c.args.tally.now c.give_answer.new.tally c.now-now.result (c.now-now.ensures.given clock)
+    (rw (← c.self.view_is) at c.give_answer.ensures.fed) c.args.head c.in-Ok.answer c.give_answer.result
+    (λ held r is. (rw (c.bytes.ensures, c.bytes-2.ensures) at c.in-Ok.ensures.answers held r) is)
+    (rw (← c.self.view_is) at c.give_answer.ensures.leads tells))
