@@ -5,7 +5,8 @@
 
 A change is the put of one flow; an object has 4 MiB. The ceiling makes the same writes and syncs of changes, and
 writes as much in pieces of 64 KiB for an object, syncs, and writes and syncs a record: one sync less than the
-store, whose record has a gate that is synced apart. `replay` reads its requests from a file, which counts.
+store, whose record has a gate that is synced apart. `replay` reads its requests from a file and writes its answers
+to one, which counts.
 
 Each round runs all in turn over fresh files in one folder; the best of the rounds of each count. The
 program has to be built: `cd crates/tams && rt run`.
@@ -17,6 +18,8 @@ import sys
 import tempfile
 import time
 
+# as ./tams runs the store: memory in large pages
+os.environ.setdefault("GLIBC_TUNABLES", "glibc.malloc.hugetlb=1:glibc.malloc.tcache_count=127")
 HERE = os.path.dirname(os.path.abspath(__file__))
 TAMS = os.path.join(HERE, "..", "crates", "tams", "out", "tams")
 STORE_ID = "00000000-0000-4000-8000-000000000001"
@@ -39,21 +42,25 @@ def ceiling(program, folder, blocks, *words):
     return float(done.stdout)
 
 
-def replay(folder, requests, blocks, half, line):
-    """The seconds of a `replay` of a file's requests over a fresh store, which ends with this line."""
+def replay(folder, requests, blocks, half, count):
+    """The seconds of a `replay` of a file's requests over a fresh store, each of which is answered and changes it."""
     path = os.path.join(folder, "store")
     if os.path.exists(path):
         os.remove(path)
     words = [TAMS, "format", path, str(blocks), str(half), STORE_ID]
     subprocess.run(words, check=True, capture_output=True)
-    with open(os.path.join(folder, requests), "rb") as sent:
+    answers = os.path.join(folder, "answers")
+    with open(os.path.join(folder, requests), "rb") as sent, open(answers, "wb") as said:
+        words = [TAMS, "replay", path, "http://s"]
         start = time.monotonic()
-        done = subprocess.run(
-            [TAMS, "replay", path, "http://s"], stdin=sent, check=True, capture_output=True
-        )
+        done = subprocess.run(words, stdin=sent, stdout=said, stderr=subprocess.PIPE, check=True)
         seconds = time.monotonic() - start
-    if done.stderr != line.encode():
+    if done.stderr != b"ok: %d requests, %d changes\n" % (count, count):
         sys.exit(f"unexpected: {done.stderr!r}")
+    with open(answers, "rb") as said:
+        good = said.read().count(b"HTTP/1.1 20")
+    if good != count:
+        sys.exit(f"unexpected: {good} good answers to {count} requests")
     return seconds
 
 
@@ -87,13 +94,11 @@ def main():
         subprocess.run(["cc", "-O2", "-o", program, source], check=True)
         write_requests(folder, changes, objects)
         bare, served, written, stored = [], [], [], []
-        line = f"ok: {changes} requests, {changes} changes\n"
-        objects_line = f"ok: {objects + 2} requests, {objects + 2} changes\n"
         for _ in range(rounds):
             bare.append(ceiling(program, folder, 2 * half + 3, changes))
-            served.append(replay(folder, "puts", 2 * half + 3, half, line))
+            served.append(replay(folder, "puts", 2 * half + 3, half, changes))
             written.append(ceiling(program, folder, kept, objects, LENGTH))
-            stored.append(replay(folder, "objects", kept, objects + 4, objects_line))
+            stored.append(replay(folder, "objects", kept, objects + 4, objects + 2))
     print(f"ceiling: {changes / min(bare):.0f} changes a second")
     print(f"replay:  {changes / min(served):.0f} changes a second")
     print(f"ratio:   {min(bare) / min(served):.2f}, best of {rounds} rounds of {changes} changes")
