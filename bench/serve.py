@@ -200,7 +200,7 @@ def served(folder, blocks, half, requests, changes):
         finally:
             program.kill()
     line = f"ok: {requests} requests, {changes} changes\n".encode()
-    same((program.returncode, output, errors), (0, line, b""))
+    same((program.returncode, output, errors), (0, line, b"listening on 127.0.0.1:%d\n" % port))
 
 
 class Rows(http.server.BaseHTTPRequestHandler):

@@ -1,5 +1,5 @@
 -- Connections one behind another: what waiting for one, serving it and closing it leave.
-use Rattle.std.proofs.Common.{◌≡◌, ◌≤◌, ◌<◌, ◌+◌, ℕ, Bool, true, false, List, [], ◌∷◌, ◌++◌, length, Some, if◌then◌else◌, refl, sym, ap, ◌∙◌, arith}
+use Rattle.std.proofs.Common.{◌≡◌, ◌≤◌, ◌<◌, ◌+◌, ◌*◌, ℕ, Bool, true, false, List, [], ◌∷◌, ◌++◌, length, Some, if◌then◌else◌, refl, sym, ap, ◌∙◌, arith}
 use Rattle.std.proofs.lemmas.Bool.{false≢true}
 use Rattle.std.proofs.lemmas.List.{length-append}
 use Rattle.disk_trait.specs.Device.{Device, Left}
@@ -16,9 +16,9 @@ use Rattle.connection_loop.specs.declared.ending.ConnectionEnd.{ConnectionEnd}
 use Rattle.connection_loop.specs.declared.ending.ConnectionEnd.TheVariants.{Complete, Cut, Unlinked, Starved, Stopped}
 use Rattle.connection_loop.specs.declared.connection.Next.TheVariants as next
 use Rattle.connection_loop.specs.declared.run.RunEnd.TheVariants as run
-use Rattle.connection_loop.specs.Turns.{EndsAs, GivesMore, IsBetween, LinkCount, SameImages, SiteCalls, TellsAll, disk_held, ending_of, is_stopped}
+use Rattle.connection_loop.specs.Turns.{ClockCalls, EndsAs, IsBetween, LinkCount, SameImages, SiteCalls, TellsAll, disk_held, ending_of, is_stopped}
 use Rattle.connection_loop.specs.Loops.{AreCounted, GoesOnBetween, HasEnded, HasServedSo, NextCalls, NextLeads, RunCalls}
-use Rattle.connection_loop.proofs.Turning.{counted_none, gives_none, gives_twice, tells_later}
+use Rattle.connection_loop.proofs.Turning.{clock_most, clock_none, clock_twice, counted_none, tells_before, tells_later}
 
 -- ---- images
 
@@ -58,36 +58,42 @@ between_quiet m b old new given keeps keeps_now sessions n i time same handed ke
 
 -- the calls for a connection that came, was served and was closed
 pub ended_calls : (ending : ConnectionEnd) (within ended within_too ended_too : Left → Left → Type 0) (old came served new : Device)
-    → LinkCall within ended true old came → IsCounted true old.link.peer_faults came.link.peer_faults → SiteCalls (Some ending) came served
+    → LinkCall within ended true old came → IsCounted true old.link.peer_faults came.link.peer_faults
+    → (old.tells ≡ true → IsCounted true old.link.closed came.link.closed) → SiteCalls (Some ending) came served
     → LinkCall within_too ended_too true served new → Closed served new → NextCalls (next.Ended ending) old new
-ended_calls ending within ended within_too ended_too old came served new waits peers calls closes closed = record {
+ended_calls ending within ended within_too ended_too old came served new waits peers closings calls closes closed = record {
   same = same_device_twice old served new (same_device_twice old came served waits.same calls.same) closes.same;
   faults = rw (closes.faults, ← waits.faults) calls.faults;
   link_faults = rw (closes.counted.stays refl, ← waits.counted.stays refl) calls.link_faults;
   peer_faults = rw (closed.peers.peer_faults, calls.peer_faults) peers;
   closed = λ idle. closed.under_way;
+  closings = λ tells. rw (closed.peers.closed, calls.closed) (closings tells);
 }
 
 -- the call that found that no more will come
 pub no_more_calls : (within ended : Left → Left → Type 0) (old new : Device) → LinkCall within ended true old new
-    → IsCounted true old.link.peer_faults new.link.peer_faults → new.link.under_way ≡ false → NextCalls next.NoMore old new
-no_more_calls within ended old new call peers closed = record {
+    → IsCounted true old.link.peer_faults new.link.peer_faults → (old.tells ≡ true → IsCounted false old.link.closed new.link.closed)
+    → new.link.under_way ≡ false → NextCalls next.NoMore old new
+no_more_calls within ended old new call peers closings closed = record {
   same = call.same;
   faults = counted_none old.faults new.faults call.faults;
   link_faults = call.counted.stays refl;
   peer_faults = peers;
   closed = λ idle. closed;
+  closings = closings;
 }
 
 -- the call that failed
 pub unlinked_calls : (within ended : Left → Left → Type 0) (old new : Device) → LinkCall within ended false old new
-    → IsCounted false old.link.peer_faults new.link.peer_faults → new.link.under_way ≡ old.link.under_way → NextCalls next.Unlinked old new
-unlinked_calls within ended old new call peers same = record {
+    → IsCounted false old.link.peer_faults new.link.peer_faults → (old.tells ≡ true → IsCounted true old.link.closed new.link.closed)
+    → new.link.under_way ≡ old.link.under_way → NextCalls next.Unlinked old new
+unlinked_calls within ended old new call peers closings same = record {
   same = call.same;
   faults = counted_none old.faults new.faults call.faults;
   link_faults = (call.counted.never_falls, call.counted.rises refl);
   peer_faults = peers;
   closed = λ idle. same ∙ idle;
+  closings = closings;
 }
 
 -- ---- many
@@ -191,6 +197,12 @@ failed_by Unlinked e = absurd (false≢true e)
 failed_by Starved e = absurd (false≢true e)
 failed_by Stopped e = refl
 
+-- the counts of closings over a run that goes on, and over what comes behind it
+closings_twice : (stays : Bool) (a b c : Device) → RunCalls run.Complete a b → (b.tells ≡ true → IsCounted stays b.link.closed c.link.closed)
+    → a.tells ≡ true → IsCounted stays a.link.closed c.link.closed
+closings_twice stays a b c first second tells =
+    counted_twice stays a.link.closed b.link.closed c.link.closed (first.closings tells) (second (first.same.tells ∙ tells))
+
 pub calls_on : (ending : ConnectionEnd) (a b c : Device) → RunCalls run.Complete a b → NextCalls (next.Ended ending) b c → is_stopped ending ≡ false
     → RunCalls run.Complete a c
 calls_on ending a b c first second on = record {
@@ -200,6 +212,7 @@ calls_on ending a b c first second on = record {
   link_faults = let least = link_least ending b.link.faults c.link.faults second.link_faults in omega (arith, first.link_faults, least);
   unlinked = λ e. absurd cc;
   closed = λ idle. second.closed (first.closed idle);
+  closings = closings_twice true a b c first second.closings;
 }
 
 pub calls_stopped : (ending : ConnectionEnd) (a b c : Device) → RunCalls run.Complete a b → NextCalls (next.Ended ending) b c → is_stopped ending ≡ true
@@ -211,6 +224,7 @@ calls_stopped ending a b c first second on = record {
   link_faults = let least = link_least ending b.link.faults c.link.faults second.link_faults in omega (arith, first.link_faults, least);
   unlinked = λ e. absurd cc;
   closed = λ idle. second.closed (first.closed idle);
+  closings = closings_twice true a b c first second.closings;
 }
 
 pub calls_no_more : (a b c : Device) → RunCalls run.Complete a b → NextCalls next.NoMore b c → RunCalls run.NoMore a c
@@ -221,6 +235,7 @@ calls_no_more a b c first second = record {
   link_faults = omega (arith, first.link_faults, second.link_faults);
   unlinked = λ e. absurd cc;
   closed = λ idle. second.closed (first.closed idle);
+  closings = closings_twice false a b c first second.closings;
 }
 
 pub calls_unlinked : (a b c : Device) → RunCalls run.Complete a b → NextCalls next.Unlinked b c → RunCalls run.Unlinked a c
@@ -233,16 +248,18 @@ calls_unlinked a b c first second = record {
       let rose = second.link_faults.1 in
       rose_over a.link.faults b.link.faults c.link.faults c.link.faults first.link_faults second.link_faults.0 (omega arith) rose small;
   closed = λ idle. second.closed (first.closed idle);
+  closings = closings_twice true a b c first second.closings;
 }
 
 pub no_run_calls : (d : Device) → RunCalls run.Complete d d
 no_run_calls d = record {
   same = record { size = refl; honest = refl; shows = refl; tells = refl };
-  faults = record { never_falls = omega arith; stays = λ _. refl; rises = λ no. absurd (false≢true (sym no)) };
-  peer_faults = record { never_falls = omega arith; stays = λ _. refl; rises = λ no. absurd (false≢true (sym no)) };
+  faults = counted_none d.faults d.faults refl;
+  peer_faults = counted_none d.link.peer_faults d.link.peer_faults refl;
   link_faults = omega arith;
   unlinked = λ e. absurd cc;
   closed = λ idle. idle;
+  closings = λ tells. counted_none d.link.closed d.link.closed refl;
 }
 
 -- before the first connection
@@ -252,8 +269,7 @@ served_first m setting d tells given keeps n size none = record {
   calls = no_run_calls d;
   setting_is = refl;
   size_is = omega arith;
-  clock = λ t. t;
-  moments = λ t. gives_none given;
+  clock = clock_none tells given;
   answers = omega (arith, none);
   reached = λ all b between. record { sessions = []; between = between; count = refl; counted = tt };
 }
@@ -265,23 +281,23 @@ pub served_more : {State Request Setting : Type 0} (machine : Setting → Machin
     (size_first size size_next counter : ℕ) (ending : ConnectionEnd)
     → HasServedSo (machine setting_first) setting_first setting first now tells_first tells_now given_first given keeps_first keeps n_first n size_first size
     counter
-    → NextCalls (next.Ended ending) now last → is_stopped ending ≡ false → size_next ≤ size → setting_next ≡ setting → (tells_next ≡ true → tells_now ≡ true)
-    → (tells_next ≡ true → GivesMore given more) → n_next.answers ≤ n.answers + 1000000
+    → NextCalls (next.Ended ending) now last → is_stopped ending ≡ false → size_next ≤ size → setting_next ≡ setting
+    → ClockCalls 1000000 tells_now tells_next given more → n_next.answers ≤ n.answers + 1000000
     → (TellsAll now tells_next → (b : Beginning State) → (sessions : List (Session Request))
     → IsBetween (machine setting) b now given keeps sessions n
-    → NextLeads (machine setting) b last more keeps_next sessions n_next (next.Ended ending))
+    → NextLeads (machine setting) b now.link.closed last more keeps_next sessions n_next (next.Ended ending))
     → HasServedSo (machine setting_first) setting_first setting_next first last tells_first tells_next given_first more keeps_first keeps_next n_first n_next
     size_first size_next (counter + 1)
 served_more machine setting_first setting setting_next first now last tells_first tells_now tells_next given_first given more keeps_first keeps keeps_next
-    n_first n n_next size_first size size_next counter ending h calls on size_is same_setting clock gives answers leads = record {
+    n_first n n_next size_first size size_next counter ending h calls on size_is same_setting clock answers leads = record {
       calls = calls_on ending first now last h.calls calls on;
       setting_is = same_setting ∙ h.setting_is;
       size_is = omega (arith, size_is, h.size_is);
-      clock = λ yes. h.clock (clock yes);
-      moments = λ yes. gives_twice given_first given more (h.moments (clock yes)) (gives yes);
+      clock = clock_most (1000000 * counter + 1000000) (1000000 * (counter + 1)) tells_first tells_next given_first more (omega arith)
+          (clock_twice (1000000 * counter) 1000000 tells_first tells_now tells_next given_first given more h.clock clock);
       answers = omega (arith, answers, h.answers);
       reached = λ all b between.
-          let so_far = h.reached (record { honest = all.honest; shows = all.shows; tells = all.tells; clock_tells = clock all.clock_tells }) b between in
+          let so_far = h.reached (tells_before _ _ _ _ _ _ clock all) b between in
           between_more (machine setting_first) b first now last more keeps_next so_far.sessions n_next ending counter
           ((rw h.setting_is at leads) (tells_later first now tells_next h.calls.same all) b so_far.sessions so_far.between) on so_far.count so_far.counted
           h.calls.link_faults

@@ -14,7 +14,7 @@ use Rattle.run_history.specs.Runs.{Beginning}
 use Rattle.run_history.specs.Serving.{RunCounts, Going}
 use Rattle.connection_loop.specs.declared.ending.ConnectionEnd.{ConnectionEnd}
 use Rattle.connection_loop.specs.declared.ending.ConnectionEnd.TheVariants.{Complete, Cut, Unlinked, Starved, Stopped}
-use Rattle.connection_loop.specs.Turns.{GivesMore, GoesOn, LinkCount, SiteCalls, TellsAll, disk_held, held_with}
+use Rattle.connection_loop.specs.Turns.{ClockCalls, GivesMore, GoesOn, LinkCount, SiteCalls, TellsAll, disk_held, held_with}
 use Rattle.connection_loop.specs.Loops.{HasTurned}
 
 -- a count that no call raised
@@ -33,6 +33,7 @@ no_calls d = record {
   link_faults = refl;
   peer_faults = refl;
   under_way = refl;
+  closed = refl;
 }
 
 -- calls that go on and others behind them
@@ -51,6 +52,7 @@ calls_more ending a b c first second = record {
   link_faults = link_more ending a.link.faults b.link.faults c.link.faults first.link_faults second.link_faults;
   peer_faults = second.peer_faults ∙ first.peer_faults;
   under_way = second.under_way ∙ first.under_way;
+  closed = second.closed ∙ first.closed;
 }
 
 -- what is told stays so
@@ -76,6 +78,44 @@ gives_twice a b c first second = record {
   moments = All-append IsMoment first.more second.more first.moments second.moments;
 }
 
+-- ---- a clock
+
+-- it was not read
+pub clock_none : (tells : Bool) (given : List ℕ) → ClockCalls 0 tells tells given given
+clock_none tells given = record {
+  told_before = λ yes. yes;
+  moments = λ yes. gives_none given;
+  lasts = λ yes few. (yes, omega arith);
+}
+
+-- it was read so often, and then more
+pub clock_twice : (j k : ℕ) (x y z : Bool) (a b c : List ℕ) → ClockCalls j x y a b → ClockCalls k y z b c → ClockCalls (j + k) x z a c
+clock_twice j k x y z a b c first second = record {
+  told_before = λ yes. first.told_before (second.told_before yes);
+  moments = λ yes. gives_twice a b c (first.moments (second.told_before yes)) (second.moments yes);
+  lasts = λ yes few.
+      let so_far = first.lasts yes (omega (arith, few)) in
+      let after = second.lasts so_far.0 (omega (arith, few, so_far.1)) in (after.0, omega (arith, so_far.1, after.1));
+}
+
+-- it was read so often at most
+pub clock_most : (j k : ℕ) (x y : Bool) (a b : List ℕ) → j ≤ k → ClockCalls j x y a b → ClockCalls k x y a b
+clock_most j k x y a b least calls = record {
+  told_before = calls.told_before;
+  moments = calls.moments;
+  lasts = λ yes few.
+      let so_far = calls.lasts yes (omega (arith, few, least)) in (so_far.0, omega (arith, so_far.1, least));
+}
+
+-- what is told at its end was told at first
+pub tells_before : (d : Device) (k : ℕ) (x y : Bool) (a b : List ℕ) → ClockCalls k x y a b → TellsAll d y → TellsAll d x
+tells_before d k x y a b calls all = record {
+  honest = all.honest;
+  shows = all.shows;
+  tells = all.tells;
+  clock_tells = calls.told_before all.clock_tells;
+}
+
 -- before the first turn
 pub turned_first : {State Request Setting : Type 0} (m : Machine State Request) (setting : Setting) (ready : Type 0) (d : Device) (tells : Bool)
     (given unread : List ℕ) (taken : ℕ) (keeps : State → Type 0) (n : RunCounts) (size turns : ℕ) → ready → taken ≡ 0 → turns ≡ 0
@@ -85,8 +125,7 @@ turned_first m setting ready d tells given unread taken keeps n size turns is_re
   setting_is = refl;
   is_ready = is_ready;
   size_is = omega arith;
-  clock = λ t. t;
-  moments = λ t. gives_none given;
+  clock = rw none (clock_none tells given);
   few = omega (arith, none);
   answers = omega (arith, none);
   moved = omega arith;
@@ -101,8 +140,8 @@ pub turned_more : {State Request Setting : Type 0} (machine : Setting → Machin
     (n_first n n_next : RunCounts) (size_first size size_next turns turns_next counter : ℕ)
     → HasTurned (machine setting_first) setting_first setting ready first now tells_first tells_now given_first given unread_first unread taken_first taken
     keeps_first keeps n_first n size_first size turns counter
-    → SiteCalls None now next → setting_next ≡ setting → ready_next → size_next ≤ size → (tells_next ≡ true → tells_now ≡ true)
-    → (tells_next ≡ true → GivesMore given more) → taken_next < 1000000
+    → SiteCalls None now next → setting_next ≡ setting → ready_next → size_next ≤ size → ClockCalls (taken_next - taken) tells_now tells_next given more
+    → taken_next < 1000000 → taken ≤ taken_next
     → n_next.answers + taken ≡ n.answers + taken_next → turns < turns_next → turns_next < 2 ^ 64 - 1
     → (TellsAll now tells_next → (b : Beginning State) → (finished : List (Session Request)) (steps : List (Step Request)) (s : State) → keeps s
     → Going (machine setting) b now given (held_with s unread taken) finished steps n
@@ -111,20 +150,20 @@ pub turned_more : {State Request Setting : Type 0} (machine : Setting → Machin
     taken_first taken_next keeps_first keeps_next n_first n_next size_first size_next turns_next (counter + 1)
 turned_more machine setting_first setting setting_next ready ready_next first now next tells_first tells_now tells_next given_first given more
     unread_first unread unread_next taken_first taken taken_next keeps_first keeps keeps_next n_first n n_next size_first size size_next turns turns_next
-    counter h calls same_setting is_ready size_is clock gives few counted moves most goes =
+    counter h calls same_setting is_ready size_is clock few grows counted moves most goes =
     record {
       calls = calls_more None first now next h.calls calls;
       setting_is = same_setting ∙ h.setting_is;
       is_ready = is_ready;
       size_is = omega (arith, size_is, h.size_is);
-      clock = λ yes. h.clock (clock yes);
-      moments = λ yes. gives_twice given_first given more (h.moments (clock yes)) (gives yes);
+      clock = clock_most (taken + (taken_next - taken)) taken_next tells_first tells_next given_first more (omega (arith, grows))
+          (clock_twice taken (taken_next - taken) tells_first tells_now tells_next given_first given more h.clock clock);
       few = few;
       answers = omega (arith, counted, h.answers);
       moved = omega (arith, moves, h.moved);
       most = most;
       reached = λ all b finished s kept going.
           let so_far =
-          h.reached (record { honest = all.honest; shows = all.shows; tells = all.tells; clock_tells = clock all.clock_tells }) b finished s kept going in
+          h.reached (tells_before _ _ _ _ _ _ clock all) b finished s kept going in
           (rw h.setting_is at goes) (tells_later first now tells_next h.calls.same all) b finished so_far.steps so_far.state so_far.kept so_far.going;
     }

@@ -13,7 +13,7 @@ use Rattle.connection_loop.specs.declared.run.RunEnd.{RunEnd}
 use Rattle.connection_loop.specs.declared.run.RunEnd.TheVariants.{Complete}
 use Rattle.connection_loop.specs.declared.run.RunEnd.TheVariants as run
 use Rattle.connection_loop.specs.declared.ending.ConnectionEnd.TheVariants as endings
-use Rattle.connection_loop.specs.Turns.{EndsAs, GivesMore, GoesOn, IsBetween, LinkCount, SiteCalls, TellsAll, disk_held, ending_of, held_with}
+use Rattle.connection_loop.specs.Turns.{ClockCalls, EndsAs, GoesOn, IsBetween, LinkCount, SiteCalls, TellsAll, disk_held, ending_of, held_with}
 
 -- Turns of a connection so far: no call failed, each turn was counted, and the connection has come
 -- so far from wherever it had come at first.
@@ -27,8 +27,7 @@ pub record HasTurned {State Request Setting : Type 0} (m : Machine State Request
     pub setting_is : setting ≡ setting_first
     pub is_ready : ready
     pub size_is : size ≤ size_first
-    pub clock : tells_now ≡ true → tells_first ≡ true
-    pub moments : tells_now ≡ true → GivesMore given_first given
+    pub clock : ClockCalls taken tells_first tells_now given_first given
     pub few : taken < most_answers
     pub answers : n.answers ≡ n_first.answers + taken
     pub moved : counter ≤ turns
@@ -50,6 +49,12 @@ next_peer_held NoMore = true
 next_peer_held Unlinked = false
 next_peer_held (Ended ending) = true
 
+-- the site didn't say that no more will come
+abbrev pub next_stays_open : Next → Bool
+next_stays_open NoMore = false
+next_stays_open Unlinked = true
+next_stays_open (Ended ending) = true
+
 -- the count of link faults over the next connection
 abbrev pub NextLinkCount : Next → ℕ → ℕ → Type 0
 NextLinkCount NoMore before now = now ≡ before
@@ -63,15 +68,18 @@ pub record NextCalls (next : Next) (old new : Device) : Type 0 where
   pub link_faults : NextLinkCount next old.link.faults new.link.faults
   pub peer_faults : IsCounted (next_peer_held next) old.link.peer_faults new.link.peer_faults
   pub closed : old.link.under_way ≡ false → new.link.under_way ≡ false
+  pub closings : old.tells ≡ true
+      → IsCounted (next_stays_open next) old.link.closed new.link.closed
 
--- What waiting for the next connection and serving it leads to: no more will come; waiting for one
--- failed; or one has ended.
-abbrev pub NextLeads : {State Request : Type 0} → Machine State Request → Beginning State → Device
-    → List ℕ → (State → Type 0) → List (Session Request) → RunCounts → Next → Type 0
-NextLeads m b d given keeps sessions n NoMore =
-    IsBetween m b d given keeps sessions n × (d.link.closed ≡ true)
-NextLeads m b d given keeps sessions n Unlinked = IsBetween m b d given keeps sessions n
-NextLeads m b d given keeps sessions n (Ended ending) = EndsAs m b d given keeps sessions n ending
+-- What waiting for the next connection and serving it leads to, from a count of closings: the site
+-- said that no more will come; waiting for one failed; or one has ended.
+abbrev pub NextLeads : {State Request : Type 0} → Machine State Request → Beginning State → ℕ
+    → Device → List ℕ → (State → Type 0) → List (Session Request) → RunCounts → Next → Type 0
+NextLeads m b closed d given keeps sessions n NoMore =
+    IsBetween m b d given keeps sessions n × Rose closed d.link.closed
+NextLeads m b closed d given keeps sessions n Unlinked = IsBetween m b d given keeps sessions n
+NextLeads m b closed d given keeps sessions n (Ended ending) =
+    EndsAs m b d given keeps sessions n ending
 
 -- ---- connections one after another
 
@@ -89,6 +97,13 @@ run_peers_held run.NoMore = true
 run_peers_held run.Unlinked = false
 run_peers_held run.Stopped = true
 
+-- the site didn't say that no more will come
+abbrev pub run_stays_open : RunEnd → Bool
+run_stays_open Complete = true
+run_stays_open run.NoMore = false
+run_stays_open run.Unlinked = true
+run_stays_open run.Stopped = true
+
 -- What the calls of a run leave of a site. The count of link faults may rise on any connection.
 pub record RunCalls (end : RunEnd) (old new : Device) : Type 0 where
   pub same : SameDevice old new
@@ -97,17 +112,20 @@ pub record RunCalls (end : RunEnd) (old new : Device) : Type 0 where
   pub link_faults : old.link.faults ≤ new.link.faults
   pub unlinked : end ≡ run.Unlinked → Rose old.link.faults new.link.faults
   pub closed : old.link.under_way ≡ false → new.link.under_way ≡ false
+  pub closings : old.tells ≡ true
+      → IsCounted (run_stays_open end) old.link.closed new.link.closed
 
--- How many connections there were by how a run ended: so many as it was told; fewer, where no more
--- came or waiting for one failed; or up to the one in which the disk failed.
-abbrev pub RunEnds : {Request : Type 0} → Device → List (Session Request) → ℕ → RunEnd → Type 0
-RunEnds d sessions connections Complete =
+-- How many connections there were by how a run ended, from a count of closings: so many as it was
+-- told; fewer, where the site said in this run that no more will come, or where waiting for one
+-- failed; or up to the one in which the disk failed.
+abbrev pub RunEnds : {Request : Type 0} → ℕ → Device → List (Session Request) → ℕ → RunEnd → Type 0
+RunEnds closed d sessions connections Complete =
     (length sessions ≡ connections) × (run_stops sessions ≡ false)
-RunEnds d sessions connections run.NoMore =
-    (length sessions < connections) × (run_stops sessions ≡ false) × (d.link.closed ≡ true)
-RunEnds d sessions connections run.Unlinked =
+RunEnds closed d sessions connections run.NoMore =
+    (length sessions < connections) × (run_stops sessions ≡ false) × Rose closed d.link.closed
+RunEnds closed d sessions connections run.Unlinked =
     (length sessions < connections) × (run_stops sessions ≡ false)
-RunEnds d sessions connections run.Stopped =
+RunEnds closed d sessions connections run.Stopped =
     (length sessions ≤ connections) × (run_stops sessions ≡ true)
 
 -- Each of these connections that ended with a call of its link that failed raised the count.
@@ -121,7 +139,7 @@ pub record HasEnded {State Request : Type 0} (m : Machine State Request) (b : Be
     (end : RunEnd) : Type 0 where
   pub sessions : List (Session Request)
   pub served : HasServed m b d given sessions n
-  pub ends : RunEnds d sessions connections end
+  pub ends : RunEnds first.link.closed d sessions connections end
   pub counted : AreCounted first.link.faults d.link.faults sessions
 
 -- Connections so far, none of which stopped the run.
@@ -143,8 +161,7 @@ pub record HasServedSo {State Request Setting : Type 0} (m : Machine State Reque
     pub calls : RunCalls Complete first now
     pub setting_is : setting ≡ setting_first
     pub size_is : size ≤ size_first
-    pub clock : tells_now ≡ true → tells_first ≡ true
-    pub moments : tells_now ≡ true → GivesMore given_first given
+    pub clock : ClockCalls (most_answers * counter) tells_first tells_now given_first given
     pub answers : n.answers ≤ most_answers * counter
     pub reached : TellsAll first tells_now → (b : Beginning State)
         → IsBetween m b first given_first keeps_first [] n_first

@@ -1,5 +1,5 @@
 -- What a turn of a connection leads to, and what its calls leave of a site.
-use Rattle.std.specs.Prelude.{◌≡◌, ◌≤◌, ℕ, Bool, true, false, List, [], ◌∷◌, ◌++◌, All, Option, Some, None, if◌then◌else◌}
+use Rattle.std.specs.Prelude.{◌≡◌, ◌≤◌, ◌<◌, ◌+◌, ◌-◌, ◌^◌, ℕ, Bool, true, false, List, [], ◌∷◌, ◌++◌, length, All, Option, Some, None, if◌then◌else◌}
 use Rattle.disk_trait.specs.Device.{Device, Left, may_leave}
 use Rattle.disk_trait.specs.Calls.{IsCounted, Rose, SameDevice}
 use Rattle.site_edge.specs.Clocks.{IsMoment}
@@ -25,6 +25,21 @@ pub record GivesMore (before now : List ℕ) : Type 0 where
   pub more : List ℕ
   pub given_is : now ≡ before ++ more
   pub moments : All IsMoment more
+
+-- A clock over calls that read it at most so many times: where it tells, it gave moments; and it
+-- keeps telling while fewer than 2^64 moments were given.
+pub record ClockCalls (most : ℕ) (tells_first tells : Bool) (given_first given : List ℕ) : Type 0
+  where
+    pub told_before : tells ≡ true → tells_first ≡ true
+    pub moments : tells ≡ true → GivesMore given_first given
+    pub lasts : tells_first ≡ true → length given_first + most < 2 ^ 64
+        → (tells ≡ true) × (length given ≤ length given_first + most)
+
+-- How often a turn reads the clock at most, by the number of the connection's requests before it
+-- and after it: once for each request, and once where the connection ends.
+abbrev pub moments_taken : Option ConnectionEnd → ℕ → ℕ → ℕ
+moments_taken None before now = now - before
+moments_taken (Some ending) before now = 1
 
 -- each image that a crash may leave now is one that it might have left before
 pub record SameImages (old new : Device) : Type 0 where
@@ -108,6 +123,7 @@ pub record SiteCalls (ending : Option ConnectionEnd) (old new : Device) : Type 0
   pub link_faults : LinkCount ending old.link.faults new.link.faults
   pub peer_faults : new.link.peer_faults ≡ old.link.peer_faults
   pub under_way : new.link.under_way ≡ old.link.under_way
+  pub closed : new.link.closed ≡ old.link.closed
 
 -- Connections were served one after another, none of which stopped the run, and the state to which
 -- they led is kept.

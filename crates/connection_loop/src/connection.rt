@@ -1,9 +1,9 @@
 //! One connection, from its beginning to its end.
 ghost use Rattle.std.specs.Prelude.{◌≡◌, ◌≤◌, ◌<◌, ◌+◌, ◌^◌, [], ℕ, List, Bool, true, Some};
-ghost use Rattle.run_history.specs.Sessions.{Session};
+ghost use Rattle.run_history.specs.Sessions.{Session, most_answers};
 ghost use Rattle.run_history.specs.Runs.{Beginning};
 ghost use Rattle.run_history.specs.Serving.{Going};
-ghost use Rattle.connection_loop.specs.Turns.{EndsAs, GivesMore, IsBetween, SiteCalls, TellsAll, held_with};
+ghost use Rattle.connection_loop.specs.Turns.{ClockCalls, EndsAs, IsBetween, SiteCalls, TellsAll, held_with};
 ghost use Rattle.connection_loop.specs.Loops.{NextCalls, NextLeads};
 
 use crate::{ConnectionEnd, MOST_ANSWERS, RunTally, Service};
@@ -38,9 +38,8 @@ fn serve_connection<V: Service, X: Site, C: Clock>(
     ensures calls { SiteCalls (Some result) (X.device site.old) (X.device site.new) }
     ensures size { V.size service.new ≤ V.size service.old }
     ensures setting { V.setting service.new ≡ V.setting service.old }
-    ensures clock { C.tells clock.new ≡ true → C.tells clock.old ≡ true }
-    ensures moments { C.tells clock.new ≡ true
-        → GivesMore (C.given clock.old) (C.given clock.new) }
+    ensures clock { ClockCalls most_answers (C.tells clock.old) (C.tells clock.new)
+        (C.given clock.old) (C.given clock.new) }
     ensures answers { tally.new.answers ≤ tally.old.answers + MOST_ANSWERS }
     ensures served { TellsAll (X.device site.old) (C.tells clock.new) → (b : Beginning V.State)
         → (finished : List (Session V.Request)) (s : V.State)
@@ -71,15 +70,15 @@ pub fn serve_next<V: Service, X: Site, C: Clock>(
     ensures calls { NextCalls result (X.device site.old) (X.device site.new) }
     ensures size { V.size service.new ≤ V.size service.old }
     ensures setting { V.setting service.new ≡ V.setting service.old }
-    ensures clock { C.tells clock.new ≡ true → C.tells clock.old ≡ true }
-    ensures moments { C.tells clock.new ≡ true
-        → GivesMore (C.given clock.old) (C.given clock.new) }
+    ensures clock { ClockCalls most_answers (C.tells clock.old) (C.tells clock.new)
+        (C.given clock.old) (C.given clock.new) }
     ensures answers { tally.new.answers ≤ tally.old.answers + MOST_ANSWERS }
     ensures leads { TellsAll (X.device site.old) (C.tells clock.new) → (b : Beginning V.State)
         → (sessions : List (Session V.Request))
         → IsBetween (V.machine (V.setting service.old)) b (X.device site.old) (C.given clock.old)
         (V.keeps (V.store service.old) (X.device site.old)) sessions tally.old
-        → NextLeads (V.machine (V.setting service.old)) b (X.device site.new) (C.given clock.new)
+        → NextLeads (V.machine (V.setting service.old)) b (X.device site.old).link.closed
+        (X.device site.new) (C.given clock.new)
         (V.keeps (V.store service.new) (X.device site.new)) sessions tally.new result }
 {
     match site.next_peer() {

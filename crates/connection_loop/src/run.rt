@@ -1,7 +1,8 @@
 //! Connections one after another.
 ghost use Rattle.std.specs.Prelude.{◌≡◌, ◌≤◌, ◌<◌, ◌+◌, ◌*◌, ◌^◌, [], ℕ, List, Bool, true};
+ghost use Rattle.run_history.specs.Sessions.{most_answers};
 ghost use Rattle.run_history.specs.Runs.{Beginning};
-ghost use Rattle.connection_loop.specs.Turns.{GivesMore, IsBetween, TellsAll};
+ghost use Rattle.connection_loop.specs.Turns.{ClockCalls, IsBetween, TellsAll};
 ghost use Rattle.connection_loop.specs.Loops.{HasEnded, RunCalls};
 
 use crate::connection::{Next, serve_next};
@@ -39,9 +40,8 @@ pub fn serve<V: Service, X: Site, C: Clock>(
     requires few { connections ≤ MOST_CONNECTIONS }
     requires device { V.size service.old ≤ (X.device site.old).size }
     ensures calls { RunCalls result (X.device site.old) (X.device site.new) }
-    ensures clock { C.tells clock.new ≡ true → C.tells clock.old ≡ true }
-    ensures moments { C.tells clock.new ≡ true
-        → GivesMore (C.given clock.old) (C.given clock.new) }
+    ensures clock { ClockCalls (most_answers * connections) (C.tells clock.old) (C.tells clock.new)
+        (C.given clock.old) (C.given clock.new) }
     ensures ended { TellsAll (X.device site.old) (C.tells clock.new) → (b : Beginning V.State)
         → IsBetween (V.machine (V.setting service.old)) b (X.device site.old) (C.given clock.old)
         (V.keeps (V.store service.old) (X.device site.old)) [] tally.old

@@ -6,7 +6,7 @@ ghost use Rattle.run_history.specs.Sessions.{Session};
 ghost use Rattle.run_history.specs.Steps.{Step};
 ghost use Rattle.run_history.specs.Runs.{Beginning};
 ghost use Rattle.run_history.specs.Serving.{Going};
-ghost use Rattle.connection_loop.specs.Turns.{GivesMore, SameImages, SiteCalls, TellsAll, TurnLeads, held_with};
+ghost use Rattle.connection_loop.specs.Turns.{ClockCalls, SameImages, SiteCalls, TellsAll, TurnLeads, held_with, moments_taken};
 
 use crate::{ConnectionEnd, RunTally};
 use site_edge::{Clock, Site};
@@ -85,10 +85,10 @@ pub trait Service {
         ensures size { size self.new ≤ size self.old }
         ensures setting { setting self.new ≡ setting self.old }
         ensures ready { IsNone result → ready self.new }
-        ensures clock { C.tells clock.new ≡ true → C.tells clock.old ≡ true }
-        ensures moments { C.tells clock.new ≡ true
-            → GivesMore (C.given clock.old) (C.given clock.new) }
+        ensures clock { ClockCalls (moments_taken result (taken self.old) (taken self.new))
+            (C.tells clock.old) (C.tells clock.new) (C.given clock.old) (C.given clock.new) }
         ensures few { IsNone result → taken self.new < MOST_ANSWERS }
+        ensures taken { IsNone result → taken self.old ≤ taken self.new }
         ensures counted { IsNone result → tally.new.answers + taken self.old
             ≡ tally.old.answers + taken self.new }
         ensures counted_last { tally.new.answers ≤ tally.old.answers + 1 }

@@ -1,23 +1,53 @@
 -- What a device means at one moment. Our own model of a disk and of the links to the outside.
 use Rattle.std.specs.Prelude.{◌≡◌, ◌≤◌, ℕ, Bool, true, List, length, map}
 
--- one connection: the bytes that `hear` gave, whether `hear` answered 0, whether a `hear` or `say`
--- failed on it, and the bytes that it was told
+-- how a call of `hear` ended: it gave so many bytes, it came to the peer's end, or it failed
+pub data HearEnd : Type 0 where
+  Gave : (count : ℕ) → HearEnd
+  AtEnd : HearEnd
+  Unheard : HearEnd
+
+-- A call of `hear` at its place in its connection: how many bytes had been heard and told on it
+-- when the call began, whether a `say` had failed on it by then, and how the call ended.
+pub record HearCall : Type 0 where
+  pub heard : ℕ
+  pub told : ℕ
+  pub unsaid : Bool
+  pub end : HearEnd
+
+-- One connection: the bytes that `hear` gave, the bytes that it was told, whether `hear` answered
+-- 0, whether a `hear` failed on it, whether a `say` did, and its calls of `hear` in order, up to
+-- the first that failed.
 pub record Connection : Type 0 where
   pub heard : List ℕ
-  pub ended : Bool
-  pub failed : Bool
   pub told : List ℕ
+  pub ended : Bool
+  pub unheard : Bool
+  pub unsaid : Bool
+  pub hearings : List HearCall
+
+-- a connection that `dial` began: its place, which is the number of connections that had begun
+-- before it, and the port that was dialled
+pub record Dialled : Type 0 where
+  pub place : ℕ
+  pub port : ℕ
+
+-- The calls of `dial`: the connections that they began, in order, and for each port whether a call
+-- to it failed. Where nothing is told of the ports their list is empty.
+pub record Dials : Type 0 where
+  pub begun : List Dialled
+  pub missed : List Bool
 
 -- The links to the outside: the counts of their faults, whether a connection is under way, the
--- connections in the order in which they began, and whether `next_peer` said that no more will
--- come.
+-- connections in the order in which they began, how often `next_peer` said that no more will come,
+-- and the calls of `dial`.
 pub record Link : Type 0 where
   pub faults : ℕ
   pub peer_faults : ℕ
   pub under_way : Bool
   pub connections : List Connection
-  pub closed : Bool
+  pub closed : ℕ
+  pub dials : Dials
 
 -- what a crash leaves: the bytes of the file, and what each connection had been told
 pub record Left : Type 0 where

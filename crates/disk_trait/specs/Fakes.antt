@@ -1,11 +1,25 @@
 -- What a device in memory means that keeps no calls: it shows its bytes and tells nothing else.
-use Rattle.std.specs.Prelude.{ℕ, true, false, List, [], length, refl}
-use Rattle.disk_trait.specs.Device.{Device, IsDevice, Link}
+use Rattle.std.specs.Prelude.{ℕ, Bool, true, false, List, [], length, refl}
+use Rattle.disk_trait.specs.Device.{Device, Dials, IsDevice, Link}
+
+-- no call of `dial`, of whose ports nothing is told
+abbrev pub no_dials : Dials
+no_dials = record { begun = []; missed = [] }
+
+-- a link of which nothing is told but its faults and whether a connection is under way
+abbrev pub untold_link : ℕ → ℕ → Bool → Link
+untold_link faults peer_faults under_way = record {
+  faults = faults;
+  peer_faults = peer_faults;
+  under_way = under_way;
+  connections = [];
+  closed = 0;
+  dials = no_dials;
+}
 
 -- no link, and no fault of one
 abbrev pub no_link : Link
-no_link =
-    record { faults = 0; peer_faults = 0; under_way = false; connections = []; closed = false }
+no_link = untold_link 0 0 false
 
 -- A device of these bytes that never fails and isn't honest: of crashes it tells nothing.
 abbrev pub plain_device : List ℕ → Device

@@ -8,6 +8,8 @@ mod checkpoints;
 #[cfg(test)]
 mod devices;
 #[cfg(test)]
+mod dial_sites;
+#[cfg(test)]
 mod file_sites;
 #[cfg(test)]
 mod host_clocks;

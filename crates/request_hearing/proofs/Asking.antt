@@ -18,8 +18,10 @@ use Rattle.run_history.proofs.Growth.{last_or-append, stages_count}
 use Rattle.run_history.proofs.Ends.{stage-sessions}
 use Rattle.run_history.proofs.Going.{last_changed}
 use Rattle.run_history.proofs.Invariant.{quiet_calls, state_now-after}
-use Rattle.request_hearing.specs.Hearing.{HearsAndSays, after_hearing, interim_bytes, with_interim}
-use Rattle.request_hearing.specs.Asking.{Asking, IsUnderWay, Open, asked_trace, with_states}
+use Rattle.std.specs.List.{AllByRecursion}
+use Rattle.request_hearing.specs.Hearing.{HearPart, HearsAndSays, IsPartOf, after_hearing, interim_bytes, place_call, with_interim}
+use Rattle.request_hearing.specs.Asking.{Asking, IsUnderWay, Open, WaitsFor, asked_trace, with_states}
+use Rattle.request_hearing.proofs.AskingHearings.{goes_parts}
 use Rattle.request_hearing.proofs.SiteLemmas.{sends_none}
 use Rattle.request_hearing.proofs.Theorems.{reached_heard}
 
@@ -129,21 +131,27 @@ module _ {State Request : Type 0} {m : Machine State Request} {b : Beginning Sta
 module _ {State Request : Type 0} {m : Machine State Request} {b : Beginning State} {old new : Device} {given : List ℕ} {held : Held State}
     {finished : List (Session Request)} {steps : List (Step Request)} {n : RunCounts} where
   -- It begins: these bytes were heard behind the unread ones, and its interim response was said where one was due.
-  pub asking_first : (bytes : List ℕ) (said : Bool) → Going m b old given held finished steps n → HearsAndSays bytes said true true false old new
-      → old.tells ≡ true → Asking m b new given (record held { unread = held.unread ++ bytes }) said finished steps n
-  asking_first bytes said g h tells =
+  pub asking_first : {parts : List HearPart} (bytes : List ℕ) (said : Bool) → Going m b old given held finished steps n
+      → HearsAndSays parts bytes said true true false old new
+      → AllByRecursion (λ p. WaitsFor m held.taken (held.unread ++ p.heard) p.told) parts → old.tells ≡ true
+      → Asking m b new given (record held { unread = held.unread ++ bytes }) said finished steps n
+  asking_first {parts} bytes said g h waits tells =
       let told = h.connections tells in
       let so_far = bytes_of_pieces (pieces_of m (after_sessions m (start_of b.state) finished) steps) in
+      let hearings = g.hearings ++ map (place_call (connection_with (texts_of steps ++ held.unread) so_far g.hearings)) parts in
       record {
         begun = record {
           connections = g.connections;
+          hearings = hearings;
           so_far = under_way-going g;
           connections_are =
-              last_changed (after_hearing bytes told.0 false false) b.before g.connections _ _ _ g.connections_are told.2
-              ∙ ap (λ sent. b.before ++ (g.connections ++ connection_with ((texts_of steps ++ held.unread) ++ bytes) (so_far ++ sent) ∷ []))
+              last_changed (after_hearing parts bytes told.0 false false false) b.before g.connections _ _ _ g.connections_are told.2
+              ∙ ap (λ sent. b.before ++ (g.connections ++ connection_with ((texts_of steps ++ held.unread) ++ bytes) (so_far ++ sent) hearings ∷ []))
               (told.1.whole refl)
-              ∙ ap (λ heard. b.before ++ (g.connections ++ connection_with heard (so_far ++ interim_bytes said) ∷ []))
+              ∙ ap (λ heard. b.before ++ (g.connections ++ connection_with heard (so_far ++ interim_bytes said) hearings ∷ []))
               (append_assoc (texts_of steps) held.unread bytes);
+          on_time = goes_parts m (after_sessions m (start_of b.state) finished) steps g.stay held.taken g.taken held.unread [] g.hearings g.on_time so_far
+              (sym (append-nil so_far)) bytes (interim_bytes said) parts waits h.parts_are;
         };
         reached = reached_heard m b _ false bytes said true true false old new g.reached h;
       }
@@ -152,36 +160,51 @@ module _ {State Request : Type 0} {m : Machine State Request} {b : Beginning Sta
   pub begun_at : {said : Bool} → Open m b old given held said finished steps n → new.link ≡ old.link → Open m b new given held said finished steps n
   begun_at o link = record {
     connections = o.connections;
+    hearings = o.hearings;
     so_far = o.so_far;
     connections_are = ap (λ (l : Link). l.connections) link ∙ o.connections_are;
+    on_time = o.on_time;
   }
 
   module _ {said : Bool} (a : Asking m b old given held said finished steps n) where
     -- More of it was heard, and the run has come as far.
-    pub asking_taken : (bytes : List ℕ) → new.link.connections ≡ change_last (after_hearing bytes [] false false) old.link.connections
+    pub asking_taken : (parts : List HearPart) (bytes : List ℕ)
+        → new.link.connections ≡ change_last (after_hearing parts bytes [] false false false) old.link.connections
+        → AllByRecursion (IsPartOf bytes [] false) parts
+        → AllByRecursion (λ p. WaitsFor m held.taken (held.unread ++ p.heard) (interim_bytes said ++ p.told)) parts
         → Reached m b (asked_trace m b said finished steps) true false new
         → Asking m b new given (record held { unread = held.unread ++ bytes }) said finished steps n
-    asking_taken bytes heard reached =
-        let so_far = bytes_of_pieces (pieces_of m (after_sessions m (start_of b.state) finished) steps) ++ interim_bytes said in
+    asking_taken parts bytes heard are waits reached =
+        let first = after_sessions m (start_of b.state) finished in
+        let so_far = bytes_of_pieces (pieces_of m first steps) ++ interim_bytes said in
+        let u = a.begun.so_far in
+        let hearings = a.begun.hearings ++ map (place_call (connection_with (texts_of steps ++ held.unread) so_far a.begun.hearings)) parts in
         record {
           begun = record {
             connections = a.begun.connections;
-            so_far = a.begun.so_far;
+            hearings = hearings;
+            so_far = u;
             connections_are =
-                last_changed (after_hearing bytes [] false false) b.before a.begun.connections _ _ _ a.begun.connections_are heard
-                ∙ ap (λ sent. b.before ++ (a.begun.connections ++ connection_with ((texts_of steps ++ held.unread) ++ bytes) sent ∷ [])) (append-nil so_far)
-                ∙ ap (λ heard. b.before ++ (a.begun.connections ++ connection_with heard so_far ∷ [])) (append_assoc (texts_of steps) held.unread bytes);
+                last_changed (after_hearing parts bytes [] false false false) b.before a.begun.connections _ _ _ a.begun.connections_are heard
+                ∙ ap (λ sent. b.before ++ (a.begun.connections ++ connection_with ((texts_of steps ++ held.unread) ++ bytes) sent hearings ∷ []))
+                (append-nil so_far)
+                ∙ ap (λ heard. b.before ++ (a.begun.connections ++ connection_with heard so_far hearings ∷ []))
+                (append_assoc (texts_of steps) held.unread bytes);
+            on_time = goes_parts m first steps u.stay held.taken u.taken_is held.unread (interim_bytes said) a.begun.hearings a.begun.on_time so_far refl
+                bytes [] parts waits are;
           };
           reached = reached;
         }
 
     -- A hearing gave these bytes.
-    pub asking_hears : (bytes : List ℕ) → HearsAndSays bytes false true true false old new → old.tells ≡ true
+    pub asking_hears : {parts : List HearPart} (bytes : List ℕ) → HearsAndSays parts bytes false true true false old new
+        → AllByRecursion (λ p. WaitsFor m held.taken (held.unread ++ p.heard) (interim_bytes said ++ p.told)) parts → old.tells ≡ true
         → Asking m b new given (record held { unread = held.unread ++ bytes }) said finished steps n
-    asking_hears bytes h tells =
+    asking_hears {parts} bytes h waits tells =
         let told = h.connections tells in
-        asking_taken bytes
-        (told.2 ∙ ap (λ sent. change_last (after_hearing bytes sent false false) old.link.connections) (sends_none true told.0 told.1))
+        asking_taken parts bytes
+        (told.2 ∙ ap (λ sent. change_last (after_hearing parts bytes sent false false false) old.link.connections) (sends_none true told.0 told.1))
+        h.parts_are waits
         (reached_heard m b (asked_trace m b said finished steps) false bytes false true true false old new a.reached h)
 
     -- the same connections, and a run that has come as far

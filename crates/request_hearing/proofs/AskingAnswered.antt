@@ -6,11 +6,12 @@ use Rattle.disk_trait.specs.Device.{Connection, Device}
 use Rattle.site_edge.specs.Links.{Sends, after_say}
 use Rattle.run_history.specs.Machine.{Machine}
 use Rattle.run_history.specs.Steps.{Effect, Interim, Piece, Reply, Stage, Step, effect, interim_pieces, is_last, last_or, piece_bytes, step_text}
-use Rattle.run_history.specs.Sessions.{EndIs, IsTold, LinkEnd, RestIs, Saying, Session, Whole, after_sessions, after_steps, answers_in, bytes_of_pieces, has_link_failed, most_answers, pieces_of, stops_in_answer, texts_of}
+use Rattle.run_history.specs.Sessions.{EndIs, IsTold, LinkEnd, RestIs, Saying, Session, Whole, after_sessions, after_steps, answers_in, bytes_of_pieces, has_hearing_failed, has_saying_failed, most_answers, pieces_of, stops_in_answer, texts_of}
 use Rattle.run_history.specs.Traces.{Trace, start_of, trace_of, with_effect}
 use Rattle.run_history.specs.Runs.{Beginning, Reached}
 use Rattle.run_history.specs.Laws.{under_way}
-use Rattle.run_history.specs.Serving.{RunCounts, Going, HasServed, Held, connection_with}
+use Rattle.run_history.proofs.Hearings.{ends-on_time, ends-steps, on_time-steps}
+use Rattle.run_history.specs.Serving.{AreOnTime, RunCounts, Going, HasServed, Held, connection_with}
 use Rattle.run_history.proofs.Pieces.{bytes-push}
 use Rattle.run_history.proofs.Growth.{trace-same}
 use Rattle.run_history.proofs.Invariant.{parts_suffice}
@@ -19,8 +20,9 @@ use Rattle.run_history.proofs.Going.{counts-same, last_changed, made-now}
 use Rattle.tams_machine.specs.Requests.{interim_text}
 use Rattle.request_hearing.specs.Hearing.{interim_bytes, interim_where, with_interim}
 use Rattle.request_hearing.specs.Asking.{IsAnswerStep, answered_trace, asked_trace, counted_more}
+use Rattle.request_hearing.proofs.Theorems.{bytes-interim}
 use Rattle.request_hearing.proofs.AskingSteps.{counted_effect, ends_with_step, goes_with_step, pieces_grown, state_behind, texts_grown}
-use Rattle.request_hearing.proofs.Endings.{answers-interim, bytes-interim}
+use Rattle.request_hearing.proofs.Endings.{answers-interim}
 use Rattle.request_hearing.proofs.SiteLemmas.{change_last-twice}
 
 -- a step that has its interim response at most, a reply, and changes before and behind it
@@ -62,9 +64,13 @@ told-last false false whole front piece sent sends full = record {
   prefix = sends.prefix;
 }
 
-failed_by : (linked : Bool) → false || not linked ≡ has_link_failed (if linked then Whole else Saying)
-failed_by true = refl
-failed_by false = refl
+unheard_by : (linked : Bool) → false ≡ has_hearing_failed (if linked then Whole else Saying)
+unheard_by true = refl
+unheard_by false = refl
+
+unsaid_by : (linked : Bool) → false || not linked ≡ has_saying_failed (if linked then Whole else Saying)
+unsaid_by true = refl
+unsaid_by false = refl
 
 module _ {State Request : Type 0} {m : Machine State Request} {b : Beginning State} {old new : Device} {given : List ℕ} {held : Held State} {said : Bool}
     {finished : List (Session Request)} {steps : List (Step Request)} {n : RunCounts} {step : Step Request} {bytes : List ℕ} {made : ℕ}
@@ -125,7 +131,8 @@ module _ {State Request : Type 0} {m : Machine State Request} {b : Beginning Sta
 
   -- what it heard and was told
   abbrev connection : Connection
-  connection = after_say linked s.told.0 (connection_with (texts_of steps ++ held.unread) (bytes_of_pieces (pieces_of m first steps) ++ interim_bytes said))
+  connection = after_say linked s.told.0 (connection_with (texts_of steps ++ held.unread) (bytes_of_pieces (pieces_of m first steps) ++ interim_bytes said)
+      s.begun.hearings)
 
   connections_are : new.link.connections ≡ b.before ++ (s.begun.connections ++ connection ∷ [])
   connections_are =
@@ -148,13 +155,15 @@ module _ {State Request : Type 0} {m : Machine State Request} {b : Beginning Sta
       ap (λ x. x ++ s.told.0) front_is ∙ ap (λ x. bytes_of_pieces front ++ x) (s.told.1.whole all) ∙ sym (bytes-push front piece)
       ∙ ap bytes_of_pieces pieces_are in
       subst (Going m b new (given ++ moments) next finished (steps ++ step ∷ [])) counts_are
-      (goes_with_step s.begun.so_far step comes_to this new rest s.is stay few one_answer s.good
+      (goes_with_step s.begun.so_far step comes_to this new rest s.is stay few one_answer s.good s.begun.hearings
       (connections_are
       ∙ ap (λ (o : Bool). b.before ++ (s.begun.connections ++ after_say o s.told.0 (connection_with (texts_of steps ++ held.unread)
-      (bytes_of_pieces (pieces_of m first steps) ++ interim_bytes said)) ∷ [])) held_on
+      (bytes_of_pieces (pieces_of m first steps) ++ interim_bytes said) s.begun.hearings) ∷ [])) held_on
       ∙ ap (λ x. b.before ++ (s.begun.connections
-      ++ connection_with x ((bytes_of_pieces (pieces_of m first steps) ++ interim_bytes said) ++ s.told.0) ∷ [])) heard_is
-      ∙ ap (λ x. b.before ++ (s.begun.connections ++ connection_with (texts_of (steps ++ step ∷ []) ++ rest) x ∷ [])) told)
+      ++ connection_with x ((bytes_of_pieces (pieces_of m first steps) ++ interim_bytes said) ++ s.told.0) s.begun.hearings ∷ [])) heard_is
+      ∙ ap (λ x. b.before ++ (s.begun.connections ++ connection_with (texts_of (steps ++ step ∷ []) ++ rest) x s.begun.hearings ∷ [])) told)
+      (subst (λ heard. AreOnTime m first heard (steps ++ step ∷ []) s.begun.hearings) heard_is
+      (on_time-steps m first (texts_of steps ++ held.unread) steps (step ∷ []) s.begun.hearings s.begun.on_time))
       (subst (λ w. Reached m b (with_effect comes_to begun) true w new) written
       (subst (λ w. Reached m b (with_effect comes_to begun) w writing new) all reached_now))
       (s.handed going.stops))
@@ -173,7 +182,8 @@ module _ {State Request : Type 0} {m : Machine State Request} {b : Beginning Sta
       (subst (λ t. IsTold (stops_in_answer (step ∷ [])) link_behind t (pieces_of m first (steps ++ step ∷ []))) (ap (λ x. x ++ s.told.0) (sym front_is))
       (subst (IsTold (stops_in_answer (step ∷ [])) link_behind (bytes_of_pieces front ++ s.told.0)) pieces_are
       (told-last (stops_in_answer (step ∷ [])) linked whole front piece s.told.0 s.told.1 s.full)))
-      (failed_by linked) end_is
+      (unheard_by linked) (unsaid_by linked) end_is
+      (ends-steps m first steps (step ∷ []) connection (ends-on_time m first steps connection s.begun.on_time))
       (subst (λ w. Reached m b (with_effect comes_to begun) false w new) (sym s.written)
       (parts_suffice State Request m b (with_effect comes_to begun) whole writing new reached_now))
       s.handed)

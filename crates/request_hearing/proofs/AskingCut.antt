@@ -16,10 +16,14 @@ use Rattle.run_history.specs.Laws.{under_way}
 use Rattle.run_history.specs.Serving.{RunCounts, HasServed, Held}
 use Rattle.run_history.proofs.Going.{last_changed}
 use Rattle.run_history.proofs.Invariant.{parts_suffice}
-use Rattle.request_hearing.specs.Hearing.{after_hearing, interim_bytes, interim_where}
-use Rattle.request_hearing.specs.Asking.{Asking, asked_trace}
+use Rattle.std.specs.List.{AllByRecursion}
+use Rattle.run_history.proofs.Hearings.{ends-steps}
+use Rattle.request_hearing.specs.Hearing.{HearPart, IsPartOf, after_hearing, interim_bytes, interim_where}
+use Rattle.request_hearing.specs.Asking.{Asking, WaitsFor, asked_trace}
+use Rattle.request_hearing.proofs.AskingHearings.{ends_parts}
+use Rattle.request_hearing.proofs.Theorems.{bytes-interim}
 use Rattle.request_hearing.proofs.AskingSteps.{ends_with_step, pieces_grown, texts_grown}
-use Rattle.request_hearing.proofs.Endings.{answers-interim, bytes-interim, counts-cut, cut_effect, effect-interim, failed_is, or_nothing}
+use Rattle.request_hearing.proofs.Endings.{answers-interim, counts-cut, cut_effect, effect-interim, or_nothing, unheard_on, unsaid_on}
 
 told-held : (link : LinkEnd) (told : List ℕ) (pieces : List Piece) → link ≢ Saying → told ≡ bytes_of_pieces pieces → IsTold false link told pieces
 told-held Whole told pieces not_saying is = is
@@ -42,26 +46,35 @@ module _ {State Request : Type 0} {m : Machine State Request} {b : Beginning Sta
       (interim_pieces (interim_where said)))
 
   -- Its peer's end came, or a hearing failed, behind these bytes: it is cut. All that was heard of it is its text.
-  pub taken_cut : {new : Device} (bytes : List ℕ) (link : LinkEnd) (ended : Bool)
-      → new.link.connections ≡ change_last (after_hearing bytes [] ended (not (not (has_link_failed link)))) old.link.connections
+  pub taken_cut : {new : Device} (parts : List HearPart) (bytes : List ℕ) (link : LinkEnd) (ended : Bool)
+      → new.link.connections ≡ change_last (after_hearing parts bytes [] ended (not (not (has_link_failed link))) false) old.link.connections
+      → AllByRecursion (IsPartOf bytes [] (not (not (has_link_failed link)))) parts
+      → AllByRecursion (λ p. WaitsFor m held.taken (held.unread ++ p.heard) (interim_bytes said ++ p.told)) parts
       → Reached m b (asked_trace m b said finished steps) true false new → link ≢ Saying → (link ≡ Whole → ended ≡ true)
       → held.unread ++ bytes ≡ text → text ≢ []
       → m.cuts text (record { interim = interim_where said; takes_moment = is_there moment }) → IsUnfinished m held.taken text
       → HasHanded m b (finished ++ under_way (steps ++ step ∷ []) Whole ∷ []) new.handed
       → HasServed m b new (given ++ option_to_list moment) (finished ++ under_way (steps ++ step ∷ []) link ∷ []) n
-  taken_cut {new} bytes link ended heard reached not_saying at_end text_is some cuts unfinished handed =
+  taken_cut {new} parts bytes link ended heard are waits reached not_saying at_end text_is some cuts unfinished handed =
       let told_so_far = bytes_of_pieces (pieces_of m (after_sessions m (start_of b.state) finished) steps) ++ interim_bytes said in
       let asked = asked_trace m b said finished steps in
+      let first = after_sessions m (start_of b.state) finished in
+      let u = a.begun.so_far in
       subst (HasServed m b new (given ++ option_to_list moment) (finished ++ under_way (steps ++ step ∷ []) link ∷ []))
       (counts-cut State Request n said moment text)
       (ends_with_step a.begun.so_far step (cut_effect said moment) refl new link _ [] (some, cuts) (omega (arith, answers-interim said)) (All-nil m.good)
-      (last_changed (after_hearing bytes [] ended (not (not (has_link_failed link)))) b.before a.begun.connections _ _ _ a.begun.connections_are heard)
+      (last_changed (after_hearing parts bytes [] ended (not (not (has_link_failed link))) false) b.before a.begun.connections _ _ _
+      a.begun.connections_are heard)
       (append_assoc (texts_of steps) held.unread bytes ∙ ap (λ t. texts_of steps ++ t) text_is
       ∙ sym (append-nil (texts_of (steps ++ step ∷ [])) ∙ texts_grown a.begun.so_far step (cut_effect said moment) refl))
       ((λ _. (refl, unfinished)), (λ saying. absurd (not_saying saying)))
       (told-held link (told_so_far ++ []) _ not_saying (append-nil told_so_far ∙ told_interim))
-      (failed_is link)
+      (unheard_on link not_saying)
+      (unsaid_on link not_saying)
       (λ is. or_nothing ended ∙ at_end is)
+      (ends-steps m first steps (step ∷ []) _
+      (ends_parts m first steps u.stay held.taken u.taken_is held.unread (interim_bytes said) a.begun.hearings a.begun.on_time told_so_far refl bytes []
+      parts waits (not (not (has_link_failed link))) false ended [] (λ _. refl) are))
       (subst (λ t. Reached m b t false false new) (sym (effect-interim said (option_to_list moment) _))
       (parts_suffice State Request m b asked true false new reached))
       (λ on. handed))

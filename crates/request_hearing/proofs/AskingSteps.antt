@@ -2,15 +2,16 @@
 use Rattle.std.proofs.Common.{◌≡◌, ◌≤◌, ◌<◌, ◌+◌, ℕ, true, false, List, [], ◌∷◌, ◌++◌, length, All, sym, ap, ◌∙◌, subst, arith, length-append}
 use Rattle.std.proofs.lemmas.List.{append_assoc}
 use Rattle.std.proofs.lemmas.List.Elements.{All-append}
-use Rattle.disk_trait.specs.Device.{Connection, Device}
+use Rattle.disk_trait.specs.Device.{Connection, Device, HearCall}
 use Rattle.run_history.specs.Machine.{Machine}
 use Rattle.run_history.specs.Steps.{Effect, IsStep, Stage, Step, effect, is_last, last_or, step_text}
-use Rattle.run_history.specs.Sessions.{AreSteps, EndIs, IsTold, LinkEnd, RestIs, Session, Whole, after_sessions, after_steps, all_moments, answers_in, bytes_of_pieces, has_link_failed, most_answers, pieces_of, scripts_of, skips_by, stops, stops_in_answer, texts_of}
+use Rattle.run_history.specs.Sessions.{AreSteps, EndIs, IsTold, LinkEnd, RestIs, Session, Whole, after_sessions, after_steps, all_moments, answers_in, bytes_of_pieces, has_hearing_failed, has_saying_failed, most_answers, pieces_of, scripts_of, skips_by, stops, stops_in_answer, texts_of}
 use Rattle.run_history.specs.Traces.{Trace, start_of, states_of, trace_of, with_effect}
 use Rattle.run_history.specs.Runs.{Beginning, Reached, stops_writing}
 use Rattle.run_history.specs.Handing.{HasHanded}
 use Rattle.run_history.specs.Laws.{under_way}
-use Rattle.run_history.specs.Serving.{RunCounts, Going, HasServed, all_answers, connection_with, counts_of_run}
+use Rattle.run_history.specs.Serving.{AreOnTime, RunCounts, Going, HasServed, all_answers, connection_with, counts_of_run}
+use Rattle.run_history.proofs.Hearings.{EndsOnTime}
 use Rattle.run_history.proofs.Growth.{pieces-push, scripts-push, stage-push, steps_grow, traces_grow}
 use Rattle.run_history.proofs.Ends.{all_answers-push, all_skips-push, answers-append, end-push, end_like-push, open-push, rest-push, skips-push, stage-sessions, steps-push}
 use Rattle.run_history.proofs.Going.{counts-same, ends_with}
@@ -113,10 +114,11 @@ module _ {State Request : Type 0} {m : Machine State Request} {b : Beginning Sta
   pub ends_with_step : (d : Device) (link : LinkEnd) (c : Connection) (rest : List ℕ) → IsStep m taken state step → answers_in e.pieces ≤ 1
       → All m.good e.changes → d.link.connections ≡ b.before ++ (connections ++ c ∷ []) → c.heard ≡ texts_of (steps ++ step ∷ []) ++ rest
       → RestIs m taken (step ∷ []) link rest → IsTold (stops_in_answer (step ∷ [])) link c.told (pieces_of m first (steps ++ step ∷ []))
-      → c.failed ≡ has_link_failed link → EndIs m (step ∷ []) link c.ended → Reached m b (with_effect e before) false (stops_writing (step ∷ [])) d
+      → c.unheard ≡ has_hearing_failed link → c.unsaid ≡ has_saying_failed link → EndIs m (step ∷ []) link c.ended
+      → EndsOnTime m first (steps ++ step ∷ []) c → Reached m b (with_effect e before) false (stops_writing (step ∷ [])) d
       → (stops (step ∷ []) ≡ false → HasHanded m b (finished ++ under_way (steps ++ step ∷ []) Whole ∷ []) d.handed)
       → HasServed m b d (given ++ e.moments) (finished ++ under_way (steps ++ step ∷ []) link ∷ []) (counted_effect n e step)
-  ends_with_step d link c rest is answers good are heard rest_is told failed ended reached handed =
+  ends_with_step d link c rest is answers good are heard rest_is told unheard unsaid ended on_time reached handed =
       let like = end_like-push m steps step u.stay in
       ends_with m b d (given ++ e.moments) finished (under_way (steps ++ step ∷ []) link) (counted_effect n e step) connections c are u.served u.unstopped
       (record {
@@ -126,8 +128,11 @@ module _ {State Request : Type 0} {m : Machine State Request} {b : Beginning Sta
         heard = heard;
         rest_is = rest-push m 0 taken steps step link rest (omega (arith, u.taken_is)) rest_is;
         told = subst (λ stopped. IsTold stopped link c.told (pieces_of m first (steps ++ step ∷ []))) (sym like.in_answer) told;
-        failed = failed;
+        unheard = unheard;
+        unsaid = unsaid;
         ended = end-push m steps step link c.ended ended;
+        owes = on_time.owes;
+        last = on_time.last;
       })
       (moments_grown link)
       (counts_grown link)
@@ -138,13 +143,15 @@ module _ {State Request : Type 0} {m : Machine State Request} {b : Beginning Sta
 
   -- It leaves the connection stay.
   pub goes_with_step : (d : Device) (rest : List ℕ) → IsStep m taken state step → is_last m step ≡ false → taken + 1 < most_answers
-      → answers_in e.pieces ≡ 1 → All m.good e.changes → d.link.connections ≡ b.before ++ (connections
-      ++ connection_with (texts_of (steps ++ step ∷ []) ++ rest) (bytes_of_pieces (pieces_of m first (steps ++ step ∷ []))) ∷ [])
-      → Reached m b (with_effect e before) true false d → HasHanded m b (finished ++ under_way (steps ++ step ∷ []) Whole ∷ []) d.handed
+      → answers_in e.pieces ≡ 1 → All m.good e.changes → (hearings : List HearCall) → d.link.connections ≡ b.before ++ (connections
+      ++ connection_with (texts_of (steps ++ step ∷ []) ++ rest) (bytes_of_pieces (pieces_of m first (steps ++ step ∷ []))) hearings ∷ [])
+      → AreOnTime m first (texts_of (steps ++ step ∷ []) ++ rest) (steps ++ step ∷ []) hearings → Reached m b (with_effect e before) true false d → HasHanded m b (finished ++ under_way (steps ++ step ∷ []) Whole ∷ []) d.handed
       → Going m b d (given ++ e.moments) (record { state = last_or state e.changes; unread = rest; taken = taken + 1 }) finished (steps ++ step ∷ [])
       (counted_effect n e step)
-  goes_with_step d rest is stay few one good are reached handed = record {
+  goes_with_step d rest is stay few one good hearings are on_time reached handed = record {
     connections = connections;
+    hearings = hearings;
+    on_time = on_time;
     connections_are = are;
     served = u.served;
     unstopped = u.unstopped;

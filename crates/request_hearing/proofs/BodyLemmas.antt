@@ -4,9 +4,10 @@ use Rattle.std.specs.Prelude.{min}
 use Rattle.std.proofs.Math.ListN.{drop_of_length-le}
 use Rattle.std.proofs.Math.Seq.{take-append_seam}
 use Rattle.std.proofs.lemmas.List.{append-nil, length-take-le}
-use Rattle.disk_trait.specs.Device.{Device}
+use Rattle.disk_trait.specs.Device.{Device, HearEnd}
 use Rattle.http_wire.specs.Feeds.{Fed, handed_on, heard, left_of, passed_by}
 use Rattle.request_hearing.specs.Hearing.{HearsAndSays, HearsBody, IsPiece}
+use Rattle.request_hearing.specs.Turning.{one_part}
 use Rattle.request_hearing.specs.declared.heard.Body.TheVariants as bodies
 use Rattle.request_hearing.proofs.SiteLemmas.{hears_nothing}
 
@@ -49,8 +50,10 @@ pub takes_unread : (old new : Fed) (d : Device) (before out : List ℕ) (count :
     → count ≡ min (length before) (min (length old.unread) (left_of old.stage)) → out ≡ take count old.unread ++ drop count before
     → new ≡ handed_on old count → HearsBody old new out d d (bodies.Piece count)
 takes_unread old new d before out count unread left room count_is out_is new_is = record {
+  parts = [];
   bytes = [];
   leaves = hears_nothing d;
+  waits = tt;
   comes = takes_piece old old new [] before out count (heard_none old) (some_long old.unread unread) left room count_is out_is new_is;
 }
 
@@ -63,11 +66,14 @@ passed_whole old bytes count none size =
 
 -- where nothing was unread, and bytes were heard at their place
 pub hears_in_place : (old new : Fed) (before now : Device) (out : List ℕ) (count : ℕ) → old.unread ≡ [] → 0 < count → count ≤ length out
-    → count ≤ left_of old.stage → HearsAndSays (take count out) false true true false before now → new ≡ passed_by old count
+    → count ≤ left_of old.stage → {end : HearEnd} → HearsAndSays (one_part end) (take count out) false true true false before now
+    → new ≡ passed_by old count
     → HearsBody old new out before now (bodies.Piece count)
-hears_in_place old new before now out count none some within few leaves new_is = record {
+hears_in_place old new before now out count none some within few {end} leaves new_is = record {
+  parts = one_part end;
   bytes = take count out;
   leaves = leaves;
+  waits = (record { unread = none; heard = refl; told = refl }, tt);
   comes = record {
     some = some;
     within = within;

@@ -1,6 +1,7 @@
 mod BodyLemmas
 pub mod SiteLemmas
 mod TurnLemmas
+pub mod AskingHearings
 pub mod Asking
 pub mod AskingAnswered
 pub mod AskingCut

@@ -1,6 +1,6 @@
 -- What a service concludes from what was heard: where its run has come to, and the step that a request is.
-use Rattle.std.proofs.Common.{◌≡◌, ◌≢◌, ◌<◌, ◌≤◌, ◌+◌, ◌-◌, ℕ, Bool, true, false, Result, Ok, Err, List, [], ◌∷◌, ◌++◌, length, drop, refl, sym, ap, ◌∙◌, subst, arith, length-append}
-use Rattle.std.proofs.lemmas.List.{append_assoc}
+use Rattle.std.proofs.Common.{◌≡◌, ◌≢◌, ◌<◌, ◌≤◌, ◌+◌, ◌-◌, ℕ, Bool, true, false, Result, Ok, Err, List, [], ◌∷◌, ◌++◌, length, map, drop, refl, sym, ap, ◌∙◌, subst, arith, length-append}
+use Rattle.std.proofs.lemmas.List.{append-nil, append_assoc}
 use Rattle.httparse.specs.Grammar.{RequestHead}
 use Rattle.disk_trait.specs.Device.{Device, Left, may_leave}
 use Rattle.disk_trait.specs.Calls.{Elapses, Unchanged}
@@ -22,29 +22,30 @@ use Rattle.http_wire.specs.declared.stage.FeedStage.TheVariants as stages
 use Rattle.http_wire.proofs.Hearings.{next_unique, stays_decided}
 use Rattle.http_wire.proofs.Staying.{next_stays}
 use Rattle.run_history.specs.Machine.{Machine}
-use Rattle.run_history.specs.Sessions.{IsUnfinished}
-use Rattle.run_history.specs.Steps.{Interim}
+use Rattle.run_history.specs.Sessions.{IsUnfinished, bytes_of_pieces}
+use Rattle.run_history.specs.Steps.{Interim, interim_pieces}
 use Rattle.run_history.specs.Traces.{Trace}
 use Rattle.run_history.specs.Runs.{Beginning, Reached}
 use Rattle.run_history.proofs.Invariant.{parts_suffice, quiet_calls, said_pieces}
 use Rattle.tams_machine.specs.Answers.{heard_body}
 use Rattle.tams_machine.specs.Machine.{tams_machine}
 use Rattle.tams_machine.specs.Requests.{Heads, IsCut, IsRefused, IsWholeRequest, SpellsRequest, interim_text, media, other, waiting, within}
-use Rattle.request_hearing.specs.Hearing.{HearsAndSays, GivesRequest, OpensMedia, interim_where, with_interim}
-use Rattle.request_hearing.specs.Laws.{MediaIsOpened, MediaUnsaidIsCut, RefusalsAreSteps, UnsaidIsCut, WaitingIsCut, WaitingIsUnfinished, media_request}
+use Rattle.request_hearing.specs.Hearing.{GivesRequest, HearPart, HearsAndSays, OpensMedia, interim_bytes, interim_where, part_behind, with_interim}
+use Rattle.request_hearing.specs.Laws.{MediaIsOpened, MediaUnsaidIsCut, RefusalsAreSteps, UnsaidIsCut, WaitingIsCut, WaitingIsUnfinished, WaitingOwesNothing, media_request}
 use Rattle.request_hearing.proofs.SiteLemmas.{hears_twice, tells_none}
 
 -- ---- what a crash leaves
 
 -- a call that said nothing changes nothing of it
-pub says_nothing : (bytes : List ℕ) (sent held ended : Bool) (old new : Device) → HearsAndSays bytes false sent held ended old new
-    → Elapses Unchanged Unchanged old new
+pub says_nothing : {parts : List HearPart} (bytes : List ℕ) (sent held ended : Bool) (old new : Device)
+    → HearsAndSays parts bytes false sent held ended old new → Elapses Unchanged Unchanged old new
 says_nothing bytes sent held ended old new h =
     elapses_weaker _ _ _ _ old new h.call.time (λ q p could tells. tells_none false q p tells) (λ q p could left tells. tells_none sent q p tells)
 
 -- A run that has come so far has come as far behind a hearing, and the interim response with it where it was said.
-pub reached_heard : {State Request : Type 0} (m : Machine State Request) (b : Beginning State) (t : Trace State) (writing : Bool) (bytes : List ℕ)
-    (said sent held ended : Bool) (old new : Device) → Reached m b t true writing old → HearsAndSays bytes said sent held ended old new
+pub reached_heard : {State Request : Type 0} (m : Machine State Request) (b : Beginning State) (t : Trace State) (writing : Bool) {parts : List HearPart}
+    (bytes : List ℕ) (said sent held ended : Bool) (old new : Device) → Reached m b t true writing old
+    → HearsAndSays parts bytes said sent held ended old new
     → Reached m b (with_interim said t) sent writing new
 reached_heard {State} {Request} m b t writing bytes true sent held ended old new r h =
     said_pieces State Request m b t (Interim interim_text) sent writing old new (omega arith) r h.call.time
@@ -54,15 +55,19 @@ reached_heard {State} {Request} m b t writing bytes false false held ended old n
     parts_suffice State Request m b t true writing new (quiet_calls State Request m b t true writing old new r (says_nothing bytes false held ended old new h))
 
 -- each image that a crash may leave now is one that it might have left before
-pub heard_images : (bytes : List ℕ) (said sent held ended : Bool) (old new : Device) → HearsAndSays bytes said sent held ended old new
+pub heard_images : {parts : List HearPart} (bytes : List ℕ) (said sent held ended : Bool) (old new : Device)
+    → HearsAndSays parts bytes said sent held ended old new
     → (p : Left) → may_leave new p → (q : Left) × may_leave old q × (p.image ≡ q.image)
 heard_images bytes said sent held ended old new h p could = let from = h.call.time.now p could in (from.0, from.1, from.2.image)
 
 -- more is heard behind what was heard, and said
-pub hears_on : (bytes further : List ℕ) (said held ended : Bool) (old mid new : Device) → HearsAndSays bytes said true true false old mid
-    → HearsAndSays further false true held ended mid new → HearsAndSays (bytes ++ further) said true held ended old new
-hears_on bytes further true held ended old mid new one two = hears_twice bytes further true held ended old mid new true false refl one two
-hears_on bytes further false held ended old mid new one two = hears_twice bytes further true held ended old mid new false false refl one two
+pub hears_on : (parts others : List HearPart) (bytes further : List ℕ) (said held ended : Bool) (old mid new : Device)
+    → HearsAndSays parts bytes said true true false old mid → HearsAndSays others further false true held ended mid new
+    → HearsAndSays (parts ++ map (part_behind bytes (interim_bytes said)) others) (bytes ++ further) said true held ended old new
+hears_on parts others bytes further true held ended old mid new one two =
+    hears_twice parts others bytes further true held ended old mid new true false refl one two
+hears_on parts others bytes further false held ended old mid new one two =
+    hears_twice parts others bytes further true held ended old mid new false false refl one two
 
 -- a text goes on with what was handed on
 pub text_on : (all text unread further piece rest : List ℕ) → all ≡ text ++ unread → unread ++ further ≡ piece ++ rest
@@ -133,6 +138,19 @@ pub unfinished : WaitingIsUnfinished
 unfinished base n all waits = record {
   request = λ front rest r is spells. none_whole front rest all is waits r.head r.body spells.is_whole;
   refusal = λ front rest r is refuses. none_refused base front rest all is waits r refuses;
+}
+
+pub bytes-interim : (said : Bool) → bytes_of_pieces (interim_pieces (interim_where said)) ≡ interim_bytes said
+bytes-interim true = append-nil interim_text
+bytes-interim false = refl
+
+-- and a hearing that begins there owes nothing
+pub waiting_owes : WaitingOwesNothing
+waiting_owes base n unread part w = record {
+  cutting = record { interim = interim_where w.said; takes_moment = false };
+  unfinished = unfinished base n (unread ++ part.heard) w.next;
+  cuts = waiting (interim_where w.said) w.next w.interim;
+  told_is = w.told ∙ sym (bytes-interim w.said);
 }
 
 -- ---- media PUTs
@@ -251,6 +269,12 @@ media_opened taken all said new shown o part = record {
   begun = media_heads taken all said new shown o part;
   cut = media_cut taken all said new shown o part;
   unfinished = media_unfinished taken all said new shown o part;
+  waits = λ base short. record {
+    cutting = record { interim = interim_where said; takes_moment = true };
+    unfinished = media_unfinished taken all said new shown o part base short;
+    cuts = media_cut taken all said new shown o part short;
+    told_is = sym (bytes-interim said);
+  };
   heard = omega (arith, heard_opened next_with_part, length-append o.text part);
 }
   where

@@ -1,11 +1,12 @@
 -- What a turn of hearing a request comes to.
-use Rattle.std.proofs.Common.{◌≡◌, ◌≢◌, ◌<◌, ◌+◌, ℕ, zero, suc, Bool, true, false, not, ◌&&◌, ◌||◌, ◌==◌, List, [], ◌∷◌, ◌++◌, length, take, drop, Some, IsTrue, rules, refl, sym, ap, ◌∙◌, subst, arith, length-append, take-append-drop}
+use Rattle.std.proofs.Common.{◌≡◌, ◌≢◌, ◌<◌, ◌+◌, ℕ, zero, suc, Bool, true, false, not, ◌&&◌, ◌||◌, ◌==◌, List, [], ◌∷◌, ◌++◌, length, map, take, drop, Some, IsTrue, rules, refl, sym, ap, ◌∙◌, subst, arith, length-append, take-append-drop}
 use Rattle.std.specs.Prelude.{◌↔◌}
 use Rattle.std.proofs.lemmas.Bool.{false≢true}
 use Rattle.std.proofs.lemmas.Bool.Decides.{nat_tests}
 use Rattle.std.proofs.lemmas.List.{append-nil, append_assoc, length-take-le}
 use Rattle.httparse.specs.Grammar.{RequestHead}
-use Rattle.disk_trait.specs.Device.{Device}
+use Rattle.std.specs.List.{AllByRecursion}
+use Rattle.disk_trait.specs.Device.{Device, HearEnd, Unheard}
 use Rattle.http_wire.specs.Agreeing.{MayTurn}
 use Rattle.http_wire.specs.Feeds.{AnswersBy, Fed, GivesHead, GivesWhole, IsInterimDue, StepsTo, Turns, feed_room, heard, kept_count}
 use Rattle.http_wire.specs.Feeds as feeds
@@ -23,8 +24,9 @@ use Rattle.http_wire.proofs.Interims.{same_head}
 use Rattle.http_wire.proofs.Room.{head_has_room, waits_with_room}
 use Rattle.media_rows.specs.declared.refusal.Refusal.{Refusal}
 use Rattle.tams_machine.specs.Requests.{HadInterim, IsCut, ends_behind, interim_of, interim_text, other, waiting, within}
-use Rattle.request_hearing.specs.Hearing.{IsHeardAs, HearsAndSays, HearsRequest, GivesRequest, OpensMedia, IsRefusedByWire, IsUnsaid, IsWaiting, interim_where}
-use Rattle.request_hearing.specs.Turning.{FollowsTurn, HearingGoesOn, HasHeard, HearsBytes, IsDueBy, TurnsTo, end_of, turn_ended, turn_held, turn_said, unsaid_of}
+use Rattle.run_history.proofs.Hearings.{each-append}
+use Rattle.request_hearing.specs.Hearing.{GivesRequest, HearPart, HearsAndSays, HearsRequest, HearsWaiting, IsHeardAs, IsRefusedByWire, IsUnsaid, IsWaiting, OpensMedia, interim_bytes, interim_where, part_behind}
+use Rattle.request_hearing.specs.Turning.{FollowsTurn, HearingGoesOn, HasHeard, HearsBytes, IsDueBy, TurnsTo, end_of, one_part, turn_ended, turn_held, turn_said, unsaid_of}
 use Rattle.request_hearing.specs.declared.heard.Heard.{Heard}
 use Rattle.request_hearing.specs.declared.heard.Heard.TheVariants as heards
 use Rattle.request_hearing.specs.declared.heard.Turn.{Turn}
@@ -106,17 +108,35 @@ may_more old new may waits = record {
 pub room_more : (old new : Fed) → Turns old steps.More new → kept_count new < feed_room
 room_more old new waits = waits_with_room old new waits
 
+and_true : (b : Bool) → (b && not false) ≡ b
+and_true true = refl
+and_true false = refl
+
 pub none_long : (bytes : List ℕ) → length bytes ≡ 0 → bytes ≡ []
 none_long [] is = refl
 none_long (x ∷ bytes) is = absurd (omega (arith, is))
 
 module _ (old new : Fed) (due : Bool) (before now : Device) (waits : IsWaiting old.unread due old) where
   -- more was heard
+  -- a call of `hear` in front of all else
+  one_waits : (end : HearEnd) → AllByRecursion (HearsWaiting old.unread (interim_bytes (due && not false))) (one_part end)
+  one_waits end = (
+    record {
+      said = due;
+      told = append-nil (interim_bytes (due && not false)) ∙ ap interim_bytes (and_true due);
+      next = rw (append-nil old.unread) waits.next;
+      interim = rw (append-nil old.unread) waits.interim;
+    },
+    tt,
+  )
+
   pub turns_on : MayTurn old → (count : ℕ) → count ≢ 0 → HearsBytes count old new before now
       → FollowsTurn false due old.requests old.unread new before now (Waits due)
   turns_on may zero some h = absurd (some refl)
   turns_on may (suc count) some h = record {
+    parts = one_part h.end;
     bytes = h.bytes;
+    waits = one_waits h.end;
     leaves = let more_is : suc count == 0 ≡ false = search (arith, rules, nat_tests) in rw more_is at h.leaves;
     comes = (
       refl,
@@ -139,11 +159,13 @@ module _ (old new : Fed) (due : Bool) (before now : Device) (waits : IsWaiting o
     unread = is;
   }
 
-  ended_by : (bytes all : List ℕ) → old.unread ++ bytes ≡ all → IsWaiting (old.unread ++ bytes) due new → HearsAndSays bytes false true true true before now
+  ended_by : (bytes all : List ℕ) → old.unread ++ bytes ≡ all → IsWaiting (old.unread ++ bytes) due new → {end : HearEnd}
+      → HearsAndSays (one_part end) bytes false true true true before now
       → FollowsTurn false due old.requests old.unread new before now (Done (end_of all))
-  ended_by bytes [] is waits_still leaves = record { bytes = bytes; leaves = leaves; comes = (is, waits_still) }
-  ended_by bytes (x ∷ all) is waits_still leaves =
-      record { bytes = bytes; leaves = leaves; comes = (λ none. absurd (let same : x ∷ all ≡ [] = sym is ∙ none in cc), waits_still) }
+  ended_by bytes [] is waits_still {end} leaves =
+      record { parts = one_part end; bytes = bytes; leaves = leaves; waits = one_waits end; comes = (is, waits_still) }
+  ended_by bytes (x ∷ all) is waits_still {end} leaves =
+      record { parts = one_part end; bytes = bytes; leaves = leaves; waits = one_waits end; comes = (λ none. absurd (let same : x ∷ all ≡ [] = sym is ∙ none in cc), waits_still) }
 
   -- the peer's bytes ended
   pub turns_end : HearsBytes 0 old new before now → FollowsTurn false due old.requests old.unread new before now (Done (end_of new.unread))
@@ -152,11 +174,13 @@ module _ (old new : Fed) (due : Bool) (before now : Device) (waits : IsWaiting o
       ended_by h.bytes new.unread (sym is) (still h.bytes (none_long h.bytes h.size) is) h.leaves
 
   -- the hearing failed
-  pub turns_unheard : new ≡ old → HearsAndSays [] false true false false before now
+  pub turns_unheard : new ≡ old → HearsAndSays (one_part Unheard) [] false true false false before now
       → FollowsTurn false due old.requests old.unread new before now (Done heards.Unheard)
   turns_unheard same leaves = record {
+    parts = one_part Unheard;
     bytes = [];
     leaves = leaves;
+    waits = one_waits Unheard;
     comes = still [] refl (ap (λ (f : Fed). f.unread) same ∙ sym (append-nil old.unread));
   }
 
@@ -273,15 +297,38 @@ and_first true b e = refl
 and_first false b e = absurd (false≢true e)
 
 follows_unsaid : (old new : Fed) (step : FeedStep) (says : Bool) (before now : Device) → Turns old step new → IsInterimDue old.unread
-    → HearsAndSays [] says false false false before now → FollowsTurn says true old.requests old.unread new before now (Done (unsaid_of step))
+    → HearsAndSays [] [] says false false false before now → FollowsTurn says true old.requests old.unread new before now (Done (unsaid_of step))
 follows_unsaid old new steps.More says before now turns is_due leaves =
-    record { bytes = []; leaves = leaves; comes = comes_unsaid old new steps.More turns is_due }
+    record { parts = []; bytes = []; leaves = leaves; waits = tt; comes = comes_unsaid old new steps.More turns is_due }
 follows_unsaid old new (steps.Refused refusal) says before now turns is_due leaves =
-    record { bytes = []; leaves = leaves; comes = comes_unsaid old new (steps.Refused refusal) turns is_due }
+    record { parts = []; bytes = []; leaves = leaves; waits = tt; comes = comes_unsaid old new (steps.Refused refusal) turns is_due }
 follows_unsaid old new (steps.Whole shown) says before now turns is_due leaves =
-    record { bytes = []; leaves = leaves; comes = comes_unsaid old new (steps.Whole shown) turns is_due }
+    record { parts = []; bytes = []; leaves = leaves; waits = tt; comes = comes_unsaid old new (steps.Whole shown) turns is_due }
 follows_unsaid old new (steps.Head shown) says before now turns is_due leaves =
-    record { bytes = []; leaves = leaves; comes = comes_unsaid old new (steps.Head shown) turns is_due }
+    record { parts = []; bytes = []; leaves = leaves; waits = tt; comes = comes_unsaid old new (steps.Head shown) turns is_due }
+
+-- what was said of it before and within a turn
+said_in_all : (said due : Bool) → (said ≡ true → due ≡ true)
+    → interim_bytes (due && not (due && not said)) ++ interim_bytes (due && not said) ≡ interim_bytes (due && not false)
+said_in_all true true stays = append-nil interim_text
+said_in_all true false stays = refl
+said_in_all false true stays = refl
+said_in_all false false stays = refl
+
+-- calls that waited behind what was heard and told waited in all
+waits_behind : (unread before told heard said : List ℕ) (parts : List HearPart) → before ++ said ≡ told → (there : List ℕ) → unread ++ heard ≡ there
+    → AllByRecursion (HearsWaiting there told) parts → AllByRecursion (HearsWaiting unread before) (map (part_behind heard said) parts)
+waits_behind unread before told heard said [] is there at all = tt
+waits_behind unread before told heard said (p ∷ parts) is there at all =
+    let on : there ++ p.heard ≡ unread ++ (heard ++ p.heard) = ap (λ u. u ++ p.heard) (sym at) ∙ append_assoc unread heard p.heard in (
+      record {
+        said = all.0.said;
+        told = sym (append_assoc before said p.told) ∙ ap (λ t. t ++ p.told) is ∙ all.0.told;
+        next = rw (← on) all.0.next;
+        interim = rw (← on) all.0.interim;
+      },
+      waits_behind unread before told heard said parts is there at all.1,
+    )
 
 -- ---- a whole turn
 
@@ -290,22 +337,22 @@ module _ (old mid new : Fed) (said due : Bool) (before between after : Device) (
   stays : said ≡ true → due ≡ true
   stays so_is = tells.1 (was so_is)
 
-  pub turned_whole : (shown : Head) → GivesWhole old mid shown → HearsAndSays [] (due && not said) true true false before between
+  pub turned_whole : (shown : Head) → GivesWhole old mid shown → HearsAndSays [] [] (due && not said) true true false before between
       → TurnsTo said old.requests old.unread mid before between (Done (heards.Whole shown))
   turned_whole shown gives leaves =
-      record { due = due; stays = stays; follows = record { bytes = []; leaves = leaves; comes = comes_whole old mid due tells shown gives } }
+      record { due = due; stays = stays; follows = record { parts = []; bytes = []; leaves = leaves; waits = tt; comes = comes_whole old mid due tells shown gives } }
 
-  pub turned_media : (shown : Head) → GivesHead old mid shown → HearsAndSays [] (due && not said) true true false before between
+  pub turned_media : (shown : Head) → GivesHead old mid shown → HearsAndSays [] [] (due && not said) true true false before between
       → TurnsTo said old.requests old.unread mid before between (Done (heards.Media shown))
   turned_media shown gives leaves =
-      record { due = due; stays = stays; follows = record { bytes = []; leaves = leaves; comes = comes_media old mid due tells shown gives } }
+      record { due = due; stays = stays; follows = record { parts = []; bytes = []; leaves = leaves; waits = tt; comes = comes_media old mid due tells shown gives } }
 
-  pub turned_refused : (refusal : Refusal) → Turns old (steps.Refused refusal) mid → HearsAndSays [] (due && not said) true true false before between
+  pub turned_refused : (refusal : Refusal) → Turns old (steps.Refused refusal) mid → HearsAndSays [] [] (due && not said) true true false before between
       → TurnsTo said old.requests old.unread mid before between (Done (heards.Refused refusal))
   turned_refused refusal refuses leaves =
-      record { due = due; stays = stays; follows = record { bytes = []; leaves = leaves; comes = comes_refused old mid due tells refusal refuses } }
+      record { due = due; stays = stays; follows = record { parts = []; bytes = []; leaves = leaves; waits = tt; comes = comes_refused old mid due tells refusal refuses } }
 
-  pub turned_unsaid : (step : FeedStep) → Turns old step mid → (due && not said) ≡ true → HearsAndSays [] (due && not said) false false false before between
+  pub turned_unsaid : (step : FeedStep) → Turns old step mid → (due && not said) ≡ true → HearsAndSays [] [] (due && not said) false false false before between
       → TurnsTo said old.requests old.unread mid before between (Done (unsaid_of step))
   turned_unsaid step turns asked leaves =
       let so_is : due ≡ true = and_first due (not said) asked in
@@ -316,7 +363,7 @@ module _ (old mid new : Fed) (said due : Bool) (before between after : Device) (
             (follows_unsaid old mid step (due && not said) before between turns (tells.0 so_is) leaves);
       }
 
-  pub turned_more : (turn : Turn) → Turns old steps.More mid → HearsAndSays [] (due && not said) true true false before between
+  pub turned_more : (turn : Turn) → Turns old steps.More mid → HearsAndSays [] [] (due && not said) true true false before between
       → FollowsTurn false due mid.requests mid.unread new between after turn → TurnsTo said old.requests old.unread new before after turn
   turned_more turn waits says more_heard =
       let here : FollowsTurn false due old.requests old.unread new between after turn =
@@ -326,8 +373,12 @@ module _ (old mid new : Fed) (said due : Bool) (before between after : Device) (
         due = due;
         stays = stays;
         follows = record {
+          parts = map (part_behind [] (interim_bytes (due && not said))) here.parts;
           bytes = here.bytes;
-          leaves = says_then (due && not said) (turn_said turn) (turn_held turn) (turn_ended turn) here.bytes before between after says here.leaves;
+          leaves = says_then (due && not said) (turn_said turn) (turn_held turn) (turn_ended turn) here.parts here.bytes before between after says
+              here.leaves;
+          waits = waits_behind old.unread (interim_bytes (due && not (due && not said))) (interim_bytes (due && not false)) []
+              (interim_bytes (due && not said)) here.parts (said_in_all said due stays) old.unread (append-nil old.unread) here.waits;
           comes = here.comes;
         };
       }
@@ -339,6 +390,12 @@ said_by_then true due stays = sym (stays refl)
 said_by_then false true stays = refl
 said_by_then false false stays = refl
 
+said_before_it : (said due : Bool) → (said ≡ true → due ≡ true) → said ≡ (due && not (due && not said))
+said_before_it true true stays = refl
+said_before_it true false stays = absurd (false≢true (stays refl))
+said_before_it false true stays = refl
+said_before_it false false stays = refl
+
 at_most_once : (said due : Bool) → said && (due && not said) ≡ false
 at_most_once true true = refl
 at_most_once true false = refl
@@ -346,8 +403,10 @@ at_most_once false due = refl
 
 pub heard_first : (first : Fed) (d : Device) → MayTurn first → HasHeard first first d d false 0
 heard_first first d may = record {
+  parts = [];
   bytes = [];
   leaves = hears_nothing d;
+  waits = tt;
   goes = record { unread = sym (append-nil first.unread); requests = refl; may = may; due = λ no. absurd (false≢true no) };
   moved = omega arith;
   few = omega arith;
@@ -357,12 +416,23 @@ module _ (first now new : Fed) (before between after : Device) (said : Bool) (tu
   all_bytes : (bytes : List ℕ) → now.unread ++ bytes ≡ first.unread ++ (h.bytes ++ bytes)
   all_bytes bytes = ap (λ u. u ++ bytes) h.goes.unread ∙ append_assoc first.unread h.bytes bytes
 
+  -- the calls of `hear` so far, and those of the turn
+  abbrev parts_by : (turn : Turn) (t : TurnsTo said now.requests now.unread new between after turn) → List HearPart
+  parts_by turn t = h.parts ++ map (part_behind h.bytes (interim_bytes said)) t.follows.parts
+
+  waits_by : (turn : Turn) (t : TurnsTo said now.requests now.unread new between after turn)
+      → AllByRecursion (HearsWaiting first.unread []) (parts_by turn t)
+  waits_by turn t =
+      each-append _ h.parts _ h.waits
+      (waits_behind first.unread [] (interim_bytes (t.due && not (t.due && not said))) h.bytes (interim_bytes said) t.follows.parts
+      (ap interim_bytes (said_before_it said t.due t.stays)) now.unread (sym h.goes.unread) t.follows.waits)
+
   leaves_by : (turn : Turn) (t : TurnsTo said now.requests now.unread new between after turn)
-      → HearsAndSays (h.bytes ++ t.follows.bytes) t.due (turn_said turn) (turn_held turn) (turn_ended turn) before after
+      → HearsAndSays (parts_by turn t) (h.bytes ++ t.follows.bytes) t.due (turn_said turn) (turn_held turn) (turn_ended turn) before after
   leaves_by turn t =
-      subst (λ s. HearsAndSays (h.bytes ++ t.follows.bytes) s (turn_said turn) (turn_held turn) (turn_ended turn) before after)
+      subst (λ s. HearsAndSays (parts_by turn t) (h.bytes ++ t.follows.bytes) s (turn_said turn) (turn_held turn) (turn_ended turn) before after)
       (said_by_then said t.due t.stays)
-      (hears_twice h.bytes t.follows.bytes (turn_said turn) (turn_held turn) (turn_ended turn) before between after said (t.due && not said)
+      (hears_twice h.parts t.follows.parts h.bytes t.follows.bytes (turn_said turn) (turn_held turn) (turn_ended turn) before between after said (t.due && not said)
       (at_most_once said t.due) h.leaves t.follows.leaves)
 
   pub heard_more : (later : Bool) → TurnsTo said now.requests now.unread new between after (Waits later)
@@ -371,8 +441,10 @@ module _ (first now new : Fed) (before between after : Device) (said : Bool) (tu
       let (same, some, few, goes) = t.follows.comes in
       let longer = length-append h.bytes t.follows.bytes in
       record {
+        parts = parts_by (Waits later) t;
         bytes = h.bytes ++ t.follows.bytes;
         leaves = rw same (leaves_by (Waits later) t);
+        waits = waits_by (Waits later) t;
         goes = rw same (subst (λ n. HearingGoesOn n (first.unread ++ (h.bytes ++ t.follows.bytes)) t.due new) h.goes.requests
             (subst (λ u. HearingGoesOn now.requests u t.due new) (all_bytes t.follows.bytes) goes));
         moved = omega (arith, h.moved, some, longer);
@@ -381,9 +453,11 @@ module _ (first now new : Fed) (before between after : Device) (said : Bool) (tu
 
   pub heard_done : (result : Heard) → TurnsTo said now.requests now.unread new between after (Done result) → HearsRequest first new before after result
   heard_done result t = record {
+    parts = parts_by (Done result) t;
     bytes = h.bytes ++ t.follows.bytes;
     said = t.due;
     leaves = leaves_by (Done result) t;
+    waits = waits_by (Done result) t;
     comes = subst (λ n. IsHeardAs n (first.unread ++ (h.bytes ++ t.follows.bytes)) t.due new result) h.goes.requests
         (subst (λ u. IsHeardAs now.requests u t.due new result) (all_bytes t.follows.bytes) t.follows.comes);
   }

@@ -2,16 +2,16 @@
 -- said to it before its answer. Over any machine.
 use Rattle.std.specs.Prelude.{◌≡◌, ◌<◌, ◌+◌, ℕ, Bool, true, false, List, [], ◌∷◌, ◌++◌, length, All}
 use Rattle.std.specs.List.{AllByRecursion}
-use Rattle.disk_trait.specs.Device.{Connection, Device}
+use Rattle.disk_trait.specs.Device.{Connection, Device, HearCall}
 use Rattle.site_edge.specs.Links.{Sends, after_say, change_last}
-use Rattle.run_history.specs.Machine.{Machine}
+use Rattle.run_history.specs.Machine.{Cutting, Machine}
 use Rattle.run_history.specs.Steps.{IsStep, Reply, Stage, Step, effect, interim_pieces, is_last, step_text}
-use Rattle.run_history.specs.Sessions.{AreServed, AreSteps, Session, Whole, after_sessions, after_steps, all_moments, answers_in, bytes_of_pieces, most_answers, pieces_of, skips_by, stops, stops_in_answer, texts_of}
+use Rattle.run_history.specs.Sessions.{AreServed, AreSteps, IsUnfinished, Session, Whole, after_sessions, after_steps, all_moments, answers_in, bytes_of_pieces, most_answers, pieces_of, skips_by, stops, stops_in_answer, texts_of}
 use Rattle.run_history.specs.Traces.{Trace, start_of, states_of, trace_of, with_piece}
 use Rattle.run_history.specs.Runs.{Beginning, Reached, stops_writing}
 use Rattle.run_history.specs.Handing.{HasHanded}
 use Rattle.run_history.specs.Laws.{under_way}
-use Rattle.run_history.specs.Serving.{RunCounts, Held, connection_with, counts_of_run, run_stops}
+use Rattle.run_history.specs.Serving.{AreOnTime, RunCounts, Held, connection_with, counts_of_run, run_stops}
 use Rattle.request_hearing.specs.Hearing.{interim_bytes, interim_where, with_interim}
 
 -- What is known of a connection under way behind these others, apart from the device and from what
@@ -40,17 +40,29 @@ abbrev pub asked_trace : {State Request : Type 0} → Machine State Request → 
 asked_trace m b said finished steps =
     with_interim said (trace_of m b.state (finished ++ under_way steps Whole ∷ []))
 
+-- What a hearing waits for behind so many requests: one of which these bytes were heard isn't
+-- whole, and this is all that it asks for so far.
+pub record WaitsFor {State Request : Type 0} (m : Machine State Request) (n : ℕ)
+    (heard told : List ℕ) : Type 0 where
+  pub cutting : Cutting
+  pub unfinished : IsUnfinished m n heard
+  pub cuts : m.cuts heard cutting
+  pub told_is : told ≡ bytes_of_pieces (interim_pieces cutting.interim)
+
 -- A connection is under way behind others, and a request more has begun on it: of it these bytes
 -- are unread, and its interim response was said where `said` is true.
 pub record Open {State Request : Type 0} (m : Machine State Request) (b : Beginning State)
     (d : Device) (given : List ℕ) (held : Held State) (said : Bool)
     (finished : List (Session Request)) (steps : List (Step Request)) (n : RunCounts) : Type 0 where
   pub connections : List Connection
+  pub hearings : List HearCall
   pub so_far : IsUnderWay m b connections given held.state held.taken finished steps n
   pub connections_are : d.link.connections ≡ b.before ++ (connections
       ++ connection_with (texts_of steps ++ held.unread)
       (bytes_of_pieces (pieces_of m (after_sessions m (start_of b.state) finished) steps)
-      ++ interim_bytes said) ∷ [])
+      ++ interim_bytes said) hearings ∷ [])
+  pub on_time : AreOnTime m (after_sessions m (start_of b.state) finished)
+      (texts_of steps ++ held.unread) steps hearings
 
 -- The same, and nothing was changed for it so far.
 pub record Asking {State Request : Type 0} (m : Machine State Request) (b : Beginning State)

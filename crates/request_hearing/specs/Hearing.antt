@@ -1,9 +1,12 @@
 -- What hearing a request comes to: what it leaves of a site, and what is given of the bytes that
 -- were heard (RFC 9112, sections 2 and 9; RFC 9110, section 10.1.1).
-use Rattle.std.specs.Prelude.{◌≡◌, ◌≢◌, ◌<◌, ◌≤◌, ◌+◌, ℕ, Bool, true, false, ◌||◌, not, List, [], ◌++◌, length, take, Option, Some, None, if◌then◌else◌}
+use Rattle.std.specs.Prelude.{◌≡◌, ◌≢◌, ◌<◌, ◌≤◌, ◌+◌, ℕ, Bool, true, false, ◌&&◌, ◌||◌, not, List, [], ◌++◌, length, map, take, Option, Some, None, if◌then◌else◌}
+use Rattle.std.specs.List.{AllByRecursion}
 use Rattle.httparse.specs.Grammar.{RequestHead}
-use Rattle.disk_trait.specs.Device.{Connection, Device}
+use Rattle.disk_trait.specs.Device.{Connection, Device, HearCall, HearEnd}
+use Rattle.disk_trait.specs.Device as devices
 use Rattle.site_edge.specs.Links.{LinkCall, SamePeers, Sends, Tells, change_last}
+use Rattle.site_edge.specs.Saying.{IsPrefix}
 use Rattle.http_wire.specs.Feeds.{Fed, TellsBody, TellsHead, feed_room, handed_on, heard, left_of}
 use Rattle.http_wire.specs.Framing.{is_media, wants_interim}
 use Rattle.http_wire.specs.Heads.{more, refused, whole}
@@ -32,28 +35,71 @@ interim_where said = if said then Some interim_text else None
 abbrev pub interim_bytes : Bool → List ℕ
 interim_bytes said = if said then interim_text else []
 
--- a connection that heard and was told these bytes more, that heard its peer's end, or on which a
--- call failed
-abbrev pub after_hearing : List ℕ → List ℕ → Bool → Bool → Connection → Connection
-after_hearing bytes sent ended failed c = record {
-  heard = c.heard ++ bytes;
-  ended = ended || c.ended;
-  failed = failed || c.failed;
-  told = c.told ++ sent;
+-- A call of `hear` among others on a connection: what these had heard and told before it, and how
+-- it ended.
+pub record HearPart : Type 0 where
+  pub heard : List ℕ
+  pub told : List ℕ
+  pub end : HearEnd
+
+-- the call at its place in its connection
+abbrev pub place_call : Connection → HearPart → HearCall
+place_call c part = record {
+  heard = length (c.heard ++ part.heard);
+  told = length (c.told ++ part.told);
+  unsaid = c.unsaid;
+  end = part.end;
 }
 
--- What calls leave of a site that heard these bytes, and said the interim response where `said` is
--- true: all of it where `whole` is, and otherwise a prefix. They are seen as one call of the link,
--- which succeeds where `held` is true. The end of the peer's bytes was heard where `ended` is.
-pub record HearsAndSays (bytes : List ℕ) (said whole held ended : Bool) (old new : Device) : Type 0
-  where
-    pub call : LinkCall (Tells false (interim_bytes said)) (Tells whole (interim_bytes said)) held
-        old new
-    pub peers : SamePeers old new
-    pub under_way : new.link.under_way ≡ old.link.under_way
-    pub connections : old.tells ≡ true → (sent : List ℕ) × Sends whole (interim_bytes said) sent
-        × (new.link.connections
-        ≡ change_last (after_hearing bytes sent ended (not held)) old.link.connections)
+-- the same call behind more that was heard and told
+abbrev pub part_behind : List ℕ → List ℕ → HearPart → HearPart
+part_behind heard told part =
+    record { heard = heard ++ part.heard; told = told ++ part.told; end = part.end }
+
+-- A connection that heard and was told these bytes more, by these calls of `hear`, that heard its
+-- peer's end, or on which a hearing or a saying failed. The calls are listed unless one failed
+-- before.
+abbrev pub after_hearing : List HearPart → List ℕ → List ℕ → Bool → Bool → Bool → Connection
+    → Connection
+after_hearing parts bytes sent ended unheard unsaid c = record {
+  heard = c.heard ++ bytes;
+  told = c.told ++ sent;
+  ended = ended || c.ended;
+  unheard = unheard || c.unheard;
+  unsaid = unsaid || c.unsaid;
+  hearings = if c.unheard then c.hearings else c.hearings ++ map (place_call c) parts;
+}
+
+-- A call of `hear` among those that heard and told this. Only the last may have failed.
+pub record IsPartOf (heard told : List ℕ) (unheard : Bool) (part : HearPart) : Type 0 where
+  pub prefix : IsPrefix part.heard heard
+  pub failed : part.end ≡ devices.Unheard
+      → (unheard ≡ true) × (part.heard ≡ heard) × (part.told ≡ told)
+
+-- What calls leave of a site that heard these bytes by these calls of `hear`, and said the interim
+-- response where `said` is true: all of it where `whole` is, and otherwise a prefix. They are seen
+-- as one call of the link, which succeeds where `held` is true: a hearing failed where it isn't,
+-- and `whole` is. The end of the peer's bytes was heard where `ended` is.
+pub record HearsAndSays (parts : List HearPart) (bytes : List ℕ) (said whole held ended : Bool)
+    (old new : Device) : Type 0 where
+  pub call : LinkCall (Tells false (interim_bytes said)) (Tells whole (interim_bytes said)) held
+      old new
+  pub peers : SamePeers old new
+  pub under_way : new.link.under_way ≡ old.link.under_way
+  pub parts_are : AllByRecursion (IsPartOf bytes (interim_bytes said) (whole && not held)) parts
+  pub connections : old.tells ≡ true → (sent : List ℕ) × Sends whole (interim_bytes said) sent
+      × (new.link.connections
+      ≡ change_last (after_hearing parts bytes sent ended (whole && not held) (not whole))
+      old.link.connections)
+
+-- A call of `hear` on a connection of whose request these bytes were unread, and which had been
+-- told this of its interim response, before the calls that it is among. When it began nothing whole
+-- stood in what had been heard, and the interim response had been said exactly where it was due.
+pub record HearsWaiting (unread before : List ℕ) (part : HearPart) : Type 0 where
+  pub said : Bool
+  pub told : before ++ part.told ≡ interim_bytes said
+  pub next : IsNext (unread ++ part.heard) more
+  pub interim : HadInterim (unread ++ part.heard) (interim_where said)
 
 -- a trace, and the interim response where it was said
 abbrev pub with_interim : {State : Type 0} → Bool → Trace State → Trace State
@@ -166,10 +212,12 @@ IsHeardAs taken all said new MediaUnsaid = IsUnsaid all said true
 
 -- What hearing a request comes to, from one state of the feed and the site to another.
 pub record HearsRequest (old new : Fed) (before now : Device) (result : Heard) : Type 0 where
+  pub parts : List HearPart
   pub bytes : List ℕ
   pub said : Bool
-  pub leaves : HearsAndSays bytes said (saying_held result) (link_held result) (has_ended result)
-      before now
+  pub leaves : HearsAndSays parts bytes said (saying_held result) (link_held result)
+      (has_ended result) before now
+  pub waits : AllByRecursion (HearsWaiting old.unread []) parts
   pub comes : IsHeardAs old.requests (old.unread ++ bytes) said new result
 
 -- ---- the body of a media PUT
@@ -206,9 +254,18 @@ BodyComesTo old bytes out new (bodies.Piece count) = IsPiece old bytes out count
 BodyComesTo old bytes out new bodies.Ended = IsBare old bytes new
 BodyComesTo old bytes out new bodies.Unheard = IsBare old bytes new
 
+-- A call of `hear` for a piece of the body, in front of all else, where nothing was unread.
+pub record HearsBare (old : Fed) (part : HearPart) : Type 0 where
+  pub unread : old.unread ≡ []
+  pub heard : part.heard ≡ []
+  pub told : part.told ≡ []
+
 -- What hearing a piece of the body of a media PUT comes to.
 pub record HearsBody (old new : Fed) (out : List ℕ) (before now : Device) (result : Body) : Type 0
   where
+    pub parts : List HearPart
     pub bytes : List ℕ
-    pub leaves : HearsAndSays bytes false true (body_held result) (body_ended result) before now
+    pub leaves : HearsAndSays parts bytes false true (body_held result) (body_ended result) before
+        now
+    pub waits : AllByRecursion (HearsBare old) parts
     pub comes : BodyComesTo old bytes out new result

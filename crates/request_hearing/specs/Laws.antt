@@ -13,7 +13,8 @@ use Rattle.run_history.specs.Steps.{Cut, IsStep, Refused}
 use Rattle.tams_machine.specs.Answers.{heard_body}
 use Rattle.tams_machine.specs.Machine.{tams_machine}
 use Rattle.tams_machine.specs.Requests.{Heads, IsCut, SpellsRequest, TamsRequest, interim_text, wire_response}
-use Rattle.request_hearing.specs.Hearing.{OpensMedia, IsRefusedByWire, IsUnsaid, IsWaiting, interim_where}
+use Rattle.request_hearing.specs.Asking.{WaitsFor}
+use Rattle.request_hearing.specs.Hearing.{HearPart, HearsWaiting, IsRefusedByWire, IsUnsaid, IsWaiting, OpensMedia, interim_bytes, interim_where}
 
 -- what the wire refuses
 abbrev pub RefusalsAreSteps : Type 0
@@ -32,6 +33,12 @@ WaitingIsCut = (base : List ℕ) (n : ℕ) (s : StoreState) (all : List ℕ) (sa
 abbrev pub WaitingIsUnfinished : Type 0
 WaitingIsUnfinished = (base : List ℕ) (n : ℕ) (all : List ℕ) → IsNext all more
     → IsUnfinished (tams_machine base) n all
+
+-- a hearing that began where nothing whole stood waits for such a request, and owes it nothing
+abbrev pub WaitingOwesNothing : Type 0
+WaitingOwesNothing = (base : List ℕ) (n : ℕ) (unread : List ℕ) (part : HearPart)
+    → HearsWaiting unread [] part
+    → WaitsFor (tams_machine base) n (unread ++ part.heard) part.told
 
 -- a request whose interim response couldn't be said is cut
 abbrev pub UnsaidIsCut : Type 0
@@ -62,6 +69,8 @@ pub record OpenedAs (taken : ℕ) (said : Bool) (text : List ℕ) (head : Reques
       → IsCut (text ++ part) (record { interim = interim_where said; takes_moment = true })
   pub unfinished : (base : List ℕ) → length part < shown.length
       → IsUnfinished (tams_machine base) taken (text ++ part)
+  pub waits : (base : List ℕ) → length part < shown.length
+      → WaitsFor (tams_machine base) taken (text ++ part) (interim_bytes said)
   pub heard : heard_body (text ++ part) ≡ length part
 
 abbrev pub MediaIsOpened : Type 0

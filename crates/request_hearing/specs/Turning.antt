@@ -1,11 +1,12 @@
 -- What a hearing comes to, and a turn of hearing a request: what stands between two turns.
-use Rattle.std.specs.Prelude.{◌≡◌, ◌<◌, ◌≤◌, ◌+◌, ℕ, Bool, true, false, ◌==◌, ◌&&◌, not, List, [], ◌∷◌, ◌++◌, length, take, Result, Ok, Err, IsTrue, ◌↔◌}
-use Rattle.disk_trait.specs.Device.{Device}
+use Rattle.std.specs.Prelude.{◌≡◌, ◌<◌, ◌≤◌, ◌+◌, ℕ, zero, suc, Bool, true, false, ◌==◌, ◌&&◌, not, List, [], ◌∷◌, ◌++◌, length, take, Result, Ok, Err, IsTrue, ◌↔◌}
+use Rattle.std.specs.List.{AllByRecursion}
+use Rattle.disk_trait.specs.Device.{AtEnd, Device, Gave, HearEnd, Unheard}
 use Rattle.http_wire.specs.Agreeing.{MayTurn}
 use Rattle.http_wire.specs.Feeds.{Fed, IsInterimDue, feed_room, heard, kept_count}
 use Rattle.http_wire.specs.declared.stage.FeedStep.{FeedStep}
 use Rattle.http_wire.specs.declared.stage.FeedStep.TheVariants as steps
-use Rattle.request_hearing.specs.Hearing.{IsHeardAs, HearsAndSays, has_ended, link_held, saying_held}
+use Rattle.request_hearing.specs.Hearing.{HearPart, HearsAndSays, HearsWaiting, IsHeardAs, has_ended, interim_bytes, link_held, saying_held}
 use Rattle.request_hearing.specs.declared.heard.Heard.{Heard}
 use Rattle.request_hearing.specs.declared.heard.Heard.TheVariants.{Cut, Ended, MediaUnsaid, Unsaid}
 use Rattle.request_hearing.specs.declared.heard.Turn.{Turn}
@@ -23,19 +24,30 @@ abbrev pub heard_end : {E : Type 0} → Result ℕ E → Bool
 heard_end (Ok count) = count == 0
 heard_end (Err e) = false
 
+-- how it ended
+abbrev pub hearing_end : {E : Type 0} → Result ℕ E → HearEnd
+hearing_end (Ok zero) = AtEnd
+hearing_end (Ok (suc n)) = Gave (suc n)
+hearing_end (Err e) = Unheard
+
+-- a call of `hear` in front of all else, by how it ended
+abbrev pub one_part : HearEnd → List HearPart
+one_part end = record { heard = []; told = []; end = end } ∷ []
+
 -- So many bytes were heard, none at the end of the peer's. The feed had room for them.
 pub record HearsBytes (count : ℕ) (old new : Fed) (before now : Device) : Type 0 where
+  pub end : HearEnd
   pub bytes : List ℕ
   pub size : length bytes ≡ count
   pub few : kept_count old + count ≤ feed_room
   pub feed : new ≡ heard old bytes
-  pub leaves : HearsAndSays bytes false true true (count == 0) before now
+  pub leaves : HearsAndSays (one_part end) bytes false true true (count == 0) before now
 
 -- what a hearing comes to
 abbrev pub HearsMore : {E : Type 0} → Result ℕ E → Fed → Fed → Device → Device → Type 0
 HearsMore (Ok count) old new before now = HearsBytes count old new before now
 HearsMore (Err e) old new before now =
-    (new ≡ old) × HearsAndSays [] false true false false before now
+    (new ≡ old) × HearsAndSays (one_part Unheard) [] false true false false before now
 
 -- ---- a turn
 
@@ -88,9 +100,11 @@ TurnComesTo taken unread bytes said new (Done result) =
 -- interim response is said in it where `says` is true, and `said` is whether it was by then.
 pub record FollowsTurn (says said : Bool) (taken : ℕ) (unread : List ℕ) (new : Fed)
     (before now : Device) (turn : Turn) : Type 0 where
+  pub parts : List HearPart
   pub bytes : List ℕ
-  pub leaves : HearsAndSays bytes says (turn_said turn) (turn_held turn) (turn_ended turn)
+  pub leaves : HearsAndSays parts bytes says (turn_said turn) (turn_held turn) (turn_ended turn)
       before now
+  pub waits : AllByRecursion (HearsWaiting unread (interim_bytes (said && not says))) parts
   pub comes : TurnComesTo taken unread bytes said new turn
 
 -- A turn: the interim response is said where it is due and wasn't said yet.
@@ -110,8 +124,10 @@ end_of (byte ∷ bytes) = Cut
 -- Turns so far: none of their calls failed, and each heard a byte at least.
 pub record HasHeard (first now : Fed) (before after : Device) (said : Bool) (turns : ℕ) : Type 0
   where
+    pub parts : List HearPart
     pub bytes : List ℕ
-    pub leaves : HearsAndSays bytes said true true false before after
+    pub leaves : HearsAndSays parts bytes said true true false before after
+    pub waits : AllByRecursion (HearsWaiting first.unread []) parts
     pub goes : HearingGoesOn first.requests (first.unread ++ bytes) said now
     pub moved : turns ≤ length bytes
     pub few : length bytes ≤ feed_room

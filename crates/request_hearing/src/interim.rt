@@ -10,7 +10,7 @@ const INTERIM: &[u8] = b"HTTP/1.1 100 Continue\r\n\r\n";
 /// Says the interim response where it is asked for.
 pub(crate) fn say_interim<X: Site>(site: &mut X, asked: bool) -> Result<(), LinkFailed>
     requires under_way { (X.device site.old).link.under_way ≡ true }
-    ensures says { HearsAndSays [] asked (is_ok result) (is_ok result) false
+    ensures says { HearsAndSays [] [] asked (is_ok result) (is_ok result) false
         (X.device site.old) (X.device site.new) }
     ensures asked { OnErr result (asked ≡ true) }
 {

@@ -3,7 +3,7 @@ ghost use Rattle.std.specs.Prelude.{◌≡◌, ◌<◌, ◌≤◌, ◌↔◌, []
 ghost use Rattle.http_wire.specs.Agreeing.{MayTurn};
 ghost use Rattle.http_wire.specs.Feeds.{IsInterimDue, IsPlace, Turns, feed_room, kept_count, left_of, new_feed, span_bytes};
 ghost use Rattle.request_hearing.specs.Hearing.{HearsAndSays, HearsBody, HearsRequest, IsWaiting};
-ghost use Rattle.request_hearing.specs.Turning.{FollowsTurn, HearsMore, IsDueBy, TurnsTo, end_of, heard_bytes, heard_end, unsaid_of};
+ghost use Rattle.request_hearing.specs.Turning.{FollowsTurn, HearsMore, IsDueBy, TurnsTo, end_of, heard_bytes, heard_end, hearing_end, one_part, unsaid_of};
 
 use crate::heard::{Body, Heard, Turn};
 use crate::interim::{is_missing, say_interim};
@@ -220,8 +220,8 @@ fn hear_into<X: Site>(site: &mut X, buffer: &mut [u8], room: usize) -> Result<us
     requires under_way { (X.device site.old).link.under_way ≡ true }
     ensures len { length buffer.new ≡ length buffer.old }
     ensures few { IfOk result (λ count. count ≤ room) }
-    ensures hears { HearsAndSays (heard_bytes result buffer.new) false true (is_ok result)
-        (heard_end result) (X.device site.old) (X.device site.new) }
+    ensures hears { HearsAndSays (one_part (hearing_end result)) (heard_bytes result buffer.new) false
+        true (is_ok result) (heard_end result) (X.device site.old) (X.device site.new) }
 {
     let (free, _) = buffer.split_at_mut(room);
     site.hear(free)

@@ -109,7 +109,8 @@ fn compare_opened(alloc: Global, run: &Run) -> Result<(), Problem> {
     )
 }
 
-/// What words open: `nothing`, `plain` and a path, `fresh`, a length and a path, or `listen`, a port and a path.
+/// What words open: `nothing`, `plain` and a path, `fresh`, a length and a path, `listen`, a port and a path, or `dial` and a
+/// path.
 fn opened_by(alloc: Global, words: &TextList) -> Result<String, Problem> {
     Ok(match tams_top::devices(alloc, words)? {
         Wanted::Nothing => format!(in alloc; "nothing")?,
@@ -120,5 +121,6 @@ fn opened_by(alloc: Global, words: &TextList) -> Result<String, Problem> {
         Wanted::Listen(path, port) => {
             format!(in alloc; "listen {port} {}", path.bytes().escape_ascii())?
         }
+        Wanted::Dial(path) => format!(in alloc; "dial {}", path.bytes().escape_ascii())?,
     })
 }

@@ -3,18 +3,19 @@ use Rattle.std.proofs.Common.{◌≡◌, ◌≢◌, ◌+◌, ℕ, Bool, true, fa
 use Rattle.std.proofs.lemmas.Bool.{false≢true}
 use Rattle.std.proofs.lemmas.List.{append-nil, append_assoc, length-append}
 use Rattle.std.proofs.lemmas.List.Elements.{All-cons, All-nil}
-use Rattle.disk_trait.specs.Device.{Connection, Device, IsDevice, Left, as_read, may_leave}
+use Rattle.disk_trait.specs.Device.{Connection, Device, HearCall, IsDevice, Left, as_read, may_leave}
 use Rattle.disk_trait.specs.Calls.{Elapses, Unchanged}
 use Rattle.site_edge.specs.Links.{AddsConnection, change_last, fresh}
 use Rattle.site_edge.proofs.Theorems.{change_last_push}
 use Rattle.run_history.specs.Machine.{Machine}
 use Rattle.run_history.specs.Steps.{Answered, Cut, Piece, Refused, Stage, Starved, Step, Stopped}
-use Rattle.run_history.specs.Sessions.{AreServed, Hearing, IsServed, IsTold, LinkEnd, Saying, Session, Whole, after_sessions, after_steps, all_changes, all_moments, bytes_of_pieces, changes_of, has_link_failed, pieces_of, stops, texts_of}
+use Rattle.run_history.specs.Sessions.{AreServed, Hearing, IsServed, IsTold, LinkEnd, Saying, Session, Whole, after_sessions, after_steps, all_changes, all_moments, bytes_of_pieces, changes_of, has_hearing_failed, has_saying_failed, pieces_of, stops, texts_of}
 use Rattle.run_history.specs.Traces.{start_of, states_of, trace_of, with_connection}
 use Rattle.run_history.specs.Runs.{Beginning, Ran, Reached, run_stops_writing, stops_writing}
 use Rattle.run_history.specs.Handing.{HasHanded}
 use Rattle.run_history.specs.Laws.{under_way}
-use Rattle.run_history.specs.Serving.{RunCounts, Going, HasServed, Held, all_answers, counts_of_run, run_stops}
+use Rattle.run_history.specs.Serving.{RunCounts, Going, HasServed, Held, all_answers, connection_with, counts_of_run, run_stops}
+use Rattle.run_history.proofs.Hearings.{EndsOnTime}
 use Rattle.run_history.proofs.Growth.{all_changes-push, all_moments-push, scripts-push, stages_count, trace-opened, trace-same}
 use Rattle.run_history.proofs.Handed.{handed_link, handed_opened}
 use Rattle.run_history.proofs.Invariant.{parts_suffice, peers_come, quiet_calls, runs_begin}
@@ -103,6 +104,8 @@ goes_first {State} {Request} m b old new given sessions n h run time connections
     let writing = unwritten sessions run in
     record {
       connections = h.connections;
+      hearings = [];
+      on_time = tt;
       connections_are =
           connections ∙ ap (λ cs. cs ++ fresh ∷ []) h.connections_are ∙ append_assoc b.before h.connections (fresh ∷ []);
       served = h.served;
@@ -161,9 +164,14 @@ last_changed f before connections c now then then_is now_is =
 
 -- ---- what hearing leaves of a connection that is under way
 
--- a connection that heard its peer's end, or on which hearing failed
-abbrev pub after_end : LinkEnd → Bool → Connection → Connection
-after_end link ended c = record c { ended = ended; failed = has_link_failed link }
+-- a connection that heard its peer's end, or on which hearing failed, with these hearings
+abbrev pub after_end : LinkEnd → Bool → List HearCall → Connection → Connection
+after_end link ended calls c = record c { ended = ended; unheard = has_hearing_failed link; hearings = calls }
+
+unsaid-none : (link : LinkEnd) → link ≢ Saying → false ≡ has_saying_failed link
+unsaid-none Whole not_saying = refl
+unsaid-none Hearing not_saying = refl
+unsaid-none Saying not_saying = absurd (not_saying refl)
 
 told-whole : (link : LinkEnd) (pieces : List Piece) → link ≢ Saying → IsTold false link (bytes_of_pieces pieces) pieces
 told-whole Whole pieces not_saying = refl
@@ -172,17 +180,19 @@ told-whole Saying pieces not_saying = absurd (not_saying refl)
 
 -- the end of a connection of which no byte is unread
 pub ends_heard : {State Request : Type 0} (m : Machine State Request) (b : Beginning State) (old new : Device) (given : List ℕ) (held : Held State)
-    (finished : List (Session Request)) (steps : List (Step Request)) (n : RunCounts) (link : LinkEnd) (ended : Bool)
+    (finished : List (Session Request)) (steps : List (Step Request)) (n : RunCounts) (link : LinkEnd) (ended : Bool) (calls : List HearCall)
     → Going m b old given held finished steps n → Elapses Unchanged Unchanged old new
-    → new.link.connections ≡ change_last (after_end link ended) old.link.connections → held.unread ≡ [] → link ≢ Saying → (link ≡ Whole → ended ≡ true)
+    → new.link.connections ≡ change_last (after_end link ended calls) old.link.connections → held.unread ≡ [] → link ≢ Saying → (link ≡ Whole → ended ≡ true)
+    → EndsOnTime m (after_sessions m (start_of b.state) finished) steps (after_end link ended calls (connection_with (texts_of steps ++ held.unread)
+    (bytes_of_pieces (pieces_of m (after_sessions m (start_of b.state) finished) steps)) []))
     → new.handed ≡ old.handed → HasServed m b new given (finished ++ under_way steps link ∷ []) n
-ends_heard {State} {Request} m b old new given held finished steps n link ended g time connections none not_saying whole handed =
+ends_heard {State} {Request} m b old new given held finished steps n link ended calls g time connections none not_saying whole on_time handed =
     let going = open-going m steps g.stay in
     let pieces = pieces_of m (after_sessions m (start_of b.state) finished) steps in
     let quiet = quiet_calls State Request m b _ true false old new g.reached time in
     let traces = trace-link m b.state finished steps Whole link in
     ends_with m b new given finished (under_way steps link) n g.connections _
-    (last_changed (after_end link ended) b.before g.connections _ _ _ g.connections_are connections)
+    (last_changed (after_end link ended calls) b.before g.connections _ _ _ g.connections_are connections)
     g.served g.unstopped
     (record {
       rest = [];
@@ -191,8 +201,11 @@ ends_heard {State} {Request} m b old new given held finished steps n link ended 
       heard = ap (λ u. texts_of steps ++ u) none;
       rest_is = rest-none m 0 steps link g.stay;
       told = subst (λ s. IsTold s link (bytes_of_pieces pieces) pieces) (sym going.in_answer) (told-whole link pieces not_saying);
-      failed = refl;
+      unheard = refl;
+      unsaid = unsaid-none link not_saying;
       ended = end-heard m steps link ended whole;
+      owes = on_time.owes;
+      last = on_time.last;
     })
     (g.given_is ∙ ap (λ l. b.given ++ l) (moments-link m b.state finished steps Whole link))
     (g.counts ∙ counts-link m b.state finished steps Whole link)

@@ -33,7 +33,8 @@ pub data Failure : Type 0 where
 -- `heads n text request`: these are a whole head and some of its body, of a request that takes its
 -- moment at its head.
 -- `refuses text refusal`: the wire refuses these bytes so.
--- `cuts text cutting`: of a request that begins with these bytes, this was done before it was cut.
+-- `cuts text cutting`: of a request of which no more than these bytes was heard, this was done: it
+-- had its interim exactly where one is due to them.
 -- `interim`, `answer`, `no_memory`, `disk_fault`: what a request is told; an answer also by the
 -- moment that it took and the state.
 -- `may_fail failure`: the disk may fail there in a request, as the machine calls it there.

@@ -8,10 +8,12 @@ use Rattle.run_history.specs.Sessions.{Session, AreServed, all_moments, bytes_of
 use Rattle.run_history.specs.Traces.{Trace, IsLeft, CountAtMost, start_of, state_after, state_now, states_of, trace_of}
 
 -- where a run began: the state for which the file stood, the connections and the moments before it,
--- its first moment, and how many bytes the device had been handed
+-- how often it had been said that no peer will come, its first moment, and how many bytes the
+-- device had been handed
 pub record Beginning (State : Type 0) : Type 0 where
   pub state : State
   pub before : List Connection
+  pub closed : ℕ
   pub given : List ℕ
   pub moment : ℕ
   pub handed : ℕ

@@ -1,11 +1,11 @@
 -- A run that goes on: the connections that have ended, the one that is under way, and what they
 -- count.
-use Rattle.std.specs.Prelude.{◌≡◌, ◌<◌, ◌+◌, ◌||◌, ℕ, Bool, true, false, List, [], ◌∷◌, ◌++◌, length, All}
+use Rattle.std.specs.Prelude.{◌≡◌, ◌≢◌, ◌<◌, ◌+◌, ◌||◌, ℕ, Bool, true, false, List, [], ◌∷◌, ◌++◌, length, All}
 use Rattle.std.specs.List.{AllByRecursion}
-use Rattle.disk_trait.specs.Device.{Connection, Device}
+use Rattle.disk_trait.specs.Device.{Connection, Device, HearCall, Unheard}
 use Rattle.run_history.specs.Machine.{Machine}
-use Rattle.run_history.specs.Steps.{Piece, Step, Answered, Refused, Starved, Stopped, Cut, is_last}
-use Rattle.run_history.specs.Sessions.{AreServed, AreSteps, Session, Whole, after_sessions, after_steps, all_changes, all_moments, answers_in, bytes_of_pieces, most_answers, pieces_of, scripts_of, skips_in, stops, texts_of}
+use Rattle.run_history.specs.Steps.{Piece, Stage, Step, Answered, Refused, Starved, Stopped, Cut, is_last}
+use Rattle.run_history.specs.Sessions.{AreServed, AreSteps, OwesNothing, Session, Whole, after_sessions, after_steps, all_changes, all_moments, answers_in, bytes_of_pieces, most_answers, pieces_of, scripts_of, skips_in, stops, texts_of}
 use Rattle.run_history.specs.Traces.{start_of, states_of, trace_of}
 use Rattle.run_history.specs.Runs.{Beginning, Reached, run_stops_writing}
 use Rattle.run_history.specs.Handing.{HasHanded}
@@ -85,10 +85,22 @@ pub record Held (State : Type 0) : Type 0 where
   pub unread : List ℕ
   pub taken : ℕ
 
--- a connection that heard and was told this, and on which no call failed
-abbrev pub connection_with : List ℕ → List ℕ → Connection
-connection_with heard told =
-    record { heard = heard; ended = false; failed = false; told = told }
+-- a connection that heard and was told this, with these hearings, and on which no call failed
+abbrev pub connection_with : List ℕ → List ℕ → List HearCall → Connection
+connection_with heard told hearings = record {
+  heard = heard;
+  told = told;
+  ended = false;
+  unheard = false;
+  unsaid = false;
+  hearings = hearings;
+}
+
+-- Each of these calls of `hear` began when nothing was owed, and none failed.
+abbrev pub AreOnTime : {State Request : Type 0} → Machine State Request → Stage State → List ℕ
+    → List (Step Request) → List HearCall → Type 0
+AreOnTime m at heard steps =
+    AllByRecursion (λ call. OwesNothing m at heard steps call × (call.end ≢ Unheard))
 
 -- A connection is under way behind others: it had these steps, none of which ended it, and each
 -- byte that was heard is of one of them or unread.
@@ -96,9 +108,13 @@ pub record Going {State Request : Type 0} (m : Machine State Request) (b : Begin
     (d : Device) (given : List ℕ) (held : Held State) (finished : List (Session Request))
     (steps : List (Step Request)) (n : RunCounts) : Type 0 where
   pub connections : List Connection
+  pub hearings : List HearCall
   pub connections_are : d.link.connections ≡ b.before ++ (connections
       ++ connection_with (texts_of steps ++ held.unread)
-      (bytes_of_pieces (pieces_of m (after_sessions m (start_of b.state) finished) steps)) ∷ [])
+      (bytes_of_pieces (pieces_of m (after_sessions m (start_of b.state) finished) steps))
+      hearings ∷ [])
+  pub on_time : AreOnTime m (after_sessions m (start_of b.state) finished)
+      (texts_of steps ++ held.unread) steps hearings
   pub served : AreServed m (start_of b.state) connections finished
   pub unstopped : run_stops finished ≡ false
   pub given_is : given

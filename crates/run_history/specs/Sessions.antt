@@ -1,11 +1,11 @@
 -- Connections by their steps: the script, the states and the moments of each, and how one is
 -- served.
-use Rattle.std.specs.Prelude.{◌≡◌, ◌≢◌, ◌≤◌, ◌+◌, ℕ, suc, Bool, true, false, List, [], ◌∷◌, ◌++◌, None}
-use Rattle.std.specs.List.{flat_map}
-use Rattle.disk_trait.specs.Device.{Connection}
+use Rattle.std.specs.Prelude.{◌≡◌, ◌≢◌, ◌≤◌, ◌+◌, ◌||◌, ℕ, suc, Bool, true, false, List, [], ◌∷◌, ◌++◌, length, None}
+use Rattle.std.specs.List.{AllByRecursion, flat_map}
+use Rattle.disk_trait.specs.Device.{Connection, HearCall, Unheard}
 use Rattle.site_edge.specs.Saying.{IsPrefix}
-use Rattle.run_history.specs.Machine.{Machine, WireRefusal, InAnswer}
-use Rattle.run_history.specs.Steps.{Step, Answered, Refused, Starved, Stopped, Cut, Made, Skipped, Piece, Interim, Reply, Stage, effect, stage_after, piece_bytes, step_text, is_last, IsStep}
+use Rattle.run_history.specs.Machine.{Cutting, Machine, WireRefusal, InAnswer}
+use Rattle.run_history.specs.Steps.{Step, Answered, Refused, Starved, Stopped, Cut, Made, Skipped, Piece, Interim, Reply, Stage, effect, interim_pieces, stage_after, piece_bytes, step_text, is_last, IsStep}
 
 -- ---- the steps of one connection, from a stage of the run
 
@@ -146,11 +146,21 @@ IsTold false Hearing told pieces = told ≡ bytes_of_pieces pieces
 IsTold false Saying told pieces = IsToldPart told pieces
 IsTold true link told pieces = IsToldPart told pieces
 
+-- whether a hearing failed
+abbrev pub has_hearing_failed : LinkEnd → Bool
+has_hearing_failed Whole = false
+has_hearing_failed Hearing = true
+has_hearing_failed Saying = false
+
+-- whether a saying failed
+abbrev pub has_saying_failed : LinkEnd → Bool
+has_saying_failed Whole = false
+has_saying_failed Hearing = false
+has_saying_failed Saying = true
+
 -- whether a call of the link failed
 abbrev pub has_link_failed : LinkEnd → Bool
-has_link_failed Whole = false
-has_link_failed Hearing = true
-has_link_failed Saying = true
+has_link_failed link = has_hearing_failed link || has_saying_failed link
 
 -- Where nothing ended a connection and no call of its link failed, it was heard to its peer's end.
 abbrev pub EndIs : {State Request : Type 0} → Machine State Request → List (Step Request) → LinkEnd
@@ -164,6 +174,32 @@ EndIs m (Stopped ask failure ∷ []) link ended = Unit {0}
 EndIs m (Cut text interim moment ∷ []) link ended = link ≡ Whole → ended ≡ true
 EndIs m (step ∷ next ∷ steps) link ended = EndIs m (next ∷ steps) link ended
 
+-- The store owes nothing to a connection that heard these bytes, when it waits for more of them in
+-- a call of `hear`. What had been heard by then is the texts of the first of its steps, none of
+-- which ended it, and a part of a request behind them that isn't whole. And it had been told all
+-- that they ask for: the whole script of those steps, and the interim of that request where it is
+-- due. No saying had failed.
+pub record OwesNothing {State Request : Type 0} (m : Machine State Request) (at : Stage State)
+    (heard : List ℕ) (steps : List (Step Request)) (call : HearCall) : Type 0 where
+  pub front : List (Step Request)
+  pub rear : List (Step Request)
+  pub part : List ℕ
+  pub cutting : Cutting
+  pub steps_are : steps ≡ front ++ rear
+  pub stay : AllByRecursion (λ step. is_last m step ≡ false) front
+  pub prefix : IsPrefix (texts_of front ++ part) heard
+  pub unfinished : IsUnfinished m (length front) part
+  pub cuts : m.cuts part cutting
+  pub heard_is : call.heard ≡ length (texts_of front ++ part)
+  pub told_is : call.told
+      ≡ length (bytes_of_pieces (pieces_of m at front ++ interim_pieces cutting.interim))
+  pub said : call.unsaid ≡ false
+
+-- behind a call of `hear` that failed nothing more was heard or told
+pub record IsLastHearing (c : Connection) (call : HearCall) : Type 0 where
+  pub heard : call.end ≡ Unheard → call.heard ≡ length c.heard
+  pub told : call.end ≡ Unheard → call.told ≡ length c.told
+
 -- A connection was served by these steps, from a stage of the run.
 pub record IsServed {State Request : Type 0} (m : Machine State Request) (at : Stage State)
     (c : Connection) (session : Session Request) : Type 0 where
@@ -174,8 +210,11 @@ pub record IsServed {State Request : Type 0} (m : Machine State Request) (at : S
   pub rest_is : RestIs m 0 session.steps session.link rest
   pub told : IsTold (stops_in_answer session.steps) session.link c.told
       (pieces_of m at session.steps)
-  pub failed : c.failed ≡ has_link_failed session.link
+  pub unheard : c.unheard ≡ has_hearing_failed session.link
+  pub unsaid : c.unsaid ≡ has_saying_failed session.link
   pub ended : EndIs m session.steps session.link c.ended
+  pub owes : AllByRecursion (OwesNothing m at c.heard session.steps) c.hearings
+  pub last : AllByRecursion (IsLastHearing c) c.hearings
 
 -- ---- connections one after another
 

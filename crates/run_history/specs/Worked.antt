@@ -1,11 +1,11 @@
 -- A history worked out: a small machine over numbers, and six steps on four connections, each with
 -- what it comes to.
 use Rattle.std.specs.Prelude.{◌≡◌, ◌+◌, ◌-◌, ℕ, true, false, List, [], ◌∷◌, length, Option, Some, None, nat_lt, if◌then◌else◌}
-use Rattle.disk_trait.specs.Device.{Connection}
+use Rattle.disk_trait.specs.Device.{Connection, Gave, HearCall, HearEnd, Unheard}
 use Rattle.run_history.specs.Machine.{Machine, MachineReply, BeforeAnswer, InAnswer, InTurn}
 use Rattle.run_history.specs.Steps.{TakenRequest, CanFail, Step, Answered, Refused, Starved, Stopped, Cut, Made, Piece, Interim}
 use Rattle.run_history.specs.Steps as steps
-use Rattle.run_history.specs.Sessions.{Hearing, IsServed, Saying, Session, Whole, all_moments, scripts_of, skips_in}
+use Rattle.run_history.specs.Sessions.{Hearing, IsServed, LinkEnd, Saying, Session, Whole, all_moments, scripts_of, skips_in}
 use Rattle.run_history.specs.Handing.{all_cut, all_handed}
 use Rattle.run_history.specs.Runs.{StandsNow}
 use Rattle.run_history.specs.Traces.{Trace, begun, start_of, states_of, trace_of}
@@ -25,6 +25,11 @@ abbrev pub demand_interim : Demand → Option (List ℕ)
 demand_interim Show = None
 demand_interim (Add n) = Some (1 ∷ [])
 
+-- of nothing nothing was told, and of the head of an addition its interim
+abbrev pub IsCutAddition : List ℕ → Option (List ℕ) → Type 0
+IsCutAddition text None = text ≡ []
+IsCutAddition text (Some interim) = (text ≡ 101 ∷ []) × (interim ≡ 1 ∷ [])
+
 -- an addition hands the device a byte for each that it adds, and 10 more
 abbrev pub demand_handed : Demand → ℕ
 demand_handed Show = 0
@@ -37,7 +42,7 @@ adder = record {
   spells = λ n text d. text ≡ (demand_reply d 0).bytes;
   heads = λ n text d. ⊥;
   refuses = λ text refusal. (text ≡ 9 ∷ []) × (refusal.response ≡ 4 ∷ []);
-  cuts = λ text cutting. text ≡ 101 ∷ [];
+  cuts = λ text cutting. IsCutAddition text cutting.interim;
   interim = demand_interim;
   answer = λ d moment s. demand_reply d s;
   no_memory = λ d. 5 ∷ [];
@@ -135,35 +140,77 @@ pub record OtherSteps : Type 0 where
 
 -- ---- how a connection is served
 
--- the second of the six connections, which was told all, and had a byte behind its last request
-abbrev pub starved_connection : Connection
-starved_connection = record {
-  heard = 101 ∷ 3 ∷ 100 ∷ 0 ∷ 7 ∷ [];
+-- a connection on which no call failed, with these hearings
+abbrev pub unfailed : List ℕ → List ℕ → List HearCall → Connection
+unfailed heard told hearings = record {
+  heard = heard;
+  told = told;
   ended = false;
-  failed = false;
-  told = 1 ∷ 101 ∷ 3 ∷ 5 ∷ [];
+  unheard = false;
+  unsaid = false;
+  hearings = hearings;
 }
+
+-- a hearing behind so many bytes heard and told
+abbrev pub hears : ℕ → ℕ → HearEnd → HearCall
+hears heard told end = record { heard = heard; told = told; unsaid = false; end = end }
+
+-- The second of the six connections. The head of its addition was heard, and told its interim;
+-- then the rest of it was heard, another request, and a byte behind that.
+abbrev pub starved_connection : Connection
+starved_connection =
+    unfailed (101 ∷ 3 ∷ 100 ∷ 0 ∷ 7 ∷ []) (1 ∷ 101 ∷ 3 ∷ 5 ∷ []) (hears 0 0 (Gave 1)
+    ∷ hears 1 1 (Gave 4) ∷ [])
+
+-- what its session is to be, whatever its hearings
+abbrev pub starved_session : Session Demand
+starved_session = record {
+  steps = Answered (asks (Add 3) 11) Made ∷ Starved (asks Show 12) ∷ [];
+  link = Whole;
+}
+
+-- the same bytes, of which the rest of the addition was heard before its interim was told
+abbrev pub late_connection : Connection
+late_connection =
+    record starved_connection { hearings = hears 0 0 (Gave 1) ∷ hears 1 0 (Gave 4) ∷ [] }
+
+-- and the same, of which the second request was heard before the first was answered
+abbrev pub batch_connection : Connection
+batch_connection =
+    record starved_connection { hearings = hears 0 0 (Gave 2) ∷ hears 2 1 (Gave 3) ∷ [] }
 
 -- one that heard a whole request, and on which the next hearing failed
 abbrev pub unheard_connection : Connection
 unheard_connection =
-    record { heard = 101 ∷ 1 ∷ []; ended = false; failed = true; told = [] }
+    record (unfailed (101 ∷ 1 ∷ []) [] (hears 0 0 (Gave 2) ∷ hears 2 0 Unheard ∷ []))
+    { unheard = true }
+
+-- One that heard two requests at once and was told the answer to the first, and on which the next
+-- hearing failed.
+abbrev pub dropping_connection : Connection
+dropping_connection = record (unfailed (100 ∷ 0 ∷ 100 ∷ 0 ∷ []) (100 ∷ 3 ∷ [])
+    (hears 0 0 (Gave 4) ∷ hears 4 2 Unheard ∷ [])) { unheard = true }
 
 -- one that heard two requests and was told nothing, since the first saying failed
 abbrev pub silent_connection : Connection
 silent_connection =
-    record { heard = 101 ∷ 1 ∷ 100 ∷ 0 ∷ []; ended = false; failed = true; told = [] }
+    record (unfailed (101 ∷ 1 ∷ 100 ∷ 0 ∷ []) [] (hears 0 0 (Gave 4) ∷ [])) { unsaid = true }
 
--- The first is served by its session. The second isn't served where its whole request is left
--- unanswered, and the third isn't where a request behind the failed saying is taken in silence.
+-- The first is served by its session, and not where its interim comes late, nor where it waits for
+-- the second request before it answers the first. Nor is one served where its whole request is left
+-- unanswered; where the second of two is, whichever call of the link is said to have failed; and
+-- where a request behind a failed saying is taken in silence.
 pub record Serving : Type 0 where
-  pub starved : IsServed adder record { made = 1; state = 4 } starved_connection record {
-    steps = Answered (asks (Add 3) 11) Made ∷ Starved (asks Show 12) ∷ [];
-    link = Whole;
-  }
+  pub starved : IsServed adder record { made = 1; state = 4 } starved_connection starved_session
+  pub late : ¬ (IsServed adder record { made = 1; state = 4 } late_connection starved_session)
+  pub batch : ¬ (IsServed adder record { made = 1; state = 4 } batch_connection starved_session)
   pub unanswered : ¬ (IsServed adder (start_of 3) unheard_connection record {
     steps = [];
     link = Hearing;
+  })
+  pub dropped : (link : LinkEnd) → ¬ (IsServed adder (start_of 3) dropping_connection record {
+    steps = Answered (asks Show 10) Made ∷ [];
+    link = link;
   })
   pub silent : ¬ (IsServed adder (start_of 3) silent_connection record {
     steps = Answered (asks (Add 1) 10) Made ∷ Answered (asks Show 11) Made ∷ [];
@@ -178,8 +225,7 @@ writing_adder = record adder { may_fail = λ failure. failure ≡ BeforeAnswer t
 
 -- a connection that was told a byte of its answer
 abbrev pub broken_connection : Connection
-broken_connection =
-    record { heard = 100 ∷ 0 ∷ []; ended = false; failed = false; told = 100 ∷ [] }
+broken_connection = unfailed (100 ∷ 0 ∷ []) (100 ∷ []) (hears 0 0 (Gave 2) ∷ [])
 
 -- its session, where the disk failed within that answer
 abbrev pub broken_session : Session Demand
@@ -197,7 +243,7 @@ pub record Failing : Type 0 where
 
 -- a connection of which nothing was heard, nor its end
 abbrev pub open_connection : Connection
-open_connection = record { heard = []; ended = false; failed = false; told = [] }
+open_connection = unfailed [] [] []
 
 -- the disk failed while the record of an addition was being written
 abbrev pub torn_trace : Trace ℕ

@@ -1,5 +1,6 @@
 mod SendLemmas
 mod LineLemmas
+mod ListLemmas
 mod ConnectionLemmas
 mod MomentLemmas
 mod KeptLemmas

@@ -2,17 +2,21 @@
 use Rattle.std.proofs.Common.{arith, ◌+◌, ◌≡◌, ◌++◌, ◌∷◌, ◌&&◌, ◌||◌, ◌/◌, [], drop, ℕ, Bool, true, false, List, length, map, Option, Some, None, Result, Ok, Err, if◌then◌else◌, unwrap_or, refl, sym, ap, ◌∙◌}
 use Rattle.std.proofs.lemmas.Bool.Decides.{nat_tests}
 use Rattle.std.specs.Prelude.{◌==◌, MatchOption, IfSome, is_some, is_ok}
+use Rattle.std.specs.Option.{option_eq}
+use mathlib.Core.Bool.{beq}
 use Rattle.std.proofs.lemmas.List.{append-nil, append_assoc, map-append, take-append-drop}
-use Rattle.disk_trait.specs.Device.{Connection, Left}
+use Rattle.disk_trait.specs.Device.{Connection, Dials, Left}
 use Rattle.disk_trait.specs.Calls.{IsCounted, Elapses, Unchanged}
 use Rattle.disk_trait.specs.History.{kept_bytes}
+use Rattle.disk_trait.specs.MemoryDisk.{counted_on}
 use Rattle.site_edge.specs.Links.{LinkCall, Sends, Tells, AddsConnection, Begins, NextPeer, SiteHeard, Said, change_last, fresh, after_hear, after_say}
-use Rattle.site_edge.specs.Lines.{Talk, with_changed_connection, with_passed, told_more}
+use Rattle.site_edge.specs.Lines.{Talk, heard_more, unheard_once, with_changed_connection, with_passed, told_more}
 use Rattle.site_edge.specs.Tallies.{CountsCall}
+use Rattle.site_edge.specs.declared.fault.LinkFailed.{LinkFailed}
 use Rattle.site_edge.specs.declared.tally.Tally.{Tally}
 use Rattle.site_edge.specs.declared.span.Added.TheVariants.{Peer, Bytes}
-use Rattle.site_edge.specs.MemorySite.{peers_of, sent_by, SiteState, SiteCalled, IsKeptBySite, after_next, next_of, after_tell, is_one_left, told_of, connections_of, site_device}
-use Rattle.site_edge.proofs.ConnectionLemmas.{peers_kept, change_last-change_last, change_last_same, connection_changed, told_changed, told_kept}
+use Rattle.site_edge.specs.MemorySite.{peers_of, sent_by, SiteState, SiteCalled, IsKeptBySite, after_heard, after_next, next_of, after_tell, is_one_left, told_of, connections_of, site_device}
+use Rattle.site_edge.proofs.ConnectionLemmas.{heard_more-is, peers_kept, told-heard_more, change_last-change_last, change_last_same, connection_changed, told_changed, told_kept}
 use Rattle.site_edge.proofs.MomentLemmas.{EndsBy, SameLeft, ended_time, quiet_time, same_time, with_span}
 
 -- a link call, by its count of faults and its time
@@ -58,14 +62,11 @@ or_true : (b : Bool) → (b || true) ≡ true
 or_true true = refl
 or_true false = refl
 
-pub failed_mark : (E : Type 0) (e : E) (out : List ℕ) (c : Connection) → with_passed false c ≡ after_hear {E = E} (Err e) out c
-failed_mark E e out c = ap (λ failed. record c { failed = failed }) (or_true c.failed)
-
 pub heard_clause : (E : Type 0) (result : Result ℕ E) (out : List ℕ) (site : SiteState) (tally : Tally) (talks : List Talk)
     → tally.peer_faults ≡ site.tally.peer_faults → map (λ talk. talk.connection) talks ≡ change_last (after_hear result out) (connections_of site)
     → SiteHeard result out (site_device site) (site_device (record site { tally = tally; talks = talks }))
 heard_clause E result out site tally talks peer_faults connections = record {
-  peers = record { peer_faults = peer_faults; closed = refl };
+  peers = record { peer_faults = peer_faults; closed = refl; dials = refl };
   under_way = refl;
   connections = λ _. connections;
 }
@@ -152,7 +153,7 @@ said_clause true passes bytes site mid tally talks mid_is is peer_faults =
     let sent = kept_bytes passes bytes in
     let changed = said_changed passes sent site.talks talks (is ∙ ap (λ m. change_last (with_changed_connection (with_passed passes)) m.talks) mid_is) in
     rw mid_is (record {
-      peers = record { peer_faults = rw mid_is at peer_faults; closed = refl };
+      peers = record { peer_faults = rw mid_is at peer_faults; closed = refl; dials = refl };
       under_way = refl;
       connections = λ _. (sent, sends_kept passes bytes, changed_to (after_say passes sent) (after_say passes sent) site.talks talks (λ c. refl) changed);
     })
@@ -160,14 +161,14 @@ said_clause false passes bytes site mid tally talks mid_is is peer_faults =
     let marks : talks ≡ change_last (with_changed_connection (with_passed false)) site.talks = is
     ∙ ap (λ m. change_last (with_changed_connection (with_passed false)) m.talks) mid_is in
     rw mid_is (record {
-      peers = record { peer_faults = rw mid_is at peer_faults; closed = refl };
+      peers = record { peer_faults = rw mid_is at peer_faults; closed = refl; dials = refl };
       under_way = refl;
       connections =
           λ _. (
             [],
             sends_none bytes,
             changed_to (with_passed false) (after_say false []) site.talks talks
-                (λ c. ap (λ t. record c { told = t; failed = c.failed || true }) (sym (append-nil c.told))) marks,
+                (λ c. ap (λ t. record c { told = t; unsaid = c.unsaid || true }) (sym (append-nil c.told))) marks,
           );
     })
 
@@ -214,10 +215,17 @@ next_call E (sends ∷ later) site tally kept counted =
     link_call AddsConnection AddsConnection true site (record (next_of (sends ∷ later) site) { tally = tally }) refl counted
     (begun_time E sends later site tally kept)
 
+-- a count that rises, and one that stays
+pub closes : (n : ℕ) → IsCounted false n (counted_on n)
+closes n = record { never_falls = grind (arith, nat_tests); stays = λ wrong. cc; rises = λ _ room. grind (arith, nat_tests) }
+
+pub stays_counted : (n : ℕ) → IsCounted true n n
+stays_counted n = record { never_falls = omega arith; stays = λ _. refl; rises = λ wrong. cc }
+
 pub next_clause : (E : Type 0) (waiting : List (List ℕ)) (site : SiteState) (tally : Tally)
     → NextPeer {E = E} (Ok (is_one_left waiting)) (site_device site) (site_device (record (next_of waiting site) { tally = tally }))
-next_clause E [] site tally = record { under_way = refl; connections = λ _. refl; closed = λ _. sym (or_true site.closed) }
-next_clause E (sends ∷ later) site tally = record { under_way = refl; connections = λ _. simp map-append; closed = λ _. sym (or_false site.closed) }
+next_clause E [] site tally = record { under_way = refl; connections = λ _. refl; closed = λ _. closes site.closed; dials = refl }
+next_clause E (sends ∷ later) site tally = record { under_way = refl; connections = λ _. simp map-append; closed = λ _. stays_counted site.closed; dials = refl }
 
 -- all that a call which waits for a peer leaves
 pub record WaitsForPeer {E : Type 0} (result : Result Bool E) (old new : SiteState) : Type 0 where
@@ -235,7 +243,7 @@ failed_at E e site tally counts peers =
           link_call Unchanged Unchanged false site new refl counts.counted
           (quiet_time Unchanged site new (λ p. refl) (record { past = refl; spans = refl; since = refl; told = refl }));
       peers = peers;
-      next = record { under_way = refl; connections = λ _. refl; closed = λ _. refl };
+      next = record { under_way = refl; connections = λ _. refl; closed = λ _. stays_counted site.closed; dials = refl };
       fails = record { counts = counts; disk = refl; piece = refl; peers = refl };
     }
 
@@ -335,3 +343,101 @@ said_sent false passes bytes site mid tally talks mid_is is number =
     ap (λ ts. map (λ c. c.told) (map (λ talk. talk.connection) ts)) marks ∙
     (told_kept (with_passed false) site.talks (λ c. refl) ∙ (sym (change_last_same (λ t. t ++ []) (told_of site) append-nil) ∙ ap
     (λ bytes. change_last (λ t. t ++ bytes) (told_of site)) sent))
+
+-- ---- hearing
+
+-- all that a `hear` leaves
+pub record HearsPeer {E : Type 0} (result : Result ℕ E) (out : List ℕ) (old new : SiteState) : Type 0 where
+  pub call : LinkCall Unchanged Unchanged (is_ok result) (site_device old) (site_device new)
+  pub heard : SiteHeard result out (site_device old) (site_device new)
+  pub fails : SiteCalled old new (is_ok result)
+
+-- a hearing that failed left the site before its connection was marked
+failed_hear : (passes : Bool) (heard : Option ℕ) (out : List ℕ) (old mid : SiteState)
+    → MatchOption heard (mid ≡ old) (λ count. mid ≡ (if passes then after_heard count out old else old)) → (is_some heard && passes) ≡ false → mid ≡ old
+failed_hear passes None out old mid heard failed = heard
+failed_hear true (Some count) out old mid heard failed = cc
+failed_hear false (Some count) out old mid heard failed = heard
+
+passed_hear : (passes : Bool) (heard : Option ℕ) (out : List ℕ) (old mid : SiteState)
+    → MatchOption heard (mid ≡ old) (λ count. mid ≡ (if passes then after_heard count out old else old)) → (is_some heard && passes) ≡ true
+    → mid ≡ after_heard (unwrap_or heard 0) out old
+passed_hear passes None out old mid heard passed = cc
+passed_hear true (Some count) out old mid heard passed = heard
+passed_hear false (Some count) out old mid heard passed = cc
+
+heard_at : (E : Type 0) (count : ℕ) (out : List ℕ) (site : SiteState) (tally : Tally) → CountsCall site.tally tally true
+    → tally.peer_faults ≡ site.tally.peer_faults → HearsPeer {E = E} (Ok count) out site (record (after_heard count out site) { tally = tally })
+heard_at E count out site tally counts peer_faults =
+    let talks = change_last (with_changed_connection (heard_more count out)) site.talks in
+    record {
+      call = silent_call true (heard_more count out) site tally talks (told-heard_more count out) refl counts.counted;
+      heard = heard_clause E (Ok count) out site tally talks peer_faults
+          (changed_to (heard_more count out) _ site.talks talks (heard_more-is E count out) refl);
+      fails = changed_fails true (heard_more count out) site tally talks refl counts;
+    }
+
+pub peer_heard : (E : Type 0) (passes : Bool) (heard : Option ℕ) (out : List ℕ) (old mid : SiteState) (tally : Tally)
+    → MatchOption heard (mid ≡ old) (λ count. mid ≡ (if passes then after_heard count out old else old)) → (is_some heard && passes) ≡ true
+    → CountsCall mid.tally tally true → tally.peer_faults ≡ mid.tally.peer_faults
+    → HearsPeer {E = E} (Ok (unwrap_or heard 0)) out old (record mid { tally = tally })
+peer_heard E passes heard out old mid tally is passed counts peer_faults =
+    let after = passed_hear passes heard out old mid is passed in
+    rw after (heard_at E (unwrap_or heard 0) out old tally (rw after at counts) (rw after at peer_faults))
+
+-- a call that fails marks the connection, and nothing else
+pub peer_unheard : (E : Type 0) (e : E) (passes : Bool) (heard : Option ℕ) (out : List ℕ) (old mid : SiteState) (tally : Tally) (talks : List Talk)
+    → MatchOption heard (mid ≡ old) (λ count. mid ≡ (if passes then after_heard count out old else old)) → (is_some heard && passes) ≡ false
+    → CountsCall mid.tally tally false → tally.peer_faults ≡ mid.tally.peer_faults
+    → talks ≡ change_last (with_changed_connection unheard_once) mid.talks
+    → HearsPeer {E = E} (Err e) out old (record mid { tally = tally; talks = talks })
+peer_unheard E e passes heard out old mid tally talks is failed counts peer_faults marks =
+    let same = failed_hear passes heard out old mid is failed in
+    let marked : talks ≡ change_last (with_changed_connection unheard_once) old.talks = marks
+    ∙ ap (λ m. change_last (with_changed_connection unheard_once) m.talks) same in
+    rw same (record {
+      call = silent_call false unheard_once old tally talks (λ c. refl) marked (rw same at counts.counted);
+      heard = heard_clause E (Err e) out old tally talks (rw same at peer_faults) (changed_to unheard_once _ old.talks talks (λ c. refl) marked);
+      fails = changed_fails false unheard_once old tally talks marked (rw same at counts);
+    })
+
+-- what is known of what was heard is known of the count, where the call passed
+pub heard_value : (heard : Option ℕ) (passes : Bool) (P : ℕ → Type 0) → (is_some heard && passes) ≡ true → IfSome heard P → P (unwrap_or heard 0)
+heard_value None passes P passed known = cc
+heard_value (Some count) passes P passed known = known
+
+pub heard_passes : (heard : Option ℕ) (passes : Bool) → (is_some heard && passes) ≡ true → passes ≡ true
+heard_passes None passes passed = cc
+heard_passes (Some count) passes passed = passed
+
+-- ---- dialling
+
+pub dialled_one : (r : Option Bool) → option_eq beq r (Some true) ≡ true → r ≡ Some true
+dialled_one None is = cc
+dialled_one (Some true) is = refl
+dialled_one (Some false) is = cc
+
+-- a dial that failed left the site before its fault was counted
+pub dialled_none : (r : Option Bool) (old new other : SiteState) → option_eq beq r (Some true) ≡ false → IfSome r (λ began. new ≡ (if began then other else old))
+    → (r ≡ None → new ≡ old) → new ≡ old
+dialled_none None old new other is some none = none refl
+dialled_none (Some true) old new other is some none = cc
+dialled_none (Some false) old new other is some none = some
+
+pub dial_call : (dials : Dials) (waiting : List (List ℕ)) (site : SiteState) → is_one_left waiting ≡ true → IsKeptBySite site
+    → LinkCall AddsConnection AddsConnection true (site_device site) (site_device (record (next_of waiting site) { dials = dials }))
+dial_call dials [] site left kept = cc
+dial_call dials (sends ∷ later) site left kept =
+    let came = record (next_of (sends ∷ later) site) { tally = site.tally } in
+    let new = record (next_of (sends ∷ later) site) { dials = dials } in
+    link_call AddsConnection AddsConnection true site new refl (stays_counted site.tally.faults)
+    (same_time AddsConnection AddsConnection site came new (record { past = refl; spans = refl; since = refl; told = refl })
+    (begun_time LinkFailed sends later site site.tally kept))
+
+-- a dial that failed told nothing
+pub missed_call : (site : SiteState) (tally : Tally) (dials : Dials) → tally.faults ≡ counted_on site.tally.faults
+    → LinkCall Unchanged Unchanged false (site_device site) (site_device (record site { tally = tally; dials = dials }))
+missed_call site tally dials counted =
+    let new = record site { tally = tally; dials = dials } in
+    link_call Unchanged Unchanged false site new refl (rw counted (closes site.tally.faults))
+    (quiet_time Unchanged site new (λ p. refl) (record { past = refl; spans = refl; since = refl; told = refl }))

@@ -1,5 +1,5 @@
 -- Moments, in whole seconds since 1970-01-01T00:00:00Z, and a clock that gives those of a list.
-use Rattle.std.specs.Prelude.{◌≤◌, ◌-◌, ℕ, zero, suc, min, List, [], ◌∷◌, ◌++◌, length, slice_index, Bool, Option, Some, is_some, unwrap_or}
+use Rattle.std.specs.Prelude.{◌≤◌, ◌+◌, ◌-◌, ◌^◌, ℕ, zero, suc, min, List, [], ◌∷◌, ◌++◌, length, slice_index, Bool, Option, Some, None, is_some, nat_lt, unwrap_or, if◌then◌else◌}
 
 -- a moment up to 9999-12-31T23:59:59Z
 abbrev pub IsMoment : ℕ → Type 0
@@ -23,6 +23,11 @@ moment_after moments n = slice_index moments (min n (length moments - 1))
 abbrev pub first_moments : List ℕ → ℕ → List ℕ
 first_moments moments zero = []
 first_moments moments (suc n) = first_moments moments n ++ moment_after moments n ∷ []
+
+-- the count after one more moment, None once a u64 no longer counts them
+abbrev pub count_after : Option ℕ → Option ℕ
+count_after None = None
+count_after (Some n) = if nat_lt (n + 1) (2 ^ 64) then Some (n + 1) else None
 
 -- whether a clock over a list tells the moments that it gave
 abbrev pub listing_tells : Listing → Bool

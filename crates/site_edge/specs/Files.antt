@@ -2,7 +2,7 @@
 -- or take.
 use Rattle.std.specs.Prelude.{ℕ, ℤ, pos, ◌≤ℤ◌, ◌<ℤ◌, Bool, true, false, []}
 use Rattle.disk_trait.specs.Device.{Device, IsDevice}
-use Rattle.disk_trait.specs.Fakes.{no_link}
+use Rattle.disk_trait.specs.Fakes.{no_link, untold_link}
 use Rattle.site_edge.specs.declared.file_site.Peer.{Peer}
 use Rattle.site_edge.specs.declared.file_site.Peer.TheVariants.{Awaited, UnderWay, Gone}
 
@@ -54,16 +54,8 @@ pub record FileSiteState : Type 0 where
 
 -- The device that such a site is: its file, and its link. Waiting for the peer never fails.
 abbrev pub file_site_device : FileSiteState → Device
-file_site_device s = record (file_device s.file) {
-  link =
-      record {
-        faults = s.link_faults;
-        peer_faults = 0;
-        under_way = s.under_way;
-        connections = [];
-        closed = false;
-      };
-}
+file_site_device s =
+    record (file_device s.file) { link = untold_link s.link_faults 0 s.under_way }
 
 -- A site over a file whose peers come over the network: the file, the counts of the faults of its
 -- links and of waiting for peers, and whether a connection is under way.
@@ -75,16 +67,8 @@ pub record NetSiteState : Type 0 where
 
 -- the device that such a site is: its file, and its link
 abbrev pub net_site_device : NetSiteState → Device
-net_site_device s = record (file_device s.file) {
-  link =
-      record {
-        faults = s.link_faults;
-        peer_faults = s.peer_faults;
-        under_way = s.under_way;
-        connections = [];
-        closed = false;
-      };
-}
+net_site_device s =
+    record (file_device s.file) { link = untold_link s.link_faults s.peer_faults s.under_way }
 
 -- all are devices, of which nothing is told that a crash leaves
 pub file_device_is_sound : (f : FileState) → IsDevice (file_device f)

@@ -1,8 +1,8 @@
 -- What the calls to a peer leave of a site, whether they succeed or fail. Our own model: file calls
 -- and said bytes have one order of moments, and saying bytes adds each prefix of them to what a
 -- crash leaves told.
-use Rattle.std.specs.Prelude.{◌≡◌, ℕ, zero, suc, Bool, true, false, ◌||◌, not, List, [], ◌∷◌, ◌++◌, take, Result, Ok, Err, IsTrue}
-use Rattle.disk_trait.specs.Device.{Device, Left, Connection}
+use Rattle.std.specs.Prelude.{◌≡◌, ℕ, zero, suc, Bool, true, false, ◌||◌, not, List, [], ◌∷◌, ◌++◌, length, slice_set, take, Result, Ok, Err, IsTrue, if◌then◌else◌}
+use Rattle.disk_trait.specs.Device.{AtEnd, Connection, Device, Dials, Gave, HearCall, HearEnd, Left, Unheard}
 use Rattle.disk_trait.specs.Calls.{SameDevice, IsCounted, Elapses, Unchanged}
 
 -- what was sent of these bytes: all of them, or a prefix where the call failed
@@ -48,7 +48,14 @@ Begins (Err _) = Unchanged
 
 -- a connection at its beginning
 abbrev pub fresh : Connection
-fresh = record { heard = []; ended = false; failed = false; told = [] }
+fresh = record {
+  heard = [];
+  told = [];
+  ended = false;
+  unheard = false;
+  unsaid = false;
+  hearings = [];
+}
 
 -- the connections after a call that waits for a peer
 abbrev pub with_next : {E : Type 0} → Result Bool E → List Connection → List Connection
@@ -61,27 +68,42 @@ abbrev pub under_way_after : {E : Type 0} → Result Bool E → Bool → Bool
 under_way_after (Ok came) before = came
 under_way_after (Err _) before = before
 
--- whether it was said by then that no more will come
-abbrev pub closed_after : {E : Type 0} → Result Bool E → Bool → Bool
-closed_after (Ok came) before = before || not came
-closed_after (Err _) before = before
+-- whether such a call said anything else than that no more will come
+abbrev pub stays_open : {E : Type 0} → Result Bool E → Bool
+stays_open (Ok came) = came
+stays_open (Err _) = true
 
--- the site after a call that waits for a peer
+-- The site after a call that waits for a peer. The count of its closings is one like those of
+-- faults: it rises where the call says that no more will come, or stands at the last value of a
+-- u64.
 pub record NextPeer {E : Type 0} (result : Result Bool E) (old new : Device) : Type 0 where
   pub under_way : new.link.under_way ≡ under_way_after result old.link.under_way
   pub connections : old.tells ≡ true → new.link.connections ≡ with_next result old.link.connections
-  pub closed : old.tells ≡ true → new.link.closed ≡ closed_after result old.link.closed
+  pub closed : old.tells ≡ true
+      → IsCounted (stays_open result) old.link.closed new.link.closed
+  pub dials : new.link.dials ≡ old.link.dials
 
 -- what hearing, saying and closing leave
 pub record SamePeers (old new : Device) : Type 0 where
   pub peer_faults : new.link.peer_faults ≡ old.link.peer_faults
   pub closed : new.link.closed ≡ old.link.closed
+  pub dials : new.link.dials ≡ old.link.dials
+
+-- the hearings of a connection after one more, which is listed unless one failed before
+abbrev pub hearings_with : HearEnd → Connection → List HearCall
+hearings_with end c =
+    if c.unheard then c.hearings
+    else c.hearings
+    ++ record { heard = length c.heard; told = length c.told; unsaid = c.unsaid; end = end } ∷ []
 
 -- a connection after a `hear`: so many of the bytes in `out` more, or at its end, or failed
 abbrev pub after_hear : {E : Type 0} → Result ℕ E → List ℕ → Connection → Connection
-after_hear (Ok zero) out c = record c { ended = true }
-after_hear (Ok (suc n)) out c = record c { heard = c.heard ++ take (suc n) out }
-after_hear (Err _) out c = record c { failed = true }
+after_hear (Ok zero) out c = record c { ended = true; hearings = hearings_with AtEnd c }
+after_hear (Ok (suc n)) out c = record c {
+  heard = c.heard ++ take (suc n) out;
+  hearings = hearings_with (Gave (suc n)) c;
+}
+after_hear (Err _) out c = record c { unheard = true; hearings = hearings_with Unheard c }
 
 -- the site after a `hear`
 pub record SiteHeard {E : Type 0} (result : Result ℕ E) (out : List ℕ)
@@ -93,7 +115,7 @@ pub record SiteHeard {E : Type 0} (result : Result ℕ E) (out : List ℕ)
 
 -- a connection that was told these bytes more, by a call that succeeded or failed
 abbrev pub after_say : Bool → List ℕ → Connection → Connection
-after_say ok sent c = record c { told = c.told ++ sent; failed = c.failed || not ok }
+after_say ok sent c = record c { told = c.told ++ sent; unsaid = c.unsaid || not ok }
 
 -- the site after a `say`
 pub record Said (ok : Bool) (bytes : List ℕ) (old new : Device) : Type 0 where
@@ -108,3 +130,32 @@ pub record Closed (old new : Device) : Type 0 where
   pub peers : SamePeers old new
   pub under_way : new.link.under_way ≡ false
   pub connections : new.link.connections ≡ old.link.connections
+
+-- ---- dialling
+
+-- what a call of `dial` that succeeds or fails does to what a crash leaves
+abbrev pub DialStep : Bool → Left → Left → Type 0
+DialStep true = AddsConnection
+DialStep false = Unchanged
+
+-- The calls of `dial` after one more, to a port, behind so many connections: it began one there,
+-- or failed, which marks its port for good.
+abbrev pub dials_after : Bool → ℕ → ℕ → Dials → Dials
+dials_after true port place d =
+    record d { begun = d.begun ++ record { place = place; port = port } ∷ [] }
+dials_after false port place d = record d { missed = slice_set d.missed port true }
+
+-- the connections after a call of `dial`
+abbrev pub with_dialled : Bool → List Connection → List Connection
+with_dialled true connections = connections ++ fresh ∷ []
+with_dialled false connections = connections
+
+-- the site after a call of `dial`
+pub record HasDialled (ok : Bool) (port : ℕ) (old new : Device) : Type 0 where
+  pub peer_faults : new.link.peer_faults ≡ old.link.peer_faults
+  pub closed : new.link.closed ≡ old.link.closed
+  pub under_way : new.link.under_way ≡ (ok || old.link.under_way)
+  pub connections : old.tells ≡ true
+      → new.link.connections ≡ with_dialled ok old.link.connections
+  pub dials : old.tells ≡ true
+      → new.link.dials ≡ dials_after ok port (length old.link.connections) old.link.dials

@@ -1,13 +1,14 @@
 -- What a site in memory means. Its disk calls and its said bytes have one order of moments.
-use Rattle.std.specs.Prelude.{if◌then◌else◌, ◌==◌, ◌≡◌, ◌<◌, ◌≤◌, ◌+◌, min, ℕ, Bool, true, false, List, [], ◌∷◌, ◌++◌, length, map, take, slice_index_or, All}
-use Rattle.disk_trait.specs.Device.{Device, Link, Connection, Left}
-use Rattle.disk_trait.specs.Calls.{DiskRequest}
+use Rattle.std.specs.Prelude.{if◌then◌else◌, ◌==◌, ◌≡◌, ◌<◌, ◌≤◌, ◌+◌, min, ℕ, Bool, true, false, List, [], ◌∷◌, ◌++◌, length, map, replicate, take, slice_index_or, slice_set, All, IsFalse, ◌⊎◌}
+use Rattle.disk_trait.specs.Device.{Connection, Device, Dialled, Dials, Left, Link}
+use Rattle.disk_trait.specs.Calls.{DiskRequest, Rose}
 use Rattle.disk_trait.specs.History.{Past, kept_bytes}
-use Rattle.disk_trait.specs.MemoryDisk.{DiskState, DiskCalled, LeavesAt, memory_device}
-use Rattle.site_edge.specs.Links.{Sends, change_last, fresh}
-use Rattle.site_edge.specs.Lines.{Talk, rest_of, with_changed_connection, told_more}
+use Rattle.disk_trait.specs.MemoryDisk.{DiskState, DiskCalled, LeavesAt, counted_on, memory_device}
+use Rattle.site_edge.specs.Links.{Sends, change_last, dials_after, fresh}
+use Rattle.site_edge.specs.Lines.{Talk, heard_more, rest_of, with_changed_connection, told_more}
 use Rattle.site_edge.specs.Tallies.{CountsCall}
 use Rattle.site_edge.specs.declared.tally.Tally.{Tally}
+use Rattle.site_edge.specs.declared.placed_dial.PlacedDial.{PlacedDial}
 use Rattle.site_edge.specs.declared.span.ToldSpan.{ToldSpan}
 use Rattle.site_edge.specs.declared.span.Added.{Added}
 use Rattle.site_edge.specs.declared.span.Added.TheVariants.{Peer, Bytes}
@@ -24,8 +25,8 @@ told_after (span ∷ later) told = told_after later (add_to told span.adds)
 
 -- A site in memory: its disk, the numbers and counts of its link calls, the peers that came, the
 -- bytes of those that are still to come, at most how many bytes one `hear` gives, whether a
--- connection is under way, whether it was said that no more will come, the spans that have ended,
--- and how many disk calls had been made when the last of them ended.
+-- connection is under way, how often it was said that no more will come, the calls of `dial`, the
+-- spans that have ended, and how many disk calls had been made when the last of them ended.
 pub record SiteState : Type 0 where
   pub disk : DiskState
   pub tally : Tally
@@ -33,9 +34,18 @@ pub record SiteState : Type 0 where
   pub waiting : List (List ℕ)
   pub piece : ℕ
   pub under_way : Bool
-  pub closed : Bool
+  pub closed : ℕ
+  pub dials : Dials
   pub spans : List ToldSpan
   pub since : ℕ
+
+-- the connections that were dialled, as they are kept
+abbrev pub placed_dials : List PlacedDial → List Dialled
+placed_dials = map (λ d. record { place = d.place; port = d.port })
+
+-- no port was missed
+unfoldable pub none_missed : List Bool
+none_missed = replicate 65536 false
 
 -- a site at its beginning
 abbrev pub fresh_site : DiskState → List (List ℕ) → ℕ → List ℕ → SiteState
@@ -46,7 +56,8 @@ fresh_site disk peers piece fail = record {
   waiting = peers;
   piece = piece;
   under_way = false;
-  closed = false;
+  closed = 0;
+  dials = record { begun = []; missed = none_missed };
   spans = [];
   since = 0;
 }
@@ -114,6 +125,7 @@ link_of site = record {
   under_way = site.under_way;
   connections = connections_of site;
   closed = site.closed;
+  dials = site.dials;
 }
 
 -- the device of a site in memory
@@ -138,7 +150,7 @@ is_one_left (sends ∷ later) = true
 
 -- the site once the next of these peers came, or none was left
 abbrev pub next_of : List (List ℕ) → SiteState → SiteState
-next_of [] site = record site { under_way = false; closed = true }
+next_of [] site = record site { under_way = false; closed = counted_on site.closed }
 next_of (sends ∷ later) site = record (end_span Peer site) {
   talks = site.talks ++ record { sends = sends; connection = fresh } ∷ [];
   waiting = later;
@@ -148,6 +160,12 @@ next_of (sends ∷ later) site = record (end_span Peer site) {
 -- the site once it waited for a peer
 abbrev pub after_next : SiteState → SiteState
 after_next site = next_of site.waiting site
+
+-- the site once the last peer was heard: so many of the bytes in `out`, or to its end
+abbrev pub after_heard : ℕ → List ℕ → SiteState → SiteState
+after_heard count out site = record site {
+  talks = change_last (with_changed_connection (heard_more count out)) site.talks;
+}
 
 -- the site once it told the last connection these bytes
 abbrev pub after_tell : List ℕ → SiteState → SiteState
@@ -197,3 +215,24 @@ told_also sent = change_last (λ t. t ++ sent)
 -- the site once the connection that was under way was ended
 abbrev pub after_close : SiteState → SiteState
 after_close site = record site { under_way = false }
+
+-- the site once it dialled a port: a connection began, or the port was missed
+abbrev pub after_dial : ℕ → Bool → SiteState → SiteState
+after_dial port true site = record (after_next site) {
+  dials = dials_after true port (length site.talks) site.dials;
+}
+after_dial port false site =
+    record site { dials = dials_after false port (length site.talks) site.dials }
+
+-- What a `dial` leaves of a site in memory. It fails exactly where no peer is left or it was
+-- starved, and takes no number.
+pub record SiteDialled (old new : SiteState) (ok : Bool) : Type 0 where
+  pub never_falls : old.tally.starved ≤ new.tally.starved
+  pub none_left : old.waiting ≡ [] → IsFalse ok
+  pub starved : old.tally.starved < new.tally.starved → IsFalse ok
+  pub only : IsFalse ok → (old.waiting ≡ []) ⊎ Rose old.tally.starved new.tally.starved
+  pub made : new.tally.made ≡ old.tally.made
+  pub fail : new.tally.fail ≡ old.tally.fail
+  pub disk : new.disk ≡ old.disk
+  pub piece : new.piece ≡ old.piece
+  pub peers : peers_of new ≡ peers_of old

@@ -1,5 +1,5 @@
 //! The clock of the store.
-ghost use Rattle.std.specs.Prelude.{◌≡◌, ◌∷◌, ◌++◌, [], ℕ, List, Bool, true};
+ghost use Rattle.std.specs.Prelude.{◌≡◌, ◌<◌, ◌+◌, ◌^◌, ◌∷◌, ◌++◌, [], ℕ, List, Bool, true, length};
 ghost use Rattle.site_edge.specs.Clocks.{IsMoment};
 
 /// The last moment: 9999-12-31T23:59:59Z.
@@ -13,8 +13,11 @@ pub trait Clock {
     /// The moments given so far, the oldest first.
     ghost given: { Self → List ℕ };
 
+    /// The next moment. Telling lasts while fewer than 2^64 - 1 moments were given.
     fn now(&mut self) -> u64
         ensures moment { IsMoment result }
         ensures told_before { tells self.new ≡ true → tells self.old ≡ true }
+        ensures lasts { tells self.old ≡ true → length (given self.old) + 1 < 2 ^ 64
+            → tells self.new ≡ true }
         ensures given { tells self.new ≡ true → given self.new ≡ given self.old ++ result ∷ [] };
 }

@@ -3,7 +3,8 @@
 ghost use Rattle.std.specs.Prelude.{◌≡◌, false, is_ok};
 ghost use Rattle.disk_trait.specs.Calls.{IsCounted};
 
-use std::io;
+use std::fmt::{Display, Formatter};
+use std::{fmt, io};
 
 /// A call to a peer failed.
 #[derive(Clone, Copy, Debug, PartialEq, Eq)]
@@ -13,13 +14,34 @@ pub struct LinkFailed;
 #[derive(Clone, Copy, Debug, PartialEq, Eq)]
 pub struct SinkFailed;
 
-/// A file could not be opened, made, lengthened, locked or synced, or it is that of a standard stream.
-#[derive(Clone, Copy, Debug, PartialEq, Eq)]
-pub struct FileFailed;
+/// Why a file could not be opened, made, lengthened, locked or synced.
+#[derive(Clone, Copy, Debug)]
+pub enum FileFailed {
+    /// A call of the system failed so.
+    System(io::Error),
+    /// Another open of the file holds its lock.
+    InUse,
+    /// It is that of a standard stream, or got the descriptor of one.
+    IsStream,
+    /// Its path isn't UTF-8.
+    NoText,
+}
 
 impl From<io::Error> for FileFailed {
-    fn from(_: io::Error) -> Self {
-        FileFailed
+    fn from(error: io::Error) -> Self {
+        FileFailed::System(error)
+    }
+}
+
+/// The text of a line that tells it.
+impl Display for FileFailed {
+    fn fmt<W: fmt::Write>(&self, out: &mut Formatter<W>) -> fmt::Result {
+        match self {
+            FileFailed::System(error) => write!(out, "{error}"),
+            FileFailed::InUse => out.write_str("in use by another program"),
+            FileFailed::IsStream => out.write_str("a standard stream is this file, or is closed"),
+            FileFailed::NoText => out.write_str("the path is not UTF-8"),
+        }
     }
 }
 

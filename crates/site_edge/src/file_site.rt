@@ -4,7 +4,8 @@ ghost use Rattle.std.specs.Io.{ReadsAtMost};
 ghost use Rattle.site_edge.specs.Files.{file_site_device, file_site_device_is_sound};
 
 use crate::fault::{count_fault, counted};
-use crate::{LinkFailed, Site, StoreFile};
+use crate::streams::has_room;
+use crate::{Caller, LinkFailed, Site, StoreFile};
 use disk_trait::{Disk, Failed};
 use libc::types::pollfd;
 use std::io;
@@ -87,6 +88,7 @@ impl Site for FileSite {
     fn next_peer(&mut self) -> Result<bool, LinkFailed> {
         match self.peer {
             Peer::Awaited => {
+                self.file.end_progress();
                 self.peer = Peer::UnderWay;
                 Ok(true)
             }
@@ -109,13 +111,31 @@ impl Site for FileSite {
     }
 
     fn say(&mut self, bytes: &[u8]) -> Result<(), LinkFailed> {
-        let answer = self.output.write_all(bytes);
+        let answer = write_within_limit(self.output, bytes);
         counted(answer, &mut self.link_faults, LinkFailed)
     }
 
     fn close_peer(&mut self) {
         self.peer = Peer::Gone;
     }
+}
+
+impl Caller for FileSite {
+    ghost dial_fails = { λ _ _ _ _. Unit {0} };
+
+    /// It has the one peer of its streams, so each dial fails.
+    fn dial(&mut self, _: u16) -> Result<(), LinkFailed> {
+        count_fault(&mut self.link_faults);
+        Err(LinkFailed)
+    }
+}
+
+/// Hands these bytes to the system, unless the output is a file that may not get so long.
+fn write_within_limit(output: Stdout, bytes: &[u8]) -> io::Result<()> {
+    if !has_room(libc::STDOUT_FILENO, bytes.len()) {
+        return Err(io::Error::from(ErrorKind::FileTooLarge));
+    }
+    output.write_all(bytes)
 }
 
 /// Reads once, and again where a signal interrupts the call, or where the stream doesn't wait by itself and

@@ -3,15 +3,17 @@ ghost use Rattle.std.specs.Prelude.{◌≡◌, [], false, is_ok};
 ghost use Rattle.disk_trait.specs.Calls.{IsCounted};
 
 use crate::fault::counted;
-use crate::{Sink, SinkFailed};
+use crate::streams::has_room;
+use crate::{Aside, Sink, SinkFailed};
 use std::io;
-use std::io::{Stderr, Stdout};
+use std::io::{ErrorKind, Stderr, Stdout};
 use std::marker::Model;
 
 #[derive(Clone, Copy)]
 enum Stream {
     Output(Stdout),
     Error(Stderr),
+    Nowhere,
 }
 
 /// The bytes of a line that are kept back until its end.
@@ -25,6 +27,7 @@ pub struct HostSink {
     line: [u8; LINE],
     kept: usize,
     faults: u64,
+    aside: Option<Aside>,
 }
 
 impl Model for HostSink {
@@ -53,6 +56,20 @@ impl HostSink {
         HostSink::over(Stream::Error(stream))
     }
 
+    /// What takes all and shows nothing, where neither stream may be written to.
+    pub fn nowhere() -> HostSink
+        ensures { result ≡ 0 }
+    {
+        HostSink::over(Stream::Nowhere)
+    }
+
+    /// From now on progress is taken off the terminal before a line is put.
+    pub fn wipe_before(&mut self, aside: Aside)
+        ensures { self.new ≡ self.old }
+    {
+        self.aside = Some(aside);
+    }
+
     fn over(stream: Stream) -> HostSink
         ensures { result ≡ 0 }
     {
@@ -61,6 +78,7 @@ impl HostSink {
             line: [0; LINE],
             kept: 0,
             faults: 0,
+            aside: None,
         }
     }
 
@@ -68,6 +86,9 @@ impl HostSink {
     fn hand_on(&mut self, bytes: &[u8]) -> Result<(), SinkFailed>
         ensures { IsCounted (is_ok result) self.old self.new }
     {
+        if let Some(aside) = &self.aside {
+            aside.wipe();
+        }
         let (line, _) = self.line.split_at(self.kept);
         let answer = write(self.stream, line).and_then(|()| write(self.stream, bytes));
         self.kept = 0;
@@ -99,10 +120,16 @@ impl Sink for HostSink {
     }
 }
 
-/// Hands these bytes to the system, if there are any.
+/// Hands these bytes to the system, if there are any, unless the stream is a file that may not get so long.
 fn write(stream: Stream, bytes: &[u8]) -> io::Result<()> {
     match stream {
-        Stream::Output(stream) => stream.write_all(bytes),
-        Stream::Error(stream) => stream.write_all(bytes),
+        Stream::Output(output) if has_room(libc::STDOUT_FILENO, bytes.len()) => {
+            output.write_all(bytes)
+        }
+        Stream::Error(error) if has_room(libc::STDERR_FILENO, bytes.len()) => {
+            error.write_all(bytes)
+        }
+        Stream::Nowhere => Ok(()),
+        Stream::Output(_) | Stream::Error(_) => Err(io::Error::from(ErrorKind::FileTooLarge)),
     }
 }

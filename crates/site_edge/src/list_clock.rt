@@ -1,6 +1,6 @@
 //! A clock over a list of moments.
-ghost use Rattle.std.specs.Prelude.{◌≡◌, ◌∷◌, ◌++◌, [], true, All};
-ghost use Rattle.site_edge.specs.Clocks.{IsMoment, not_begun, moment_after, listing_tells, listing_given};
+ghost use Rattle.std.specs.Prelude.{◌≡◌, ◌<◌, ◌+◌, ◌^◌, ◌∷◌, ◌++◌, [], true, length, All};
+ghost use Rattle.site_edge.specs.Clocks.{IsMoment, count_after, not_begun, moment_after, listing_tells, listing_given};
 
 use crate::Clock;
 use disk_trait::NumberList;
@@ -46,11 +46,14 @@ impl Clock for ListClock {
     fn now(&mut self) -> u64
         ensures moment { IsMoment result }
         ensures told_before { listing_tells self.new ≡ true → listing_tells self.old ≡ true }
+        ensures lasts { listing_tells self.old ≡ true
+            → length (listing_given self.old) + 1 < 2 ^ 64 → listing_tells self.new ≡ true }
         ensures given { listing_tells self.new ≡ true
             → listing_given self.new ≡ listing_given self.old ++ result ∷ [] }
 
-        // The list stays, so that its last moment comes again and again.
+        // The list stays, so that its last moment comes again and again, and each moment is counted.
         ensures list { self.new.moments ≡ self.old.moments }
+        ensures count { self.new.count ≡ count_after self.old.count }
     {
         let count = self.count.unwrap_or(u64::MAX);
         self.count = count.checked_add(1);

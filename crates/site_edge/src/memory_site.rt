@@ -1,20 +1,24 @@
 //! A site in memory: a disk in memory, and peers whose bytes are given beforehand.
-ghost use Rattle.std.specs.Prelude.{false, true, is_ok, take, [], ◌++◌, ◌↔◌, ◌≡◌, ◌<◌, ◌≤◌, ◌+◌, ◌^◌, ◌&&◌, length, map, if◌then◌else◌, IfOk, IfSome, IsSome, IsTrue, MatchOption, OnErr, OnOk, Some, slice_get};
+ghost use Rattle.std.specs.Prelude.{false, true, is_ok, take, [], ◌++◌, ◌↔◌, ◌≡◌, ◌<◌, ◌≤◌, ◌+◌, ◌^◌, ◌&&◌, length, map, if◌then◌else◌, IfOk, IfSome, IsSome, IsTrue, MatchOption, None, OnErr, OnOk, Some, slice_get};
 ghost use Rattle.disk_trait.specs.Device.{told_by};
 ghost use Rattle.disk_trait.specs.Calls.{IsCounted, LeavesOnly, Unchanged};
 ghost use Rattle.disk_trait.specs.History.{kept_bytes, seen_of};
 ghost use Rattle.disk_trait.specs.MemoryDisk.{memory_device};
-ghost use Rattle.site_edge.specs.Links.{LinkCall, Begins, Tells, SiteHeard, Said, NextPeer, Closed, change_last};
-ghost use Rattle.site_edge.specs.Lines.{heard_more, with_passed, told_more, with_changed_connection};
-ghost use Rattle.site_edge.specs.MemorySite.{SiteCalled, after_close, after_next, after_tell, connections_of, is_one_left, fresh_site, rest_of_last, sent_by, site_device, told_also, told_of};
+ghost use Rattle.site_edge.specs.Links.{LinkCall, Begins, DialStep, HasDialled, Tells, SiteHeard, Said, NextPeer, Closed, change_last};
+ghost use Rattle.site_edge.specs.Lines.{heard_more, with_passed, told_more, unheard_once, with_changed_connection};
+ghost use Rattle.site_edge.specs.MemorySite.{IsKeptBySite, SiteCalled, SiteDialled, after_close, after_dial, after_heard, after_next, after_tell, connections_of, is_one_left, fresh_site, none_missed, rest_of_last, sent_by, site_device, told_also, told_of};
 
 use crate::line::Line;
+use crate::placed_dial::PlacedDial;
 use crate::span::{Added, ToldSpan};
-use crate::tally::{Tally, count, count_peer, has_number, passes};
-use crate::{LinkFailed, PeerList, Site};
+use crate::tally::{Tally, count, count_dial, count_peer, has_number, passes};
+use crate::{Caller, LinkFailed, PeerList, Site};
 use disk_trait::{Disk, Failed, Memory, MemoryDisk, NumberList, Text};
 use std::alloc::Global;
 use std::marker::Model;
+
+/// The number of ports.
+const PORTS: usize = 65_536;
 
 /// A site in memory whose calls of `next_peer`, `hear` and `say` are numbered from 1.
 #[derive(Drop)]
@@ -26,13 +30,15 @@ pub struct MemorySite {
     waiting: Vec<Text>,
     piece: usize,
     under_way: bool,
-    closed: bool,
+    closed: u64,
+    dialled: Vec<PlacedDial>,
+    missed: [bool; PORTS],
     spans: Vec<ToldSpan>,
     since: u64,
 }
 
 impl Model for MemorySite {
-    ghost use Rattle.site_edge.specs.MemorySite.{IsKeptBySite, SiteState};
+    ghost use Rattle.site_edge.specs.MemorySite.{IsKeptBySite, SiteState, placed_dials};
 
     ghost Value = { SiteState };
 
@@ -44,6 +50,7 @@ impl Model for MemorySite {
       piece = s.piece;
       under_way = s.under_way;
       closed = s.closed;
+      dials = record { begun = placed_dials s.dialled.items; missed = s.missed };
       spans = s.spans.items;
       since = s.since;
     } };
@@ -56,6 +63,7 @@ impl Model for MemorySite {
       piece = s.piece;
       under_way = s.under_way;
       closed = s.closed;
+      dials = record { begun = placed_dials s.dialled.items; missed = s.missed };
       spans = s.spans.items;
       since = s.since;
     }) };
@@ -92,7 +100,9 @@ impl MemorySite {
             waiting: peers.into_vec(),
             piece,
             under_way: false,
-            closed: false,
+            closed: 0,
+            dialled: Vec::new(alloc),
+            missed: no_port(),
             spans: Vec::new(alloc),
             since: 0,
         }
@@ -151,7 +161,7 @@ impl MemorySite {
     {
         if self.waiting.is_empty() {
             self.under_way = false;
-            self.closed = true;
+            self.closed = self.closed.saturating_add(1);
             return Ok(false);
         }
         self.lines.reserve(1)?;
@@ -181,6 +191,50 @@ impl MemorySite {
             self.begin_next().ok()
         } else {
             has_number(&self.tally).then_some(false)
+        }
+    }
+
+    /// Begins the connection of the next peer at this port, and says whether one was left. None where there is no
+    /// memory.
+    fn try_dial(&mut self, port: u16) -> Option<bool>
+        ensures dialled { IfSome result (λ began.
+            self.new ≡ (if began then after_dial port true self.old else self.old)) }
+        ensures began { IfSome result (λ began. began ≡ is_one_left self.old.waiting) }
+        ensures none { result ≡ None → self.new ≡ self.old }
+        ensures kept { IsKeptBySite self.old }
+    {
+        if self.waiting.is_empty() {
+            return Some(false);
+        }
+        let place = self.lines.len();
+        self.dialled.push(PlacedDial { place, port }).ok()?;
+        if self.begin_next().is_err() {
+            self.dialled.pop();
+            return None;
+        }
+        Some(true)
+    }
+
+    /// Hears some bytes of the last peer where the call passes by its number. None where the call has no number or
+    /// there is no memory.
+    fn try_hear(&mut self, out: &mut [u8], passes: bool) -> Option<usize>
+        requires some { 0 < length self.old.talks }
+        requires not_empty { 0 < length out.old }
+        requires numbered { IsTrue passes → self.old.tally.made + 1 < 2 ^ 64 }
+        ensures numbered { IsSome result → self.old.tally.made + 1 < 2 ^ 64 }
+        ensures heard { MatchOption result (self.new ≡ self.old)
+            (λ count. self.new ≡ (if passes then after_heard count out.new self.old else self.old)) }
+        ensures within { IfSome result (λ count. count ≤ length out.old) }
+        ensures piece { IfSome result (λ count. count ≤ self.old.piece) }
+        ensures end { passes ≡ true → IfSome result (λ count.
+            (count ≡ 0) ↔ (rest_of_last self.old.talks ≡ [])) }
+        ensures bytes { passes ≡ true → IfSome result (λ count.
+            take count out.new ≡ take count (rest_of_last self.old.talks)) }
+    {
+        if passes {
+            hear_last(&mut self.lines, out, self.piece).ok()
+        } else {
+            has_number(&self.tally).then_some(0)
         }
     }
 
@@ -277,14 +331,13 @@ impl Site for MemorySite {
         ensures bytes { IfOk result (λ count.
             take count out.new ≡ take count (rest_of_last self.old.talks)) }
     {
-        let numbered = has_number(&self.tally);
         let passes = passes(&self.tally);
-        match count(&mut self.tally, numbered, passes) {
-            Ok(()) => Ok(hear_last(&mut self.lines, out, self.piece)),
+        let heard = self.try_hear(out, passes);
+        match count(&mut self.tally, heard.is_some(), passes) {
+            Ok(()) => Ok(heard.unwrap_or(0)),
             Err(failed) => {
-                let answer = Err(failed);
-                mark_last(&mut self.lines, answer.is_ok());
-                answer
+                unhear_last(&mut self.lines);
+                Err(failed)
             }
         }
     }
@@ -318,6 +371,28 @@ impl Site for MemorySite {
     }
 }
 
+impl Caller for MemorySite {
+    ghost use Rattle.site_edge.specs.MemorySite.{SiteDialled};
+
+    ghost dial_fails = { λ _. SiteDialled };
+
+    fn dial(&mut self, port: u16) -> Result<(), LinkFailed>
+        ensures call { LinkCall (DialStep (is_ok result)) (DialStep (is_ok result)) (is_ok result)
+            (site_device self.old) (site_device self.new) }
+        ensures dialled { HasDialled (is_ok result) port (site_device self.old)
+            (site_device self.new) }
+        ensures fails { SiteDialled self.old self.new (is_ok result) }
+    {
+        let began = self.try_dial(port);
+        if began == Some(true) {
+            return Ok(());
+        }
+        count_dial(&mut self.tally, began.is_none());
+        self.missed[usize::from(port)] = true;
+        Err(LinkFailed)
+    }
+}
+
 /// The bytes that a `say` sends: all of them, or their first half where it fails.
 fn sent_of(bytes: &[u8], passes: bool) -> &[u8]
     ensures { result.now ≡ kept_bytes passes bytes.now }
@@ -338,16 +413,27 @@ fn mark_last(lines: &mut Vec<Line>, passed: bool)
     lines[last].mark(passed);
 }
 
-fn hear_last(lines: &mut Vec<Line>, out: &mut [u8], piece: usize) -> usize
+/// Marks the last connection as one on which a hearing failed.
+fn unhear_last(lines: &mut Vec<Line>)
+    requires { 0 < length lines.old.items }
+    ensures { lines.new.items ≡ change_last (with_changed_connection unheard_once) lines.old.items }
+{
+    let last = lines.len() - 1;
+    lines[last].mark_unheard();
+}
+
+fn hear_last(lines: &mut Vec<Line>, out: &mut [u8], piece: usize) -> Result<usize, Memory>
     requires some { 0 < length lines.old.items }
     requires not_empty { 0 < length out.old }
     requires piece { 0 < piece }
-    ensures within { result ≤ length out.old }
-    ensures piece { result ≤ piece }
-    ensures end { (result ≡ 0) ↔ (rest_of_last lines.old.items ≡ []) }
-    ensures bytes { take result out.new ≡ take result (rest_of_last lines.old.items) }
-    ensures heard { lines.new.items
-        ≡ change_last (with_changed_connection (heard_more result out.new)) lines.old.items }
+    ensures within { IfOk result (λ count. count ≤ length out.old) }
+    ensures piece { IfOk result (λ count. count ≤ piece) }
+    ensures end { IfOk result (λ count. (count ≡ 0) ↔ (rest_of_last lines.old.items ≡ [])) }
+    ensures bytes { IfOk result (λ count.
+        take count out.new ≡ take count (rest_of_last lines.old.items)) }
+    ensures heard { IfOk result (λ count. lines.new.items
+        ≡ change_last (with_changed_connection (heard_more count out.new)) lines.old.items) }
+    ensures err { OnErr result (lines.new.items ≡ lines.old.items) }
 {
     let last = lines.len() - 1;
     lines[last].hear(out, piece)
@@ -361,4 +447,11 @@ fn tell_last(lines: &mut Vec<Line>, bytes: &[u8]) -> Result<(), Memory>
 {
     let last = lines.len() - 1;
     lines[last].tell(bytes)
+}
+
+/// No port is marked.
+fn no_port() -> [bool; PORTS]
+    ensures { result ≡ none_missed }
+{
+    [false; PORTS]
 }

@@ -3,33 +3,24 @@ ghost use Rattle.std.specs.Prelude.{◌≡◌, false, is_ok, is_some};
 ghost use Rattle.std.specs.Io.{ReadsAtMost};
 ghost use Rattle.site_edge.specs.Files.{net_site_device, net_site_device_is_sound};
 
+use crate::connection::Connection;
 use crate::fault::{count_fault, counted};
-use crate::{LinkFailed, Site, StoreFile};
+use crate::{Aside, Caller, LinkFailed, Site, StoreFile};
 use disk_trait::{Disk, Failed};
 use std::io;
-use std::io::{ErrorKind, Read, Write};
+use std::io::ErrorKind;
 use std::marker::Model;
-use std::net::{Shutdown, TcpListener, TcpStream};
-use std::time::Duration;
-
-/// A peer that sends nothing, or takes nothing, for so many seconds has failed.
-const PATIENCE: u64 = 30;
-
-/// Once a connection is closed its peer has so many seconds to end it too.
-const FAREWELL: u64 = 1;
-
-/// And at most so many more pieces are read of it, so that what it was told last isn't lost with what it
-/// sent in vain.
-const LAST_PIECES: u32 = 256;
+use std::net::TcpListener;
 
 /// A store's file, whose peers connect to a listener.
 #[derive(Drop)]
 pub struct NetSite {
     file: StoreFile,
     listener: TcpListener,
-    peer: Option<TcpStream>,
+    peer: Option<Connection>,
     link_faults: u64,
     peer_faults: u64,
+    aside: Option<Aside>,
 }
 
 impl Model for NetSite {
@@ -58,7 +49,28 @@ impl NetSite {
             peer: None,
             link_faults: 0,
             peer_faults: 0,
+            aside: None,
         }
+    }
+
+    /// Once it waits for its first peer it says there where it listens.
+    pub fn announce_to(&mut self, aside: Aside)
+        ensures { self.new ≡ self.old }
+    {
+        self.aside = Some(aside);
+    }
+
+    /// Says where it listens, if that wasn't said yet and is to be.
+    fn announce(&mut self)
+        ensures { self.new ≡ self.old }
+    {
+        self.file.end_progress();
+        if let Some(aside) = &self.aside
+            && let Ok(address) = self.listener.local_addr()
+        {
+            aside.put(format_args!("listening on {address}"));
+        }
+        self.aside = None;
     }
 }
 
@@ -90,9 +102,10 @@ impl Site for NetSite {
     ghost link_fails = { λ _ _ _. Unit {0} };
 
     fn next_peer(&mut self) -> Result<bool, LinkFailed> {
-        match accept(&self.listener) {
-            Ok(stream) => {
-                self.peer = Some(stream);
+        self.announce();
+        match Connection::accept(&self.listener) {
+            Ok(connection) => {
+                self.peer = Some(connection);
                 Ok(true)
             }
             Err(_) => {
@@ -104,7 +117,7 @@ impl Site for NetSite {
     }
 
     fn hear(&mut self, out: &mut [u8]) -> Result<usize, LinkFailed> {
-        match read_some(&mut self.peer, out) {
+        match hear(&mut self.peer, &self.listener, out) {
             Ok(count) => Ok(count),
             Err(_) => {
                 count_fault(&mut self.link_faults);
@@ -114,63 +127,43 @@ impl Site for NetSite {
     }
 
     fn say(&mut self, bytes: &[u8]) -> Result<(), LinkFailed> {
-        let answer = write_whole(&mut self.peer, bytes);
+        let answer = say(&mut self.peer, bytes);
         counted(answer, &mut self.link_faults, LinkFailed)
     }
 
     fn close_peer(&mut self) {
-        if let Some(stream) = &mut self.peer {
-            let _ = part(stream);
+        if let Some(connection) = &mut self.peer {
+            let _ = connection.part();
         }
         self.peer = None;
     }
 }
 
-/// The connection of the next client, which is not held up by what is said in small parts.
-fn accept(listener: &TcpListener) -> io::Result<TcpStream> {
-    let (stream, _) = listener.accept()?;
-    stream.set_nodelay(true)?;
-    let patience = Some(Duration::from_secs(PATIENCE));
-    stream.set_read_timeout(patience)?;
-    stream.set_write_timeout(patience)?;
-    Ok(stream)
+impl Caller for NetSite {
+    ghost dial_fails = { λ _ _ _ _. Unit {0} };
+
+    /// Its peers come by themselves, so each dial fails.
+    fn dial(&mut self, _: u16) -> Result<(), LinkFailed> {
+        count_fault(&mut self.link_faults);
+        Err(LinkFailed)
+    }
 }
 
-/// Reads once, and again where a signal interrupts the call.
-fn read_some(peer: &mut Option<TcpStream>, out: &mut [u8]) -> io::Result<usize>
+fn hear(peer: &mut Option<Connection>, listener: &TcpListener, out: &mut [u8]) -> io::Result<usize>
     ensures bound { ReadsAtMost result out.new }
     ensures stays { is_some peer.new ≡ is_some peer.old }
 {
-    let Some(stream) = peer else {
-        return Err(io::Error::from(ErrorKind::NotConnected));
-    };
-    for _ in 0..u64::MAX {
-        match stream.read(out) {
-            Err(error) if error.kind() == ErrorKind::Interrupted => {}
-            answer => return answer,
-        }
-    }
-    Err(io::Error::from(ErrorKind::Interrupted))
-}
-
-fn write_whole(peer: &mut Option<TcpStream>, bytes: &[u8]) -> io::Result<()>
-    ensures { is_some peer.new ≡ is_some peer.old }
-{
     match peer {
-        Some(stream) => stream.write_all(bytes),
+        Some(connection) => connection.hear(listener, out),
         None => Err(io::Error::from(ErrorKind::NotConnected)),
     }
 }
 
-/// Tells the peer that no more will be said, and reads what it still sends, up to its end.
-fn part(stream: &mut TcpStream) -> io::Result<()> {
-    stream.shutdown(Shutdown::Write)?;
-    stream.set_read_timeout(Some(Duration::from_secs(FAREWELL)))?;
-    let mut piece = [0; 4096];
-    for _ in 0..LAST_PIECES {
-        if stream.read(&mut piece)? == 0 {
-            break;
-        }
+fn say(peer: &mut Option<Connection>, bytes: &[u8]) -> io::Result<()>
+    ensures { is_some peer.new ≡ is_some peer.old }
+{
+    match peer {
+        Some(connection) => connection.say(bytes),
+        None => Err(io::Error::from(ErrorKind::NotConnected)),
     }
-    Ok(())
 }

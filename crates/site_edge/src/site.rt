@@ -1,7 +1,7 @@
 //! A device together with the links to its peers.
-ghost use Rattle.std.specs.Prelude.{◌≡◌, ◌≤◌, ◌<◌, Bool, true, false, length, is_ok, IfOk};
+ghost use Rattle.std.specs.Prelude.{◌≡◌, ◌≤◌, ◌<◌, ℕ, Bool, true, false, length, is_ok, IfOk};
 ghost use Rattle.disk_trait.specs.Calls.{IsCounted, Unchanged};
-ghost use Rattle.site_edge.specs.Links.{LinkCall, Begins, Tells, SiteHeard, Said, NextPeer, Closed};
+ghost use Rattle.site_edge.specs.Links.{LinkCall, Begins, DialStep, HasDialled, Tells, SiteHeard, Said, NextPeer, Closed};
 
 use crate::LinkFailed;
 use disk_trait::Disk;
@@ -48,4 +48,20 @@ pub trait Site: Disk {
         ensures call { LinkCall Unchanged Unchanged true
             (Self.device self.old) (Self.device self.new) }
         ensures closed { Closed (Self.device self.old) (Self.device self.new) };
+}
+
+/// A site that begins connections itself.
+pub trait Caller: Site {
+    /// What more a site says of when its calls of `dial` fail: the port, the value before, the value after, and
+    /// whether the call succeeded.
+    ghost dial_fails: { ℕ → Self → Self → Bool → Type 0 };
+
+    /// Begins a connection to this port of 127.0.0.1, to which `hear`, `say` and `close_peer` speak from then on. A
+    /// call that fails leaves the connection that was under way, and marks the port for good.
+    fn dial(&mut self, port: u16) -> Result<(), LinkFailed>
+        ensures call { LinkCall (DialStep (is_ok result)) (DialStep (is_ok result)) (is_ok result)
+            (Self.device self.old) (Self.device self.new) }
+        ensures dialled { HasDialled (is_ok result) port (Self.device self.old)
+            (Self.device self.new) }
+        ensures fails { dial_fails port self.old self.new (is_ok result) };
 }

@@ -3,20 +3,19 @@ ghost use Rattle.std.specs.Prelude.{◌≡◌, ◌≤◌, ◌↔◌, IfOk, IsErr
 ghost use Rattle.std.specs.Fd.{file_raw_fd};
 ghost use Rattle.site_edge.specs.Files.{IsStandard, IsOwn, untouched, file_device, file_device_is_sound};
 
-use crate::FileFailed;
 use crate::fault::counted;
+use crate::progress::Progress;
+use crate::streams::{STREAMS, is_of, may_reach};
+use crate::{Aside, FileFailed};
 use disk_trait::{Disk, Failed, Text};
-use std::fs::{File, Metadata, OpenOptions};
+use std::fs::{File, OpenOptions, TryLockError};
 use std::io::ErrorKind;
 use std::marker::Model;
 use std::os::fd::AsRawFd;
-use std::os::unix::fs::{FileExt, MetadataExt};
+use std::os::unix::fs::FileExt;
 use std::path::Path;
 use std::rt::Files;
 use std::{io, str};
-
-/// Where the system shows the files that are open as standard input, output and error.
-const STREAMS: [&str; 3] = ["/proc/self/fd/0", "/proc/self/fd/1", "/proc/self/fd/2"];
 
 /// How many bytes lie between two places of the file behind which writing to the disk begins.
 const STRETCH: u64 = 524_288;
@@ -30,6 +29,7 @@ pub struct StoreFile {
     file: File,
     size: u64,
     faults: u64,
+    progress: Option<Progress>,
 }
 
 impl Model for StoreFile {
@@ -53,7 +53,7 @@ impl StoreFile {
     {
         let mut options = OpenOptions::new();
         options.read(true).write(true);
-        let file = locked(rt, own(options.open(rt, path_text(path)?)?)?)?;
+        let file = locked(own(options.open(rt, path_text(path)?)?)?)?;
         let size = file.metadata()?.len();
         StoreFile::settled(file, size)
     }
@@ -73,10 +73,10 @@ impl StoreFile {
         let text = path_text(path)?;
         let mut options = OpenOptions::new();
         options.read(true).write(true).create(true);
-        let file = locked(rt, own(options.open(rt, text)?)?)?;
+        let file = locked(own(options.open(rt, text)?)?)?;
         let size = file.metadata()?.len();
         if size < length {
-            file.set_len(length)?;
+            lengthen(&file, length)?;
         }
         sync_folder(rt, text)?;
         StoreFile::settled(file, size.max(length))
@@ -88,14 +88,35 @@ impl StoreFile {
         ensures { IfOk result (λ made. made ≡ untouched (file_raw_fd file) size) }
     {
         file.sync_all()?;
-        if libc::posix_fadvise(file.as_raw_fd(), 0, 0, libc::POSIX_FADV_DONTNEED) != 0 {
-            return Err(FileFailed);
+        let status = libc::posix_fadvise(file.as_raw_fd(), 0, 0, libc::POSIX_FADV_DONTNEED);
+        if status != 0 {
+            return Err(FileFailed::System(io::Error::from_raw_os_error(status)));
         }
         Ok(StoreFile {
             file,
             size,
             faults: 0,
+            progress: None,
         })
+    }
+
+    /// From now on it is shown how far what this word names is, where the run has a terminal.
+    pub fn show_progress(&mut self, aside: Aside, word: &'static str)
+        ensures { self.new ≡ self.old }
+    {
+        if aside.shows() {
+            self.progress = Some(Progress::new(aside, word));
+        }
+    }
+
+    /// Progress is shown no more.
+    pub(crate) fn end_progress(&mut self)
+        ensures { self.new ≡ self.old }
+    {
+        if let Some(progress) = &self.progress {
+            progress.end();
+        }
+        self.progress = None;
     }
 }
 
@@ -112,12 +133,18 @@ impl Disk for StoreFile {
 
     fn read_at(&mut self, at: u64, out: &mut [u8]) -> Result<(), Failed> {
         let answer = self.file.read_exact_at(out, at);
+        if let Some(progress) = &mut self.progress {
+            progress.read(out.len());
+        }
         counted(answer, &mut self.faults, Failed)
     }
 
     fn write_at(&mut self, at: u64, bytes: &[u8]) -> Result<(), Failed> {
-        let answer = self.file.write_all_at(bytes, at);
+        let answer = write_within_limit(&self.file, at, bytes);
         begin_writing(&self.file, at, bytes.len() as u64);
+        if let Some(progress) = &mut self.progress {
+            progress.write(bytes.len());
+        }
         counted(answer, &mut self.faults, Failed)
     }
 
@@ -125,6 +152,22 @@ impl Disk for StoreFile {
         let answer = self.file.sync_data();
         counted(answer, &mut self.faults, Failed)
     }
+}
+
+/// Writes these bytes, unless the process may not write files of that length.
+fn write_within_limit(file: &File, at: u64, bytes: &[u8]) -> io::Result<()> {
+    if !may_reach(at.saturating_add(bytes.len() as u64)) {
+        return Err(io::Error::from(ErrorKind::FileTooLarge));
+    }
+    file.write_all_at(bytes, at)
+}
+
+/// Makes the file this long, unless the process may not have files of that length.
+fn lengthen(file: &File, length: u64) -> io::Result<()> {
+    if !may_reach(length) {
+        return Err(io::Error::from_raw_os_error(libc::EFBIG));
+    }
+    file.set_len(length)
 }
 
 /// Where so many bytes from this place on come to the end of a stretch, the system is told that the stretch isn't
@@ -145,7 +188,7 @@ fn begin_writing(file: &File, at: u64, count: u64) {
 fn path_text(path: &Text) -> Result<&str, FileFailed> {
     match str::from_utf8(path.bytes()) {
         Ok(text) => Ok(text),
-        Err(_) => Err(FileFailed),
+        Err(_) => Err(FileFailed::NoText),
     }
 }
 
@@ -157,7 +200,7 @@ fn own(file: File) -> Result<File, FileFailed>
     ensures own { IfOk result (λ opened. IsOwn (file_raw_fd opened)) }
 {
     if is_standard(file.as_raw_fd()) {
-        Err(FileFailed)
+        Err(FileFailed::IsStream)
     } else {
         Ok(file)
     }
@@ -172,27 +215,18 @@ fn is_standard(descriptor: i32) -> bool
 
 /// Takes the file's lock, unless another open of it holds it, and refuses a file to which a standard
 /// stream leads: what is said there would land in it.
-fn locked<R: Files<File = File>>(rt: &R, file: File) -> Result<File, FileFailed>
+fn locked(file: File) -> Result<File, FileFailed>
     ensures { IfOk result (λ opened. opened ≡ file) }
 {
-    if file.try_lock().is_err() {
-        return Err(FileFailed);
-    }
-    let found = file.metadata()?;
     for stream in &STREAMS {
-        if leads_to(rt, stream, &found)? {
-            return Err(FileFailed);
+        if is_of(*stream, &file) {
+            return Err(FileFailed::IsStream);
         }
     }
-    Ok(file)
-}
-
-/// Whether a stream leads to this file. One that is closed leads nowhere.
-fn leads_to<R: Files<File = File>>(rt: &R, stream: &str, file: &Metadata) -> io::Result<bool> {
-    match rt.metadata(stream) {
-        Ok(other) => Ok(other.dev() == file.dev() && other.ino() == file.ino()),
-        Err(error) if error.kind() == ErrorKind::NotFound => Ok(false),
-        Err(error) => Err(error),
+    match file.try_lock() {
+        Ok(()) => Ok(file),
+        Err(TryLockError::WouldBlock) => Err(FileFailed::InUse),
+        Err(TryLockError::Error(error)) => Err(FileFailed::System(error)),
     }
 }
 
@@ -200,7 +234,7 @@ fn leads_to<R: Files<File = File>>(rt: &R, stream: &str, file: &Metadata) -> io:
 fn sync_folder<R: Files<File = File>>(rt: &R, path: &str) -> Result<(), FileFailed> {
     let folder = match Path::new(path).parent() {
         Some(folder) => folder.as_str(),
-        None => return Err(FileFailed),
+        None => return Err(FileFailed::System(io::Error::from_raw_os_error(libc::EISDIR))),
     };
     let folder = if folder.is_empty() { "." } else { folder };
     File::open(rt, folder)?.sync_all()?;

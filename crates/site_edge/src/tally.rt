@@ -1,6 +1,7 @@
 //! Which link calls of a site in memory fail, and how many did.
 ghost use Rattle.std.specs.Prelude.{◌≡◌, ◌<◌, ◌+◌, ◌^◌, ◌&&◌, ◌↔◌, if◌then◌else◌, is_ok, Contains, IsTrue, IsFalse};
 ghost use Rattle.disk_trait.specs.Calls.{IsCounted};
+ghost use Rattle.disk_trait.specs.MemoryDisk.{counted_on};
 ghost use Rattle.site_edge.specs.Tallies.{CountsCall};
 
 use crate::LinkFailed;
@@ -72,4 +73,24 @@ pub(crate) fn count_peer(tally: &mut Tally, noted: bool, passes: bool) -> Result
         tally.peer_faults = tally.peer_faults.saturating_add(1);
     }
     answer
+}
+
+/// Counts a `dial` that failed, for want of memory or because no peer was left. It takes no number.
+pub(crate) fn count_dial(tally: &mut Tally, starved: bool)
+    ensures { tally.new ≡ record tally.old {
+      faults = counted_on tally.old.faults;
+      starved = if starved then counted_on tally.old.starved else tally.old.starved;
+    } }
+{
+    if starved {
+        tally.starved = one_more(tally.starved);
+    }
+    tally.faults = one_more(tally.faults);
+}
+
+/// One more, up to the last value of a `u64`.
+fn one_more(count: u64) -> u64
+    ensures { result ≡ counted_on count }
+{
+    count.saturating_add(1)
 }

@@ -1,25 +1,34 @@
 //! The program. It makes the file, the peer, the clock and the sink that its words name, and hands them
 //! to the top call, which does the rest. What fails before that call it reports itself, and where a word asks
-//! for help or the version it shows that and does nothing else.
+//! for help or the version it shows that and does nothing else. A stream that is a file which a word names is
+//! written nothing.
 #![tactic(auto)]
 
 ghost use Rattle.std.specs.Prelude.{◌≡◌};
 
 mod help;
+mod outlets;
 
 use disk_trait::{Memory, MemoryDisk, NumberList, Text, TextList};
-use site_edge::{FileSite, HostClock, HostSink, MemorySite, NetSite, PeerList, Sink, StoreFile};
+use outlets::{Outlets, Streams};
+use site_edge::{
+    DialSite, FileFailed, FileSite, HostClock, HostSink, MemorySite, NetSite, PeerList, Sink,
+    StoreFile,
+};
 use std::alloc::Global;
-use std::env;
 use std::fs::File;
-use std::io::{Eprint, ErrorKind, Print, Stderr, Stdin, Stdout};
+use std::io::{Eprint, ErrorKind, Print};
 use std::net::{Ipv4Addr, Net, TcpListener, TcpStream};
 use std::process::ExitCode;
 use std::rt::{Clock, Env, Files};
+use std::{env, str};
 use tams_top::Wanted;
 
 /// The status where all is done.
 const DONE: u8 = 0;
+
+/// The status of words that are no command.
+const BAD_WORDS: u8 = 1;
 
 /// The status where the file can't be opened, made, lengthened, locked or synced.
 const DISK_FAULT: u8 = 3;
@@ -30,66 +39,95 @@ const NO_MEMORY: u8 = 4;
 /// The status where the listener can't be made.
 const LINK_FAULT: u8 = 5;
 
-/// The three standard streams.
-#[derive(Clone, Copy)]
-struct Streams {
-    input: Stdin,
-    output: Stdout,
-    error: Stderr,
-}
-
 fn main(rt: HostRuntime) -> ExitCode {
     let streams = Streams {
         input: rt.stdin(),
         output: rt.stdout(),
         error: rt.stderr(),
     };
-    let status = match status_of(&rt, streams) {
-        Ok(status) => status,
-        Err(Memory) => report(
-            &mut HostSink::output(streams.output),
-            b"no memory\n",
-            NO_MEMORY,
-        ),
+    let status = match words_of(&rt) {
+        Ok(words) => status_within(&rt, &words, Outlets::new(&rt, streams, &words)),
+        Err(Memory) => no_memory(&mut HostSink::output(streams.output)),
     };
     ExitCode::from(status)
 }
 
-/// The status of the command that the arguments ask for.
-fn status_of<
+/// The status of these words, also where there is no memory for them.
+fn status_within<
     R: Files<File = File>
-        + Env
         + Clock
         + Print
         + Eprint
         + Net<Stream = TcpStream, Listener = TcpListener>
         + AllocGlobal,
->(rt: &R, streams: Streams) -> Result<u8, Memory> {
-    let words = words_of(rt)?;
-    if help::is_shown(rt, rt.alloc(), &words)? {
+>(rt: &R, words: &TextList, outlets: Outlets) -> u8 {
+    match status_of(rt, words, outlets) {
+        Ok(status) => status,
+        Err(Memory) => no_memory(&mut outlets.notes(false)),
+    }
+}
+
+/// The status of the command that the words ask for.
+fn status_of<
+    R: Files<File = File>
+        + Clock
+        + Print
+        + Eprint
+        + Net<Stream = TcpStream, Listener = TcpListener>
+        + AllocGlobal,
+>(rt: &R, words: &TextList, outlets: Outlets) -> Result<u8, Memory> {
+    if help::is_shown(rt, rt.alloc(), words, &outlets)? {
         return Ok(DONE);
     }
-    let wanted = tams_top::devices(rt.alloc(), &words)?;
-    Ok(status_over(rt, &words, &wanted, streams))
+    let wanted = tams_top::devices(rt.alloc(), words)?;
+    let mut notes = outlets.notes(is_replay(&wanted, words));
+    let status = status_over(rt, words, &wanted, outlets, &mut notes);
+    if status == BAD_WORDS {
+        // The words were told to be wrong, which want of memory for more doesn't change.
+        let _ = help::explain(rt.alloc(), words, &outlets.aside);
+    }
+    Ok(status)
 }
 
 /// The status of a command over what its words name.
 fn status_over<
     R: Files<File = File> + Clock + Net<Stream = TcpStream, Listener = TcpListener> + AllocGlobal,
->(rt: &R, words: &TextList, wanted: &Wanted, streams: Streams) -> u8 {
+>(rt: &R, words: &TextList, wanted: &Wanted, outlets: Outlets, notes: &mut HostSink) -> u8 {
     let mut clock = HostClock::new(rt);
-    let mut notes = notes_of(wanted, words, streams);
-    let opened = match wanted {
-        Wanted::Nothing => return run_nowhere(rt.alloc(), words, &mut clock, &mut notes),
-        Wanted::Plain(path) | Wanted::Listen(path, _) => StoreFile::open(rt, path),
-        Wanted::Fresh(path, length) => StoreFile::make(rt, path, *length),
+    let (path, opened) = match wanted {
+        Wanted::Nothing => return run_nowhere(rt.alloc(), words, &mut clock, notes),
+        Wanted::Plain(path) | Wanted::Listen(path, _) | Wanted::Dial(path) => {
+            (path, StoreFile::open(rt, path))
+        }
+        Wanted::Fresh(path, length) => (path, StoreFile::make(rt, path, *length)),
     };
-    let Ok(file) = opened else {
-        return report(&mut notes, b"disk fault\n", DISK_FAULT);
+    let mut file = match opened {
+        Ok(file) => file,
+        Err(failed) => {
+            let path = str::from_utf8(path.bytes()).unwrap_or("");
+            help::blame(rt.alloc(), &outlets.aside, path, failed);
+            return report(notes, b"disk fault\n", DISK_FAULT);
+        }
     };
+    file.show_progress(outlets.aside, progress_word(words));
     match wanted {
-        Wanted::Listen(_, port) => serve(rt, words, file, *port, &mut clock, &mut notes),
-        _ => run_on_file(rt.alloc(), words, file, streams, &mut clock, &mut notes),
+        Wanted::Listen(_, port) => serve(rt, words, file, *port, outlets, &mut clock, notes),
+        Wanted::Dial(_) => run_dialling(rt, words, file, &mut clock, notes),
+        _ => run_on_file(rt.alloc(), words, file, outlets, &mut clock, notes),
+    }
+}
+
+/// What progress is of: opening, where requests are served behind it.
+fn progress_word(words: &TextList) -> &'static str {
+    let command = match words.items().first() {
+        Some(word) => word.bytes(),
+        None => b"".as_slice(),
+    };
+    match command {
+        b"format" => "format",
+        b"check" => "check",
+        b"work" => "work",
+        _ => "opening",
     }
 }
 
@@ -109,12 +147,24 @@ fn run_on_file<C: site_edge::Clock>(
     alloc: Global,
     words: &TextList,
     file: StoreFile,
-    streams: Streams,
+    outlets: Outlets,
     clock: &mut C,
     notes: &mut HostSink,
 ) -> u8 {
-    let mut site = FileSite::new(file, streams.input, streams.output);
+    let mut site = FileSite::new(file, outlets.streams.input, outlets.streams.output);
     tams_top::run(alloc, words, &mut site, clock, notes)
+}
+
+/// The status of a command that begins its connections itself.
+fn run_dialling<R: Net<Stream = TcpStream> + AllocGlobal, C: site_edge::Clock>(
+    rt: &R,
+    words: &TextList,
+    file: StoreFile,
+    clock: &mut C,
+    notes: &mut HostSink,
+) -> u8 {
+    let mut site = DialSite::new(file, rt);
+    tams_top::run(rt.alloc(), words, &mut site, clock, notes)
 }
 
 /// The status of a command whose peers connect to this port.
@@ -123,15 +173,21 @@ fn serve<R: Net<Stream = TcpStream, Listener = TcpListener> + AllocGlobal, C: si
     words: &TextList,
     file: StoreFile,
     port: u16,
+    outlets: Outlets,
     clock: &mut C,
     notes: &mut HostSink,
 ) -> u8 {
     match TcpListener::bind(rt, (Ipv4Addr::LOCALHOST, port)) {
         Ok(listener) => {
             let mut site = NetSite::new(file, listener);
+            site.announce_to(outlets.aside);
             tams_top::run(rt.alloc(), words, &mut site, clock, notes)
         }
-        Err(_) => report(notes, b"link fault\n", LINK_FAULT),
+        Err(error) => {
+            let port = format_args!("port {port}");
+            help::blame(rt.alloc(), &outlets.aside, port, FileFailed::System(error));
+            report(notes, b"link fault\n", LINK_FAULT)
+        }
     }
 }
 
@@ -157,14 +213,17 @@ fn words_of<R: Env + AllocGlobal>(rt: &R) -> Result<TextList, Memory> {
     }
 }
 
-/// Standard error for a `replay`, whose answers go to standard output, and standard output for all else.
-fn notes_of(wanted: &Wanted, words: &TextList, streams: Streams) -> HostSink {
+/// Whether the words are a `replay`.
+fn is_replay(wanted: &Wanted, words: &TextList) -> bool {
     match (wanted, words.items()) {
-        (Wanted::Plain(_), [command, ..]) if command.bytes() == b"replay".as_slice() => {
-            HostSink::error(streams.error)
-        }
-        _ => HostSink::output(streams.output),
+        (Wanted::Plain(_), [command, ..]) => command.bytes() == b"replay".as_slice(),
+        _ => false,
     }
+}
+
+/// Reports that there is no memory.
+fn no_memory(notes: &mut HostSink) -> u8 {
+    report(notes, b"no memory\n", NO_MEMORY)
 }
 
 /// Puts this line to the notes. A fault of theirs changes no status.

@@ -25,8 +25,11 @@ use Rattle.connection_loop.specs.Turns.{SiteCalls, TurnLeads, held_with}
 use Rattle.tams_machine.specs.Answers.{heard_body}
 use Rattle.tams_machine.specs.Machine.{tams_machine}
 use Rattle.tams_machine.specs.Requests.{Heads, SpellsRequest, TamsRequest}
-use Rattle.request_hearing.specs.Asking.{Asking, asked_trace}
-use Rattle.request_hearing.specs.Hearing.{OpensMedia, interim_where}
+use Rattle.request_hearing.specs.Asking.{Asking, WaitsFor, asked_trace}
+use Rattle.std.specs.List.{AllByRecursion}
+use Rattle.std.proofs.lemmas.List.{append_assoc}
+use Rattle.run_history.proofs.Hearings.{each-weaker}
+use Rattle.request_hearing.specs.Hearing.{HearPart, OpensMedia, interim_bytes, interim_where}
 use Rattle.request_hearing.specs.Laws.{OpenedAs, media_request}
 use Rattle.request_hearing.proofs.Asking.{asking_taken, reached_kept}
 use Rattle.request_hearing.proofs.Theorems.{media_opened, text_on}
@@ -36,7 +39,7 @@ use Rattle.tams_service.specs.Answering.{AnswersEach, AsksAt, EndsThere, IsPutti
 use Rattle.tams_service.specs.Keeping.{KeepsState}
 use Rattle.tams_service.specs.Serving.{ServiceSeen}
 use Rattle.tams_service.specs.Sites.{SiteCounts}
-use Rattle.tams_service.specs.Taking.{HandedMost, HoldsIf, IsFilled, TakesBody, TakesOfBody, body_handed, plan_of}
+use Rattle.tams_service.specs.Taking.{HandedMost, HearsWithin, HoldsIf, IsFilled, TakesBody, TakesOfBody, body_handed, plan_of}
 use Rattle.tams_service.specs.declared.body.BodyTaken.TheVariants as taken
 use Rattle.tams_service.proofs.Giving.{nothing_changed}
 use Rattle.tams_service.proofs.Handed.{handed_step, handed_then}
@@ -53,6 +56,7 @@ cut_calls old new calls = record {
   faults = calls.faults;
   link_faults = calls.link_faults.stays refl;
   peer_faults = calls.peers.peer_faults;
+  closed = calls.peers.closed;
   under_way = calls.under_way;
 }
 
@@ -63,6 +67,7 @@ stopped_calls old new calls = record {
   faults = calls.faults;
   link_faults = calls.link_faults.never_falls;
   peer_faults = calls.peers.peer_faults;
+  closed = calls.peers.closed;
   under_way = calls.under_way;
 }
 
@@ -75,13 +80,17 @@ module _ (p : RunPlace) (old mid : Device) (n : RunCounts) (all text part : List
   reached_there : Reached (tams_machine p.base) p.beginning (asked_trace (tams_machine p.base) p.beginning p.said p.finished p.steps) true false mid
   reached_there = reached_kept asks.asking (over_keeps p.base state keeps)
 
+  -- what each hearing of it waited for
+  abbrev pub WaitingIn : List HearPart → Type 0
+  WaitingIn = AllByRecursion (λ q. WaitsFor (tams_machine p.base) p.taken (all ++ q.heard) (interim_bytes p.said ++ q.told))
+
   -- It was heard, and no call of the link failed.
-  pub part_asks : TakesOfBody part false false from to old mid
+  pub part_asks : (takes : TakesOfBody part false false from to old mid) → WaitingIn takes.parts
       → Asking (tams_machine p.base) p.beginning mid p.given (held_with p.state ((text ++ part) ++ to.unread) p.taken) p.said p.finished p.steps n
-  part_asks takes =
+  part_asks takes waits =
       subst (λ unread. Asking (tams_machine p.base) p.beginning mid p.given (held_with p.state unread p.taken) p.said p.finished p.steps n)
       (text_on all text from.unread takes.bytes part to.unread text_is takes.text_is)
-      (asking_taken asks.asking takes.bytes (takes.connections tells) reached_there)
+      (asking_taken asks.asking takes.parts takes.bytes (takes.connections tells) takes.parts_are waits reached_there)
 
   -- No more was handed on of it than was heard.
   cut_handed : (moment : ℕ) → heard_body (text ++ part) ≡ length part → HandedMost (length part) old mid
@@ -100,16 +109,17 @@ module _ (p : RunPlace) (old mid : Device) (n : RunCounts) (all text part : List
         text_on all text from.unread bytes part to.unread text_is is ∙ ap (λ l. (text ++ part) ++ l) none ∙ append-nil (text ++ part)
 
     -- The peer's bytes ended behind it.
-    pub ended_cut : TakesOfBody part true false from to old mid → EndsThere p mid last (moment ∷ []) n endings.Cut
-    ended_cut takes =
-        taken_ends (KeepsState last mid) kept_so takes.bytes p.said true Whole (text ++ part) (Some moment) asks.asking (takes.connections tells) reached_there
+    pub ended_cut : (takes : TakesOfBody part true false from to old mid) → WaitingIn takes.parts → EndsThere p mid last (moment ∷ []) n endings.Cut
+    ended_cut takes waits =
+        taken_ends (KeepsState last mid) kept_so takes.parts takes.bytes p.said true Whole (text ++ part) (Some moment) asks.asking (takes.connections tells)
+        takes.parts_are waits reached_there
         (λ same. cc) (λ _. refl) (all_heard takes.bytes takes.text_is) some cuts unfinished (cut_handed moment heard most)
 
     -- A hearing failed behind it.
-    pub unheard_cut : TakesOfBody part false true from to old mid → EndsThere p mid last (moment ∷ []) n endings.Unlinked
-    unheard_cut takes =
-        taken_ends (KeepsState last mid) kept_so takes.bytes p.said false Hearing (text ++ part) (Some moment) asks.asking
-        (takes.connections tells) reached_there
+    pub unheard_cut : (takes : TakesOfBody part false true from to old mid) → WaitingIn takes.parts → EndsThere p mid last (moment ∷ []) n endings.Unlinked
+    unheard_cut takes waits =
+        taken_ends (KeepsState last mid) kept_so takes.parts takes.bytes p.said false Hearing (text ++ part) (Some moment) asks.asking
+        (takes.connections tells) takes.parts_are waits reached_there
         (λ same. cc) (λ same. absurd cc) (all_heard takes.bytes takes.text_is) some cuts unfinished (cut_handed moment heard most)
 
 -- ---- the request
@@ -139,6 +149,18 @@ module _ (s : StoreSeen) (from : Fed) (shown : Head) (old : Device) (moment : �
   opened_with : (part : List ℕ) → OpenedAs p.taken p.said o.text o.head shown part
   opened_with part = media_opened p.taken all p.said from shown o part
 
+  -- each hearing of it began before it was whole
+  within_waits : (parts : List HearPart) → AllByRecursion (HearsWithin from) parts
+      → AllByRecursion (λ q. WaitsFor (tams_machine p.base) p.taken (all ++ q.heard) (interim_bytes p.said ++ q.told)) parts
+  within_waits parts within =
+      let left : left_of from.stage ≡ shown.length = ap left_of o.behind.stage_is in
+      each-weaker _ _ (λ q w.
+      let there : all ++ q.heard ≡ o.text ++ (from.unread ++ q.heard) =
+      ap (λ l. l ++ q.heard) o.text_is ∙ append_assoc o.text from.unread q.heard in
+      let told : interim_bytes p.said ++ q.told ≡ interim_bytes p.said =
+      ap (λ l. interim_bytes p.said ++ l) w.told ∙ append-nil (interim_bytes p.said) in
+      rw (there, told) ((opened_with (from.unread ++ q.heard)).waits p.base (omega (arith, w.short, left)))) parts within
+
   -- It has come whole, or a part of it.
   is_begun : (part : List ℕ) → length part ≤ shown.length → SpellsRequest p.taken (o.text ++ part) (request_with part) ⊎ Heads p.taken (o.text ++ part)
       (request_with part)
@@ -165,6 +187,7 @@ module _ (s : StoreSeen) (from : Fed) (shown : Head) (old : Device) (moment : �
     asks_there : (part : List ℕ) → TakesOfBody part false false from fed old mid
         → Asking (tams_machine p.base) p.beginning mid p.given (held_with p.state ((o.text ++ part) ++ fed.unread) p.taken) p.said p.finished p.steps n
     asks_there part takes = part_asks p old mid n all o.text part from fed s.kept tells.tells asks o.text_is keeps.state kept_there takes
+        (within_waits takes.parts takes.waits)
 
     -- Its peer's bytes ended within it.
     ended_so : TakesBody s.kept shown.length from fed put old mid taken.Ended → store.spent ≡ false
@@ -173,7 +196,7 @@ module _ (s : StoreSeen) (from : Fed) (shown : Head) (old : Device) (moment : �
         let w = opened_with body.part in
         ended_cut p old mid n all o.text body.part from fed s.kept tells.tells asks o.text_is keeps.state kept_there body.comes.1
         (some_text o.text body.part o.head shown.length (length o.text) o.next) moment (w.cut body.comes.0) (w.unfinished p.base body.comes.0) store
-        (keeps_there unspent) w.heard (body.handed refl tells.tells) body.takes
+        (keeps_there unspent) w.heard (body.handed refl tells.tells) body.takes (within_waits body.takes.parts body.takes.waits)
 
     -- A hearing failed within it.
     unheard_so : TakesBody s.kept shown.length from fed put old mid taken.Unheard → store.spent ≡ false
@@ -182,7 +205,7 @@ module _ (s : StoreSeen) (from : Fed) (shown : Head) (old : Device) (moment : �
         let w = opened_with body.part in
         unheard_cut p old mid n all o.text body.part from fed s.kept tells.tells asks o.text_is keeps.state kept_there body.comes.1
         (some_text o.text body.part o.head shown.length (length o.text) o.next) moment (w.cut body.comes.0) (w.unfinished p.base body.comes.0) store
-        (keeps_there unspent) w.heard (body.handed refl tells.tells) body.takes
+        (keeps_there unspent) w.heard (body.handed refl tells.tells) body.takes (within_waits body.takes.parts body.takes.waits)
 
     -- The disk failed within it.
     failed_so : (new : Device) (now : RunCounts) → TakesBody s.kept shown.length from fed put old mid taken.Failed → StopLeads mid new n now 0

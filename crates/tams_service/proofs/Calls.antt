@@ -6,7 +6,7 @@ use Rattle.disk_trait.proofs.Theorems.{same_device_twice}
 use Rattle.connection_loop.specs.declared.ending.ConnectionEnd.TheVariants.{Complete, Cut, Unlinked, Starved, Stopped}
 use Rattle.connection_loop.specs.Turns.{SiteCalls}
 use Rattle.connection_loop.proofs.Turning.{counted_none}
-use Rattle.request_hearing.specs.Hearing.{HearsAndSays}
+use Rattle.request_hearing.specs.Hearing.{HearPart, HearsAndSays}
 use Rattle.tams_service.specs.Sites.{LinkCalls, SiteCounts}
 
 -- calls of which none failed
@@ -16,6 +16,7 @@ calls_held old new calls = record {
   faults = calls.faults;
   link_faults = calls.link_faults.stays refl;
   peer_faults = calls.peers.peer_faults;
+  closed = calls.peers.closed;
   under_way = calls.under_way;
 }
 
@@ -26,6 +27,7 @@ disk_held old new calls = record {
   faults = calls.counted;
   link_faults = ap (λ (l : Link). l.faults) calls.link;
   peer_faults = ap (λ (l : Link). l.peer_faults) calls.link;
+  closed = ap (λ (l : Link). l.closed) calls.link;
   under_way = ap (λ (l : Link). l.under_way) calls.link;
 }
 
@@ -36,6 +38,7 @@ disk_stopped old new calls = record {
   faults = calls.counted;
   link_faults = omega (arith, ap (λ (l : Link). l.faults) calls.link);
   peer_faults = ap (λ (l : Link). l.peer_faults) calls.link;
+  closed = ap (λ (l : Link). l.closed) calls.link;
   under_way = ap (λ (l : Link). l.under_way) calls.link;
 }
 
@@ -46,6 +49,7 @@ stopped_more old mid new calls link = record {
   faults = subst (λ k. IsCounted false old.faults k) (sym link.faults) calls.faults;
   link_faults = omega (arith, calls.link_faults, link.link_faults);
   peer_faults = link.peer_faults ∙ calls.peer_faults;
+  closed = link.closed ∙ calls.closed;
   under_way = link.under_way ∙ calls.under_way;
 }
 
@@ -56,6 +60,7 @@ starved_calls old new link = record {
   faults = counted_none old.faults new.faults link.faults;
   link_faults = link.link_faults;
   peer_faults = link.peer_faults;
+  closed = link.closed;
   under_way = link.under_way;
 }
 
@@ -66,29 +71,34 @@ unlinked_calls old new calls = record {
   faults = calls.faults;
   link_faults = (calls.link_faults.never_falls, calls.link_faults.rises refl);
   peer_faults = calls.peers.peer_faults;
+  closed = calls.peers.closed;
   under_way = calls.under_way;
 }
 
 -- ---- hearings
 
 -- no call of the link failed in a hearing
-pub heard_calls : (bytes : List ℕ) (said sent ended : Bool) (old new : Device) → HearsAndSays bytes said sent true ended old new → SiteCalls None old new
+pub heard_calls : {parts : List HearPart} (bytes : List ℕ) (said sent ended : Bool) (old new : Device)
+    → HearsAndSays parts bytes said sent true ended old new → SiteCalls None old new
 heard_calls bytes said sent ended old new h = record {
   same = h.call.same;
   faults = counted_none old.faults new.faults h.call.faults;
   link_faults = h.call.counted.stays refl;
   peer_faults = h.peers.peer_faults;
+  closed = h.peers.closed;
   under_way = h.under_way;
 }
 
 -- one did
-pub unheard_calls : (bytes : List ℕ) (said sent ended : Bool) (old new : Device) → HearsAndSays bytes said sent false ended old new
+pub unheard_calls : {parts : List HearPart} (bytes : List ℕ) (said sent ended : Bool) (old new : Device)
+    → HearsAndSays parts bytes said sent false ended old new
     → SiteCalls (Some Unlinked) old new
 unheard_calls bytes said sent ended old new h = record {
   same = h.call.same;
   faults = counted_none old.faults new.faults h.call.faults;
   link_faults = (h.call.counted.never_falls, h.call.counted.rises refl);
   peer_faults = h.peers.peer_faults;
+  closed = h.peers.closed;
   under_way = h.under_way;
 }
 
@@ -99,6 +109,7 @@ complete_calls old new calls = record {
   faults = calls.faults;
   link_faults = calls.link_faults;
   peer_faults = calls.peer_faults;
+  closed = calls.closed;
   under_way = calls.under_way;
 }
 
@@ -108,5 +119,6 @@ cut_calls old new calls = record {
   faults = calls.faults;
   link_faults = calls.link_faults;
   peer_faults = calls.peer_faults;
+  closed = calls.closed;
   under_way = calls.under_way;
 }

@@ -21,7 +21,7 @@ counts_none d = record {
   same = record { size = refl; honest = refl; shows = refl; tells = refl };
   faults = counted_none d.faults d.faults refl;
   link_faults = counted_none d.link.faults d.link.faults refl;
-  peers = record { peer_faults = refl; closed = refl };
+  peers = record { peer_faults = refl; closed = refl; dials = refl };
   under_way = refl;
 }
 
@@ -31,7 +31,11 @@ counts_disk ok old new same link counted = record {
   same = same;
   faults = counted;
   link_faults = counted_none old.link.faults new.link.faults (ap (λ (l : Link). l.faults) link);
-  peers = record { peer_faults = ap (λ (l : Link). l.peer_faults) link; closed = ap (λ (l : Link). l.closed) link };
+  peers = record {
+    peer_faults = ap (λ (l : Link). l.peer_faults) link;
+    closed = ap (λ (l : Link). l.closed) link;
+    dials = ap (λ (l : Link). l.dials) link;
+  };
   under_way = ap (λ (l : Link). l.under_way) link;
 }
 
@@ -52,6 +56,10 @@ counts_twice linked held old mid new one two = record {
   same = same_device_twice old mid new one.same two.same;
   faults = counted_twice held old.faults mid.faults new.faults one.faults two.faults;
   link_faults = counted_twice linked old.link.faults mid.link.faults new.link.faults one.link_faults two.link_faults;
-  peers = record { peer_faults = two.peers.peer_faults ∙ one.peers.peer_faults; closed = two.peers.closed ∙ one.peers.closed };
+  peers = record {
+    peer_faults = two.peers.peer_faults ∙ one.peers.peer_faults;
+    closed = two.peers.closed ∙ one.peers.closed;
+    dials = two.peers.dials ∙ one.peers.dials;
+  };
   under_way = two.under_way ∙ one.under_way;
 }

@@ -7,7 +7,7 @@ use Rattle.store_states.specs.Kept.{AgreesWith, Moves, StoreView, kept_state}
 use Rattle.store_states.specs.States.{StoreState}
 use Rattle.store_writes.specs.Writes.{Keeps}
 use Rattle.store_writes.proofs.Keeping.{quiet}
-use Rattle.request_hearing.specs.Hearing.{HearsAndSays}
+use Rattle.request_hearing.specs.Hearing.{HearPart, HearsAndSays}
 use Rattle.request_hearing.proofs.SiteLemmas.{tells_none}
 
 moves_twice : (s : StoreState) (q m p : Left) → Moves s s q m → Moves s s m p → Moves s s q p
@@ -21,8 +21,8 @@ keeps_twice kept held old mid new one two = record {
 }
 
 -- a hearing keeps it, and tells nothing
-pub hearing_keeps : (bytes : List ℕ) (linked ended : Bool) (old new : Device) (kept : StoreView) (held : List (List ℕ))
-    → HearsAndSays bytes false true linked ended old new → AgreesWith old kept held → Keeps kept held old new
+pub hearing_keeps : {parts : List HearPart} (bytes : List ℕ) (linked ended : Bool) (old new : Device) (kept : StoreView) (held : List (List ℕ))
+    → HearsAndSays parts bytes false true linked ended old new → AgreesWith old kept held → Keeps kept held old new
 hearing_keeps bytes linked ended old new kept held h agrees =
     quiet old new kept held
     (elapses_weaker _ _ Unchanged Unchanged old new h.call.time (λ q p could tells. tells_none false q p tells)

@@ -8,6 +8,7 @@ mod Holding
 mod Keeps
 mod Taken
 mod Calls
+mod Clocks
 pub mod Keeping
 pub mod States
 mod Effects

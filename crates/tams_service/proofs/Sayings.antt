@@ -59,10 +59,10 @@ or_nothing true = refl
 or_nothing false = refl
 
 said_twice : (linked : Bool) (s t : List ℕ) (c : Connection) → after_say linked t (after_say true s c) ≡ after_say linked (s ++ t) c
-said_twice linked s t c = rw (append_assoc c.told s t, or_nothing c.failed) refl
+said_twice linked s t c = rw (append_assoc c.told s t, or_nothing c.unsaid) refl
 
 said_nothing : (c : Connection) → after_say true [] c ≡ c
-said_nothing c = rw (append-nil c.told, or_nothing c.failed) refl
+said_nothing c = rw (append-nil c.told, or_nothing c.unsaid) refl
 
 -- ---- sayings
 

@@ -16,8 +16,9 @@ use Rattle.run_history.proofs.Ends.{EndLike, end_like-push, open-going, stage-se
 use Rattle.connection_loop.specs.declared.ending.ConnectionEnd.{ConnectionEnd}
 use Rattle.connection_loop.specs.declared.ending.ConnectionEnd.TheVariants as endings
 use Rattle.connection_loop.specs.Turns.{EndsAs, GoesOn, TurnLeads, ending_of}
-use Rattle.request_hearing.specs.Hearing.{HearsAndSays, after_hearing, interim_where}
-use Rattle.request_hearing.specs.Asking.{Asking, IsAnswerStep, asked_trace, counted_more}
+use Rattle.std.specs.List.{AllByRecursion}
+use Rattle.request_hearing.specs.Hearing.{HearPart, HearsAndSays, IsPartOf, after_hearing, interim_bytes, interim_where}
+use Rattle.request_hearing.specs.Asking.{Asking, IsAnswerStep, WaitsFor, asked_trace, counted_more}
 use Rattle.request_hearing.proofs.Asking.{under_way-going}
 use Rattle.request_hearing.proofs.AskingAnswered.{answered_ends, answered_goes, answered_state}
 use Rattle.request_hearing.proofs.AskingCut.{taken_cut}
@@ -92,13 +93,14 @@ answer_leads turned false last s ends few keeps kept =
 module _ {State Request : Type 0} {m : Machine State Request} {b : Beginning State} {old new : Device} {given : List ℕ} {held : Held State}
     {finished : List (Session Request)} {steps : List (Step Request)} {n : RunCounts} (keeps : State → Type 0) (kept : keeps held.state) where
   -- It came behind a whole request.
-  pub behind_ends : (bytes : List ℕ) (said ended : Bool) (link : LinkEnd) → Going m b old given held finished steps n
-      → HearsAndSays bytes said (saying_held_on link) (not (has_link_failed link)) ended old new → old.tells ≡ true → (link ≡ Whole → ended ≡ true)
+  pub behind_ends : {parts : List HearPart} (bytes : List ℕ) (said ended : Bool) (link : LinkEnd) → Going m b old given held finished steps n
+      → HearsAndSays parts bytes said (saying_held_on link) (not (has_link_failed link)) ended old new
+      → AllByRecursion (λ p. WaitsFor m held.taken (held.unread ++ p.heard) p.told) parts → old.tells ≡ true → (link ≡ Whole → ended ≡ true)
       → held.unread ++ bytes ≡ [] → said ≡ false → link ≢ Saying
       → EndsAs m b new given keeps finished n (if has_link_failed link then endings.Unlinked else endings.Complete)
-  behind_ends bytes said ended link g h tells at_end none silent not_saying = record {
+  behind_ends bytes said ended link g h waits tells at_end none silent not_saying = record {
     session = under_way steps link;
-    served = ends_behind_request m b old new given held finished steps n bytes said ended link g h tells at_end none silent not_saying;
+    served = ends_behind_request m b old new given held finished steps n bytes said ended link g h waits tells at_end none silent not_saying;
     unstopped = g.unstopped;
     ending_is = let going = open-going m steps g.stay in rw (going.stops, going.starves, going.cut) refl;
     kept = λ on.
@@ -106,14 +108,16 @@ module _ {State Request : Type 0} {m : Machine State Request} {b : Beginning Sta
   }
 
   -- It came within one that had its interim response at most.
-  pub within_ends : (bytes : List ℕ) (said ended : Bool) (link : LinkEnd) (text rest : List ℕ) (moment : Option ℕ) → Going m b old given held finished steps n
-      → HearsAndSays bytes said (saying_held_on link) (not (has_link_failed link)) ended old new → old.tells ≡ true → (link ≡ Whole → ended ≡ true)
+  pub within_ends : {parts : List HearPart} (bytes : List ℕ) (said ended : Bool) (link : LinkEnd) (text rest : List ℕ) (moment : Option ℕ)
+      → Going m b old given held finished steps n
+      → HearsAndSays parts bytes said (saying_held_on link) (not (has_link_failed link)) ended old new
+      → AllByRecursion (λ p. WaitsFor m held.taken (held.unread ++ p.heard) p.told) parts → old.tells ≡ true → (link ≡ Whole → ended ≡ true)
       → held.unread ++ bytes ≡ text ++ rest → text ≢ [] → m.cuts text (record { interim = interim_where said; takes_moment = is_there moment })
       → (link ≢ Saying → (rest ≡ []) × IsUnfinished m held.taken text) → (link ≡ Saying → said ≡ true)
       → EndsAs m b new (given ++ option_to_list moment) keeps finished n (if has_link_failed link then endings.Unlinked else endings.Cut)
-  within_ends bytes said ended link text rest moment g h tells at_end text_is some cuts unfinished saying = record {
+  within_ends bytes said ended link text rest moment g h waits tells at_end text_is some cuts unfinished saying = record {
     session = under_way (steps ++ Cut text (interim_where said) moment ∷ []) link;
-    served = ends_within_request m b old new given held finished steps n bytes said ended link g h tells at_end text rest moment text_is some cuts unfinished
+    served = ends_within_request m b old new given held finished steps n bytes said ended link g h waits tells at_end text rest moment text_is some cuts unfinished
         saying;
     unstopped = g.unstopped;
     ending_is = sym (ending-like steps (Cut text (interim_where said) moment) link (end_like-push m steps (Cut text (interim_where said) moment) g.stay));
@@ -121,17 +125,19 @@ module _ {State Request : Type 0} {m : Machine State Request} {b : Beginning Sta
   }
 
   -- It came within one of which more was asked for, as the body of a media PUT: behind these bytes, where the run has come as far.
-  pub taken_ends : (bytes : List ℕ) (said ended : Bool) (link : LinkEnd) (text : List ℕ) (moment : Option ℕ)
+  pub taken_ends : (parts : List HearPart) (bytes : List ℕ) (said ended : Bool) (link : LinkEnd) (text : List ℕ) (moment : Option ℕ)
       → Asking m b old given held said finished steps n
-      → new.link.connections ≡ change_last (after_hearing bytes [] ended (not (not (has_link_failed link)))) old.link.connections
+      → new.link.connections ≡ change_last (after_hearing parts bytes [] ended (not (not (has_link_failed link))) false) old.link.connections
+      → AllByRecursion (IsPartOf bytes [] (not (not (has_link_failed link)))) parts
+      → AllByRecursion (λ p. WaitsFor m held.taken (held.unread ++ p.heard) (interim_bytes said ++ p.told)) parts
       → Reached m b (asked_trace m b said finished steps) true false new
       → link ≢ Saying → (link ≡ Whole → ended ≡ true) → held.unread ++ bytes ≡ text → text ≢ []
       → m.cuts text (record { interim = interim_where said; takes_moment = is_there moment }) → IsUnfinished m held.taken text
       → HasHanded m b (finished ++ under_way (steps ++ Cut text (interim_where said) moment ∷ []) Whole ∷ []) new.handed
       → EndsAs m b new (given ++ option_to_list moment) keeps finished n (if has_link_failed link then endings.Unlinked else endings.Cut)
-  taken_ends bytes said ended link text moment a heard reached not_saying at_end text_is some cuts unfinished handed = record {
+  taken_ends parts bytes said ended link text moment a heard are waits reached not_saying at_end text_is some cuts unfinished handed = record {
     session = under_way (steps ++ Cut text (interim_where said) moment ∷ []) link;
-    served = taken_cut a text moment bytes link ended heard reached not_saying at_end text_is some cuts unfinished handed;
+    served = taken_cut a text moment parts bytes link ended heard are waits reached not_saying at_end text_is some cuts unfinished handed;
     unstopped = a.begun.so_far.unstopped;
     ending_is =
         sym (ending-like steps (Cut text (interim_where said) moment) link (end_like-push m steps (Cut text (interim_where said) moment) a.begun.so_far.stay));

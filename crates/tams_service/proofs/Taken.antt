@@ -20,7 +20,7 @@ use Rattle.tams_service.proofs.Counting.{counts_none, counts_twice}
 use Rattle.tams_service.proofs.Handed.{body_few, body_none, body_twice}
 use Rattle.tams_service.proofs.Holding.{holds_more, holds_none, stored_same, takes_from}
 use Rattle.tams_service.proofs.Keeps.{keeps_none, keeps_twice}
-use Rattle.tams_service.proofs.Parts.{left_less, takes_none, takes_piece, takes_then, takes_twice}
+use Rattle.tams_service.proofs.Parts.{left_less, takes_none, takes_nothing, takes_piece, takes_then, takes_twice}
 
 -- a put goes on, to which a part of its bytes was handed
 pub record HasPart (kept : StoreView) (size : ℕ) (part : List ℕ) (put : PutSeen) : Type 0 where
@@ -58,13 +58,13 @@ hands_from kept piece (Some put) next before mid now seen same on = record {
 
 -- one that was heard and handed on
 pub takes_next : (kept : StoreView) (old new : Fed) (out : List ℕ) (count : ℕ) (put next : Option PutSeen) (before mid now : Device)
-    → HearsBody old new out before mid (bodies.Piece count) → HandsOn kept (take count out) put next mid now → now.link ≡ mid.link
+    → HearsBody old new out before mid (bodies.Piece count) → 0 < left_of old.stage → HandsOn kept (take count out) put next mid now → now.link ≡ mid.link
     → (mid.tells ≡ true → now.handed ≡ mid.handed + body_handed (plan_of put) (take count out))
     → TakesNext kept old new put next before now (pieces.Of count)
-takes_next kept old new out count put next before mid now hears on link handed = record {
+takes_next kept old new out count put next before mid now hears left on link handed = record {
   part = take count out;
   takes = takes_then (take count out) false false old new before mid now
-      (takes_piece old new hears.bytes out count true false before mid hears.comes hears.leaves) link;
+      (takes_piece old new hears.parts hears.bytes out count true false before mid hears.comes left hears.waits hears.leaves) link;
   comes = (
     hears.comes.some,
     length-take-le count out hears.comes.within,
@@ -72,6 +72,37 @@ takes_next kept old new out count put next before mid now hears on link handed =
   );
   handed = λ stored tells.
       handed (hears.leaves.call.same.tells ∙ tells) ∙ ap (λ k. k + body_handed (plan_of put) (take count out)) hears.leaves.call.handed;
+}
+
+-- one that was heard, and that the disk didn't take
+pub takes_stopped : (kept : StoreView) (old new : Fed) (out : List ℕ) (count : ℕ) (put next : Option PutSeen) (before mid now : Device)
+    → HearsBody old new out before mid (bodies.Piece count) → 0 < left_of old.stage → now.link ≡ mid.link → TakesNext kept old new put next before now pieces.Failed
+takes_stopped kept old new out count put next before mid now hears left link = record {
+  part = take count out;
+  takes = takes_then (take count out) false false old new before mid now
+      (takes_piece old new hears.parts hears.bytes out count true false before mid hears.comes left hears.waits hears.leaves) link;
+  comes = λ none. omega (arith, hears.comes.some, length-take-le count out hears.comes.within, ap length none);
+  handed = λ stored tells. absurd (false≢true stored);
+}
+
+-- the peer's bytes ended in its place
+pub takes_ended : (kept : StoreView) (old new : Fed) (out : List ℕ) (put next : Option PutSeen) (before now : Device)
+    → HearsBody old new out before now bodies.Ended → 0 < left_of old.stage → TakesNext kept old new put next before now pieces.Ended
+takes_ended kept old new out put next before now hears left = record {
+  part = [];
+  takes = takes_nothing old new hears.parts hears.bytes true true before now hears.comes left hears.waits hears.leaves;
+  comes = (refl, ap (λ (f : Fed). f.unread) hears.comes.feed ∙ hears.comes.none);
+  handed = λ stored tells. omega (arith, hears.leaves.call.handed, body_none (plan_of put));
+}
+
+-- or the hearing failed
+pub takes_unheard : (kept : StoreView) (old new : Fed) (out : List ℕ) (put next : Option PutSeen) (before now : Device)
+    → HearsBody old new out before now bodies.Unheard → 0 < left_of old.stage → TakesNext kept old new put next before now pieces.Unheard
+takes_unheard kept old new out put next before now hears left = record {
+  part = [];
+  takes = takes_nothing old new hears.parts hears.bytes false false before now hears.comes left hears.waits hears.leaves;
+  comes = (refl, ap (λ (f : Fed). f.unread) hears.comes.feed ∙ hears.comes.none);
+  handed = λ stored tells. omega (arith, hears.leaves.call.handed, body_none (plan_of put));
 }
 
 -- ---- none at first

@@ -1,5 +1,5 @@
 -- A turn of a connection in which a request was heard and answered, or refused by the wire: what it leads to.
-use Rattle.std.proofs.Common.{◌≡◌, ◌<◌, ◌+◌, ℕ, Bool, true, false, List, ◌++◌, Option, None, Some, refl, sym, ap, ◌∙◌, subst, append-nil}
+use Rattle.std.proofs.Common.{◌≡◌, ◌<◌, ◌+◌, ℕ, Bool, true, false, List, [], ◌++◌, Option, None, Some, refl, sym, ap, ◌∙◌, subst, append-nil}
 use Rattle.std.specs.Prelude.{IsNone, IsSome}
 use Rattle.std.proofs.lemmas.Bool.{false≢true}
 use Rattle.disk_trait.specs.Calls.{SameDevice}
@@ -17,7 +17,8 @@ use Rattle.connection_loop.specs.declared.ending.ConnectionEnd.{ConnectionEnd}
 use Rattle.connection_loop.specs.Turns.{TellsAll, TurnLeads, held_with}
 use Rattle.tams_machine.specs.Machine.{tams_machine}
 use Rattle.tams_machine.specs.Requests.{TamsRequest, ends_behind}
-use Rattle.request_hearing.specs.Hearing.{HearsAndSays, GivesRequest, OpensMedia, IsRefusedByWire}
+use Rattle.std.specs.List.{AllByRecursion}
+use Rattle.request_hearing.specs.Hearing.{GivesRequest, HearPart, HearsAndSays, HearsWaiting, IsRefusedByWire, OpensMedia}
 use Rattle.tams_service.specs.Answering.{MediaLeads, RefuseLeads, TellsAllOf, WholeLeads}
 use Rattle.tams_service.specs.Keeping.{KeepsState}
 use Rattle.tams_service.specs.Serving.{ServiceSeen}
@@ -56,7 +57,8 @@ few_opened taken next all said fed head result o few closes none same =
 module _ (base : List ℕ) (b : Beginning StoreState) (old mid new : Device) (given given_now : List ℕ) (s : StoreState) (fed : Fed)
     (finished : List (Session TamsRequest)) (steps : List (Step TamsRequest)) (n now : RunCounts) (store : StoreSeen) (tells : old.tells ≡ true)
     (keeps : KeepsState store old s) (going : Going (tams_machine base) b old given (held_with s fed.unread fed.requests) finished steps n) (bytes : List ℕ)
-    (said : Bool) (h : HearsAndSays bytes said true true false old mid) where
+    (said : Bool) (parts : List HearPart) (waits : AllByRecursion (HearsWaiting fed.unread []) parts)
+    (h : HearsAndSays parts bytes said true true false old mid) where
   -- ---- a request, by what a service is behind its hearing and behind its answer
 
   module _ (service next : ServiceSeen) (head : Head) (result : Option ConnectionEnd) (same_base : base ≡ service.base) (same_store : service.store ≡ store)
@@ -75,16 +77,16 @@ module _ (base : List ℕ) (b : Beginning StoreState) (old mid new : Device) (gi
         → TurnLeads (tams_machine base) b new given_now next.fed.unread next.fed.requests (KeepsState next.store new) finished now result
     whole_turn g same leads =
         counted_so (ap (λ (f : Fed). f.requests) same ∙ g.behind.requests_are)
-        (leads (here base b old mid given s fed finished steps n store tells keeps going bytes said) (fed.unread ++ bytes) same_base refl
-        (asks_here base b old mid given s fed finished steps n store tells keeps going bytes said h) kept g few)
+        (leads (here base b old mid given s fed finished steps n store tells keeps going bytes said parts waits) (fed.unread ++ bytes) same_base refl
+        (asks_here base b old mid given s fed finished steps n store tells keeps going bytes said parts waits h) kept g few)
 
     pub media_turn : OpensMedia fed.requests (fed.unread ++ bytes) said service.fed head → next.fed.requests ≡ service.fed.requests
         → MediaLeads service next head mid new given given_now n now result
         → TurnLeads (tams_machine base) b new given_now next.fed.unread next.fed.requests (KeepsState next.store new) finished now result
     media_turn o same leads =
         counted_so (same ∙ o.behind.requests_are)
-        (leads (here base b old mid given s fed finished steps n store tells keeps going bytes said) (fed.unread ++ bytes) same_base refl
-        (asks_here base b old mid given s fed finished steps n store tells keeps going bytes said h) kept o few)
+        (leads (here base b old mid given s fed finished steps n store tells keeps going bytes said parts waits) (fed.unread ++ bytes) same_base refl
+        (asks_here base b old mid given s fed finished steps n store tells keeps going bytes said parts waits h) kept o few)
 
   -- ---- what the wire refuses
 
@@ -94,6 +96,6 @@ module _ (base : List ℕ) (b : Beginning StoreState) (old mid new : Device) (gi
       → TurnLeads (tams_machine base) b new given unread taken (KeepsState store new) finished now (Some ending)
   refused_turn later refusal ending unread taken refused leads =
       subst (λ g. TurnLeads (tams_machine base) b new g unread taken (KeepsState store new) finished now (Some ending)) (append-nil given)
-      (leads (here base b old mid given s fed finished steps n store tells keeps going bytes said) later (fed.unread ++ bytes) refl
-      (asks_here base b old mid given s fed finished steps n store tells keeps going bytes said h)
+      (leads (here base b old mid given s fed finished steps n store tells keeps going bytes said parts waits) later (fed.unread ++ bytes) refl
+      (asks_here base b old mid given s fed finished steps n store tells keeps going bytes said parts waits h)
       (keeps_heard store s bytes said true true false old mid keeps h) refused)

@@ -1,6 +1,7 @@
 -- What taking the body of a media PUT comes to: the bytes that were heard, the part of the body
 -- that was taken of them and of the unread ones, and what the put has of it.
 use Rattle.std.specs.Prelude.{◌≡◌, ◌≢◌, ◌<◌, ◌≤◌, ◌+◌, ◌==◌, ◌&&◌, ℕ, Bool, true, false, not, List, [], ◌++◌, length, take, bytes_eq, Option, Some, None, option_map, IfSome}
+use Rattle.std.specs.List.{AllByRecursion}
 use Rattle.disk_trait.specs.Device.{Device}
 use Rattle.site_edge.specs.Links.{change_last}
 use Rattle.http_wire.specs.Feeds.{Fed, left_of, less_by}
@@ -8,7 +9,7 @@ use Rattle.store_states.specs.Kept.{AgreesWith, StoreView}
 use Rattle.store_plans.specs.declared.puts.PutPlan.{PutPlan}
 use Rattle.store_plans.specs.declared.puts.PutPlan.TheVariants.{Kept, Refused, Write}
 use Rattle.media_store.specs.Puts.{PutMovesOn, IsPutOf, PutSeen, TakesPiece, bytes_at_extent, may_be_same, handed_of_piece}
-use Rattle.request_hearing.specs.Hearing.{after_hearing}
+use Rattle.request_hearing.specs.Hearing.{HearPart, IsPartOf, after_hearing}
 use Rattle.tams_service.specs.declared.body.PieceTaken.{PieceTaken}
 use Rattle.tams_service.specs.declared.body.PieceTaken.TheVariants as pieces
 use Rattle.tams_service.specs.declared.body.BodyTaken.{BodyTaken}
@@ -39,16 +40,24 @@ has_end Failed = false
 
 -- ---- what was heard
 
+-- A call of `hear` within a body: when it began more of the body was to come, and nothing was said.
+pub record HearsWithin (old : Fed) (part : HearPart) : Type 0 where
+  pub short : length (old.unread ++ part.heard) < left_of old.stage
+  pub told : part.told ≡ []
+
 -- These bytes were heard, and a part of the body was taken of them and of the unread ones. The end
 -- of the peer's bytes was heard where `ended` is true, and a hearing failed where `failed` is.
 pub record TakesOfBody (part : List ℕ) (ended failed : Bool) (old new : Fed)
     (before now : Device) : Type 0 where
+  pub parts : List HearPart
   pub bytes : List ℕ
+  pub parts_are : AllByRecursion (IsPartOf bytes [] failed) parts
+  pub waits : AllByRecursion (HearsWithin old) parts
   pub text_is : old.unread ++ bytes ≡ part ++ new.unread
   pub few : length part ≤ left_of old.stage
   pub feed : new ≡ record old { unread = new.unread; stage = less_by (length part) old.stage }
   pub connections : before.tells ≡ true → now.link.connections
-      ≡ change_last (after_hearing bytes [] ended failed) before.link.connections
+      ≡ change_last (after_hearing parts bytes [] ended failed false) before.link.connections
 
 -- ---- what a put has
 

@@ -4,7 +4,7 @@ ghost use Rattle.http_wire.specs.Agreeing.{MayTurn};
 ghost use Rattle.http_wire.specs.declared.stage.FeedStage.TheVariants as stages;
 ghost use Rattle.media_rows.specs.Moments.{is_moment};
 ghost use Rattle.media_store.specs.Stores.{size_of};
-ghost use Rattle.connection_loop.specs.Turns.{GivesMore, SiteCalls};
+ghost use Rattle.connection_loop.specs.Turns.{ClockCalls, SiteCalls};
 ghost use Rattle.request_hearing.specs.Hearing.{OpensMedia};
 ghost use Rattle.tams_service.specs.Answering.{EndKeepsId, IsWholePut, MediaLeads, PutLeads, TakeLeads, TellsAllOf, written_by};
 ghost use Rattle.tams_service.specs.Serving.{needs_in};
@@ -40,9 +40,8 @@ impl TamsService {
         requires under_way { (X.device site.old).link.under_way ≡ true }
         ensures calls { SiteCalls result (X.device site.old) (X.device site.new) }
         ensures needs { needs_in self.new.store ≤ needs_in self.old.store }
-        ensures clock { C.tells clock.new ≡ true → C.tells clock.old ≡ true }
-        ensures moments { C.tells clock.new ≡ true
-            → GivesMore (C.given clock.old) (C.given clock.new) }
+        ensures clock { ClockCalls 1 (C.tells clock.old) (C.tells clock.new)
+            (C.given clock.old) (C.given clock.new) }
         ensures requests { self.new.fed.requests ≡ self.old.fed.requests }
         ensures base { self.new.base ≡ self.old.base }
         ensures counted { IsNone result → tally.new.answers ≡ tally.old.answers + 1 }

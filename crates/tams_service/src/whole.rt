@@ -4,7 +4,7 @@ ghost use Rattle.media_rows.specs.Moments.{is_moment};
 ghost use Rattle.media_store.specs.Changes.{CanCommit};
 ghost use Rattle.media_store.specs.Pieces.{IsExtent};
 ghost use Rattle.media_store.specs.Stores.{size_of};
-ghost use Rattle.connection_loop.specs.Turns.{GivesMore, SiteCalls};
+ghost use Rattle.connection_loop.specs.Turns.{ClockCalls, SiteCalls};
 ghost use Rattle.request_hearing.specs.Hearing.{GivesRequest};
 ghost use Rattle.tams_service.specs.Answering.{GiveLeads, PlanKeepsId, TellsAllOf, WholeLeads, changes_in};
 ghost use Rattle.tams_service.specs.Serving.{needs_in};
@@ -38,9 +38,8 @@ impl TamsService {
         requires under_way { (X.device site.old).link.under_way ≡ true }
         ensures calls { SiteCalls result (X.device site.old) (X.device site.new) }
         ensures needs { needs_in self.new.store ≤ needs_in self.old.store }
-        ensures clock { C.tells clock.new ≡ true → C.tells clock.old ≡ true }
-        ensures moments { C.tells clock.new ≡ true
-            → GivesMore (C.given clock.old) (C.given clock.new) }
+        ensures clock { ClockCalls 1 (C.tells clock.old) (C.tells clock.new)
+            (C.given clock.old) (C.given clock.new) }
         ensures fed { self.new.fed ≡ self.old.fed }
         ensures base { self.new.base ≡ self.old.base }
         ensures counted { tally.new.answers ≡ tally.old.answers + 1 }

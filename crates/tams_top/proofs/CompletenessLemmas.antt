@@ -129,7 +129,7 @@ module _ (base : List ℕ) (from : StoreState) (old new : Device) (begun given :
   never (inr (inr is)) = fed is
 
   -- no connection began: no peer came
-  no_peer_came : (p : RunOutcome) → o ≡ p → EndsWithoutPeer new p → (new.link.closed ≡ true) × (status_of p ≡ 0)
+  no_peer_came : (p : RunOutcome) → o ≡ p → EndsWithoutPeer old.link.closed new p → Rose old.link.closed new.link.closed × (status_of p ≡ 0)
   no_peer_came (Served requests changes skipped) is ends = (ends.3, refl)
   no_peer_came LinkFault is ends = absurd (never (inr (inl is)))
   no_peer_came DiskFault is ends = absurd (never (inl is))
@@ -211,8 +211,8 @@ module _ (base : List ℕ) (from : StoreState) (old new : Device) (begun given :
       )
 
   by_end : (end : RunEnd) (n : RunCounts) (sessions : List (Session TamsRequest)) (connections : ℕ) → o ≡ serve_outcome end n
-      → loops.RunEnds new sessions connections end
-      → (run_stops sessions ≡ false) × (((length sessions ≡ connections) ⊎ (new.link.closed ≡ true)) × (status_of o ≡ 0))
+      → loops.RunEnds old.link.closed new sessions connections end
+      → (run_stops sessions ≡ false) × (((length sessions ≡ connections) ⊎ Rose old.link.closed new.link.closed) × (status_of o ≡ 0))
   by_end run_ends.Complete n sessions connections is ends = (ends.1, (inl ends.0, ap status_of is))
   by_end run_ends.NoMore n sessions connections is ends = (ends.1, (inr ends.2, ap status_of is))
   by_end run_ends.Unlinked n sessions connections is ends = absurd (never (inr (inl is)))

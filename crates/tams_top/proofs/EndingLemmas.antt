@@ -1,5 +1,5 @@
 -- What the status of a run says of its end, by that of its command.
-use Rattle.std.proofs.Common.{◌≡◌, ◌≢◌, ◌<◌, ◌⊎◌, ℕ, Bool, true, false, IsTrue, List, Err, refl, sym, ap, subst, inl, inr, arith}
+use Rattle.std.proofs.Common.{◌≡◌, ◌≢◌, ◌<◌, ◌⊎◌, ℕ, Bool, true, false, IsTrue, List, Err, refl, sym, ap, ◌∙◌, subst, inl, inr, arith}
 use Rattle.disk_trait.specs.Device.{Device, IsDevice, Left, Link}
 use Rattle.disk_trait.specs.Calls.{Rose}
 use Rattle.media_journal.specs.declared.header.Header.{Header}
@@ -109,13 +109,13 @@ module _ (words : List (List ℕ)) (old new : Device) (clock : Bool) (begun give
   ]
 
   -- there was no memory to read the words
-  no_words : (base : List ℕ) → o ≡ NoMemory → given ≡ begun → Untouched old new → IsDevice old → (from : StoreState) → BeginsFrom from old clock
+  no_words : (base : List ℕ) → o ≡ NoMemory → given ≡ begun → Untouched old new → IsDevice old → (from : StoreState) → BeginsFrom from old clock begun
       → NoPeer base (beginning from old begun) new given o
   no_words base is none untouched sound from start =
       let peer = no_peer base old new clock begun NoMemory sound untouched tt from start in rw (is, none) peer
 
   -- the history of a run of `replay`
-  pub run_replayed : IsDevice old → (base : List ℕ) (from : StoreState) → IsReplayFrom base from words old clock
+  pub run_replayed : IsDevice old → (base : List ℕ) (from : StoreState) → IsReplayFrom base from words old clock begun
       → Replayed base (beginning from old begun) new given o
   run_replayed sound base from replay = elim run.cause [
     | inl starved ↦ inr (no_words base starved.0 starved.1 starved.2 sound from replay.begins)
@@ -129,7 +129,7 @@ module _ (words : List (List ℕ)) (old new : Device) (clock : Bool) (begun give
   ]
 
   -- and that of one of `serve`
-  pub run_served : IsDevice old → (base : List ℕ) (from : StoreState) (connections : ℕ) → IsServeFrom base from connections words old clock
+  pub run_served : IsDevice old → (base : List ℕ) (from : StoreState) (connections : ℕ) → IsServeFrom base from connections words old clock begun
       → ServedAll base (beginning from old begun) old new given connections o
   run_served sound base from connections serve = elim run.cause [
     | inl starved ↦ inr (no_words base starved.0 starved.1 starved.2 sound from serve.begins)
@@ -294,6 +294,24 @@ module _ (words : List (List ℕ)) (old new : Device) (clock : Bool) (begun give
     ]
   ]
 
+  -- no connection is left open
+  stays_idle : new.link ≡ old.link → old.link.under_way ≡ false → new.link.under_way ≡ false
+  stays_idle same idle = ap (λ (l : Link). l.under_way) same ∙ idle
+
+  command_closed : (command : Invocation) → CommandEnds old new clock begun given o command → old.link.under_way ≡ false → new.link.under_way ≡ false
+  command_closed (Format path blocks half id) ends idle = stays_idle ends.2.link idle
+  command_closed (Check path) ends idle = stays_idle (check_untouched old new o ends.0).link idle
+  command_closed (Work path) ends idle = stays_idle ends.link idle
+  command_closed (Replay path base) ends idle = ends.closed idle
+  command_closed (Serve path port base connections) ends idle = ends.closed idle
+  command_closed (Workload number count) ends idle = stays_idle ends.1.link idle
+
+  pub run_closed : old.link.under_way ≡ false → new.link.under_way ≡ false
+  run_closed idle = elim run.cause [
+    | inl starved ↦ stays_idle starved.2.link idle
+    | inr other ↦ elim other [ inl bad ↦ stays_idle bad.2.link idle | inr did ↦ command_closed did.0 did.2 idle ]
+  ]
+
   -- nobody is served for words that are no command
   pub run_bad : IsNoCommand words → ServesNobody old new begun given
   run_bad no_command = elim run.cause [
@@ -337,7 +355,7 @@ module _ (words : List (List ℕ)) (old new : Device) (clock : Bool) (begun give
     ]
 
   -- and its turns have a history
-  pub run_worked : IsDevice old → (from : StoreState) → IsWorkFrom from words old clock → WorkedOff (beginning from old begun) new given o
+  pub run_worked : IsDevice old → (from : StoreState) → IsWorkFrom from words old clock begun → WorkedOff (beginning from old begun) new given o
   run_worked sound from work = elim run.cause [
     | inl starved ↦
         rw (starved.0, starved.1)
@@ -405,7 +423,7 @@ module _ (words : List (List ℕ)) (old new : Device) (clock : Bool) (begun give
   -- a run that ended for want of memory
   pub run_starved : status_of o ≡ 4 → ServesNobody old new begun given
       ⊎ (((path : List ℕ) × IsCommand words (Work path))
-      ⊎ ((base : List ℕ) (from : StoreState) → IsReplayFrom base from words old clock → OnePeer base (beginning from old begun) new given NoMemory))
+      ⊎ ((base : List ℕ) (from : StoreState) → IsReplayFrom base from words old clock begun → OnePeer base (beginning from old begun) new given NoMemory))
   run_starved s = elim run.cause [
     | inl starved ↦ inl (record { link = starved.2.link; given_is = starved.1 })
     | inr other ↦ elim other [
@@ -416,7 +434,7 @@ module _ (words : List (List ℕ)) (old new : Device) (clock : Bool) (begun give
     where
       -- a base is that of the words
       same_base : (path base : List ℕ) (from : StoreState) → IsCommand words (Replay path base) → (other : List ℕ)
-          → IsReplayFrom other from words old clock → other ≡ base
+          → IsReplayFrom other from words old clock begun → other ≡ base
       same_base path base from is other replay =
           let same : Replay replay.command.0 other ≡ Replay path base =
           one_command words (Replay replay.command.0 other) (Replay path base) replay.command.1 is in
@@ -425,7 +443,7 @@ module _ (words : List (List ℕ)) (old new : Device) (clock : Bool) (begun give
       command_starved : (command : Invocation) → IsCommand words command → CommandEnds old new clock begun given o command → status_of o ≡ 4
           → ServesNobody old new begun given
           ⊎ (((path : List ℕ) × IsCommand words (Work path))
-          ⊎ ((base : List ℕ) (from : StoreState) → IsReplayFrom base from words old clock → OnePeer base (beginning from old begun) new given NoMemory))
+          ⊎ ((base : List ℕ) (from : StoreState) → IsReplayFrom base from words old clock begun → OnePeer base (beginning from old begun) new given NoMemory))
       command_starved (Format path blocks half id) it ends s = inl ends.2
       command_starved (Check path) it ends s = inl (record { link = (check_untouched old new o ends.0).link; given_is = ends.1 })
       command_starved (Work path) it ends s = inr (inl (path, it))

@@ -1,5 +1,5 @@
 -- The ends of a run that serves: the store couldn't be opened, or connections were served.
-use Rattle.std.proofs.Common.{◌≡◌, ◌≢◌, ℕ, Bool, true, List, Err, refl, ap, inl, inr, arith}
+use Rattle.std.proofs.Common.{◌≡◌, ◌≢◌, ℕ, Bool, true, List, Err, refl, ap, ◌∙◌, inl, inr, arith}
 use Rattle.std.proofs.lemmas.List.Elements.{All-nil}
 use Rattle.disk_trait.specs.Device.{Device, IsDevice, Link}
 use Rattle.disk_trait.specs.Calls.{DiskReads, Rose}
@@ -34,7 +34,7 @@ untouched_by ok old new reads = record { seen = reads.seen; handed = reads.hande
 
 -- nothing was served, and nothing changed
 pub no_peer : (base : List ℕ) (old new : Device) (clock : Bool) (begun : List ℕ) (o : RunOutcome) → IsDevice old → Untouched old new
-    → EndsWithoutPeer new o → (from : StoreState) → BeginsFrom from old clock → NoPeer base (beginning from old begun) new begun o
+    → EndsWithoutPeer old.link.closed new o → (from : StoreState) → BeginsFrom from old clock begun → NoPeer base (beginning from old begun) new begun o
 no_peer base old new clock begun o sound untouched ends from start =
     let begins =
     begun_served base old new from begun sound start.tells.honest start.tells.tells start.settled start.stands untouched.time untouched.link untouched.handed in
@@ -68,7 +68,7 @@ refused_cause old new opening.Disk untouched answer = tt
 refused_cause old new opening.Memory untouched answer = tt
 
 refused_history : (base : List ℕ) (old new : Device) (clock : Bool) (begun : List ℕ) (fault : JournalFault) → DamagedStandsForNone → IsDevice old
-    → Untouched old new → Answers old fault → (from : StoreState) → BeginsFrom from old clock
+    → Untouched old new → Answers old fault → (from : StoreState) → BeginsFrom from old clock begun
     → NoPeer base (beginning from old begun) new begun (opening_outcome fault)
 refused_history base old new clock begun opening.NotStore damaged sound untouched answer from start =
     absurd (no_store old.seen (answer start.tells.shows) from start.stands)
@@ -117,6 +117,7 @@ module _ (base : List ℕ) (old new : Device) (clock : Bool) (begun : List ℕ) 
     link = refused_link fault old.link.faults new.link.faults (ap (λ (l : Link). l.faults) reads.calls.link);
     history = λ from start. inr (refused_history base old new clock begun fault damaged sound untouched answer from start);
     starved = λ e. inl (record { link = reads.calls.link; given_is = refl });
+    closed = λ idle. ap (λ (l : Link). l.under_way) reads.calls.link ∙ idle;
     unread = λ _. refl;
   }
 
@@ -128,6 +129,7 @@ module _ (base : List ℕ) (old new : Device) (clock : Bool) (begun : List ℕ) 
     history = λ from start. inr (refused_history base old new clock begun fault damaged sound untouched answer from start);
     starved = λ e. record { link = reads.calls.link; given_is = refl };
     uncut = refused_uncut fault;
+    closed = λ idle. ap (λ (l : Link). l.under_way) reads.calls.link ∙ idle;
     unread = λ _. refl;
   }
 

@@ -4,7 +4,7 @@ use Rattle.std.proofs.lemmas.List.{append_cancel_left}
 use Rattle.std.specs.Prelude.{IsTrue}
 use Rattle.std.proofs.lemmas.Bool.Decides.{nat_tests}
 use Rattle.disk_trait.specs.Device.{Device, IsDevice, Link}
-use Rattle.disk_trait.specs.Calls.{DiskReads, SameDevice}
+use Rattle.disk_trait.specs.Calls.{DiskReads, Rose, SameDevice}
 use Rattle.site_edge.specs.Clocks.{IsMoment}
 use Rattle.media_rows.specs.Moments.{is_moment}
 use Rattle.run_history.specs.Runs.{Beginning}
@@ -17,10 +17,10 @@ use Rattle.connection_loop.specs.declared.connection.Next.TheVariants.{NoMore, U
 use Rattle.connection_loop.specs.declared.ending.ConnectionEnd.{ConnectionEnd}
 use Rattle.connection_loop.specs.declared.ending.ConnectionEnd.TheVariants as endings
 use Rattle.connection_loop.specs.declared.run.RunEnd.{RunEnd}
-use Rattle.connection_loop.specs.Loops.{AreCounted, HasEnded, NextCalls, NextLeads, NextLinkCount, RunCalls, next_disk_held}
+use Rattle.connection_loop.specs.Loops.{AreCounted, HasEnded, NextCalls, NextLeads, NextLinkCount, RunCalls, RunEnds, next_disk_held}
 use Rattle.connection_loop.specs.Tallies.{nothing_counted}
 use Rattle.connection_loop.proofs.Turning.{tells_later}
-use Rattle.connection_loop.specs.Turns.{GivesMore, IsBetween, TellsAll}
+use Rattle.connection_loop.specs.Turns.{ClockCalls, GivesMore, IsBetween, TellsAll}
 use Rattle.store_opening.specs.Opening.{IsKept, bytes_in_image}
 use Rattle.store_opening.proofs.Kept.{kept_stands}
 use Rattle.store_states.specs.Kept.{StoreView, kept_state}
@@ -30,7 +30,7 @@ use Rattle.tams_machine.specs.Machine.{tams_machine}
 use Rattle.tams_machine.specs.Requests.{TamsRequest}
 use Rattle.tams_top.specs.declared.outcome.RunOutcome.{RunOutcome}
 use Rattle.tams_top.specs.declared.outcome.RunOutcome.TheVariants.{Cut, LinkFault, NoMemory}
-use Rattle.tams_top.specs.Histories.{BeginsFrom, OnePeer, Replayed, RunsAs, ServedAll, beginning, replay_outcome, serve_outcome, served_with}
+use Rattle.tams_top.specs.Histories.{BeginsFrom, OnePeer, Replayed, RunsAs, ServedAll, beginning, most_given, replay_outcome, serve_outcome, served_with}
 use Rattle.tams_top.specs.Running.{LinkFaults, OpenedCause, ReplayEnds, ServeEnds, StandsForOne, no_disk_fault, status_of}
 use Rattle.tams_top.proofs.BeginningLemmas.{begun_served}
 use Rattle.tams_top.proofs.RunningLemmas.{serve_cause, serve_fed, serve_link, serve_peers, serve_uncut, serve_unrefused}
@@ -119,17 +119,20 @@ next_unrefused (Ended endings.Stopped) n s = omega (arith, s)
 pub stood_for : (old : Device) (kept : StoreView) → (old.shows ≡ true → IsKept old.seen kept) → old.shows ≡ true → StandsForOne old.seen
 stood_for old kept answer shows = (kept_state kept (bytes_in_image old.seen kept), kept_stands old.seen kept (answer shows))
 
-module _ (base : List ℕ) (old opened new : Device) (clock : Bool) (begun given : List ℕ) (kept : StoreView) (keeps_first : StoreState → Type 0) (n : RunCounts)
+module _ (base : List ℕ) (old opened new : Device) (clock clock_new : Bool) (begun given : List ℕ) (kept : StoreView) (keeps_first : StoreState → Type 0)
+    (n : RunCounts)
     (law : RunsKeepBytes)
     (sound_old : IsDevice old)
     (sound : IsDevice new)
     (reads : DiskReads true old opened)
     (same : SameDevice opened new)
     (answer : old.shows ≡ true → IsKept old.seen kept)
-    (keeps : (from : StoreState) → BeginsFrom from old clock → keeps_first from)
-    (more : clock ≡ true → GivesMore begun given) where
+    (keeps : (from : StoreState) → BeginsFrom from old clock begun → keeps_first from)
+    (most : ℕ)
+    (fits : most ≤ most_given)
+    (reading : ClockCalls most clock clock_new begun given) where
   -- a run begins with what was opened
-  between : (from : StoreState) → BeginsFrom from old clock
+  between : (from : StoreState) → BeginsFrom from old clock begun
       → IsBetween (tams_machine base) (beginning from old begun) opened begun keeps_first [] nothing_counted
   between from start = record {
     served = begun_served base old opened from begun sound_old start.tells.honest start.tells.tells start.settled start.stands reads.time reads.calls.link
@@ -138,30 +141,45 @@ module _ (base : List ℕ) (old opened new : Device) (clock : Bool) (begun given
     kept = keeps from start;
   }
 
-  tells_opened : (from : StoreState) → BeginsFrom from old clock → TellsAll opened clock
-  tells_opened from start = tells_later old opened clock reads.calls.same start.tells
+  -- and the clock tells at its end
+  tells_opened : (from : StoreState) → BeginsFrom from old clock begun → TellsAll opened clock_new
+  tells_opened from start =
+      let all = tells_later old opened clock reads.calls.same start.tells in
+      let few = start.few in
+      record {
+        honest = all.honest;
+        shows = all.shows;
+        tells = all.tells;
+        clock_tells = (reading.lasts start.tells.clock_tells (omega (arith, few, fits))).0;
+      }
 
   -- the history of connections that were served
-  as_run : (from : StoreState) → BeginsFrom from old clock → (sessions : List (Session TamsRequest)) (m : RunCounts)
+  as_run : (from : StoreState) → BeginsFrom from old clock begun → (sessions : List (Session TamsRequest)) (m : RunCounts)
       → HasServed (tams_machine base) (beginning from old begun) new given sessions m → RunsAs base (beginning from old begun) sessions new given
   as_run from start sessions m served =
-      let all = tells_later opened new clock same (tells_opened from start) in
-      runs_as law base (beginning from old begun) new begun given sessions m served sound all.honest all.shows all.tells refl (more all.clock_tells)
+      let all = tells_later opened new clock_new same (tells_opened from start) in
+      runs_as law base (beginning from old begun) new begun given sessions m served sound all.honest all.shows all.tells refl (reading.moments all.clock_tells)
 
   faults-opened : old.link.faults ≡ opened.link.faults
   faults-opened = ap (λ (l : Link). l.faults) (sym reads.calls.link)
+
+  closed-opened : old.link.closed ≡ opened.link.closed
+  closed-opened = ap (λ (l : Link). l.closed) (sym reads.calls.link)
+
+  idle_opened : old.link.under_way ≡ false → opened.link.under_way ≡ false
+  idle_opened idle = ap (λ (l : Link). l.under_way) reads.calls.link ∙ idle
 
   -- ---- `replay`
 
   module _ (keeps_last : StoreState → Type 0) where
     -- what the service leads to
     abbrev pub Leads : Next → Type 0
-    Leads next = TellsAll opened clock → (b : Beginning StoreState) → (sessions : List (Session TamsRequest))
+    Leads next = TellsAll opened clock_new → (b : Beginning StoreState) → (sessions : List (Session TamsRequest))
         → IsBetween (tams_machine base) b opened begun keeps_first sessions nothing_counted
-        → NextLeads (tams_machine base) b new given keeps_last sessions n next
+        → NextLeads (tams_machine base) b opened.link.closed new given keeps_last sessions n next
 
     -- one that came
-    one_peer : (ending : ConnectionEnd) → Leads (Ended ending) → (from : StoreState) → BeginsFrom from old clock
+    one_peer : (ending : ConnectionEnd) → Leads (Ended ending) → (from : StoreState) → BeginsFrom from old clock begun
         → OnePeer base (beginning from old begun) new given (replay_outcome ending n)
     one_peer ending leads from start =
         let ended = leads (tells_opened from start) (beginning from old begun) [] (between from start) in
@@ -172,7 +190,7 @@ module _ (base : List ℕ) (old opened new : Device) (clock : Bool) (begun given
         }
 
     -- its history
-    replayed : (next : Next) → Leads next → (from : StoreState) → BeginsFrom from old clock
+    replayed : (next : Next) → Leads next → (from : StoreState) → BeginsFrom from old clock begun
         → Replayed base (beginning from old begun) new given (next_outcome next n)
     replayed (Ended ending) leads from start = inl (one_peer ending leads from start)
     replayed NoMore leads from start =
@@ -180,14 +198,19 @@ module _ (base : List ℕ) (old opened new : Device) (clock : Bool) (begun given
         let counts = none.0.served.counts in
         inr record {
           runs = as_run from start [] n none.0.served;
-          ends = (ap (λ (k : RunCounts). k.answers) counts, ap (λ (k : RunCounts). k.changes) counts, ap (λ (k : RunCounts). k.skipped) counts, none.1);
+          ends = (
+            ap (λ (k : RunCounts). k.answers) counts,
+            ap (λ (k : RunCounts). k.changes) counts,
+            ap (λ (k : RunCounts). k.skipped) counts,
+            subst (λ (x : ℕ). Rose x new.link.closed) (sym closed-opened) none.1,
+          );
         }
     replayed Unlinked leads from start =
         let none = leads (tells_opened from start) (beginning from old begun) [] (between from start) in
         inr record { runs = as_run from start [] n none.served; ends = tt }
 
     -- which ends for want of memory only with a request of its connection, or the turn behind it
-    starved_peer : (next : Next) → Leads next → next_outcome next n ≡ NoMemory → (from : StoreState) → BeginsFrom from old clock
+    starved_peer : (next : Next) → Leads next → next_outcome next n ≡ NoMemory → (from : StoreState) → BeginsFrom from old clock begun
         → OnePeer base (beginning from old begun) new given (next_outcome next n)
     starved_peer (Ended ending) leads is from start = one_peer ending leads from start
     starved_peer NoMore leads is from start = absurd cc
@@ -199,6 +222,7 @@ module _ (base : List ℕ) (old opened new : Device) (clock : Bool) (begun given
       link = rw faults-opened (next_link next n opened.link.faults new.link.faults calls.link_faults);
       history = replayed next leads;
       starved = λ e. inr (starved_peer next leads e);
+      closed = λ idle. calls.closed (idle_opened idle);
       unread = λ s. absurd (next_unrefused next n s);
     }
 
@@ -206,9 +230,9 @@ module _ (base : List ℕ) (old opened new : Device) (clock : Bool) (begun given
 
   module _ (end : RunEnd) (connections : ℕ)
       (calls : RunCalls end opened new)
-      (leads : TellsAll opened clock → (b : Beginning StoreState) → IsBetween (tams_machine base) b opened begun keeps_first [] nothing_counted
+      (leads : TellsAll opened clock_new → (b : Beginning StoreState) → IsBetween (tams_machine base) b opened begun keeps_first [] nothing_counted
       → HasEnded (tams_machine base) b opened new given n connections end) where
-    served_all : (from : StoreState) → BeginsFrom from old clock
+    served_all : (from : StoreState) → BeginsFrom from old clock begun
         → ServedAll base (beginning from old begun) old new given connections (serve_outcome end n)
     served_all from start =
         let ended = leads (tells_opened from start) (beginning from old begun) (between from start) in
@@ -216,7 +240,7 @@ module _ (base : List ℕ) (old opened new : Device) (clock : Bool) (begun given
           sessions = ended.sessions;
           end = end;
           runs = as_run from start ended.sessions n ended.served;
-          ends = ended.ends;
+          ends = subst (λ (x : ℕ). RunEnds x new ended.sessions connections end) (sym closed-opened) ended.ends;
           outcome_is = ap (serve_outcome end) ended.served.counts;
           counted = subst (λ (x : ℕ). AreCounted x new.link.faults ended.sessions) (sym faults-opened) ended.counted;
         }
@@ -231,5 +255,6 @@ module _ (base : List ℕ) (old opened new : Device) (clock : Bool) (begun given
           history = served_all;
           starved = λ e. absurd (serve_fed end n e);
           uncut = serve_uncut end n;
+          closed = λ idle. calls.closed (idle_opened idle);
           unread = λ s. absurd (serve_unrefused end n s);
         }

@@ -1,5 +1,5 @@
 -- Turns of a run that works: how they begin, go on and end.
-use Rattle.std.proofs.Common.{◌≡◌, ◌≢◌, ◌≤◌, ◌+◌, ◌-◌, ◌*◌, ◌^◌, ℕ, Bool, true, false, cond, List, [], ◌∷◌, ◌++◌, length, All, Option, None, Some, Result, Ok, Err, refl, sym, ap, ◌∙◌, subst, inl, inr, append-nil, append_assoc, length-append, arith}
+use Rattle.std.proofs.Common.{◌≡◌, ◌≢◌, ◌≤◌, ◌<◌, ◌+◌, ◌-◌, ◌*◌, ◌^◌, ℕ, Bool, true, false, cond, List, [], ◌∷◌, ◌++◌, length, All, Option, None, Some, Result, Ok, Err, refl, sym, ap, ◌∙◌, subst, inl, inr, append-nil, append_assoc, length-append, arith}
 use Rattle.std.specs.Prelude.{is_some, option_map}
 use Rattle.std.proofs.lemmas.Bool.{false≢true}
 use Rattle.std.proofs.lemmas.Bool.Decides.{nat_tests}
@@ -43,7 +43,7 @@ use Rattle.tams_service.proofs.Handed.{turn_handed_is}
 use Rattle.tams_service.proofs.Good.{is_good, last_good, turn_good}
 use Rattle.tams_service.proofs.Moments.{over_change, over_keeps, over_torn}
 use Rattle.tams_service.proofs.States.{keeps_next, turn_of}
-use Rattle.tams_top.specs.Histories.{BeginsFrom, beginning}
+use Rattle.tams_top.specs.Histories.{BeginsFrom, beginning, most_given}
 use Rattle.tams_top.specs.Running.{StandsForOne, Untouched, WorkCause, WorkEnds, no_disk_fault, opening_outcome, status_of}
 use Rattle.tams_top.specs.Working.{HasWorked, HaveTurned, TurnsEnd, WorkedOff, turns_handed, turns_trace, work_outcome}
 use Rattle.tams_top.specs.Within.Turning.{IsWorking, SoMany, WorksOn}
@@ -59,7 +59,7 @@ pub keeps_opened : (store : StoreSeen) (d : Device) (from : StoreState) (bytes :
 keeps_opened store d from bytes unspent agrees is = subst (KeepsState store d) (sym is) (record { unspent = unspent; agrees = agrees; state = refl })
 
 pub working_begins : (old opened : Device) (clock : Bool) (begun : List ℕ) (store : StoreSeen) → IsDevice old → Untouched old opened → (from : StoreState)
-    → BeginsFrom from old clock → KeepsState store opened from → IsWorking (beginning from old begun) [] [] opened begun store
+    → BeginsFrom from old clock begun → KeepsState store opened from → IsWorking (beginning from old begun) [] [] opened begun store
 working_begins old opened clock begun store sound untouched from start keeps =
     let begins =
     begun_served [] old opened from begun sound start.tells.honest start.tells.tells start.settled start.stands untouched.time untouched.link
@@ -76,7 +76,7 @@ working_begins old opened clock begun store sound untouched from start keeps =
 
 -- no turn was made
 pub no_turns : (old new : Device) (clock : Bool) (begun : List ℕ) (end : Result ℕ StoreFault) → IsDevice old → Untouched old new → (from : StoreState)
-    → BeginsFrom from old clock → TurnsEnd from 0 [] false end → HasWorked (beginning from old begun) new begun end
+    → BeginsFrom from old clock begun → TurnsEnd from 0 [] false end → HasWorked (beginning from old begun) new begun end
 no_turns old new clock begun end sound untouched from start ends =
     let begins =
     begun_served [] old new from begun sound start.tells.honest start.tells.tells start.settled start.stands untouched.time untouched.link untouched.handed in
@@ -261,22 +261,34 @@ works_first d told begun store unspent size = record {
   size_is = size;
   counted = refl;
   calls = no_calls d;
-  clock = λ yes. yes;
-  working = λ all b w. record { moments = []; states = []; number = refl; working = w };
+  working = λ all few b w. (all.clock_tells, record { moments = []; states = []; number = refl; working = w });
 }
 
 module _ (old now new : Device) (told tells later : Bool) (begun given given_now : List ℕ) (first store next : StoreSeen) (turns counter t : ℕ)
-    (so_far : WorksOn old now told tells begun given first store turns counter) (at : IsMoment t) (clock : later ≡ true → tells ≡ true)
+    (so_far : WorksOn old now told tells begun given first store turns counter) (at : IsMoment t)
+    (lasts : tells ≡ true → length given + 1 < 2 ^ 64 → later ≡ true)
     (gives : later ≡ true → given_now ≡ given ++ t ∷ []) (keep : TurnsKeepGood) where
   abbrev change_due : Option Change
   change_due = turn_change (journal_of store.kept) (turn store.kept.library t)
 
   -- what is told of a device stays told
-  earlier : TellsAll old later → TellsAll old tells
-  earlier all = record { honest = all.honest; shows = all.shows; tells = all.tells; clock_tells = clock all.clock_tells }
+  pub told_now : TellsAll old told → TellsAll now told
+  told_now all = tells_later old now told so_far.calls.same all
 
-  pub told_now : TellsAll old later → TellsAll now later
-  told_now all = tells_later old now later so_far.calls.same all
+  -- so few turns change something that the clock tells one moment more
+  still_tells : TellsAll old told → length begun ≤ most_given → (b : Beginning StoreState) → IsWorking b [] [] old begun first → later ≡ true
+  still_tells all few b w =
+      let many = so_far.working all few b w in
+      let working = many.1.working in
+      lasts many.0 (omega (
+        arith,
+        few,
+        turns_few b.state many.1.moments many.1.states working.turned working.good,
+        ap (λ (l : List ℕ). length l) w.given_is,
+        ap (λ (l : List ℕ). length l) working.given_is,
+        length-append b.given [],
+        length-append b.given many.1.moments,
+      ))
 
   -- The turn changed something.
   pub works_more : (change : Change) → change_due ≡ Some change → next.spent ≡ false
@@ -293,27 +305,33 @@ module _ (old now new : Device) (told tells later : Bool) (begun given given_now
         size_is = omega (arith, ap (λ (n : ℕ). 4096 * n) behind.blocks, calls.same.size, so_far.size_is);
         counted = omega (arith, so_far.counted);
         calls = calls_twice true old now new so_far.calls calls;
-        clock = λ yes. so_far.clock (clock yes);
-        working = λ all b w.
-            let many = so_far.working (earlier all) b w in
+        working = λ all few b w.
+            let many = (so_far.working all few b w).1 in
+            let tells_on = still_tells all few b w in
             let here = told_now all in
             let on =
             works_on b many.moments many.states now new given store next t many.working at keep change is unspent
-            (made here.honest here.shows _ many.working.keeps.agrees) behind (handed here.tells) in
-            record {
-              moments = many.moments ++ t ∷ [];
-              states = many.states ++ state_with_change (last_or b.state many.states) change [] ∷ [];
-              number = omega (arith, length-append many.moments (t ∷ []), many.number);
-              working = subst
-                  (λ (l : List ℕ). IsWorking b (many.moments ++ t ∷ []) (many.states ++ state_with_change (last_or b.state many.states) change []
-                  ∷ []) new l next)
-                  (sym (gives all.clock_tells)) on;
-            };
+            (made here.honest here.shows _ many.working.keeps.agrees) behind (handed here.tells) in (
+              tells_on,
+              record {
+                moments = many.moments ++ t ∷ [];
+                states = many.states ++ state_with_change (last_or b.state many.states) change [] ∷ [];
+                number = omega (arith, length-append many.moments (t ∷ []), many.number);
+                working = subst
+                    (λ (l : List ℕ). IsWorking b (many.moments ++ t ∷ []) (many.states ++ state_with_change (last_or b.state many.states) change []
+                    ∷ []) new l next)
+                    (sym (gives tells_on)) on;
+              },
+            );
       }
 
-  module _ (b : Beginning StoreState) (w : IsWorking b [] [] old begun first) (all : TellsAll old later) (sound : IsDevice new) where
+  module _ (b : Beginning StoreState) (w : IsWorking b [] [] old begun first) (all : TellsAll old told) (few : length begun ≤ most_given)
+      (sound : IsDevice new) where
     many : SoMany b now given store turns
-    many = so_far.working (earlier all) b w
+    many = (so_far.working all few b w).1
+
+    gives_now : given_now ≡ given ++ t ∷ []
+    gives_now = gives (still_tells all few b w)
 
     -- It changed nothing.
     pub works_done : change_due ≡ None
@@ -325,14 +343,14 @@ module _ (old now new : Device) (told tells later : Bool) (begun given given_now
         let here = told_now all in
         let keeps = rw is at (makes here.honest here.shows _ many.working.keeps.agrees) in
         works_no_more b many.moments many.states now new given store next t many.working at keep is keeps sound
-        (calls.same.honest ∙ here.honest) (calls.same.shows ∙ here.shows) (calls.same.tells ∙ here.tells) given_now (gives all.clock_tells) turns many.number
+        (calls.same.honest ∙ here.honest) (calls.same.shows ∙ here.shows) (calls.same.tells ∙ here.tells) given_now gives_now turns many.number
         (handed here.tells)
 
     pub works_without : new ≡ now → is_some (turn store.kept.library t) ≡ true → HasWorked b new given_now (Err Memory)
     works_without stays some =
         let here = told_now all in
         works_starved b many.moments many.states now new given store next t many.working at keep stays some sound
-        (rw stays here.honest) (rw stays here.shows) (rw stays here.tells) given_now (gives all.clock_tells)
+        (rw stays here.honest) (rw stays here.shows) (rw stays here.tells) given_now gives_now
 
     -- The disk failed in it.
     pub works_failed : is_some change_due ≡ true
@@ -349,7 +367,7 @@ module _ (old now new : Device) (told tells later : Bool) (begun given given_now
         by_change (Some change) is there made =
             let here = told_now all in
             works_torn b many.moments many.states now new given store next t many.working at keep change is made sound
-            (calls.same.honest ∙ here.honest) (calls.same.shows ∙ here.shows) (calls.same.tells ∙ here.tells) given_now (gives all.clock_tells)
+            (calls.same.honest ∙ here.honest) (calls.same.shows ∙ here.shows) (calls.same.tells ∙ here.tells) given_now gives_now
 
     pub works_fails : (fault : StoreFault) (Starves : Type 0) → OnMemory {X = TurnMade} (Err fault) Starves
         → (Starves → (new ≡ now) × (is_some (turn store.kept.library t) ≡ true))
@@ -388,7 +406,7 @@ module _ (old opened : Device) (clock : Bool) (begun : List ℕ) (sound : IsDevi
   failed_cause opening.Disk answer = tt
   failed_cause opening.Memory answer = tt
 
-  failed_history : DamagedStandsForNone → (fault : JournalFault) → Answers old fault → (from : StoreState) → BeginsFrom from old clock
+  failed_history : DamagedStandsForNone → (fault : JournalFault) → Answers old fault → (from : StoreState) → BeginsFrom from old clock begun
       → WorkedOff (beginning from old begun) opened begun (opening_outcome fault)
   failed_history damaged opening.NotStore answer from start = absurd (no_store old.seen (answer start.tells.shows) from start.stands)
   failed_history damaged (opening.Damaged at) answer from start = absurd (damaged old.seen at from (answer start.tells.shows).1 start.stands)
@@ -405,7 +423,7 @@ module _ (old opened : Device) (clock : Bool) (begun : List ℕ) (sound : IsDevi
   pub work_done : KeptStands → IsOneState → (store : StoreSeen) → (old.shows ≡ true → IsKept old.seen store.kept) → store.spent ≡ false
       → (old.shows ≡ true → LeavesOnly old.seen old → AgreesWith opened store.kept (bytes_in_image old.seen store.kept)) → (new : Device) (given : List ℕ)
       (end : Result ℕ StoreFault) → DiskCalls (not_disk_fault end) opened new
-      → (TellsAll opened clock → (b : Beginning StoreState) → IsWorking b [] [] opened begun store → HasWorked b new given end)
+      → (TellsAll opened clock → length begun ≤ most_given → (b : Beginning StoreState) → IsWorking b [] [] opened begun store → HasWorked b new given end)
       → WorkEnds old new clock begun given (work_outcome end)
   work_done kept_stands one store answer unspent agrees new given end calls worked = record {
     cause = work_cause old new end (λ shows. (kept_state store.kept (bytes_in_image old.seen store.kept), kept_stands old.seen store.kept (answer shows)));
@@ -418,7 +436,7 @@ module _ (old opened : Device) (clock : Bool) (begun : List ℕ) (sound : IsDevi
         let keeps = keeps_opened store opened from (bytes_in_image old.seen store.kept) unspent (agrees shows start.settled) is in
         record {
           end = end;
-          worked = worked (tells_later old opened clock reads.calls.same start.tells) (beginning from old begun)
+          worked = worked (tells_later old opened clock reads.calls.same start.tells) start.few (beginning from old begun)
               (working_begins old opened clock begun store sound untouched from start keeps);
           outcome_is = refl;
         };

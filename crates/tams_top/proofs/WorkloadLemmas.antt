@@ -1,6 +1,8 @@
 -- A run of generated requests over a store in memory.
-use Rattle.std.proofs.Common.{◌≡◌, if◌then◌else◌, ◌++◌, ◌∷◌, ◌∙◌, ℕ, zero, suc, Bool, true, false, List, [], All, Option, Some, None, IfSome, length, map, slice_get, refl, sym, ap, subst, inl, inr, arith}
+use Rattle.std.proofs.Common.{◌≡◌, ◌<◌, ◌+◌, if◌then◌else◌, ◌++◌, ◌∷◌, ◌∙◌, ℕ, zero, suc, Bool, true, false, List, [], All, Option, Some, None, IfSome, length, map, slice_get, refl, sym, ap, subst, inl, inr, arith}
+use Rattle.std.specs.Prelude.{SomeIff, is_some, unwrap_or}
 use Rattle.std.proofs.lemmas.Bool.{false≢true}
+use Rattle.std.proofs.lemmas.List.{length_push}
 use Rattle.std.proofs.lemmas.List.Elements.{All-append, All-nil, All-cons}
 use Rattle.std.specs.Char.{encode_utf8}
 use Rattle.std.specs.Str.{chars, is_utf8}
@@ -60,6 +62,7 @@ made_in_memory disk bytes fail more peers piece old new blocks half media disk_i
     record {
       begins = record {
         tells = record { honest = refl; shows = refl; tells = refl; clock_tells = refl };
+        few = omega arith;
         settled = moments.settled refl refl;
         stands = made.stands refl;
       };
@@ -74,6 +77,18 @@ are_zeros : (n : ℕ) → All (λ moment. moment ≡ 0) (zeros n)
 are_zeros zero = All-nil (λ moment. moment ≡ 0)
 are_zeros (suc n) = All-append (λ moment. moment ≡ 0) (zeros n) (0 ∷ []) (are_zeros n) (All-cons (λ moment. moment ≡ 0) 0 [] refl
     (All-nil (λ moment. moment ≡ 0)))
+
+zeros_length : (n : ℕ) → length (zeros n) ≡ n
+zeros_length zero = refl
+zeros_length (suc n) = omega (arith, length_push (zeros n) 0, zeros_length n)
+
+-- it tells on while a u64 counts its calls
+pub lasts_zeros : (calls next : Option ℕ)
+    → SomeIff next (unwrap_or calls 18446744073709551615 + 1 < 18446744073709551616) (unwrap_or calls 18446744073709551615 + 1)
+    → is_some calls ≡ true → length (zeros (unwrap_or calls 0)) + 1 < 18446744073709551616 → is_some next ≡ true
+lasts_zeros None next added tells few = cc
+lasts_zeros (Some n) (Some m) added tells few = refl
+lasts_zeros (Some n) None added tells few = absurd (added (omega (arith, few, zeros_length n)))
 
 -- ---- the numbers of a run that served
 

@@ -38,11 +38,11 @@ pub record OneAnswered (base : List ℕ) (from : StoreState) (old new : Device)
       ≡ begun ++ all_moments (tams_machine base) (start_of from) (session ∷ [])
   pub answered : IsAnswered base from connection session status
 
--- No peer came.
+-- No peer came: the site said in this run that none will.
 pub record NoneCame (old new : Device) (begun given : List ℕ) (status : ℕ) : Type 0 where
   pub connections : new.link.connections ≡ old.link.connections
   pub given_is : given ≡ begun
-  pub closed : new.link.closed ≡ true
+  pub closed : Rose old.link.closed new.link.closed
   pub status_is : status ≡ 0
 
 -- one connection was answered whole, or no peer came
@@ -59,5 +59,5 @@ pub record AreServedWhole (base : List ℕ) (from : StoreState) (old new : Devic
   pub unstopped : run_stops sessions ≡ false
   pub whole :
       AllByRecursion (λ session. starves session.steps ≡ false → session.link ≡ Whole) sessions
-  pub number : (length sessions ≡ connections) ⊎ (new.link.closed ≡ true)
+  pub number : (length sessions ≡ connections) ⊎ Rose old.link.closed new.link.closed
   pub status_is : status ≡ 0

@@ -1,7 +1,7 @@
 -- What a run over a file that stands for a state heard, told and left, by one history of its
 -- connections over the machine of the media store, with the base of its words.
-use Rattle.std.specs.Prelude.{◌≡◌, ◌⊎◌, ℕ, Bool, true, false, List, [], ◌∷◌, All, nat_lt, if◌then◌else◌}
-use Rattle.disk_trait.specs.Calls.{LeavesOnly}
+use Rattle.std.specs.Prelude.{◌≡◌, ◌≤◌, ◌^◌, ◌⊎◌, ℕ, Bool, true, false, List, [], ◌∷◌, length, All, nat_lt, if◌then◌else◌}
+use Rattle.disk_trait.specs.Calls.{LeavesOnly, Rose}
 use Rattle.disk_trait.specs.Device.{Device}
 use Rattle.site_edge.specs.Clocks.{IsMoment}
 use Rattle.run_history.specs.Handing.{HasHanded}
@@ -32,17 +32,24 @@ abbrev pub beginning : StoreState → Device → List ℕ → Beginning StoreSta
 beginning from old given = record {
   state = from;
   before = old.link.connections;
+  closed = old.link.closed;
   given = given;
   moment = old.moment;
   handed = old.handed;
 }
 
--- The premises of the headline: the outside is as the model says, nothing is pending, and the file
--- stands for a state.
-pub record BeginsFrom (from : StoreState) (old : Device) (clock : Bool) : Type 0 where
-  pub tells : TellsAll old clock
-  pub settled : IsSettled old
-  pub stands : StandsFor old.seen from
+-- a run begins behind at most so many moments, so that its clock keeps telling
+abbrev pub most_given : ℕ
+most_given = 2 ^ 62
+
+-- The premises of the headline, by whether the clock tells and what it gave when the run begins:
+-- the outside is as the model says, nothing is pending, and the file stands for a state.
+pub record BeginsFrom (from : StoreState) (old : Device) (clock : Bool) (given : List ℕ) : Type 0
+  where
+    pub tells : TellsAll old clock
+    pub few : length given ≤ most_given
+    pub settled : IsSettled old
+    pub stands : StandsFor old.seen from
 
 -- A run is one history of these connections. Each moment that it took is one, and what is stored in
 -- one of its states keeps its bytes in each later one. Unless the disk failed, the device was
@@ -98,25 +105,25 @@ pub record SomePeers (base : List ℕ) (b : Beginning StoreState) (old new : Dev
   pub sessions : List (Session TamsRequest)
   pub end : RunEnd
   pub runs : RunsAs base b sessions new given
-  pub ends : loops.RunEnds new sessions connections end
+  pub ends : loops.RunEnds b.closed new sessions connections end
   pub outcome_is : outcome ≡ serve_outcome end (counts_of_run (tams_machine base) b.state sessions)
   pub counted : AreCounted old.link.faults new.link.faults sessions
 
--- the ends of a run in which no connection began: no peer will come, waiting for one failed, or
--- opening the store did
-abbrev pub EndsWithoutPeer : Device → RunOutcome → Type 0
-EndsWithoutPeer new (Served requests changes skipped) =
-    (requests ≡ 0) × (changes ≡ 0) × (skipped ≡ 0) × (new.link.closed ≡ true)
-EndsWithoutPeer new LinkFault = Unit {0}
-EndsWithoutPeer new DiskFault = Unit {0}
-EndsWithoutPeer new NoMemory = Unit {0}
-EndsWithoutPeer new _ = ⊥
+-- the ends of a run in which no connection began, from a count of closings: the site said in this
+-- run that no peer will come, waiting for one failed, or opening the store did
+abbrev pub EndsWithoutPeer : ℕ → Device → RunOutcome → Type 0
+EndsWithoutPeer closed new (Served requests changes skipped) =
+    (requests ≡ 0) × (changes ≡ 0) × (skipped ≡ 0) × Rose closed new.link.closed
+EndsWithoutPeer closed new LinkFault = Unit {0}
+EndsWithoutPeer closed new DiskFault = Unit {0}
+EndsWithoutPeer closed new NoMemory = Unit {0}
+EndsWithoutPeer closed new _ = ⊥
 
 -- No connection began, and the state stays.
 pub record NoPeer (base : List ℕ) (b : Beginning StoreState) (new : Device) (given : List ℕ)
     (outcome : RunOutcome) : Type 0 where
   pub runs : RunsAs base b [] new given
-  pub ends : EndsWithoutPeer new outcome
+  pub ends : EndsWithoutPeer b.closed new outcome
 
 -- a run of `replay` from its beginning
 abbrev pub Replayed : List ℕ → Beginning StoreState → Device → List ℕ → RunOutcome → Type 0

@@ -114,21 +114,21 @@ pub record ServesNobody (old new : Device) (begun given : List ℕ) : Type 0 whe
 
 -- The words are a `replay` with this base, over a file from which a run may begin.
 pub record IsReplayFrom (base : List ℕ) (from : StoreState) (words : List (List ℕ)) (old : Device)
-    (clock : Bool) : Type 0 where
+    (clock : Bool) (begun : List ℕ) : Type 0 where
   pub command : (path : List ℕ) × IsCommand words (Replay path base)
-  pub begins : BeginsFrom from old clock
+  pub begins : BeginsFrom from old clock begun
 
 -- They are a `work` over one.
 pub record IsWorkFrom (from : StoreState) (words : List (List ℕ)) (old : Device)
-    (clock : Bool) : Type 0 where
+    (clock : Bool) (begun : List ℕ) : Type 0 where
   pub command : (path : List ℕ) × IsCommand words (Work path)
-  pub begins : BeginsFrom from old clock
+  pub begins : BeginsFrom from old clock begun
 
 -- They are a `serve` of so many connections over one.
 pub record IsServeFrom (base : List ℕ) (from : StoreState) (connections : ℕ)
-    (words : List (List ℕ)) (old : Device) (clock : Bool) : Type 0 where
+    (words : List (List ℕ)) (old : Device) (clock : Bool) (begun : List ℕ) : Type 0 where
   pub command : (path : List ℕ) × (port : ℕ) × IsCommand words (Serve path port base connections)
-  pub begins : BeginsFrom from old clock
+  pub begins : BeginsFrom from old clock begun
 
 -- the image stands for some state
 abbrev pub StandsForOne : List ℕ → Type 0
@@ -169,18 +169,19 @@ LinkFaults _ before now = now ≡ before
 -- connection wanted it, or its turn.
 abbrev pub StarvedAs : List ℕ → Device → Device → Bool → List ℕ → List ℕ → RunOutcome → Type 0
 StarvedAs base old new clock begun given o = ServesNobody old new begun given
-    ⊎ ((from : StoreState) → BeginsFrom from old clock
+    ⊎ ((from : StoreState) → BeginsFrom from old clock begun
     → OnePeer base (beginning from old begun) new given o)
 
 -- The ends of `replay`, each with its cause, and the one history of all that was heard, told and
--- left.
+-- left. No connection is left open.
 pub record ReplayEnds (base : List ℕ) (old new : Device) (clock : Bool) (begun given : List ℕ)
     (o : RunOutcome) : Type 0 where
   pub cause : OpenedCause old new o
   pub link : LinkFaults o old.link.faults new.link.faults
-  pub history : (from : StoreState) → BeginsFrom from old clock
+  pub history : (from : StoreState) → BeginsFrom from old clock begun
       → Replayed base (beginning from old begun) new given o
   pub starved : o ≡ NoMemory → StarvedAs base old new clock begun given o
+  pub closed : old.link.under_way ≡ false → new.link.under_way ≡ false
   pub unread : status_of o ≡ 2 → given ≡ begun
 
 -- waiting for each peer succeeded
@@ -196,10 +197,11 @@ pub record ServeEnds (base : List ℕ) (old new : Device) (clock : Bool) (begun 
   pub cause : OpenedCause old new o
   pub peers : IsCounted (no_peer_fault o) old.link.peer_faults new.link.peer_faults
   pub link : o ≡ LinkFault → Rose old.link.faults new.link.faults
-  pub history : (from : StoreState) → BeginsFrom from old clock
+  pub history : (from : StoreState) → BeginsFrom from old clock begun
       → ServedAll base (beginning from old begun) old new given connections o
   pub starved : o ≡ NoMemory → ServesNobody old new begun given
   pub uncut : o ≢ Cut
+  pub closed : old.link.under_way ≡ false → new.link.under_way ≡ false
   pub unread : status_of o ≡ 2 → given ≡ begun
 
 -- A store was made of a device that had none, and the outcome has its numbers.
@@ -261,7 +263,7 @@ pub record WorkEnds (old new : Device) (clock : Bool) (begun given : List ℕ)
     (o : RunOutcome) : Type 0 where
   pub cause : WorkCause old new o
   pub link : new.link ≡ old.link
-  pub history : (from : StoreState) → BeginsFrom from old clock
+  pub history : (from : StoreState) → BeginsFrom from old clock begun
       → WorkedOff (beginning from old begun) new given o
   pub unread : status_of o ≡ 2 → given ≡ begun
 
@@ -289,8 +291,9 @@ no_disk_fault _ = true
 abbrev pub IsNoCommand : List (List ℕ) → Type 0
 IsNoCommand words = (command : Invocation) → IsCommand words command → ⊥
 
--- The ends of a run: no memory to read the words, or words that are no command, which leave the
--- site and the clock as they were; or the end of their command.
+-- The ends of a run, by whether the clock tells when it begins: no memory to read the words, or
+-- words that are no command, which leave the site and the clock as they were; or the end of their
+-- command.
 abbrev pub EndCause : List (List ℕ) → Device → Device → Bool → List ℕ → List ℕ → RunOutcome → Type 0
 EndCause words old new clock begun given o =
     ((o ≡ NoMemory) × (given ≡ begun) × Untouched old new)

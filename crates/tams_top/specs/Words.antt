@@ -10,7 +10,7 @@ use Rattle.tams_top.specs.declared.words.TheConstants.{LAST_PORT, MOST_BASE}
 use Rattle.tams_top.specs.declared.words.Invocation.{Invocation}
 use Rattle.tams_top.specs.declared.words.Invocation.TheVariants.{Format, Check, Work, Replay, Serve, Workload}
 use Rattle.tams_top.specs.declared.words.Wanted.{Wanted}
-use Rattle.tams_top.specs.declared.words.Wanted.TheVariants.{Nothing, Plain, Fresh, Listen}
+use Rattle.tams_top.specs.declared.words.Wanted.TheVariants.{Nothing, Plain, Fresh, Listen, Dial}
 
 -- a word of text that is not empty and does not begin with `-`
 pub record IsPlainWord (word : List ℕ) : Type 0 where
@@ -113,7 +113,7 @@ FormIs words None = (command : Invocation) → HasForm words command → ⊥
 
 -- What the program opens for these words: a file of a length in bytes for `format`, a file that is
 -- there for `check`, `work` and `replay`, that and a port for `serve`, and nothing for `workload`
--- and for words that are no command.
+-- and for words that are no command. No command asks yet for connections that it begins itself.
 abbrev pub WantedFor : List (List ℕ) → Wanted → Type 0
 WantedFor words Nothing = ((command : Invocation) → IsCommand words command → ⊥)
     ⊎ ((number count : ℕ) × IsCommand words (Workload number count))
@@ -124,3 +124,4 @@ WantedFor words (Fresh path bytes) =
     (blocks half id : ℕ) × (bytes ≡ BLOCK * blocks) × IsCommand words (Format path blocks half id)
 WantedFor words (Listen path port) =
     (base : List ℕ) × (connections : ℕ) × IsCommand words (Serve path port base connections)
+WantedFor words (Dial path) = ⊥

@@ -25,7 +25,7 @@ pub(crate) fn replay<X: Site, C: Clock>(
     requires base { IsTrue (is_utf8 base) }
     ensures disk { IsCounted (no_disk_fault result) (X.device site.old).faults
         (X.device site.new).faults }
-    ensures ends { ReplayEnds base (X.device site.old) (X.device site.new) (C.tells clock.new)
+    ensures ends { ReplayEnds base (X.device site.old) (X.device site.new) (C.tells clock.old)
         (C.given clock.old) (C.given clock.new) result }
 {
     damaged_images_stand_for_none();
@@ -56,7 +56,7 @@ pub(crate) fn serve<X: Site, C: Clock>(
     requires few { connections ≤ MOST_CONNECTIONS }
     ensures disk { IsCounted (no_disk_fault result) (X.device site.old).faults
         (X.device site.new).faults }
-    ensures ends { ServeEnds base (X.device site.old) (X.device site.new) (C.tells clock.new)
+    ensures ends { ServeEnds base (X.device site.old) (X.device site.new) (C.tells clock.old)
         (C.given clock.old) (C.given clock.new) connections result }
 {
     damaged_images_stand_for_none();

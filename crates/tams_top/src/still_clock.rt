@@ -1,5 +1,5 @@
 //! A clock that stands.
-ghost use Rattle.std.specs.Prelude.{◌≡◌, ◌∷◌, ◌++◌, [], Some, true};
+ghost use Rattle.std.specs.Prelude.{◌≡◌, ◌<◌, ◌+◌, ◌^◌, ◌∷◌, ◌++◌, [], Some, true, length};
 ghost use Rattle.site_edge.specs.Clocks.{IsMoment};
 ghost use Rattle.tams_top.specs.Within.Standing.{tells_zeros, zeros_given};
 
@@ -18,13 +18,6 @@ impl StillClock {
     {
         StillClock { calls: Some(0) }
     }
-
-    /// Whether it tells the moments that it gave.
-    pub(crate) fn tells(&self) -> bool
-        ensures { result ≡ tells_zeros self.now }
-    {
-        self.calls.is_some()
-    }
 }
 
 impl Clock for StillClock {
@@ -35,6 +28,8 @@ impl Clock for StillClock {
     fn now(&mut self) -> u64
         ensures moment { IsMoment result }
         ensures told_before { tells_zeros self.new ≡ true → tells_zeros self.old ≡ true }
+        ensures lasts { tells_zeros self.old ≡ true → length (zeros_given self.old) + 1 < 2 ^ 64
+            → tells_zeros self.new ≡ true }
         ensures given { tells_zeros self.new ≡ true
             → zeros_given self.new ≡ zeros_given self.old ++ result ∷ [] }
     {

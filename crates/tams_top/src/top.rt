@@ -1,5 +1,5 @@
 //! The top call.
-ghost use Rattle.std.specs.Prelude.{◌≡◌, ◌≢◌, ◌≤◌, ◌<◌, ◌⊎◌, ℕ, List, Bool, true};
+ghost use Rattle.std.specs.Prelude.{◌≡◌, ◌≢◌, ◌≤◌, ◌<◌, ◌⊎◌, ℕ, List, Bool, true, false};
 ghost use Rattle.disk_trait.specs.Calls.{Rose};
 ghost use Rattle.disk_trait.specs.Device.{Left};
 ghost use Rattle.media_journal.specs.File.{HasOpenHeader};
@@ -25,12 +25,12 @@ use crate::serving::{replay, serve};
 use crate::words::{Invocation, read_words};
 use crate::working::work;
 use disk_trait::{Memory, TextList};
-use site_edge::{Clock, Sink, Site};
+use site_edge::{Caller, Clock, Sink};
 use std::alloc::Global;
 use store_opening::damaged_images_stand_for_none;
 
 /// Does what the words ask for on this site, puts a line about it into the notes, and answers the status.
-pub fn run<X: Site, C: Clock, N: Sink>(
+pub fn run<X: Caller, C: Clock, N: Sink>(
     alloc: Global,
     words: &TextList,
     site: &mut X,
@@ -107,9 +107,14 @@ pub fn run<X: Site, C: Clock, N: Sink>(
         (C.given clock.old) (C.given clock.new)
         ⊎ (((path : List ℕ) × IsCommand words.now (Work path))
         ⊎ ((base : List ℕ) (from : StoreState)
-        → IsReplayFrom base from words.now (X.device site.old) (C.tells clock.new)
+        → IsReplayFrom base from words.now (X.device site.old) (C.tells clock.old)
+        (C.given clock.old)
         → OnePeer base (beginning from (X.device site.old) (C.given clock.old)) (X.device site.new)
         (C.given clock.new) RunOutcome.NoMemory)) }
+
+    // No connection is left open.
+    ensures closed { (X.device site.old).link.under_way ≡ false
+        → (X.device site.new).link.under_way ≡ false }
 
     ensures formatted { result ≡ 0 → (X.device site.old).shows ≡ true
         → (path : List ℕ) (blocks half id : ℕ) → IsCommand words.now (Format path blocks half id)
@@ -143,19 +148,21 @@ pub fn run<X: Site, C: Clock, N: Sink>(
     // heard, told and left, whatever failed, and how many bytes it handed to its device, unless that failed;
     // the outcome by it has the status, and its line is put.
     ensures replayed { (base : List ℕ) (from : StoreState)
-        → IsReplayFrom base from words.now (X.device site.old) (C.tells clock.new)
+        → IsReplayFrom base from words.now (X.device site.old) (C.tells clock.old)
+        (C.given clock.old)
         → (outcome : RunOutcome) × (result ≡ status_of outcome)
         × Replayed base (beginning from (X.device site.old) (C.given clock.old))
         (X.device site.new) (C.given clock.new) outcome }
     ensures served { (base : List ℕ) (from : StoreState) (connections : ℕ)
-        → IsServeFrom base from connections words.now (X.device site.old) (C.tells clock.new)
+        → IsServeFrom base from connections words.now (X.device site.old) (C.tells clock.old)
+        (C.given clock.old)
         → (outcome : RunOutcome) × (result ≡ status_of outcome)
         × ServedAll base (beginning from (X.device site.old) (C.given clock.old))
         (X.device site.old) (X.device site.new) (C.given clock.new) connections outcome }
 
     // And so does one history of its turns all that a run of `work` left and handed to its device.
     ensures worked { (from : StoreState)
-        → IsWorkFrom from words.now (X.device site.old) (C.tells clock.new)
+        → IsWorkFrom from words.now (X.device site.old) (C.tells clock.old) (C.given clock.old)
         → (outcome : RunOutcome) × (result ≡ status_of outcome)
         × WorkedOff (beginning from (X.device site.old) (C.given clock.old)) (X.device site.new)
         (C.given clock.new) outcome }
@@ -164,12 +171,14 @@ pub fn run<X: Site, C: Clock, N: Sink>(
     // machine, each answer was said whole, and the status is 0, or in `replay` 6 by the input alone.
     // `format`, `check` and `work` end with 0 then, or as the file refuses them.
     ensures complete { (base : List ℕ) (from : StoreState)
-        → IsReplayFrom base from words.now (X.device site.old) (C.tells clock.new)
+        → IsReplayFrom base from words.now (X.device site.old) (C.tells clock.old)
+        (C.given clock.old)
         → NoneRose (X.device site.old) (X.device site.new) → result ≢ 4
         → IsServedWhole base from (X.device site.old) (X.device site.new) (C.given clock.old)
         (C.given clock.new) result }
     ensures complete_serve { (base : List ℕ) (from : StoreState) (connections : ℕ)
-        → IsServeFrom base from connections words.now (X.device site.old) (C.tells clock.new)
+        → IsServeFrom base from connections words.now (X.device site.old) (C.tells clock.old)
+        (C.given clock.old)
         → NoneRose (X.device site.old) (X.device site.new) → result ≢ 4
         → AreServedWhole base from (X.device site.old) (X.device site.new) (C.given clock.old)
         (C.given clock.new) connections result }
@@ -188,7 +197,7 @@ pub fn run<X: Site, C: Clock, N: Sink>(
     // of the notes changes no status.
     ensures ended { (outcome : RunOutcome) × (line_put : Bool)
         × (result ≡ status_of outcome)
-        × EndsWithCause words.now (X.device site.old) (X.device site.new) (C.tells clock.new)
+        × EndsWithCause words.now (X.device site.old) (X.device site.new) (C.tells clock.old)
         (C.given clock.old) (C.given clock.new) outcome
         × TakesPart line_put (N.tells notes.old) (line_of outcome) (N.faults notes.old)
         (N.faults notes.new) (N.taken notes.old) (N.taken notes.new) }
@@ -200,13 +209,13 @@ pub fn run<X: Site, C: Clock, N: Sink>(
 }
 
 /// Does what the words ask for.
-fn outcome_of<X: Site, C: Clock>(
+fn outcome_of<X: Caller, C: Clock>(
     alloc: Global,
     words: &TextList,
     site: &mut X,
     clock: &mut C,
 ) -> RunOutcome
-    ensures { EndsWithCause words.now (X.device site.old) (X.device site.new) (C.tells clock.new)
+    ensures { EndsWithCause words.now (X.device site.old) (X.device site.new) (C.tells clock.old)
         (C.given clock.old) (C.given clock.new) result }
 {
     match read_words(alloc, words) {

@@ -74,6 +74,8 @@ pub enum Wanted {
     Fresh(Text, u64),
     /// The file at this path, and a listener on this port.
     Listen(Text, u16),
+    /// The file at this path, and connections that the program begins itself.
+    Dial(Text),
 }
 
 /// What the program has to open before it runs these words.

@@ -1,11 +1,12 @@
 //! The command that works: it makes turns, each at a moment of its own, until one changes nothing.
-ghost use Rattle.std.specs.Prelude.{◌≡◌, ◌≤◌, [], true, IsFalse};
+ghost use Rattle.std.specs.Prelude.{◌≡◌, ◌≤◌, [], true, length, IsFalse};
 ghost use Rattle.connection_loop.specs.Turns.{TellsAll};
 ghost use Rattle.disk_trait.specs.Calls.{DiskCalls, IsCounted};
 ghost use Rattle.media_store.specs.Faults.{not_disk_fault};
 ghost use Rattle.media_store.specs.Stores.{size_of};
 ghost use Rattle.run_history.specs.Runs.{Beginning};
 ghost use Rattle.store_states.specs.States.{StoreState};
+ghost use Rattle.tams_top.specs.Histories.{most_given};
 ghost use Rattle.tams_top.specs.Running.{WorkEnds, no_disk_fault};
 ghost use Rattle.tams_top.specs.Working.{HasWorked, work_outcome};
 ghost use Rattle.tams_top.specs.Within.Turning.{IsWorking};
@@ -23,7 +24,7 @@ use tams_machine::turns_keep;
 pub(crate) fn work<D: Disk, C: Clock>(alloc: Global, disk: &mut D, clock: &mut C) -> RunOutcome
     ensures disk { IsCounted (no_disk_fault result) (D.device disk.old).faults
         (D.device disk.new).faults }
-    ensures ends { WorkEnds (D.device disk.old) (D.device disk.new) (C.tells clock.new)
+    ensures ends { WorkEnds (D.device disk.old) (D.device disk.new) (C.tells clock.old)
         (C.given clock.old) (C.given clock.new) result }
 {
     damaged_images_stand_for_none();
@@ -49,9 +50,8 @@ fn make_turns<D: Disk, C: Clock>(
     requires unspent { IsFalse store.old.spent }
     requires device { size_of store.old.kept ≤ (D.device disk.old).size }
     ensures calls { DiskCalls (not_disk_fault result) (D.device disk.old) (D.device disk.new) }
-    ensures clock { C.tells clock.new ≡ true → C.tells clock.old ≡ true }
-    ensures worked { TellsAll (D.device disk.old) (C.tells clock.new)
-        → (b : Beginning StoreState)
+    ensures worked { TellsAll (D.device disk.old) (C.tells clock.old)
+        → length (C.given clock.old) ≤ most_given → (b : Beginning StoreState)
         → IsWorking b [] [] (D.device disk.old) (C.given clock.old) store.old
         → HasWorked b (D.device disk.new) (C.given clock.new) result }
 {

@@ -31,7 +31,7 @@ zeros_given clock = zeros (unwrap_or clock.calls 0)
 
 -- A store was made in memory, no call of which failed, and no peer has come.
 pub record IsMadeInMemory (d : Device) : Type 0 where
-  pub begins : BeginsFrom workload_start d true
+  pub begins : BeginsFrom workload_start d true []
   pub faults : d.faults ≡ 0
   pub link_faults : d.link.faults ≡ 0
   pub connections : d.link.connections ≡ []

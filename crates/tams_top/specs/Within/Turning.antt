@@ -11,6 +11,7 @@ use Rattle.run_history.specs.Steps.{last_or}
 use Rattle.store_states.specs.States.{StoreState}
 use Rattle.tams_machine.specs.Machine.{tams_machine}
 use Rattle.tams_service.specs.Keeping.{KeepsState}
+use Rattle.tams_top.specs.Histories.{most_given}
 use Rattle.tams_top.specs.Working.{HaveTurned, turns_handed, turns_trace}
 
 -- Turns at these moments changed something, left these states, and may go on.
@@ -32,13 +33,13 @@ pub record SoMany (b : Beginning StoreState) (d : Device) (given : List ℕ) (st
   pub number : length moments ≡ turns
   pub working : IsWorking b moments states d given store
 
--- Turns were made since a device and a clock, each of which changed something.
+-- Turns were made since a device and a clock, each of which changed something, and the clock still
+-- tells.
 pub record WorksOn (old now : Device) (told tells : Bool) (begun given : List ℕ)
     (first store : StoreSeen) (turns counter : ℕ) : Type 0 where
   pub unspent : store.spent ≡ false
   pub size_is : size_of store.kept ≤ now.size
   pub counted : turns ≡ counter
   pub calls : DiskCalls true old now
-  pub clock : tells ≡ true → told ≡ true
-  pub working : TellsAll old tells → (b : Beginning StoreState)
-      → IsWorking b [] [] old begun first → SoMany b now given store turns
+  pub working : TellsAll old told → length begun ≤ most_given → (b : Beginning StoreState)
+      → IsWorking b [] [] old begun first → (tells ≡ true) × SoMany b now given store turns

@@ -1,5 +1,5 @@
-use Rattle.std.proofs.Common.{refl, ◌∙◌, arith}
-use Rattle.connection_loop.proofs.Turning.{calls_more, gives_twice, tells_later, turned_first, turned_more}
+use Rattle.std.proofs.Common.{◌+◌, refl, ◌∙◌, arith}
+use Rattle.connection_loop.proofs.Turning.{calls_more, clock_most, clock_twice, tells_before, tells_later, turned_first, turned_more}
 use Rattle.connection_loop.proofs.connection.serve_connection.Goals as goal
 
 pub loop-init : goal.loop-init
@@ -39,11 +39,10 @@ pub returns-in-Some-clause-setting : goal.returns-in-Some-clause-setting
 returns-in-Some-clause-setting g c = c.in-Some.ensures.setting ∙ c.loop.invariant.setting_is
 
 pub returns-in-Some-clause-clock : goal.returns-in-Some-clause-clock
-returns-in-Some-clause-clock g c = λ tells. c.loop.invariant.clock (c.in-Some.ensures.clock tells)
-
-pub returns-in-Some-clause-moments : goal.returns-in-Some-clause-moments
-returns-in-Some-clause-moments g c = λ tells.
-    gives_twice _ _ _ (c.loop.invariant.moments (c.in-Some.ensures.clock tells)) (c.in-Some.ensures.moments tells)
+returns-in-Some-clause-clock g c =
+    let few = c.loop.invariant.few in
+    let so_far = g.V.Service.taken c.loop.service in
+    clock_most (so_far + 1) 1000000 _ _ _ _ (omega (arith, few)) (clock_twice so_far 1 _ _ _ _ _ _ c.loop.invariant.clock c.in-Some.ensures.clock)
 
 pub returns-in-Some-clause-answers : goal.returns-in-Some-clause-answers
 returns-in-Some-clause-answers g c =
@@ -57,7 +56,7 @@ pub returns-in-Some-clause-served : goal.returns-in-Some-clause-served
 returns-in-Some-clause-served g c = λ all b finished s kept going.
     let so_far = c.loop.invariant in
     let before =
-    so_far.reached (record { honest = all.honest; shows = all.shows; tells = all.tells; clock_tells = c.in-Some.ensures.clock all.clock_tells }) b finished
+    so_far.reached (tells_before _ _ _ _ _ _ c.in-Some.ensures.clock all) b finished
     s kept going in
     (rw so_far.setting_is at c.in-Some.ensures.goes) (tells_later _ _ _ so_far.calls.same all) b finished before.steps before.state before.kept before.going
 
@@ -67,7 +66,7 @@ loop-preserved g c =
     turned_more g.V.Service.machine (g.V.Service.setting c.args.service.now) (g.V.Service.setting c.loop.service) _ _ _
     (g.X.Disk.device c.args.site.now) (g.X.Disk.device c.loop.site) (g.X.Disk.device c.take_turn.new.site)
     _ _ _ _ _ _ _ _ _ _ _ _ _ _ _ _ _ _ _ _ _ _ _ c.loop.counter
-    c.loop.invariant turn.calls turn.setting (turn.ready refl) turn.size turn.clock turn.moments (turn.few refl) (turn.counted refl) (turn.turns refl)
+    c.loop.invariant turn.calls turn.setting (turn.ready refl) turn.size turn.clock (turn.few refl) (turn.taken refl) (turn.counted refl) (turn.turns refl)
     (turn.most refl) turn.goes
 
 -- More turns than a connection has.

@@ -1,21 +1,18 @@
-use Rattle.std.proofs.Common.{refl, ◌∙◌, ◌||◌, Bool, true, false, ◌≡◌}
+use Rattle.std.proofs.Common.{refl, arith}
 use Rattle.run_history.specs.Sessions.{after_sessions}
 use Rattle.run_history.specs.Traces.{start_of}
 use Rattle.run_history.proofs.Going.{goes_first}
 use Rattle.connection_loop.proofs.Between.{between_quiet, ended_calls, ends_closed, no_more_calls, same_connected, same_unchanged, unlinked_calls}
-use Rattle.connection_loop.proofs.Turning.{gives_none, tells_later}
+use Rattle.connection_loop.proofs.Turning.{clock_most, clock_none, tells_later}
 use Rattle.connection_loop.proofs.connection.serve_next.Goals as goal
-
-or_true : (b : Bool) → b || true ≡ true
-or_true true = refl
-or_true false = refl
 
 pub returns-in-Ok-true-clause-calls : goal.returns-in-Ok-true-clause-calls
 returns-in-Ok-true-clause-calls g c =
     let call = rw c.in-Ok-true.field-0-test at c.in-Ok-true.ensures.call in
+    let next = rw c.in-Ok-true.field-0-test at c.in-Ok-true.ensures.next in
     let peers = c.in-Ok-true.ensures.peers in
     ended_calls c.serve_connection-ending.result _ _ _ _ (g.X.Disk.device c.args.site.now) (g.X.Disk.device c.next_peer.new.self)
-    (g.X.Disk.device c.serve_connection-ending.new.site) (g.X.Disk.device c.close_peer.new.self) call peers c.serve_connection-ending.ensures.calls
+    (g.X.Disk.device c.serve_connection-ending.new.site) (g.X.Disk.device c.close_peer.new.self) call peers next.closed c.serve_connection-ending.ensures.calls
     c.close_peer.ensures.call c.close_peer.ensures.closed
 
 -- A peer came, and was served to its end.
@@ -43,12 +40,12 @@ pub returns-in-Ok-false-clause-calls : goal.returns-in-Ok-false-clause-calls
 returns-in-Ok-false-clause-calls g c =
     let call = rw c.in-Ok-false.field-0-test at c.in-Ok-false.ensures.call in
     let next = rw c.in-Ok-false.field-0-test at c.in-Ok-false.ensures.next in
-    no_more_calls _ _ (g.X.Disk.device c.args.site.now) (g.X.Disk.device c.next_peer.new.self) call c.in-Ok-false.ensures.peers next.under_way
+    no_more_calls _ _ (g.X.Disk.device c.args.site.now) (g.X.Disk.device c.next_peer.new.self) call c.in-Ok-false.ensures.peers next.closed next.under_way
 
 pub returns-in-Err-clause-calls : goal.returns-in-Err-clause-calls
 returns-in-Err-clause-calls g c =
     unlinked_calls _ _ (g.X.Disk.device c.args.site.now) (g.X.Disk.device c.next_peer.new.self) c.in-Err.ensures.call c.in-Err.ensures.peers
-    c.in-Err.ensures.next.under_way
+    c.in-Err.ensures.next.closed c.in-Err.ensures.next.under_way
 
 -- No peer came.
 pub returns-in-Ok-false-clause-leads : goal.returns-in-Ok-false-clause-leads
@@ -60,7 +57,7 @@ returns-in-Ok-false-clause-leads g c = λ all b sessions between.
       between_quiet (g.V.Service.machine (g.V.Service.setting c.args.service.now)) b old new _ _ _ sessions _ between call.time
           (next.connections all.tells) call.handed
           (λ s keeps. g.V.Service.kept _ old new s keeps (same_unchanged old new call.time)),
-      next.closed all.tells ∙ or_true _,
+      (next.closed all.tells).rises refl,
     )
 
 -- Waiting for one failed.
@@ -73,9 +70,9 @@ returns-in-Err-clause-leads g c = λ all b sessions between.
     (c.in-Err.ensures.next.connections all.tells) call.handed
     (λ s keeps. g.V.Service.kept _ old new s keeps (same_unchanged old new call.time))
 
--- No moment was given where no connection came.
-pub returns-in-Ok-false-clause-moments : goal.returns-in-Ok-false-clause-moments
-returns-in-Ok-false-clause-moments g c = λ tells. gives_none _
+-- The clock was not read where no connection came.
+pub returns-in-Ok-false-clause-clock : goal.returns-in-Ok-false-clause-clock
+returns-in-Ok-false-clause-clock g c = clock_most 0 _ _ _ _ _ (omega arith) (clock_none _ _)
 
-pub returns-in-Err-clause-moments : goal.returns-in-Err-clause-moments
-returns-in-Err-clause-moments g c = λ tells. gives_none _
+pub returns-in-Err-clause-clock : goal.returns-in-Err-clause-clock
+returns-in-Err-clause-clock g c = clock_most 0 _ _ _ _ _ (omega arith) (clock_none _ _)

@@ -1,5 +1,6 @@
 use Rattle.std.proofs.Common.{◌≡◌, ◌≤◌, ◌∷◌, [], true, refl, arith}
 use Rattle.run_history.specs.Machine.{BeforeAnswer, InAnswer}
+use Rattle.run_history.proofs.WorkedHearings.{first_stays, owes_first}
 use Rattle.run_history.proofs.laws.failing.Goals as goal
 
 elsewhere : InAnswer ≡ BeforeAnswer true → ⊥
@@ -23,8 +24,11 @@ returns c =
           told_is = refl;
           prefix = (2 ∷ [], refl);
         };
-        failed = refl;
+        unheard = refl;
+        unsaid = refl;
         ended = tt;
+        owes = (owes_first _ _, tt);
+        last = (first_stays _, tt);
       };
       not_within = λ served. elsewhere served.steps.0.0;
       writing = (refl, (refl, λ none. cc));

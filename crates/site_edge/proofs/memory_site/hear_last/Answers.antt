@@ -1,4 +1,5 @@
-use Rattle.std.proofs.Common.{arith}
+use Rattle.std.proofs.Common.{◌↔◌, ◌≡◌, arith, ℕ, [], take}
+use Rattle.std.proofs.lemmas.Result.{IfOk-weaker}
 use Rattle.site_edge.specs.Lines.{heard_more, with_changed_connection}
 use Rattle.site_edge.proofs.ConnectionLemmas.{rest_of_last_at, set_last}
 use Rattle.site_edge.proofs.memory_site.hear_last.Goals as goal
@@ -6,8 +7,8 @@ use Rattle.site_edge.proofs.memory_site.hear_last.Goals as goal
 pub returns-clause-heard : goal.returns-clause-heard
 returns-clause-heard c =
     let lines = c.args.lines.now in
-    set_last (with_changed_connection (heard_more c.hear.result c.hear.new.out)) lines.items _ c.index_mut.result.now _ (omega (arith, lines.ok.0))
-    c.index_mut.ensures.value c.hear.ensures.heard
+    IfOk-weaker c.hear.result _ _ (λ count heard. set_last (with_changed_connection (heard_more count c.hear.new.out)) lines.items _ c.index_mut.result.now _
+    (omega (arith, lines.ok.0)) c.index_mut.ensures.value heard) c.hear.ensures.heard
 
 pub returns-clause-end : goal.returns-clause-end
 returns-clause-end c =

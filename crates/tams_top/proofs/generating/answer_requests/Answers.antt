@@ -1,4 +1,4 @@
-use Rattle.std.proofs.Common.{◌≡◌, ◌∙◌, [], true, unwrap_or, refl, sym, ap}
+use Rattle.std.proofs.Common.{◌≡◌, [], true, is_some, unwrap_or, refl, ap}
 use Rattle.tams_top.specs.Within.Standing.{tells_zeros, zeros, zeros_given}
 use Rattle.tams_top.proofs.WorkloadLemmas.{answered_over, base_is_text}
 use Rattle.tams_top.proofs.generating.answer_requests.Goals as goal
@@ -10,7 +10,7 @@ replay-outcome-requires c = record { base = rw c.in_ok-base.ensures base_is_text
 -- The peer was served, and was heard to its end.
 pub returns : goal.returns
 returns c =
-    let told : tells_zeros c.replay-outcome.new.clock ≡ true = sym c.tells.ensures ∙ c.if-not-tells.false in
+    let told : tells_zeros c.new-clock.result ≡ true = ap (λ calls. is_some calls) c.new-clock.ensures in
     let begun : zeros_given c.new-clock.result ≡ [] = ap (λ calls. zeros (unwrap_or calls 0)) c.new-clock.ensures in
     answered_over c.args.requests.now _ _ _ c.in-Served.answers c.in-Served.changes c.in-Served.skipped
     (unwrap_or c.replay-outcome.new.clock.calls 0) c.requires refl c.in-Served.ensures.disk

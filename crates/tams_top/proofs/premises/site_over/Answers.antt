@@ -14,8 +14,9 @@ returns-clause-premises c =
     let same : seen_of c.new-3.result.disk.past ≡ seen_of c.from_bytes-disk.result.past = ap (λ s. seen_of s.disk.past) c.new-3.ensures.site in
     let left : LeavesOnly (seen_of c.from_bytes-disk.result.past) (memory_device c.from_bytes-disk.result) =
     subst (λ b. LeavesOnly b (memory_device c.from_bytes-disk.result)) (sym seen) c.from_bytes-disk.ensures.durable in
-    λ from stands. record {
+    λ from stands given few. record {
       tells = record { honest = refl; shows = refl; tells = refl; clock_tells = refl };
+      few = few;
       settled = subst (λ b. LeavesOnly b (site_device c.new-3.result)) (sym same) (c.new-3.ensures.durable left);
       stands = subst (λ b. StandsFor b from) (sym (same ∙ seen)) stands;
     }

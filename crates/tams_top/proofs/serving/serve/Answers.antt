@@ -1,3 +1,4 @@
+use Rattle.std.proofs.Common.{arith}
 use Rattle.tams_top.proofs.RunningLemmas.{serve_refused}
 use Rattle.tams_top.proofs.ServedLemmas.{serve_ends}
 use Rattle.tams_top.proofs.serving.serve.Goals as goal
@@ -14,9 +15,11 @@ pub returns-clause-ends : goal.returns-clause-ends
 returns-clause-ends g c =
     rw c.serve_outcome.ensures
     (serve_ends c.args.base (g.X.Disk.device c.args.site.now) (g.X.Disk.device c.open.new.disk) (g.X.Disk.device c.serve-end.new.site)
-    (g.C.Clock.tells c.serve-end.new.clock) (g.C.Clock.given c.args.clock.now) (g.C.Clock.given c.serve-end.new.clock) c.in-Ok.service.store.kept _
+    (g.C.Clock.tells c.args.clock.now) (g.C.Clock.tells c.serve-end.new.clock) (g.C.Clock.given c.args.clock.now)
+    (g.C.Clock.given c.serve-end.new.clock) c.in-Ok.service.store.kept _
     c.serve-end.new.tally c.runs_keep_bytes.ensures (g.met.X.Disk.sound c.args.site.now) (g.met.X.Disk.sound c.serve-end.new.site) c.in-Ok.ensures.reads
     c.serve-end.ensures.calls.same c.in-Ok.ensures.answer
-    (λ from start. c.in-Ok.ensures.keeps start.tells.shows start.settled from start.stands) c.serve-end.ensures.moments c.serve-end.result
+    (λ from start. c.in-Ok.ensures.keeps start.tells.shows start.settled from start.stands) _
+    (omega (arith, c.requires.few)) c.serve-end.ensures.clock c.serve-end.result
     c.args.connections c.serve-end.ensures.calls
     (λ all b between. (rw c.in-Ok.ensures.afresh.1 at c.serve-end.ensures.ended) all b (rw c.new-tally.ensures between)))

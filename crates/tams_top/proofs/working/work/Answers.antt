@@ -12,7 +12,7 @@ returns-in-Ok-clause-disk g c =
 pub returns-in-Ok-clause-ends : goal.returns-in-Ok-clause-ends
 returns-in-Ok-clause-ends g c =
     rw c.work_outcome.ensures
-    (work_done (g.D.Disk.device c.args.disk.now) (g.D.Disk.device c.open.new.disk) (g.C.Clock.tells c.make_turns-end.new.clock)
+    (work_done (g.D.Disk.device c.args.disk.now) (g.D.Disk.device c.open.new.disk) (g.C.Clock.tells c.args.clock.now)
     (g.C.Clock.given c.args.clock.now) (g.met.D.Disk.sound c.args.disk.now) _ c.in-Ok.ensures.reads c.kept_images_stand.ensures
     c.an_image_stands_for_one_state.ensures c.in-Ok.store c.in-Ok.ensures.answer c.in-Ok.ensures.unspent c.in-Ok.ensures.agrees
     (g.D.Disk.device c.make_turns-end.new.disk) (g.C.Clock.given c.make_turns-end.new.clock) c.make_turns-end.result c.make_turns-end.ensures.calls

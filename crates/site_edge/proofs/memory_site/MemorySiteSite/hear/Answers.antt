@@ -1,52 +1,41 @@
-use Rattle.std.proofs.Common.{false, Ok, Err, refl}
-use Rattle.site_edge.specs.Lines.{heard_more, with_passed}
+use Rattle.std.proofs.Common.{◌&&◌, ◌∙◌, ◌≡◌, ◌≤◌, [], false, length, take, ap, sym, refl}
+use Rattle.std.specs.Prelude.{◌↔◌}
+use Rattle.site_edge.specs.Lines.{unheard_once}
+use Rattle.site_edge.specs.MemorySite.{rest_of_last}
 use Rattle.site_edge.specs.declared.fault.LinkFailed.{LinkFailed}
-use Rattle.site_edge.proofs.ConnectionLemmas.{told-heard_more, heard_more-is}
 use Rattle.site_edge.proofs.KeptLemmas.{kept_changed}
-use Rattle.site_edge.proofs.LinkLemmas.{changed_fails, silent_call, changed_to, failed_mark, heard_clause}
+use Rattle.site_edge.proofs.LinkLemmas.{heard_passes, heard_value, peer_heard, peer_unheard}
 use Rattle.site_edge.proofs.memory_site.MemorySiteSite.hear.Goals as goal
 
-pub invariant_of-self : goal.invariant_of-self
-invariant_of-self c =
-    kept_changed (heard_more c.hear_last.result c.hear_last.new.out) _ c.count.new.tally c.hear_last.new.lines.items
-    (told-heard_more c.hear_last.result c.hear_last.new.out) c.hear_last.ensures.heard c.self.invariant
-
+-- A call that fails marks the connection, and one that passes hears the next bytes of the peer.
 pub invariant_of-self-in-Err : goal.invariant_of-self-in-Err
-invariant_of-self-in-Err c =
-    let marks = rw c.is_ok.ensures.value at c.mark_last.ensures in
-    kept_changed (with_passed false) _ c.count.new.tally c.mark_last.new.lines.items (λ k. refl) marks c.self.invariant
+invariant_of-self-in-Err c = kept_changed unheard_once _ c.count.new.tally c.unhear_last.new.lines.items (λ k. refl) c.unhear_last.ensures c.self-2.invariant
 
--- What the connection heard is added, and nothing else.
-pub returns-in-Ok-clause-call : goal.returns-in-Ok-clause-call
-returns-in-Ok-clause-call c =
-    rw (← c.self.view_is) (silent_call _ (heard_more c.hear_last.result c.hear_last.new.out) _ c.count.new.tally c.hear_last.new.lines.items
-    (told-heard_more c.hear_last.result c.hear_last.new.out) c.hear_last.ensures.heard c.in-Ok.ensures.counts.counted)
+pub returns-in-Err : goal.returns-in-Err
+returns-in-Err c =
+    let counted = c.in-Err.ensures in
+    let failed = ap (λ b. b && c.passes-passes.result) (sym c.is_some.ensures) ∙ sym counted.answer in
+    let left =
+    peer_unheard LinkFailed c.in-Err.failed c.passes-passes.result c.try_hear-heard.result c.try_hear-heard.new.out c.args.self.now _ c.count.new.tally
+    c.unhear_last.new.lines.items (rw (← c.self-2.view_is) at c.try_hear-heard.ensures.heard) failed counted.counts counted.peer_faults c.unhear_last.ensures in
+    record { within = tt; call = left.call; heard = left.heard; fails = left.fails; piece = tt; end = tt; bytes = tt }
 
-pub returns-in-Ok-clause-heard : goal.returns-in-Ok-clause-heard
-returns-in-Ok-clause-heard c =
-    rw (← c.self.view_is) (heard_clause LinkFailed (Ok c.hear_last.result) c.hear_last.new.out _ c.count.new.tally c.hear_last.new.lines.items
-    c.in-Ok.ensures.peer_faults (changed_to (heard_more c.hear_last.result c.hear_last.new.out) _ _ _
-    (heard_more-is LinkFailed c.hear_last.result c.hear_last.new.out) c.hear_last.ensures.heard))
-
--- A failing call marks the connection, and nothing else.
-pub returns-in-Err-clause-call : goal.returns-in-Err-clause-call
-returns-in-Err-clause-call c =
-    let marks = rw c.is_ok.ensures.value at c.mark_last.ensures in
-    rw (← c.self.view_is) (silent_call _ (with_passed false) _ c.count.new.tally c.mark_last.new.lines.items (λ k. refl) marks
-    c.in-Err.ensures.counts.counted)
-
-pub returns-in-Err-clause-heard : goal.returns-in-Err-clause-heard
-returns-in-Err-clause-heard c =
-    let marks = rw c.is_ok.ensures.value at c.mark_last.ensures in
-    rw (← c.self.view_is) (heard_clause LinkFailed (Err c.in-Err.failed) c.args.out.now _ c.count.new.tally c.mark_last.new.lines.items
-    c.in-Err.ensures.peer_faults (changed_to (with_passed false) _ _ _ (failed_mark LinkFailed c.in-Err.failed c.args.out.now) marks))
-
-pub returns-in-Ok-clause-fails : goal.returns-in-Ok-clause-fails
-returns-in-Ok-clause-fails c =
-    rw (← c.self.view_is) (changed_fails _ (heard_more c.hear_last.result c.hear_last.new.out) _ c.count.new.tally c.hear_last.new.lines.items
-    c.hear_last.ensures.heard c.in-Ok.ensures.counts)
-
-pub returns-in-Err-clause-fails : goal.returns-in-Err-clause-fails
-returns-in-Err-clause-fails c =
-    let marks = rw c.is_ok.ensures.value at c.mark_last.ensures in
-    rw (← c.self.view_is) (changed_fails _ (with_passed false) _ c.count.new.tally c.mark_last.new.lines.items marks c.in-Err.ensures.counts)
+pub returns-in-Ok : goal.returns-in-Ok
+returns-in-Ok c =
+    let counted = c.in-Ok.ensures in
+    let passed = ap (λ b. b && c.passes-passes.result) (sym c.is_some.ensures) ∙ sym counted.answer in
+    let left =
+    peer_heard LinkFailed c.passes-passes.result c.try_hear-heard.result c.try_hear-heard.new.out c.args.self.now _ c.count.new.tally
+    (rw (← c.self-2.view_is) at c.try_hear-heard.ensures.heard) passed counted.counts counted.peer_faults in
+    let value = heard_value c.try_hear-heard.result c.passes-passes.result in
+    let passes = heard_passes c.try_hear-heard.result c.passes-passes.result passed in
+    let told = c.try_hear-heard.ensures in
+    rw c.unwrap_or.ensures (record {
+      within = value (λ count. count ≤ length c.args.out.now) passed told.within;
+      call = left.call;
+      heard = left.heard;
+      fails = left.fails;
+      piece = value (λ count. count ≤ c.args.self.now.piece) passed told.piece;
+      end = value (λ count. (count ≡ 0) ↔ (rest_of_last c.args.self.now.talks ≡ [])) passed (told.end passes);
+      bytes = value (λ count. take count c.try_hear-heard.new.out ≡ take count (rest_of_last c.args.self.now.talks)) passed (told.bytes passes);
+    })

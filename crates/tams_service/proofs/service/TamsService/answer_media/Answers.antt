@@ -1,6 +1,7 @@
 use Rattle.std.proofs.Common.{◌∙◌, subst, sym}
 use Rattle.request_hearing.specs.Hearing.{OpensMedia}
 use Rattle.tams_service.specs.Serving.{ServiceSeen}
+use Rattle.tams_service.proofs.Clocks.{clock_once}
 use Rattle.tams_service.proofs.Bodies.{media_planned, media_starved}
 use Rattle.tams_service.proofs.Planned.{begun_id, put_begun}
 use Rattle.tams_service.proofs.service.TamsService.answer_media.Goals as goal
@@ -36,3 +37,11 @@ returns-in-Ok-clause-leads g c = λ tells clock.
     (g.C.Clock.given c.args.clock.now) (g.C.Clock.given c.now-now.new.self) c.now-now.result c.args.tally.now c.take_put.new.tally
     (c.now-now.ensures.given clock) c.take_put.result c.in-Ok.plan.put c.in-Ok.plan.responses c.bytes.result.now c.bytes.ensures c.in-Ok.ensures
     (rw (← c.self.view_is) at c.take_put.ensures.leads tells))
+
+pub returns-in-Err-clause-clock : goal.returns-in-Err-clause-clock
+returns-in-Err-clause-clock g c =
+    clock_once _ _ _ _ c.now-now.result c.now-now.ensures.moment c.now-now.ensures.told_before c.now-now.ensures.lasts c.now-now.ensures.given
+
+pub returns-in-Ok-clause-clock : goal.returns-in-Ok-clause-clock
+returns-in-Ok-clause-clock g c =
+    clock_once _ _ _ _ c.now-now.result c.now-now.ensures.moment c.now-now.ensures.told_before c.now-now.ensures.lasts c.now-now.ensures.given

@@ -2,6 +2,7 @@ use Rattle.std.proofs.Common.{[], refl, subst, sym}
 use Rattle.request_hearing.specs.Hearing.{GivesRequest}
 use Rattle.tams_service.specs.Answering.{PlanKeepsId}
 use Rattle.tams_service.specs.Serving.{ServiceSeen}
+use Rattle.tams_service.proofs.Clocks.{clock_once}
 use Rattle.tams_service.proofs.Ids.{planned_id}
 use Rattle.tams_service.proofs.Wholes.{media_still, no_put, parts_are, whole_given, whole_starved}
 use Rattle.tams_service.proofs.service.TamsService.answer_whole.Goals as goal
@@ -50,3 +51,11 @@ returns-in-Ok-clause-leads g c = λ tells clock.
     (rw (← c.self.view_is) at c.give_answer.ensures.fed) c.args.head c.in-Ok.answer c.give_answer.result
     (λ held r is. (rw (c.bytes.ensures, c.bytes-2.ensures) at c.in-Ok.ensures.answers held r) is)
     (rw (← c.self.view_is) at c.give_answer.ensures.leads tells))
+
+pub returns-in-Err-clause-clock : goal.returns-in-Err-clause-clock
+returns-in-Err-clause-clock g c =
+    clock_once _ _ _ _ c.now-now.result c.now-now.ensures.moment c.now-now.ensures.told_before c.now-now.ensures.lasts c.now-now.ensures.given
+
+pub returns-in-Ok-clause-clock : goal.returns-in-Ok-clause-clock
+returns-in-Ok-clause-clock g c =
+    clock_once _ _ _ _ c.now-now.result c.now-now.ensures.moment c.now-now.ensures.told_before c.now-now.ensures.lasts c.now-now.ensures.given

@@ -3,12 +3,13 @@ use Rattle.std.proofs.lemmas.Bool.{false≢true}
 use Rattle.run_history.specs.Serving.{Going}
 use Rattle.connection_loop.specs.Turns.{EndsAs, TurnLeads, held_with}
 use Rattle.connection_loop.specs.declared.ending.ConnectionEnd.TheVariants as endings
-use Rattle.connection_loop.proofs.Turning.{calls_more, gives_none}
+use Rattle.connection_loop.proofs.Turning.{calls_more}
 use Rattle.http_wire.specs.Feeds.{Fed}
 use Rattle.tams_machine.specs.Machine.{tams_machine}
 use Rattle.tams_service.specs.Keeping.{KeepsState}
 use Rattle.tams_service.specs.Serving.{ServiceSeen}
 use Rattle.tams_service.proofs.Calls.{complete_calls, cut_calls, heard_calls, unheard_calls}
+use Rattle.tams_service.proofs.Clocks.{clock_once, clock_turn, clock_unread}
 use Rattle.tams_service.proofs.Hearing.{cut_leads, ended_leads, media_unsaid_leads, unheard_leads, unsaid_leads}
 use Rattle.tams_service.proofs.Turned.{few_given, few_opened, media_turn, refused_turn, tells_behind, whole_turn}
 use Rattle.tams_service.proofs.service.TamsServiceService.take_turn.Goals as goal
@@ -35,7 +36,7 @@ returns-in-Whole-clause-goes g c = λ all b finished steps s keeps going.
     → TurnLeads (tams_machine v.base) b new now c.answer_whole.new.self.fed.unread c.answer_whole.new.self.fed.requests
     (KeepsState c.answer_whole.new.self.store new) finished c.answer_whole.new.tally c.answer_whole.result) c.self.view_is
     (λ kept few goes. whole_turn c.self.inside.base b old mid new given now s c.self.inside.hearing finished steps c.args.tally.now c.answer_whole.new.tally
-    c.self.inside.store all.tells kept goes h.bytes h.said h.leaves service c.answer_whole.new.self c.in-Whole.head c.answer_whole.result refl refl few h.comes
+    c.self.inside.store all.tells kept goes h.bytes h.said h.parts h.waits h.leaves service c.answer_whole.new.self c.in-Whole.head c.answer_whole.result refl refl few h.comes
     c.answer_whole.ensures.fed (c.answer_whole.ensures.leads (tells_behind old mid _ h.leaves.call.same all) all.clock_tells))
     keeps c.requires.few going
 
@@ -53,7 +54,7 @@ returns-in-Media-clause-goes g c = λ all b finished steps s keeps going.
     → TurnLeads (tams_machine v.base) b new now c.answer_media.new.self.fed.unread c.answer_media.new.self.fed.requests
     (KeepsState c.answer_media.new.self.store new) finished c.answer_media.new.tally c.answer_media.result) c.self.view_is
     (λ kept few goes. media_turn c.self.inside.base b old mid new given now s c.self.inside.hearing finished steps c.args.tally.now c.answer_media.new.tally
-    c.self.inside.store all.tells kept goes h.bytes h.said h.leaves service c.answer_media.new.self c.in-Media.head c.answer_media.result refl refl few h.comes
+    c.self.inside.store all.tells kept goes h.bytes h.said h.parts h.waits h.leaves service c.answer_media.new.self c.in-Media.head c.answer_media.result refl refl few h.comes
     c.answer_media.ensures.requests (c.answer_media.ensures.leads (tells_behind old mid _ h.leaves.call.same all) all.clock_tells))
     keeps c.requires.few going
 
@@ -70,7 +71,7 @@ returns-in-Refused-clause-goes g c = λ all b finished steps s keeps going.
     → Going (tams_machine v.base) b old given (held_with s v.fed.unread v.fed.requests) finished steps c.args.tally.now
     → EndsAs (tams_machine v.base) b new given (KeepsState c.self.inside.store new) finished c.refuse_wire.new.tally c.refuse_wire.result) c.self.view_is
     (λ kept goes. refused_turn c.self.inside.base b old mid new given given s c.self.inside.hearing finished steps c.args.tally.now c.refuse_wire.new.tally
-    c.self.inside.store all.tells kept goes h.bytes h.said h.leaves c.hear_request.new.self c.in-Refused.refusal c.refuse_wire.result
+    c.self.inside.store all.tells kept goes h.bytes h.said h.parts h.waits h.leaves c.hear_request.new.self c.in-Refused.refusal c.refuse_wire.result
     c.hear_request.new.self.unread c.hear_request.new.self.requests h.comes
     (c.refuse_wire.ensures.leads (tells_behind old mid _ h.leaves.call.same all) c.self.inside.base c.self.inside.store c.self.invariant.refusals_are))
     keeps going
@@ -87,7 +88,7 @@ returns-in-Ended-clause-goes g c = λ all b finished steps s keeps going.
     → Going (tams_machine v.base) b old given (held_with s v.fed.unread v.fed.requests) finished steps c.args.tally.now
     → EndsAs (tams_machine v.base) b new given (KeepsState c.self.inside.store new) finished c.args.tally.now endings.Complete) c.self.view_is
     (λ kept goes. ended_leads c.self.inside.base b old new given s c.self.inside.hearing finished steps c.args.tally.now c.self.inside.store all.tells kept
-    goes h.bytes h.said h.leaves h.comes.0 c.hear_request.new.self h.comes.1)
+    goes h.bytes h.said h.parts h.waits h.leaves h.comes.0 c.hear_request.new.self h.comes.1)
     keeps going
 
 pub returns-in-Cut-clause-goes : goal.returns-in-Cut-clause-goes
@@ -100,7 +101,7 @@ returns-in-Cut-clause-goes g c = λ all b finished steps s keeps going.
     → Going (tams_machine v.base) b old given (held_with s v.fed.unread v.fed.requests) finished steps c.args.tally.now
     → EndsAs (tams_machine v.base) b new given (KeepsState c.self.inside.store new) finished c.args.tally.now endings.Cut) c.self.view_is
     (λ kept goes. cut_leads c.self.inside.base b old new given s c.self.inside.hearing finished steps c.args.tally.now c.self.inside.store all.tells kept
-    goes h.bytes h.said h.leaves h.comes.0 c.hear_request.new.self h.comes.1)
+    goes h.bytes h.said h.parts h.waits h.leaves h.comes.0 c.hear_request.new.self h.comes.1)
     keeps going
 
 pub returns-in-Unheard-clause-goes : goal.returns-in-Unheard-clause-goes
@@ -113,7 +114,7 @@ returns-in-Unheard-clause-goes g c = λ all b finished steps s keeps going.
     → Going (tams_machine v.base) b old given (held_with s v.fed.unread v.fed.requests) finished steps c.args.tally.now
     → EndsAs (tams_machine v.base) b new given (KeepsState c.self.inside.store new) finished c.args.tally.now endings.Unlinked) c.self.view_is
     (λ kept goes. unheard_leads c.self.inside.base b old new given s c.self.inside.hearing finished steps c.args.tally.now c.self.inside.store all.tells kept
-    goes h.bytes h.said h.leaves c.hear_request.new.self h.comes)
+    goes h.bytes h.said h.parts h.waits h.leaves c.hear_request.new.self h.comes)
     keeps going
 
 pub returns-in-Unsaid-clause-goes : goal.returns-in-Unsaid-clause-goes
@@ -126,7 +127,7 @@ returns-in-Unsaid-clause-goes g c = λ all b finished steps s keeps going.
     → Going (tams_machine v.base) b old given (held_with s v.fed.unread v.fed.requests) finished steps c.args.tally.now
     → EndsAs (tams_machine v.base) b new given (KeepsState c.self.inside.store new) finished c.args.tally.now endings.Unlinked) c.self.view_is
     (λ kept goes. unsaid_leads c.self.inside.base b old new given s c.self.inside.hearing finished steps c.args.tally.now c.self.inside.store all.tells kept
-    goes h.bytes h.said h.leaves h.comes)
+    goes h.bytes h.said h.parts h.waits h.leaves h.comes)
     keeps going
 
 pub returns-in-MediaUnsaid-clause-goes : goal.returns-in-MediaUnsaid-clause-goes
@@ -142,7 +143,7 @@ returns-in-MediaUnsaid-clause-goes g c = λ all b finished steps s keeps going.
     (λ kept goes. subst (λ l. EndsAs (tams_machine c.self.inside.base) b new l (KeepsState c.self.inside.store new) finished c.args.tally.now
     endings.Unlinked) (sym (c.now.ensures.given all.clock_tells))
     (media_unsaid_leads c.self.inside.base b old new given s c.self.inside.hearing finished steps c.args.tally.now c.self.inside.store all.tells kept
-    goes h.bytes h.said c.now.result h.leaves h.comes))
+    goes h.bytes h.said h.parts h.waits c.now.result h.leaves h.comes))
     keeps going
 
 -- ---- how many requests came
@@ -209,8 +210,36 @@ returns-in-MediaUnsaid-clause-calls g c =
     let h = c.in-MediaUnsaid.ensures in
     unheard_calls h.bytes h.said false false _ _ h.leaves
 
-pub returns-in-Refused-clause-moments : goal.returns-in-Refused-clause-moments
-returns-in-Refused-clause-moments g c = λ tells. gives_none _
+pub returns-in-Whole-clause-clock : goal.returns-in-Whole-clause-clock
+returns-in-Whole-clause-clock g c =
+    let h = c.in-Whole.ensures in
+    rw (← c.self.view_is) (clock_turn c.answer_whole.result c.self.inside.hearing.requests c.answer_whole.new.self.fed.requests _ _ _ _
+    (ap (λ (f : Fed). f.requests) c.answer_whole.ensures.fed ∙ h.comes.behind.requests_are) c.answer_whole.ensures.clock)
 
-pub returns-in-Cut-clause-moments : goal.returns-in-Cut-clause-moments
-returns-in-Cut-clause-moments g c = λ tells. gives_none _
+pub returns-in-Media-clause-clock : goal.returns-in-Media-clause-clock
+returns-in-Media-clause-clock g c =
+    let h = c.in-Media.ensures in
+    rw (← c.self.view_is) (clock_turn c.answer_media.result c.self.inside.hearing.requests c.answer_media.new.self.fed.requests _ _ _ _
+    (c.answer_media.ensures.requests ∙ h.comes.behind.requests_are) c.answer_media.ensures.clock)
+
+pub returns-then-spent-clause-clock : goal.returns-then-spent-clause-clock
+returns-then-spent-clause-clock g c = clock_unread _ _
+
+pub returns-in-Refused-clause-clock : goal.returns-in-Refused-clause-clock
+returns-in-Refused-clause-clock g c = clock_unread _ _
+
+pub returns-in-Ended-clause-clock : goal.returns-in-Ended-clause-clock
+returns-in-Ended-clause-clock g c = clock_unread _ _
+
+pub returns-in-Cut-clause-clock : goal.returns-in-Cut-clause-clock
+returns-in-Cut-clause-clock g c = clock_unread _ _
+
+pub returns-in-Unheard-clause-clock : goal.returns-in-Unheard-clause-clock
+returns-in-Unheard-clause-clock g c = clock_unread _ _
+
+pub returns-in-Unsaid-clause-clock : goal.returns-in-Unsaid-clause-clock
+returns-in-Unsaid-clause-clock g c = clock_unread _ _
+
+pub returns-in-MediaUnsaid-clause-clock : goal.returns-in-MediaUnsaid-clause-clock
+returns-in-MediaUnsaid-clause-clock g c =
+    clock_once _ _ _ _ c.now.result c.now.ensures.moment c.now.ensures.told_before c.now.ensures.lasts c.now.ensures.given
