@@ -60,6 +60,11 @@ def value_of(body):
         return None
 
 
+def json_of(value):
+    """A value as a body: as short as the store shows it, so what it shows is no longer than it may be."""
+    return json.dumps(value, ensure_ascii=False, separators=(',', ':')).encode()
+
+
 # ---- requests
 
 
@@ -125,7 +130,7 @@ class Store:
 
     def ask(self, method, path, value=None):
         """The value that the store answers to a request at this path, with this value as its body."""
-        body = None if value is None else json.dumps(value).encode()
+        body = None if value is None else json_of(value)
         return value_of(self.whole(method, self.address + path, body)[1])
 
     def find(self, path, refusal):

@@ -1,4 +1,5 @@
-"""What `check_examples` and `draw_pictures` run: the built program on a store, in a folder of its own."""
+"""What `check_examples`, `check_copy`, `check_proxy` and `draw_pictures` run: the built program on a store, in a folder of
+its own."""
 import contextlib
 import os
 import socket
@@ -45,15 +46,16 @@ def format_store(folder, blocks, half):
 
 
 @contextlib.contextmanager
-def served(folder):
-    """The address of the store in this folder, while it is served. In the end the program is killed, as by a crash."""
+def served(folder, base=None):
+    """The address of the store in this folder, while it is served. In the end the program is killed, as by a crash. Its
+    links begin with the base, where there is one, and else with its address."""
     port = free_port()
-    base = f'http://127.0.0.1:{port}'
-    with subprocess.Popen([PROGRAM, 'serve', 's', str(port), base, '1000'], cwd=folder, stdin=subprocess.DEVNULL,
-                          stdout=subprocess.DEVNULL) as program:
+    address = f'http://127.0.0.1:{port}'
+    with subprocess.Popen([PROGRAM, 'serve', 's', str(port), base or address, '1000'], cwd=folder,
+                          stdin=subprocess.DEVNULL, stdout=subprocess.DEVNULL) as program:
         try:
             connect(port, program)
-            yield base
+            yield address
         finally:
             program.kill()
 
