@@ -59,41 +59,44 @@ between_quiet m b old new given keeps keeps_now sessions n i time same handed ke
 -- the calls for a connection that came, was served and was closed
 pub ended_calls : (ending : ConnectionEnd) (within ended within_too ended_too : Left → Left → Type 0) (old came served new : Device)
     → LinkCall within ended true old came → IsCounted true old.link.peer_faults came.link.peer_faults
-    → (old.tells ≡ true → IsCounted true old.link.closed came.link.closed) → SiteCalls (Some ending) came served
+    → (old.tells ≡ true → IsCounted true old.link.closed came.link.closed) → came.link.dials ≡ old.link.dials → SiteCalls (Some ending) came served
     → LinkCall within_too ended_too true served new → Closed served new → NextCalls (next.Ended ending) old new
-ended_calls ending within ended within_too ended_too old came served new waits peers closings calls closes closed = record {
+ended_calls ending within ended within_too ended_too old came served new waits peers closings dials calls closes closed = record {
   same = same_device_twice old served new (same_device_twice old came served waits.same calls.same) closes.same;
   faults = rw (closes.faults, ← waits.faults) calls.faults;
   link_faults = rw (closes.counted.stays refl, ← waits.counted.stays refl) calls.link_faults;
   peer_faults = rw (closed.peers.peer_faults, calls.peer_faults) peers;
   closed = λ idle. closed.under_way;
   closings = λ tells. rw (closed.peers.closed, calls.closed) (closings tells);
+  dials = closed.peers.dials ∙ calls.dials ∙ dials;
 }
 
 -- the call that found that no more will come
 pub no_more_calls : (within ended : Left → Left → Type 0) (old new : Device) → LinkCall within ended true old new
     → IsCounted true old.link.peer_faults new.link.peer_faults → (old.tells ≡ true → IsCounted false old.link.closed new.link.closed)
-    → new.link.under_way ≡ false → NextCalls next.NoMore old new
-no_more_calls within ended old new call peers closings closed = record {
+    → new.link.under_way ≡ false → new.link.dials ≡ old.link.dials → NextCalls next.NoMore old new
+no_more_calls within ended old new call peers closings closed dials = record {
   same = call.same;
   faults = counted_none old.faults new.faults call.faults;
   link_faults = call.counted.stays refl;
   peer_faults = peers;
   closed = λ idle. closed;
   closings = closings;
+  dials = dials;
 }
 
 -- the call that failed
 pub unlinked_calls : (within ended : Left → Left → Type 0) (old new : Device) → LinkCall within ended false old new
     → IsCounted false old.link.peer_faults new.link.peer_faults → (old.tells ≡ true → IsCounted true old.link.closed new.link.closed)
-    → new.link.under_way ≡ old.link.under_way → NextCalls next.Unlinked old new
-unlinked_calls within ended old new call peers closings same = record {
+    → new.link.under_way ≡ old.link.under_way → new.link.dials ≡ old.link.dials → NextCalls next.Unlinked old new
+unlinked_calls within ended old new call peers closings same dials = record {
   same = call.same;
   faults = counted_none old.faults new.faults call.faults;
   link_faults = (call.counted.never_falls, call.counted.rises refl);
   peer_faults = peers;
   closed = λ idle. same ∙ idle;
   closings = closings;
+  dials = dials;
 }
 
 -- ---- many
@@ -213,6 +216,7 @@ calls_on ending a b c first second on = record {
   unlinked = λ e. absurd cc;
   closed = λ idle. second.closed (first.closed idle);
   closings = closings_twice true a b c first second.closings;
+  dials = second.dials ∙ first.dials;
 }
 
 pub calls_stopped : (ending : ConnectionEnd) (a b c : Device) → RunCalls run.Complete a b → NextCalls (next.Ended ending) b c → is_stopped ending ≡ true
@@ -225,6 +229,7 @@ calls_stopped ending a b c first second on = record {
   unlinked = λ e. absurd cc;
   closed = λ idle. second.closed (first.closed idle);
   closings = closings_twice true a b c first second.closings;
+  dials = second.dials ∙ first.dials;
 }
 
 pub calls_no_more : (a b c : Device) → RunCalls run.Complete a b → NextCalls next.NoMore b c → RunCalls run.NoMore a c
@@ -236,6 +241,7 @@ calls_no_more a b c first second = record {
   unlinked = λ e. absurd cc;
   closed = λ idle. second.closed (first.closed idle);
   closings = closings_twice false a b c first second.closings;
+  dials = second.dials ∙ first.dials;
 }
 
 pub calls_unlinked : (a b c : Device) → RunCalls run.Complete a b → NextCalls next.Unlinked b c → RunCalls run.Unlinked a c
@@ -249,6 +255,7 @@ calls_unlinked a b c first second = record {
       rose_over a.link.faults b.link.faults c.link.faults c.link.faults first.link_faults second.link_faults.0 (omega arith) rose small;
   closed = λ idle. second.closed (first.closed idle);
   closings = closings_twice true a b c first second.closings;
+  dials = second.dials ∙ first.dials;
 }
 
 pub no_run_calls : (d : Device) → RunCalls run.Complete d d
@@ -260,6 +267,7 @@ no_run_calls d = record {
   unlinked = λ e. absurd cc;
   closed = λ idle. idle;
   closings = λ tells. counted_none d.link.closed d.link.closed refl;
+  dials = refl;
 }
 
 -- before the first connection

@@ -34,6 +34,7 @@ no_calls d = record {
   peer_faults = refl;
   under_way = refl;
   closed = refl;
+  dials = refl;
 }
 
 -- calls that go on and others behind them
@@ -53,6 +54,7 @@ calls_more ending a b c first second = record {
   peer_faults = second.peer_faults ∙ first.peer_faults;
   under_way = second.under_way ∙ first.under_way;
   closed = second.closed ∙ first.closed;
+  dials = second.dials ∙ first.dials;
 }
 
 -- what is told stays so

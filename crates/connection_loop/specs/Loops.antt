@@ -61,7 +61,8 @@ NextLinkCount NoMore before now = now ≡ before
 NextLinkCount Unlinked before now = (before ≤ now) × Rose before now
 NextLinkCount (Ended ending) before now = LinkCount (Some ending) before now
 
--- What the calls for the next connection leave of a site: a connection that began has been closed.
+-- What the calls for the next connection leave of a site: a connection that began has been closed,
+-- and nobody was dialled.
 pub record NextCalls (next : Next) (old new : Device) : Type 0 where
   pub same : SameDevice old new
   pub faults : IsCounted (next_disk_held next) old.faults new.faults
@@ -70,6 +71,7 @@ pub record NextCalls (next : Next) (old new : Device) : Type 0 where
   pub closed : old.link.under_way ≡ false → new.link.under_way ≡ false
   pub closings : old.tells ≡ true
       → IsCounted (next_stays_open next) old.link.closed new.link.closed
+  pub dials : new.link.dials ≡ old.link.dials
 
 -- What waiting for the next connection and serving it leads to, from a count of closings: the site
 -- said that no more will come; waiting for one failed; or one has ended.
@@ -104,7 +106,8 @@ run_stays_open run.NoMore = false
 run_stays_open run.Unlinked = true
 run_stays_open run.Stopped = true
 
--- What the calls of a run leave of a site. The count of link faults may rise on any connection.
+-- What the calls of a run leave of a site. The count of link faults may rise on any connection, and
+-- nobody was dialled.
 pub record RunCalls (end : RunEnd) (old new : Device) : Type 0 where
   pub same : SameDevice old new
   pub faults : IsCounted (run_disk_held end) old.faults new.faults
@@ -114,6 +117,7 @@ pub record RunCalls (end : RunEnd) (old new : Device) : Type 0 where
   pub closed : old.link.under_way ≡ false → new.link.under_way ≡ false
   pub closings : old.tells ≡ true
       → IsCounted (run_stays_open end) old.link.closed new.link.closed
+  pub dials : new.link.dials ≡ old.link.dials
 
 -- How many connections there were by how a run ended, from a count of closings: so many as it was
 -- told; fewer, where the site said in this run that no more will come, or where waiting for one

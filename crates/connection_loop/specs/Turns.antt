@@ -116,7 +116,7 @@ disk_held (Some Unlinked) = true
 disk_held (Some Starved) = true
 disk_held (Some Stopped) = false
 
--- what the calls of a connection leave of a site by how it ended
+-- What the calls of a connection leave of a site by how it ended. It dials nobody.
 pub record SiteCalls (ending : Option ConnectionEnd) (old new : Device) : Type 0 where
   pub same : SameDevice old new
   pub faults : IsCounted (disk_held ending) old.faults new.faults
@@ -124,6 +124,7 @@ pub record SiteCalls (ending : Option ConnectionEnd) (old new : Device) : Type 0
   pub peer_faults : new.link.peer_faults ≡ old.link.peer_faults
   pub under_way : new.link.under_way ≡ old.link.under_way
   pub closed : new.link.closed ≡ old.link.closed
+  pub dials : new.link.dials ≡ old.link.dials
 
 -- Connections were served one after another, none of which stopped the run, and the state to which
 -- they led is kept.

@@ -57,6 +57,7 @@ cut_calls old new calls = record {
   link_faults = calls.link_faults.stays refl;
   peer_faults = calls.peers.peer_faults;
   closed = calls.peers.closed;
+  dials = calls.peers.dials;
   under_way = calls.under_way;
 }
 
@@ -68,6 +69,7 @@ stopped_calls old new calls = record {
   link_faults = calls.link_faults.never_falls;
   peer_faults = calls.peers.peer_faults;
   closed = calls.peers.closed;
+  dials = calls.peers.dials;
   under_way = calls.under_way;
 }
 

@@ -17,6 +17,7 @@ calls_held old new calls = record {
   link_faults = calls.link_faults.stays refl;
   peer_faults = calls.peers.peer_faults;
   closed = calls.peers.closed;
+  dials = calls.peers.dials;
   under_way = calls.under_way;
 }
 
@@ -28,6 +29,7 @@ disk_held old new calls = record {
   link_faults = ap (λ (l : Link). l.faults) calls.link;
   peer_faults = ap (λ (l : Link). l.peer_faults) calls.link;
   closed = ap (λ (l : Link). l.closed) calls.link;
+  dials = ap (λ (l : Link). l.dials) calls.link;
   under_way = ap (λ (l : Link). l.under_way) calls.link;
 }
 
@@ -39,6 +41,7 @@ disk_stopped old new calls = record {
   link_faults = omega (arith, ap (λ (l : Link). l.faults) calls.link);
   peer_faults = ap (λ (l : Link). l.peer_faults) calls.link;
   closed = ap (λ (l : Link). l.closed) calls.link;
+  dials = ap (λ (l : Link). l.dials) calls.link;
   under_way = ap (λ (l : Link). l.under_way) calls.link;
 }
 
@@ -50,6 +53,7 @@ stopped_more old mid new calls link = record {
   link_faults = omega (arith, calls.link_faults, link.link_faults);
   peer_faults = link.peer_faults ∙ calls.peer_faults;
   closed = link.closed ∙ calls.closed;
+  dials = link.dials ∙ calls.dials;
   under_way = link.under_way ∙ calls.under_way;
 }
 
@@ -61,6 +65,7 @@ starved_calls old new link = record {
   link_faults = link.link_faults;
   peer_faults = link.peer_faults;
   closed = link.closed;
+  dials = link.dials;
   under_way = link.under_way;
 }
 
@@ -72,6 +77,7 @@ unlinked_calls old new calls = record {
   link_faults = (calls.link_faults.never_falls, calls.link_faults.rises refl);
   peer_faults = calls.peers.peer_faults;
   closed = calls.peers.closed;
+  dials = calls.peers.dials;
   under_way = calls.under_way;
 }
 
@@ -86,6 +92,7 @@ heard_calls bytes said sent ended old new h = record {
   link_faults = h.call.counted.stays refl;
   peer_faults = h.peers.peer_faults;
   closed = h.peers.closed;
+  dials = h.peers.dials;
   under_way = h.under_way;
 }
 
@@ -99,6 +106,7 @@ unheard_calls bytes said sent ended old new h = record {
   link_faults = (h.call.counted.never_falls, h.call.counted.rises refl);
   peer_faults = h.peers.peer_faults;
   closed = h.peers.closed;
+  dials = h.peers.dials;
   under_way = h.under_way;
 }
 
@@ -110,6 +118,7 @@ complete_calls old new calls = record {
   link_faults = calls.link_faults;
   peer_faults = calls.peer_faults;
   closed = calls.closed;
+  dials = calls.dials;
   under_way = calls.under_way;
 }
 
@@ -120,5 +129,6 @@ cut_calls old new calls = record {
   link_faults = calls.link_faults;
   peer_faults = calls.peer_faults;
   closed = calls.closed;
+  dials = calls.dials;
   under_way = calls.under_way;
 }

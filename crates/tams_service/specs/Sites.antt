@@ -20,4 +20,5 @@ pub record LinkCalls (old new : Device) : Type 0 where
   pub link_faults : old.link.faults ≤ new.link.faults
   pub peer_faults : new.link.peer_faults ≡ old.link.peer_faults
   pub closed : new.link.closed ≡ old.link.closed
+  pub dials : new.link.dials ≡ old.link.dials
   pub under_way : new.link.under_way ≡ old.link.under_way

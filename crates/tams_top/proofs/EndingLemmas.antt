@@ -312,6 +312,24 @@ module _ (words : List (List ℕ)) (old new : Device) (clock : Bool) (begun give
     | inr other ↦ elim other [ inl bad ↦ stays_idle bad.2.link idle | inr did ↦ command_closed did.0 did.2 idle ]
   ]
 
+  -- nobody is dialled
+  none_dialled : new.link ≡ old.link → new.link.dials ≡ old.link.dials
+  none_dialled same = ap (λ (l : Link). l.dials) same
+
+  command_dials : (command : Invocation) → CommandEnds old new clock begun given o command → new.link.dials ≡ old.link.dials
+  command_dials (Format path blocks half id) ends = none_dialled ends.2.link
+  command_dials (Check path) ends = none_dialled (check_untouched old new o ends.0).link
+  command_dials (Work path) ends = none_dialled ends.link
+  command_dials (Replay path base) ends = ends.dials
+  command_dials (Serve path port base connections) ends = ends.dials
+  command_dials (Workload number count) ends = none_dialled ends.1.link
+
+  pub run_dials : new.link.dials ≡ old.link.dials
+  run_dials = elim run.cause [
+    | inl starved ↦ none_dialled starved.2.link
+    | inr other ↦ elim other [ inl bad ↦ none_dialled bad.2.link | inr did ↦ command_dials did.0 did.2 ]
+  ]
+
   -- nobody is served for words that are no command
   pub run_bad : IsNoCommand words → ServesNobody old new begun given
   run_bad no_command = elim run.cause [

@@ -118,6 +118,7 @@ module _ (base : List ℕ) (old new : Device) (clock : Bool) (begun : List ℕ) 
     history = λ from start. inr (refused_history base old new clock begun fault damaged sound untouched answer from start);
     starved = λ e. inl (record { link = reads.calls.link; given_is = refl });
     closed = λ idle. ap (λ (l : Link). l.under_way) reads.calls.link ∙ idle;
+    dials = ap (λ (l : Link). l.dials) reads.calls.link;
     unread = λ _. refl;
   }
 
@@ -130,6 +131,7 @@ module _ (base : List ℕ) (old new : Device) (clock : Bool) (begun : List ℕ) 
     starved = λ e. record { link = reads.calls.link; given_is = refl };
     uncut = refused_uncut fault;
     closed = λ idle. ap (λ (l : Link). l.under_way) reads.calls.link ∙ idle;
+    dials = ap (λ (l : Link). l.dials) reads.calls.link;
     unread = λ _. refl;
   }
 

@@ -169,6 +169,9 @@ module _ (base : List ℕ) (old opened new : Device) (clock clock_new : Bool) (b
   idle_opened : old.link.under_way ≡ false → opened.link.under_way ≡ false
   idle_opened idle = ap (λ (l : Link). l.under_way) reads.calls.link ∙ idle
 
+  dials-opened : opened.link.dials ≡ old.link.dials
+  dials-opened = ap (λ (l : Link). l.dials) reads.calls.link
+
   -- ---- `replay`
 
   module _ (keeps_last : StoreState → Type 0) where
@@ -223,6 +226,7 @@ module _ (base : List ℕ) (old opened new : Device) (clock clock_new : Bool) (b
       history = replayed next leads;
       starved = λ e. inr (starved_peer next leads e);
       closed = λ idle. calls.closed (idle_opened idle);
+      dials = calls.dials ∙ dials-opened;
       unread = λ s. absurd (next_unrefused next n s);
     }
 
@@ -256,5 +260,6 @@ module _ (base : List ℕ) (old opened new : Device) (clock clock_new : Bool) (b
           starved = λ e. absurd (serve_fed end n e);
           uncut = serve_uncut end n;
           closed = λ idle. calls.closed (idle_opened idle);
+          dials = calls.dials ∙ dials-opened;
           unread = λ s. absurd (serve_unrefused end n s);
         }

@@ -173,7 +173,7 @@ StarvedAs base old new clock begun given o = ServesNobody old new begun given
     → OnePeer base (beginning from old begun) new given o)
 
 -- The ends of `replay`, each with its cause, and the one history of all that was heard, told and
--- left. No connection is left open.
+-- left. No connection is left open, and nobody is dialled.
 pub record ReplayEnds (base : List ℕ) (old new : Device) (clock : Bool) (begun given : List ℕ)
     (o : RunOutcome) : Type 0 where
   pub cause : OpenedCause old new o
@@ -182,6 +182,7 @@ pub record ReplayEnds (base : List ℕ) (old new : Device) (clock : Bool) (begun
       → Replayed base (beginning from old begun) new given o
   pub starved : o ≡ NoMemory → StarvedAs base old new clock begun given o
   pub closed : old.link.under_way ≡ false → new.link.under_way ≡ false
+  pub dials : new.link.dials ≡ old.link.dials
   pub unread : status_of o ≡ 2 → given ≡ begun
 
 -- waiting for each peer succeeded
@@ -202,6 +203,7 @@ pub record ServeEnds (base : List ℕ) (old new : Device) (clock : Bool) (begun 
   pub starved : o ≡ NoMemory → ServesNobody old new begun given
   pub uncut : o ≢ Cut
   pub closed : old.link.under_way ≡ false → new.link.under_way ≡ false
+  pub dials : new.link.dials ≡ old.link.dials
   pub unread : status_of o ≡ 2 → given ≡ begun
 
 -- A store was made of a device that had none, and the outcome has its numbers.

@@ -116,6 +116,9 @@ pub fn run<X: Caller, C: Clock, N: Sink>(
     ensures closed { (X.device site.old).link.under_way ≡ false
         → (X.device site.new).link.under_way ≡ false }
 
+    // Nobody is dialled: the calls of `dial` stay what they were.
+    ensures dials { (X.device site.new).link.dials ≡ (X.device site.old).link.dials }
+
     ensures formatted { result ≡ 0 → (X.device site.old).shows ≡ true
         → (path : List ℕ) (blocks half id : ℕ) → IsCommand words.now (Format path blocks half id)
         → StandsFor (X.device site.new).seen

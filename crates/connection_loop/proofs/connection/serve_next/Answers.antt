@@ -12,8 +12,8 @@ returns-in-Ok-true-clause-calls g c =
     let next = rw c.in-Ok-true.field-0-test at c.in-Ok-true.ensures.next in
     let peers = c.in-Ok-true.ensures.peers in
     ended_calls c.serve_connection-ending.result _ _ _ _ (g.X.Disk.device c.args.site.now) (g.X.Disk.device c.next_peer.new.self)
-    (g.X.Disk.device c.serve_connection-ending.new.site) (g.X.Disk.device c.close_peer.new.self) call peers next.closed c.serve_connection-ending.ensures.calls
-    c.close_peer.ensures.call c.close_peer.ensures.closed
+    (g.X.Disk.device c.serve_connection-ending.new.site) (g.X.Disk.device c.close_peer.new.self) call peers next.closed next.dials
+    c.serve_connection-ending.ensures.calls c.close_peer.ensures.call c.close_peer.ensures.closed
 
 -- A peer came, and was served to its end.
 pub returns-in-Ok-true-clause-leads : goal.returns-in-Ok-true-clause-leads
@@ -41,11 +41,12 @@ returns-in-Ok-false-clause-calls g c =
     let call = rw c.in-Ok-false.field-0-test at c.in-Ok-false.ensures.call in
     let next = rw c.in-Ok-false.field-0-test at c.in-Ok-false.ensures.next in
     no_more_calls _ _ (g.X.Disk.device c.args.site.now) (g.X.Disk.device c.next_peer.new.self) call c.in-Ok-false.ensures.peers next.closed next.under_way
+    next.dials
 
 pub returns-in-Err-clause-calls : goal.returns-in-Err-clause-calls
 returns-in-Err-clause-calls g c =
     unlinked_calls _ _ (g.X.Disk.device c.args.site.now) (g.X.Disk.device c.next_peer.new.self) c.in-Err.ensures.call c.in-Err.ensures.peers
-    c.in-Err.ensures.next.closed c.in-Err.ensures.next.under_way
+    c.in-Err.ensures.next.closed c.in-Err.ensures.next.under_way c.in-Err.ensures.next.dials
 
 -- No peer came.
 pub returns-in-Ok-false-clause-leads : goal.returns-in-Ok-false-clause-leads

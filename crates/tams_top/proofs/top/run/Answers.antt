@@ -1,7 +1,7 @@
 use Rattle.std.proofs.Common.{sym, ◌∙◌}
 use Rattle.std.specs.Prelude.{is_ok}
 use Rattle.tams_top.proofs.CompletenessLemmas.{all_served_whole, checked_whole, formatted_whole, served_whole, worked_whole}
-use Rattle.tams_top.proofs.EndingLemmas.{run_alone, run_apart, run_bad, run_checked, run_closed, run_formats, run_formatted, run_formatting, run_generated, run_linked, run_linked_only, run_only, run_peers, run_peers_only, run_refused, run_replayed, run_served, run_starved, run_starved_format, run_starved_serve, run_uncut, run_unlinked, run_unread, run_unwritten, run_words, run_worked}
+use Rattle.tams_top.proofs.EndingLemmas.{run_alone, run_apart, run_bad, run_checked, run_closed, run_dials, run_formats, run_formatted, run_formatting, run_generated, run_linked, run_linked_only, run_only, run_peers, run_peers_only, run_refused, run_replayed, run_served, run_starved, run_starved_format, run_starved_serve, run_uncut, run_unlinked, run_unread, run_unwritten, run_words, run_worked}
 use Rattle.tams_top.proofs.StatusLemmas.{workload_done, workload_whole}
 use Rattle.tams_top.proofs.top.run.Goals as goal
 
@@ -39,6 +39,9 @@ returns-clause-cut g c = λ path base port connections is s.
 
 pub returns-clause-closed : goal.returns-clause-closed
 returns-clause-closed g c = λ idle. run_closed _ _ _ _ _ _ _ c.outcome_of-outcome.ensures idle
+
+pub returns-clause-dials : goal.returns-clause-dials
+returns-clause-dials g c = run_dials _ _ _ _ _ _ _ c.outcome_of-outcome.ensures
 
 pub returns-clause-formatted : goal.returns-clause-formatted
 returns-clause-formatted g c = λ s. run_formatted _ _ _ _ _ _ _ c.outcome_of-outcome.ensures (sym c.status.ensures ∙ s)
