@@ -1,5 +1,6 @@
 -- Connections one behind another: what waiting for one, serving it and closing it leave.
-use Rattle.std.proofs.Common.{◌≡◌, ◌≤◌, ◌<◌, ◌+◌, ◌*◌, ℕ, Bool, true, false, List, [], ◌∷◌, ◌++◌, length, Some, if◌then◌else◌, refl, sym, ap, ◌∙◌, arith}
+use Rattle.std.proofs.Common.{◌≡◌, ◌≢◌, ◌≤◌, ◌<◌, ◌+◌, ◌*◌, ℕ, Bool, true, false, List, [], ◌∷◌, ◌++◌, length, Option, None, Some, refl, sym, ap, ◌∙◌, arith}
+use Rattle.std.specs.Prelude.{is_some}
 use Rattle.std.proofs.lemmas.Bool.{false≢true}
 use Rattle.std.proofs.lemmas.List.{length-append}
 use Rattle.disk_trait.specs.Device.{Device, Left}
@@ -7,17 +8,21 @@ use Rattle.disk_trait.specs.Calls.{Elapses, IsCounted, Rose, Unchanged}
 use Rattle.disk_trait.proofs.Theorems.{counted_twice, same_device_twice}
 use Rattle.site_edge.specs.Links.{AddsConnection, Closed, LinkCall}
 use Rattle.run_history.specs.Machine.{Machine}
-use Rattle.run_history.specs.Sessions.{Session, has_link_failed, stops}
+use Rattle.run_history.specs.Steps as steps
+use Rattle.run_history.specs.Steps.{Step}
+use Rattle.run_history.specs.Sessions.{Hearing, LinkEnd, Saying, Session, Whole, last_step, stop_of}
 use Rattle.run_history.specs.Runs.{Beginning}
-use Rattle.run_history.specs.Serving.{RunCounts, is_cut, starves}
-use Rattle.run_history.proofs.Ends.{run_stops-push}
+use Rattle.run_history.specs.Serving.{RunCounts}
+use Rattle.run_history.specs.Parts.{stops}
+use Rattle.run_history.proofs.Ends.{failure-push, run_stops-push}
 use Rattle.run_history.proofs.Going.{served_quiet}
 use Rattle.connection_loop.specs.declared.ending.ConnectionEnd.{ConnectionEnd}
 use Rattle.connection_loop.specs.declared.ending.ConnectionEnd.TheVariants.{Complete, Cut, Unlinked, Starved, Stopped}
 use Rattle.connection_loop.specs.declared.connection.Next.TheVariants as next
 use Rattle.connection_loop.specs.declared.run.RunEnd.TheVariants as run
-use Rattle.connection_loop.specs.Turns.{ClockCalls, EndsAs, IsBetween, LinkCount, SameImages, SiteCalls, TellsAll, disk_held, ending_of, is_stopped}
-use Rattle.connection_loop.specs.Loops.{AreCounted, GoesOnBetween, HasEnded, HasServedSo, NextCalls, NextLeads, RunCalls}
+use Rattle.connection_loop.specs.Turns.{ClockCalls, EndsAs, IsBetween, LinkCount, SameImages, SiteCalls, disk_held, is_stopped}
+use Rattle.connection_loop.specs.Loops.{GoesOnBetween, HasEnded, HasServedSo, NextCalls, NextLeads, RunCalls}
+use Rattle.connection_loop.specs.Endings.{AreCounted, TellsAll, ending_by, ending_of}
 use Rattle.connection_loop.proofs.Turning.{clock_most, clock_none, clock_twice, counted_none, tells_before, tells_later}
 
 -- ---- images
@@ -103,14 +108,23 @@ unlinked_calls within ended old new call peers closings same dials = record {
 
 -- whether the disk failed shows in how a connection ended
 pub stopped-ending : {Request : Type 0} (session : Session Request) → is_stopped (ending_of session) ≡ stops session.steps
-stopped-ending session = by_flags (stops session.steps) (starves session.steps) (has_link_failed session.link) (is_cut session.steps)
+stopped-ending session = by_last (last_step session.steps) session.link
   where
-    by_flags : (a b c d : Bool) → is_stopped (if a then Stopped else if b then Starved else if c then Unlinked else if d then Cut else Complete) ≡ a
-    by_flags true b c d = refl
-    by_flags false true c d = refl
-    by_flags false false true d = refl
-    by_flags false false false true = refl
-    by_flags false false false false = refl
+    by_last : {Request : Type 0} (last : Option (Step Request)) (link : LinkEnd) → is_stopped (ending_by last link) ≡ is_some (stop_of last)
+    by_last None Whole = refl
+    by_last None Hearing = refl
+    by_last None Saying = refl
+    by_last (Some (steps.Answered a t)) Whole = refl
+    by_last (Some (steps.Answered a t)) Hearing = refl
+    by_last (Some (steps.Answered a t)) Saying = refl
+    by_last (Some (steps.Refused t r)) Whole = refl
+    by_last (Some (steps.Refused t r)) Hearing = refl
+    by_last (Some (steps.Refused t r)) Saying = refl
+    by_last (Some (steps.Starved a)) link = refl
+    by_last (Some (steps.Stopped a f)) link = refl
+    by_last (Some (steps.Cut t i m)) Whole = refl
+    by_last (Some (steps.Cut t i m)) Hearing = refl
+    by_last (Some (steps.Cut t i m)) Saying = refl
 
 stops-by : {Request : Type 0} (session : Session Request) (ending : ConnectionEnd) (b : Bool) → ending ≡ ending_of session → is_stopped ending ≡ b
     → stops session.steps ≡ b
@@ -149,6 +163,9 @@ counted_later a b c [] so_far least more = tt
 counted_later a b c (s ∷ sessions) so_far least more =
     ((λ e. rose_over a a b c (omega arith) least more (so_far.0 e)), counted_later a b c sessions so_far.1 least more)
 
+some-there : {A : Type 0} (x : Option A) {y : Option A} → is_some x ≡ true → y ≡ x → y ≢ None
+some-there x some is none = false≢true (ap is_some (sym none ∙ is) ∙ some)
+
 -- a connection more
 pub between_more : {State Request : Type 0} (m : Machine State Request) (b : Beginning State) (first now d : Device) (given : List ℕ)
     (keeps : State → Type 0) (sessions : List (Session Request)) (n : RunCounts) (ending : ConnectionEnd) (counter : ℕ)
@@ -180,7 +197,7 @@ ended_stopped m b first now d given keeps sessions n ending counter connections 
   served = e.served;
   ends = (
     omega (arith, count, few, length-append sessions (e.session ∷ [])),
-    run_stops-push sessions e.session e.unstopped ∙ stops-by e.session ending true e.ending_is on,
+    some-there (stop_of (last_step e.session.steps)) (stops-by e.session ending true e.ending_is on) (failure-push sessions e.session),
   );
   counted = counted_more first.link.faults now.link.faults d.link.faults sessions e.session ending counted least e.ending_is faults;
 }

@@ -14,8 +14,9 @@ use Rattle.run_history.specs.Runs.{Beginning}
 use Rattle.run_history.specs.Serving.{RunCounts, Going}
 use Rattle.connection_loop.specs.declared.ending.ConnectionEnd.{ConnectionEnd}
 use Rattle.connection_loop.specs.declared.ending.ConnectionEnd.TheVariants.{Complete, Cut, Unlinked, Starved, Stopped}
-use Rattle.connection_loop.specs.Turns.{ClockCalls, GivesMore, GoesOn, LinkCount, SiteCalls, TellsAll, disk_held, held_with}
+use Rattle.connection_loop.specs.Turns.{ClockCalls, GivesMore, GoesOn, LinkCount, SiteCalls, disk_held, held_with}
 use Rattle.connection_loop.specs.Loops.{HasTurned}
+use Rattle.connection_loop.specs.Endings.{TellsAll}
 
 -- a count that no call raised
 pub counted_none : (before now : ℕ) → now ≡ before → IsCounted true before now

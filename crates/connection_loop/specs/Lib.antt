@@ -1,3 +1,4 @@
+pub mod Endings
 pub mod Tallies
 pub mod Turns
 pub use Rattle.run_history.specs.Serving

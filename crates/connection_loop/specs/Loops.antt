@@ -1,19 +1,19 @@
--- What the next connection leads to, and what serving connections one after another comes to.
+-- What the next connection leads to, and what serving connections one after another comes to. The
+-- contracts of the parts speak in these; whoever reads the claim may pass over them.
 use Rattle.std.specs.Prelude.{◌≡◌, ◌≤◌, ◌<◌, ◌+◌, ◌-◌, ◌*◌, ◌^◌, ℕ, Bool, true, false, List, [], length, Some, None}
-use Rattle.std.specs.List.{AllByRecursion}
 use Rattle.disk_trait.specs.Device.{Device}
 use Rattle.disk_trait.specs.Calls.{IsCounted, Rose, SameDevice}
 use Rattle.run_history.specs.Machine.{Machine}
 use Rattle.run_history.specs.Sessions.{Session, most_answers}
 use Rattle.run_history.specs.Runs.{Beginning}
-use Rattle.run_history.specs.Serving.{RunCounts, Going, HasServed, run_stops}
+use Rattle.run_history.specs.Serving.{Going, HasServed, RunCounts}
 use Rattle.connection_loop.specs.declared.connection.Next.{Next}
 use Rattle.connection_loop.specs.declared.connection.Next.TheVariants.{NoMore, Unlinked, Ended}
 use Rattle.connection_loop.specs.declared.run.RunEnd.{RunEnd}
 use Rattle.connection_loop.specs.declared.run.RunEnd.TheVariants.{Complete}
 use Rattle.connection_loop.specs.declared.run.RunEnd.TheVariants as run
-use Rattle.connection_loop.specs.declared.ending.ConnectionEnd.TheVariants as endings
-use Rattle.connection_loop.specs.Turns.{ClockCalls, EndsAs, GoesOn, IsBetween, LinkCount, SiteCalls, TellsAll, disk_held, ending_of, held_with}
+use Rattle.connection_loop.specs.Turns.{ClockCalls, EndsAs, GoesOn, IsBetween, LinkCount, SiteCalls, disk_held, held_with}
+use Rattle.connection_loop.specs.Endings.{AreCounted, RunEnds, TellsAll}
 
 -- Turns of a connection so far: no call failed, each turn was counted, and the connection has come
 -- so far from wherever it had come at first.
@@ -118,24 +118,6 @@ pub record RunCalls (end : RunEnd) (old new : Device) : Type 0 where
   pub closings : old.tells ≡ true
       → IsCounted (run_stays_open end) old.link.closed new.link.closed
   pub dials : new.link.dials ≡ old.link.dials
-
--- How many connections there were by how a run ended, from a count of closings: so many as it was
--- told; fewer, where the site said in this run that no more will come, or where waiting for one
--- failed; or up to the one in which the disk failed.
-abbrev pub RunEnds : {Request : Type 0} → ℕ → Device → List (Session Request) → ℕ → RunEnd → Type 0
-RunEnds closed d sessions connections Complete =
-    (length sessions ≡ connections) × (run_stops sessions ≡ false)
-RunEnds closed d sessions connections run.NoMore =
-    (length sessions < connections) × (run_stops sessions ≡ false) × Rose closed d.link.closed
-RunEnds closed d sessions connections run.Unlinked =
-    (length sessions < connections) × (run_stops sessions ≡ false)
-RunEnds closed d sessions connections run.Stopped =
-    (length sessions ≤ connections) × (run_stops sessions ≡ true)
-
--- Each of these connections that ended with a call of its link that failed raised the count.
-abbrev pub AreCounted : {Request : Type 0} → ℕ → ℕ → List (Session Request) → Type 0
-AreCounted before now =
-    AllByRecursion (λ session. ending_of session ≡ endings.Unlinked → Rose before now)
 
 -- Connections were served one after another since the first device, and the run has ended so.
 pub record HasEnded {State Request : Type 0} (m : Machine State Request) (b : Beginning State)

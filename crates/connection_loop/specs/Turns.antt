@@ -1,24 +1,19 @@
--- What a turn of a connection leads to, and what its calls leave of a site.
-use Rattle.std.specs.Prelude.{◌≡◌, ◌≤◌, ◌<◌, ◌+◌, ◌-◌, ◌^◌, ℕ, Bool, true, false, List, [], ◌∷◌, ◌++◌, length, All, Option, Some, None, if◌then◌else◌}
+-- What a turn of a connection leads to, and what its calls leave of a site. The contracts of the
+-- parts speak in these; whoever reads the claim may pass over them.
+use Rattle.std.specs.Prelude.{◌≡◌, ◌≤◌, ◌<◌, ◌+◌, ◌-◌, ◌^◌, ℕ, Bool, true, false, List, [], ◌∷◌, ◌++◌, length, All, Option, Some, None}
 use Rattle.disk_trait.specs.Device.{Device, Left, may_leave}
 use Rattle.disk_trait.specs.Calls.{IsCounted, Rose, SameDevice}
 use Rattle.site_edge.specs.Clocks.{IsMoment}
 use Rattle.run_history.specs.Machine.{Machine}
 use Rattle.run_history.specs.Steps.{Step}
-use Rattle.run_history.specs.Sessions.{Session, after_sessions, has_link_failed, stops}
+use Rattle.run_history.specs.Sessions.{Session}
 use Rattle.run_history.specs.Traces.{start_of}
 use Rattle.run_history.specs.Runs.{Beginning}
-use Rattle.run_history.specs.Serving.{RunCounts, Going, HasServed, Held, is_cut, run_stops, starves}
+use Rattle.run_history.specs.Serving.{Going, HasServed, Held, RunCounts}
+use Rattle.run_history.specs.Parts.{after_sessions, run_stops, stops}
 use Rattle.connection_loop.specs.declared.ending.ConnectionEnd.{ConnectionEnd}
 use Rattle.connection_loop.specs.declared.ending.ConnectionEnd.TheVariants.{Complete, Cut, Unlinked, Starved, Stopped}
-
--- The outside is as the model says: the disk is honest, the site shows its bytes and tells its
--- links, and the clock tells its moments.
-pub record TellsAll (d : Device) (clock : Bool) : Type 0 where
-  pub honest : d.honest ≡ true
-  pub shows : d.shows ≡ true
-  pub tells : d.tells ≡ true
-  pub clock_tells : clock ≡ true
+use Rattle.connection_loop.specs.Endings.{ending_of}
 
 -- A clock that had given some moments has given more by now, each of which is one.
 pub record GivesMore (before now : List ℕ) : Type 0 where
@@ -45,15 +40,6 @@ moments_taken (Some ending) before now = 1
 pub record SameImages (old new : Device) : Type 0 where
   pub images : (p : Left) → may_leave new p
       → (q : Left) × may_leave old q × (p.image ≡ q.image)
-
--- how a connection ended, by its history
-abbrev pub ending_of : {Request : Type 0} → Session Request → ConnectionEnd
-ending_of session =
-    if stops session.steps then Stopped
-    else if starves session.steps then Starved
-    else if has_link_failed session.link then Unlinked
-    else if is_cut session.steps then Cut
-    else Complete
 
 -- whether a connection's end is the run's
 abbrev pub is_stopped : ConnectionEnd → Bool

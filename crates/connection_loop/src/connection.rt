@@ -3,8 +3,9 @@ ghost use Rattle.std.specs.Prelude.{◌≡◌, ◌≤◌, ◌<◌, ◌+◌, ◌^
 ghost use Rattle.run_history.specs.Sessions.{Session, most_answers};
 ghost use Rattle.run_history.specs.Runs.{Beginning};
 ghost use Rattle.run_history.specs.Serving.{Going};
-ghost use Rattle.connection_loop.specs.Turns.{ClockCalls, EndsAs, IsBetween, SiteCalls, TellsAll, held_with};
+ghost use Rattle.connection_loop.specs.Turns.{ClockCalls, EndsAs, IsBetween, SiteCalls, held_with};
 ghost use Rattle.connection_loop.specs.Loops.{NextCalls, NextLeads};
+ghost use Rattle.connection_loop.specs.Endings.{TellsAll};
 
 use crate::{ConnectionEnd, MOST_ANSWERS, RunTally, Service};
 use site_edge::{Clock, LinkFailed, Site};

@@ -2,8 +2,9 @@
 ghost use Rattle.std.specs.Prelude.{◌≡◌, ◌≤◌, ◌<◌, ◌+◌, ◌*◌, ◌^◌, [], ℕ, List, Bool, true};
 ghost use Rattle.run_history.specs.Sessions.{most_answers};
 ghost use Rattle.run_history.specs.Runs.{Beginning};
-ghost use Rattle.connection_loop.specs.Turns.{ClockCalls, IsBetween, TellsAll};
+ghost use Rattle.connection_loop.specs.Turns.{ClockCalls, IsBetween};
 ghost use Rattle.connection_loop.specs.Loops.{HasEnded, RunCalls};
+ghost use Rattle.connection_loop.specs.Endings.{TellsAll};
 
 use crate::connection::{Next, serve_next};
 use crate::{RunTally, Service};

@@ -6,7 +6,8 @@ ghost use Rattle.run_history.specs.Sessions.{Session};
 ghost use Rattle.run_history.specs.Steps.{Step};
 ghost use Rattle.run_history.specs.Runs.{Beginning};
 ghost use Rattle.run_history.specs.Serving.{Going};
-ghost use Rattle.connection_loop.specs.Turns.{ClockCalls, SameImages, SiteCalls, TellsAll, TurnLeads, held_with, moments_taken};
+ghost use Rattle.connection_loop.specs.Turns.{ClockCalls, SameImages, SiteCalls, TurnLeads, held_with, moments_taken};
+ghost use Rattle.connection_loop.specs.Endings.{TellsAll};
 
 use crate::{ConnectionEnd, RunTally};
 use site_edge::{Clock, Site};

@@ -7,11 +7,14 @@ use Rattle.site_edge.specs.Links.{change_last}
 use Rattle.site_edge.specs.Saying.{ArePrefixes}
 use Rattle.run_history.specs.Machine.{Machine}
 use Rattle.run_history.specs.Steps.{Stage, Step, last_or}
-use Rattle.run_history.specs.Sessions.{Session, Whole, after_sessions, after_steps, all_changes, bytes_of_pieces, changes_of, pieces_of, texts_of}
-use Rattle.run_history.specs.Traces.{CountAtMost, Trace, start_of, state_after, state_now, trace_of, then_change}
-use Rattle.run_history.specs.Runs.{Beginning, IsRight, Reached, told_first}
+use Rattle.run_history.specs.Sessions.{Session, Whole, after_steps, bytes_of_pieces, texts_of}
+use Rattle.run_history.specs.Traces.{Trace, start_of, state_after, state_now, trace_of}
+use Rattle.run_history.specs.Runs.{Beginning, IsRight}
 use Rattle.run_history.specs.Laws.{Wrote, under_way}
-use Rattle.run_history.specs.Serving.{RunCounts, Going, Held, connection_with}
+use Rattle.run_history.specs.Serving.{Going, Held, RunCounts, connection_with}
+use Rattle.run_history.specs.Parts.{after_sessions, all_changes, changes_of, pieces_of}
+use Rattle.run_history.specs.Growing.{CountAtMost, then_change}
+use Rattle.run_history.specs.Reaching.{Reached, told_first}
 use Rattle.run_history.proofs.Pieces.{begun-most}
 use Rattle.run_history.proofs.Pairs.{calls_add_up, state_after-change}
 use Rattle.run_history.proofs.Growth.{last_or-append, stages_count}

@@ -1,17 +1,21 @@
 -- How the request that has begun is answered: what stands behind its interim response, its changes, its reply and the turn behind it.
-use Rattle.std.proofs.Common.{◌≡◌, ◌<◌, ◌+◌, ◌||◌, not, ℕ, Bool, true, false, List, [], ◌∷◌, ◌++◌, length, if◌then◌else◌, refl, sym, ap, ◌∙◌, subst, arith}
+use Rattle.std.proofs.Common.{◌≡◌, ◌<◌, ◌≤◌, ◌+◌, ◌||◌, not, ℕ, Bool, true, false, List, [], ◌∷◌, ◌++◌, length, Option, None, Some, if◌then◌else◌, refl, sym, ap, ◌∙◌, subst, arith}
+use Rattle.std.proofs.lemmas.Bool.{false≢true}
 use Rattle.std.proofs.lemmas.List.{append_assoc}
 use Rattle.std.proofs.lemmas.List.Concat.{flat_map-append}
 use Rattle.disk_trait.specs.Device.{Connection, Device}
 use Rattle.site_edge.specs.Links.{Sends, after_say}
-use Rattle.run_history.specs.Machine.{Machine}
-use Rattle.run_history.specs.Steps.{Effect, Interim, Piece, Reply, Stage, Step, effect, interim_pieces, is_last, last_or, piece_bytes, step_text}
-use Rattle.run_history.specs.Sessions.{EndIs, IsTold, LinkEnd, RestIs, Saying, Session, Whole, after_sessions, after_steps, answers_in, bytes_of_pieces, has_hearing_failed, has_saying_failed, most_answers, pieces_of, stops_in_answer, texts_of}
-use Rattle.run_history.specs.Traces.{Trace, start_of, trace_of, with_effect}
-use Rattle.run_history.specs.Runs.{Beginning, Reached}
+use Rattle.run_history.specs.Machine.{BeforeAnswer, Failure, InAnswer, InTurn, Machine}
+use Rattle.run_history.specs.Steps.{Effect, Interim, Piece, Reply, Stage, Step, effect, interim_pieces, is_last, last_or, piece_bytes, step_text, telling}
+use Rattle.run_history.specs.Sessions.{EndsBy, IsTold, IsToldPart, LinkEnd, Saying, Session, Whole, after_steps, answers_in, bytes_of_pieces, most_answers, stop_of, texts_of}
+use Rattle.run_history.specs.Traces.{Trace, start_of, trace_of}
+use Rattle.run_history.specs.Runs.{Beginning}
 use Rattle.run_history.specs.Laws.{under_way}
 use Rattle.run_history.proofs.Hearings.{ends-on_time, ends-steps, on_time-steps}
-use Rattle.run_history.specs.Serving.{AreOnTime, RunCounts, Going, HasServed, Held, connection_with}
+use Rattle.run_history.specs.Serving.{AreOnTime, Going, HasServed, Held, RunCounts, connection_with}
+use Rattle.run_history.specs.Parts.{after_sessions, has_hearing_failed, has_saying_failed, is_in_answer, pieces_of, without_counts}
+use Rattle.run_history.specs.Growing.{with_effect}
+use Rattle.run_history.specs.Reaching.{Reached}
 use Rattle.run_history.proofs.Pieces.{bytes-push}
 use Rattle.run_history.proofs.Growth.{trace-same}
 use Rattle.run_history.proofs.Invariant.{parts_suffice}
@@ -27,11 +31,8 @@ use Rattle.request_hearing.proofs.SiteLemmas.{change_last-twice}
 
 -- a step that has its interim response at most, a reply, and changes before and behind it
 effect-answered : {State : Type 0} (said : Bool) (states : List State) (bytes : List ℕ) (made : ℕ) (later : List State) (moments : List ℕ) (t : Trace State)
-    → with_effect (record {
-      pieces = interim_pieces (interim_where said) ++ Reply bytes (length t.changes + made) ∷ [];
-      changes = states ++ later;
-      moments = moments;
-    }) t
+    → with_effect (record (telling (interim_pieces (interim_where said) ++ Reply bytes (length t.changes + made) ∷ []) moments)
+    { changes = states ++ later }) t
     ≡ answered_trace states bytes made later (with_interim said t)
 effect-answered true states bytes made later moments t =
     let piece = Reply bytes (length t.changes + made) in
@@ -43,26 +44,42 @@ effect-answered false states bytes made later moments t =
     trace-same t.first _ _ _ _ refl (sym (append_assoc t.changes states later))
 
 -- what was told of the last piece behind the pieces before it: all of it, or a part where a saying failed or the disk within it
-told-last : (stopped linked whole : Bool) (front : List Piece) (piece : Piece) (sent : List ℕ) → Sends whole (piece_bytes piece) sent
-    → (linked ≡ true → stopped ≡ false → whole ≡ true) → IsTold stopped (if linked then Whole else Saying) (bytes_of_pieces front ++ sent) (front ++ piece ∷ [])
-told-last true linked whole front piece sent sends full = record {
+told-part : (least : ℕ) (whole : Bool) (front : List Piece) (piece : Piece) (sent : List ℕ) → Sends whole (piece_bytes piece) sent → least ≤ length sent
+    → IsToldPart least (bytes_of_pieces front ++ sent) (front ++ piece ∷ [])
+told-part least whole front piece sent sends some = record {
   front = front;
   last = piece;
   part = sent;
   pieces_are = refl;
   told_is = refl;
   prefix = sends.prefix;
+  some = some;
 }
-told-last false true whole front piece sent sends full =
-    ap (λ s. bytes_of_pieces front ++ s) (sends.whole (full refl refl)) ∙ sym (bytes-push front piece)
-told-last false false whole front piece sent sends full = record {
-  front = front;
-  last = piece;
-  part = sent;
-  pieces_are = refl;
-  told_is = refl;
-  prefix = sends.prefix;
-}
+
+told-held : (linked whole : Bool) (front : List Piece) (piece : Piece) (sent : List ℕ) → Sends whole (piece_bytes piece) sent
+    → (linked ≡ true → whole ≡ true) → IsTold None (if linked then Whole else Saying) (bytes_of_pieces front ++ sent) (front ++ piece ∷ [])
+told-held true whole front piece sent sends full =
+    ap (λ s. bytes_of_pieces front ++ s) (sends.whole (full refl)) ∙ sym (bytes-push front piece)
+told-held false whole front piece sent sends full = told-part 0 whole front piece sent sends (omega arith)
+
+-- a failure of the disk elsewhere leaves it as it is
+told-elsewhere : (failure : Failure) (linked : Bool) (told : List ℕ) (pieces : List Piece) → is_in_answer (Some failure) ≡ false
+    → IsTold None (if linked then Whole else Saying) told pieces → IsTold (Some failure) (if linked then Whole else Saying) told pieces
+told-elsewhere (BeforeAnswer w) true told pieces e is = is
+told-elsewhere (BeforeAnswer w) false told pieces e is = is
+told-elsewhere InAnswer linked told pieces e is = absurd (false≢true (sym e))
+told-elsewhere (InTurn w) true told pieces e is = is
+told-elsewhere (InTurn w) false told pieces e is = is
+
+told-last : (failure : Option Failure) (linked whole : Bool) (front : List Piece) (piece : Piece) (sent : List ℕ) → Sends whole (piece_bytes piece) sent
+    → (linked ≡ true → is_in_answer failure ≡ false → whole ≡ true) → (is_in_answer failure ≡ true → 1 ≤ length sent)
+    → IsTold failure (if linked then Whole else Saying) (bytes_of_pieces front ++ sent) (front ++ piece ∷ [])
+told-last None linked whole front piece sent sends full some = told-held linked whole front piece sent sends (λ on. full on refl)
+told-last (Some (BeforeAnswer w)) linked whole front piece sent sends full some =
+    told-elsewhere (BeforeAnswer w) linked _ _ refl (told-held linked whole front piece sent sends (λ on. full on refl))
+told-last (Some InAnswer) linked whole front piece sent sends full some = told-part 1 whole front piece sent sends (some refl)
+told-last (Some (InTurn w)) linked whole front piece sent sends full some =
+    told-elsewhere (InTurn w) linked _ _ refl (told-held linked whole front piece sent sends (λ on. full on refl))
 
 unheard_by : (linked : Bool) → false ≡ has_hearing_failed (if linked then Whole else Saying)
 unheard_by true = refl
@@ -87,16 +104,13 @@ module _ {State Request : Type 0} {m : Machine State Request} {b : Beginning Sta
   piece = Reply bytes (length begun.changes + made)
 
   abbrev comes_to : Effect State
-  comes_to = record { pieces = interim_pieces (interim_where said) ++ piece ∷ []; changes = states ++ later; moments = moments }
+  comes_to = record (telling (interim_pieces (interim_where said) ++ piece ∷ []) moments) { changes = states ++ later }
 
-  this : effect m (after_steps m first steps) step ≡ comes_to
+  this : without_counts (effect m (after_steps m first steps) step) ≡ comes_to
   this =
       s.effect_is (after_steps m first steps) (sym s.begun.so_far.state_is)
-      ∙ ap (λ k. record {
-        pieces = interim_pieces (interim_where said) ++ Reply bytes (k + made) ∷ [];
-        changes = states ++ later;
-        moments = moments;
-      }) (made-now m b.state finished steps)
+      ∙ ap (λ k. record (telling (interim_pieces (interim_where said) ++ Reply bytes (k + made) ∷ []) moments) { changes = states ++ later })
+      (made-now m b.state finished steps)
 
   one_answer : answers_in comes_to.pieces ≡ 1
   one_answer = omega (arith, answers-append (interim_pieces (interim_where said)) (piece ∷ []), answers-interim said)
@@ -173,16 +187,16 @@ module _ {State Request : Type 0} {m : Machine State Request} {b : Beginning Sta
   link_behind = if linked then Whole else Saying
 
   -- It ends the connection: as an answer that ends it, or since it couldn't be said whole.
-  pub answered_ends : RestIs m held.taken (step ∷ []) link_behind rest → EndIs m (step ∷ []) link_behind false
+  pub answered_ends : EndsBy m held.taken (Some step) link_behind false rest
       → HasServed m b new (given ++ moments) (finished ++ under_way (steps ++ step ∷ []) link_behind ∷ []) (counted_more n (states ++ later) step)
-  answered_ends rest_is end_is =
+  answered_ends ends =
       subst (HasServed m b new (given ++ moments) (finished ++ under_way (steps ++ step ∷ []) link_behind ∷ [])) counts_are
       (ends_with_step s.begun.so_far step comes_to this new link_behind connection rest s.is (omega (arith, one_answer)) s.good connections_are heard_is
-      rest_is
-      (subst (λ t. IsTold (stops_in_answer (step ∷ [])) link_behind t (pieces_of m first (steps ++ step ∷ []))) (ap (λ x. x ++ s.told.0) (sym front_is))
-      (subst (IsTold (stops_in_answer (step ∷ [])) link_behind (bytes_of_pieces front ++ s.told.0)) pieces_are
-      (told-last (stops_in_answer (step ∷ [])) linked whole front piece s.told.0 s.told.1 s.full)))
-      (unheard_by linked) (unsaid_by linked) end_is
+      ends
+      (subst (λ t. IsTold (stop_of (Some step)) link_behind t (pieces_of m first (steps ++ step ∷ []))) (ap (λ x. x ++ s.told.0) (sym front_is))
+      (subst (IsTold (stop_of (Some step)) link_behind (bytes_of_pieces front ++ s.told.0)) pieces_are
+      (told-last (stop_of (Some step)) linked whole front piece s.told.0 s.told.1 s.full s.some)))
+      (unheard_by linked) (unsaid_by linked)
       (ends-steps m first steps (step ∷ []) connection (ends-on_time m first steps connection s.begun.on_time))
       (subst (λ w. Reached m b (with_effect comes_to begun) false w new) (sym s.written)
       (parts_suffice State Request m b (with_effect comes_to begun) whole writing new reached_now))

@@ -7,8 +7,9 @@ use Rattle.std.proofs.lemmas.List.Concat.{flat_map-append}
 use Rattle.disk_trait.specs.Device.{Connection, HearCall}
 use Rattle.run_history.specs.Machine.{Machine}
 use Rattle.run_history.specs.Steps.{Stage, Step, interim_pieces, is_last, piece_bytes}
-use Rattle.run_history.specs.Sessions.{IsLastHearing, IsUnfinished, OwesNothing, bytes_of_pieces, pieces_of, texts_of}
+use Rattle.run_history.specs.Sessions.{IsLastHearing, IsUnfinished, OwesNothing, bytes_of_pieces, texts_of}
 use Rattle.run_history.specs.Serving.{AreOnTime, connection_with}
+use Rattle.run_history.specs.Parts.{pieces_of}
 use Rattle.run_history.proofs.Hearings.{EndsOnTime, each-append, on_time-heard, on_time-last, on_time-owes}
 use Rattle.request_hearing.specs.Asking.{WaitsFor}
 use Rattle.request_hearing.specs.Hearing.{HearPart, IsPartOf, after_hearing, place_call}

@@ -8,9 +8,10 @@ use Rattle.run_history.specs.Machine.{Machine}
 use Rattle.run_history.specs.Steps.{Reply, Step, last_or}
 use Rattle.run_history.specs.Sessions.{Session}
 use Rattle.run_history.specs.Traces.{Trace, state_now}
-use Rattle.run_history.specs.Runs.{Beginning, Reached, sure_changes}
+use Rattle.run_history.specs.Runs.{Beginning}
 use Rattle.run_history.specs.Laws.{Writes, Wrote}
-use Rattle.run_history.specs.Serving.{RunCounts, Held}
+use Rattle.run_history.specs.Serving.{Held, RunCounts}
+use Rattle.run_history.specs.Reaching.{Reached, sure_changes}
 use Rattle.run_history.proofs.Growth.{trace-same}
 use Rattle.run_history.proofs.Invariant.{durable_changes, said_pieces, torn_changes}
 use Rattle.request_hearing.specs.Asking.{Open, asked_trace, replied_trace, with_states}

@@ -1,19 +1,22 @@
 -- What a step more makes of a connection that is under way: what it counts, and how it ends the connection or leaves it stay.
-use Rattle.std.proofs.Common.{◌≡◌, ◌≤◌, ◌<◌, ◌+◌, ℕ, true, false, List, [], ◌∷◌, ◌++◌, length, All, sym, ap, ◌∙◌, subst, arith, length-append}
+use Rattle.std.proofs.Common.{◌≡◌, ◌≤◌, ◌<◌, ◌+◌, ℕ, true, false, List, [], ◌∷◌, ◌++◌, length, All, Some, sym, ap, ◌∙◌, subst, arith, length-append}
+use Rattle.std.specs.Prelude.{is_some}
 use Rattle.std.proofs.lemmas.List.{append_assoc}
 use Rattle.std.proofs.lemmas.List.Elements.{All-append}
 use Rattle.disk_trait.specs.Device.{Connection, Device, HearCall}
 use Rattle.run_history.specs.Machine.{Machine}
 use Rattle.run_history.specs.Steps.{Effect, IsStep, Stage, Step, effect, is_last, last_or, step_text}
-use Rattle.run_history.specs.Sessions.{AreSteps, EndIs, IsTold, LinkEnd, RestIs, Session, Whole, after_sessions, after_steps, all_moments, answers_in, bytes_of_pieces, has_hearing_failed, has_saying_failed, most_answers, pieces_of, scripts_of, skips_by, stops, stops_in_answer, texts_of}
-use Rattle.run_history.specs.Traces.{Trace, start_of, states_of, trace_of, with_effect}
-use Rattle.run_history.specs.Runs.{Beginning, Reached, stops_writing}
-use Rattle.run_history.specs.Handing.{HasHanded}
+use Rattle.run_history.specs.Sessions.{AreSteps, EndsBy, IsTold, LinkEnd, Session, Whole, after_steps, answers_in, bytes_of_pieces, most_answers, stop_of, texts_of}
+use Rattle.run_history.specs.Traces.{Trace, counts_of_run, start_of, states_of, trace_of}
+use Rattle.run_history.specs.Runs.{Beginning, HasHanded}
 use Rattle.run_history.specs.Laws.{under_way}
-use Rattle.run_history.specs.Serving.{AreOnTime, RunCounts, Going, HasServed, all_answers, connection_with, counts_of_run}
+use Rattle.run_history.specs.Serving.{AreOnTime, Going, HasServed, RunCounts, connection_with}
+use Rattle.run_history.specs.Parts.{after_sessions, all_answers, all_moments, has_hearing_failed, has_saying_failed, pieces_of, scripts_of, skips_by, stops, stops_writing, without_counts}
+use Rattle.run_history.specs.Growing.{with_effect}
+use Rattle.run_history.specs.Reaching.{Reached}
 use Rattle.run_history.proofs.Hearings.{EndsOnTime}
 use Rattle.run_history.proofs.Growth.{pieces-push, scripts-push, stage-push, steps_grow, traces_grow}
-use Rattle.run_history.proofs.Ends.{all_answers-push, all_skips-push, answers-append, end-push, end_like-push, open-push, rest-push, skips-push, stage-sessions, steps-push}
+use Rattle.run_history.proofs.Ends.{all_answers-push, all_skips-push, answers-append, counts-parts, end_like-push, ends-push, heard-marks, open-push, said-marks, skips-push, stage-sessions, steps-push}
 use Rattle.run_history.proofs.Going.{counts-same, ends_with}
 use Rattle.run_history.proofs.Handed.{handed_link}
 use Rattle.request_hearing.specs.Asking.{IsUnderWay}
@@ -29,7 +32,7 @@ counted_effect n e step = record {
 module _ {State Request : Type 0} {m : Machine State Request} {b : Beginning State} {connections : List Connection} {given : List ℕ} {state : State}
     {taken : ℕ} {finished : List (Session Request)} {steps : List (Step Request)} {n : RunCounts}
     (u : IsUnderWay m b connections given state taken finished steps n) (step : Step Request) (e : Effect State)
-    (effect_is : effect m (after_steps m (after_sessions m (start_of b.state) finished) steps) step ≡ e) where
+    (effect_is : without_counts (effect m (after_steps m (after_sessions m (start_of b.state) finished) steps) step) ≡ e) where
   abbrev first : Stage State
   first = after_sessions m (start_of b.state) finished
 
@@ -89,10 +92,11 @@ module _ {State Request : Type 0} {m : Machine State Request} {b : Beginning Sta
       let scripts_after = scripts-push m (start_of b.state) finished (under_way (steps ++ step ∷ []) link) in
       let before_sum = all_answers-push (scripts_of m (start_of b.state) finished) (pieces_of m first steps) in
       let after_sum = all_answers-push (scripts_of m (start_of b.state) finished) (pieces_of m first (steps ++ step ∷ [])) in
+      let so_far = u.counts ∙ counts-parts m b.state (finished ++ under_way steps Whole ∷ []) in
       counts-same _ _
       (omega (
         arith,
-        ap (λ (c : RunCounts). c.answers) u.counts,
+        ap (λ (c : RunCounts). c.answers) so_far,
         ap all_answers scripts_before,
         ap all_answers scripts_after,
         before_sum,
@@ -100,37 +104,37 @@ module _ {State Request : Type 0} {m : Machine State Request} {b : Beginning Sta
         answers_grown,
         u.answers,
       ))
-      (ap (λ (c : RunCounts). c.changes + length e.changes) u.counts
+      (ap (λ (c : RunCounts). c.changes + length e.changes) so_far
       ∙ sym (ap (λ (t : Trace State). length t.changes) (trace_grown link) ∙ length-append before.changes e.changes))
       (omega (
         arith,
-        ap (λ (c : RunCounts). c.skipped) u.counts,
+        ap (λ (c : RunCounts). c.skipped) so_far,
         all_skips-push finished (under_way steps Whole),
         all_skips-push finished (under_way (steps ++ step ∷ []) link),
         skips-push steps step,
       ))
+      ∙ sym (counts-parts m b.state (finished ++ under_way (steps ++ step ∷ []) link ∷ []))
 
   -- It is the last one.
   pub ends_with_step : (d : Device) (link : LinkEnd) (c : Connection) (rest : List ℕ) → IsStep m taken state step → answers_in e.pieces ≤ 1
       → All m.good e.changes → d.link.connections ≡ b.before ++ (connections ++ c ∷ []) → c.heard ≡ texts_of (steps ++ step ∷ []) ++ rest
-      → RestIs m taken (step ∷ []) link rest → IsTold (stops_in_answer (step ∷ [])) link c.told (pieces_of m first (steps ++ step ∷ []))
-      → c.unheard ≡ has_hearing_failed link → c.unsaid ≡ has_saying_failed link → EndIs m (step ∷ []) link c.ended
+      → EndsBy m taken (Some step) link c.ended rest → IsTold (stop_of (Some step)) link c.told (pieces_of m first (steps ++ step ∷ []))
+      → c.unheard ≡ has_hearing_failed link → c.unsaid ≡ has_saying_failed link
       → EndsOnTime m first (steps ++ step ∷ []) c → Reached m b (with_effect e before) false (stops_writing (step ∷ [])) d
       → (stops (step ∷ []) ≡ false → HasHanded m b (finished ++ under_way (steps ++ step ∷ []) Whole ∷ []) d.handed)
       → HasServed m b d (given ++ e.moments) (finished ++ under_way (steps ++ step ∷ []) link ∷ []) (counted_effect n e step)
-  ends_with_step d link c rest is answers good are heard rest_is told unheard unsaid ended on_time reached handed =
-      let like = end_like-push m steps step u.stay in
+  ends_with_step d link c rest is answers good are heard ends told unheard unsaid on_time reached handed =
+      let like = end_like-push steps step in
       ends_with m b d (given ++ e.moments) finished (under_way (steps ++ step ∷ []) link) (counted_effect n e step) connections c are u.served u.unstopped
       (record {
         rest = rest;
         steps = steps_grown is;
         few = omega (arith, answers_grown, answers, u.few);
         heard = heard;
-        rest_is = rest-push m 0 taken steps step link rest (omega (arith, u.taken_is)) rest_is;
-        told = subst (λ stopped. IsTold stopped link c.told (pieces_of m first (steps ++ step ∷ []))) (sym like.in_answer) told;
-        unheard = unheard;
-        unsaid = unsaid;
-        ended = end-push m steps step link c.ended ended;
+        told = subst (λ last. IsTold (stop_of last) link c.told (pieces_of m first (steps ++ step ∷ []))) (sym like.last) told;
+        ends = ends-push m taken steps step link c.ended rest u.taken_is ends;
+        unheard = heard-marks link c.unheard unheard;
+        unsaid = said-marks link c.unsaid unsaid;
         owes = on_time.owes;
         last = on_time.last;
       })
@@ -139,7 +143,7 @@ module _ {State Request : Type 0} {m : Machine State Request} {b : Beginning Sta
       (subst (λ w. Reached m b (trace_of m b.state (finished ++ under_way (steps ++ step ∷ []) link ∷ [])) false w d) (sym like.writing)
       (subst (λ t. Reached m b t false (stops_writing (step ∷ [])) d) (sym (trace_grown link)) reached))
       (good_grown good link)
-      (λ on. handed_link finished (steps ++ step ∷ []) Whole link (handed (sym like.stops ∙ on)))
+      (λ on. handed_link finished (steps ++ step ∷ []) Whole link (handed (sym like.stops ∙ ap is_some on)))
 
   -- It leaves the connection stay.
   pub goes_with_step : (d : Device) (rest : List ℕ) → IsStep m taken state step → is_last m step ≡ false → taken + 1 < most_answers

@@ -1,6 +1,6 @@
 -- How a connection ends with what was heard: behind a whole request, or within one that had its interim response at most.
 use Rattle.std.proofs.Common.{◌≡◌, ◌≢◌, ◌+◌, ◌&&◌, ◌||◌, not, ℕ, Bool, true, false, List, [], ◌∷◌, ◌++◌, map, Option, None, refl, sym, ap, ◌∙◌, subst, arith}
-use Rattle.std.specs.Prelude.{option_to_list}
+use Rattle.std.specs.Prelude.{option_to_list, is_some}
 use Rattle.std.proofs.lemmas.Bool.{false≢true}
 use Rattle.std.proofs.lemmas.List.{append-nil, append_assoc}
 use Rattle.std.proofs.lemmas.List.Concat.{flat_map-append}
@@ -8,12 +8,15 @@ use Rattle.std.proofs.lemmas.List.Elements.{All-nil}
 use Rattle.disk_trait.specs.Device.{Connection, Device, HearCall}
 use Rattle.site_edge.specs.Links.{Sends, change_last}
 use Rattle.run_history.specs.Machine.{Machine}
-use Rattle.run_history.specs.Steps.{Cut, Effect, Interim, Piece, Stage, Step, interim_pieces, is_there, piece_bytes}
-use Rattle.run_history.specs.Sessions.{Hearing, IsTold, IsUnfinished, LinkEnd, Saying, Session, Whole, after_sessions, answers_in, bytes_of_pieces, has_hearing_failed, has_link_failed, has_saying_failed, pieces_of, texts_of}
-use Rattle.run_history.specs.Traces.{Trace, start_of, trace_of, with_effect}
-use Rattle.run_history.specs.Runs.{Beginning, Reached}
+use Rattle.run_history.specs.Steps.{Cut, Effect, Interim, Piece, Stage, Step, interim_pieces, piece_bytes, telling}
+use Rattle.run_history.specs.Sessions.{Hearing, IsTold, IsUnfinished, LinkEnd, Saying, Session, Whole, answers_in, bytes_of_pieces, texts_of}
+use Rattle.run_history.specs.Traces.{Trace, start_of, trace_of}
+use Rattle.run_history.specs.Runs.{Beginning}
 use Rattle.run_history.specs.Laws.{under_way}
-use Rattle.run_history.specs.Serving.{RunCounts, Going, HasServed, Held, connection_with}
+use Rattle.run_history.specs.Serving.{Going, HasServed, Held, RunCounts, connection_with}
+use Rattle.run_history.specs.Parts.{after_sessions, has_hearing_failed, has_link_failed, has_saying_failed, pieces_of}
+use Rattle.run_history.specs.Growing.{with_effect}
+use Rattle.run_history.specs.Reaching.{Reached}
 use Rattle.run_history.proofs.Growth.{trace-same}
 use Rattle.run_history.proofs.Invariant.{parts_suffice}
 use Rattle.run_history.proofs.Handed.{handed_more}
@@ -37,7 +40,7 @@ saying_held_on Saying = false
 
 -- a step that tells the interim response at most, and changes nothing
 pub effect-interim : {State : Type 0} (said : Bool) (moments : List ℕ) (t : Trace State)
-    → with_effect (record { pieces = interim_pieces (interim_where said); changes = []; moments = moments }) t ≡ with_interim said t
+    → with_effect (telling (interim_pieces (interim_where said)) moments) t ≡ with_interim said t
 effect-interim true moments t = trace-same t.first _ _ _ _ refl (append-nil t.changes)
 effect-interim false moments t = trace-same t.first _ _ _ _ (change_last-none t.scripts) (append-nil t.changes)
 
@@ -83,7 +86,7 @@ interim_there false is none = false≢true is
 
 -- what was told of the interim response behind the pieces before it
 told_with : (link : LinkEnd) (said : Bool) (sent : List ℕ) (pieces : List Piece) → Sends (saying_held_on link) (interim_bytes said) sent
-    → (link ≡ Saying → said ≡ true) → IsTold false link (bytes_of_pieces pieces ++ sent) (pieces ++ interim_pieces (interim_where said))
+    → (link ≡ Saying → said ≡ true) → IsTold None link (bytes_of_pieces pieces ++ sent) (pieces ++ interim_pieces (interim_where said))
 told_with Whole said sent pieces sends ok =
     ap (λ s. bytes_of_pieces pieces ++ s) (sends.whole refl ∙ sym (bytes-interim said))
     ∙ sym (flat_map-append piece_bytes pieces (interim_pieces (interim_where said)))
@@ -97,6 +100,7 @@ told_with Saying true sent pieces sends ok = record {
   pieces_are = refl;
   told_is = refl;
   prefix = sends.prefix;
+  some = omega arith;
 }
 told_with Saying false sent pieces sends ok = absurd (false≢true (ok refl))
 
@@ -118,7 +122,7 @@ plus_nothing k = omega arith
 
 -- what a request comes to that was cut
 abbrev pub cut_effect : {State : Type 0} → Bool → Option ℕ → Effect State
-cut_effect said moment = record { pieces = interim_pieces (interim_where said); changes = []; moments = option_to_list moment }
+cut_effect said moment = telling (interim_pieces (interim_where said)) (option_to_list moment)
 
 -- it counts nothing
 pub counts-cut : (State Request : Type 0) (n : RunCounts) (said : Bool) (moment : Option ℕ) (text : List ℕ)
@@ -173,7 +177,7 @@ module _ {State Request : Type 0} (m : Machine State Request) (b : Beginning Sta
       unread not_saying at_end (subst (EndsOnTime m first steps) same ends_so) h.call.handed
 
   module _ (text rest : List ℕ) (moment : Option ℕ) (text_is : held.unread ++ bytes ≡ text ++ rest) (some : text ≢ [])
-      (cuts : m.cuts text (record { interim = interim_where said; takes_moment = is_there moment }))
+      (cuts : m.cuts text (record { interim = interim_where said; takes_moment = is_some moment }))
       (unfinished : link ≢ Saying → (rest ≡ []) × IsUnfinished m held.taken text) (saying : link ≡ Saying → said ≡ true) where
     abbrev step : Step Request
     step = Cut text (interim_where said) moment
@@ -192,12 +196,11 @@ module _ {State Request : Type 0} (m : Machine State Request) (b : Beginning Sta
         b.before g.connections _ _ _ g.connections_are told.2)
         (append_assoc (texts_of steps) held.unread bytes ∙ ap (λ x. texts_of steps ++ x) text_is ∙ sym (append_assoc (texts_of steps) text rest)
         ∙ ap (λ x. x ++ rest) (sym (texts_grown u step (cut_effect said moment) refl)))
-        (unfinished, λ is. interim_there said (saying is))
-        (subst (IsTold false link (bytes_of_pieces so_far ++ told.0)) (sym (pieces_grown u step (cut_effect said moment) refl))
+        (record { none_left = λ on. (unfinished on).0; to_the_end = λ is. or_nothing ended ∙ at_end is }, λ on. (unfinished on).1, λ is. interim_there said (saying is))
+        (subst (IsTold None link (bytes_of_pieces so_far ++ told.0)) (sym (pieces_grown u step (cut_effect said moment) refl))
         (told_with link said told.0 so_far told.1 saying))
         (unheard_is link)
         (unsaid_is link)
-        (λ is. or_nothing ended ∙ at_end is)
         (ends-steps m first steps (step ∷ []) _ ends_so)
         (subst (λ t. Reached m b t false false new) (sym (effect-interim said (option_to_list moment) before))
         (parts_suffice State Request m b _ (saying_held_on link) false new

@@ -25,7 +25,8 @@ use Rattle.run_history.specs.Machine.{Machine}
 use Rattle.run_history.specs.Sessions.{IsUnfinished, bytes_of_pieces}
 use Rattle.run_history.specs.Steps.{Interim, interim_pieces}
 use Rattle.run_history.specs.Traces.{Trace}
-use Rattle.run_history.specs.Runs.{Beginning, Reached}
+use Rattle.run_history.specs.Runs.{Beginning}
+use Rattle.run_history.specs.Reaching.{Reached}
 use Rattle.run_history.proofs.Invariant.{parts_suffice, quiet_calls, said_pieces}
 use Rattle.tams_machine.specs.Answers.{heard_body}
 use Rattle.tams_machine.specs.Machine.{tams_machine}

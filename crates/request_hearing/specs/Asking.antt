@@ -1,17 +1,19 @@
 -- A connection that is under way, and on which a request more has begun: what was heard of it and
 -- said to it before its answer. Over any machine.
-use Rattle.std.specs.Prelude.{◌≡◌, ◌<◌, ◌+◌, ℕ, Bool, true, false, List, [], ◌∷◌, ◌++◌, length, All}
+use Rattle.std.specs.Prelude.{◌≡◌, ◌<◌, ◌≤◌, ◌+◌, ℕ, Bool, true, false, List, [], ◌∷◌, ◌++◌, length, All}
 use Rattle.std.specs.List.{AllByRecursion}
 use Rattle.disk_trait.specs.Device.{Connection, Device, HearCall}
 use Rattle.site_edge.specs.Links.{Sends, after_say, change_last}
 use Rattle.run_history.specs.Machine.{Cutting, Machine}
-use Rattle.run_history.specs.Steps.{IsStep, Reply, Stage, Step, effect, interim_pieces, is_last, step_text}
-use Rattle.run_history.specs.Sessions.{AreServed, AreSteps, IsUnfinished, Session, Whole, after_sessions, after_steps, all_moments, answers_in, bytes_of_pieces, most_answers, pieces_of, skips_by, stops, stops_in_answer, texts_of}
-use Rattle.run_history.specs.Traces.{Trace, start_of, states_of, trace_of, with_piece}
-use Rattle.run_history.specs.Runs.{Beginning, Reached, stops_writing}
-use Rattle.run_history.specs.Handing.{HasHanded}
+use Rattle.run_history.specs.Steps.{IsStep, Reply, Stage, Step, effect, interim_pieces, is_last, step_text, telling}
+use Rattle.run_history.specs.Sessions.{AreServed, AreSteps, IsUnfinished, Session, Whole, after_steps, answers_in, bytes_of_pieces, most_answers, texts_of}
+use Rattle.run_history.specs.Traces.{Trace, counts_of_run, start_of, states_of, trace_of}
+use Rattle.run_history.specs.Runs.{Beginning, HasHanded}
 use Rattle.run_history.specs.Laws.{under_way}
-use Rattle.run_history.specs.Serving.{AreOnTime, RunCounts, Held, connection_with, counts_of_run, run_stops}
+use Rattle.run_history.specs.Serving.{AreOnTime, Held, RunCounts, connection_with}
+use Rattle.run_history.specs.Parts.{after_sessions, all_moments, pieces_of, run_stops, skips_by, stops, stops_in_answer, stops_writing, without_counts}
+use Rattle.run_history.specs.Growing.{with_piece}
+use Rattle.run_history.specs.Reaching.{Reached}
 use Rattle.request_hearing.specs.Hearing.{interim_bytes, interim_where, with_interim}
 
 -- What is known of a connection under way behind these others, apart from the device and from what
@@ -98,7 +100,8 @@ counted_more n states step = record {
 
 -- What is known of a step that answers the request that has begun. Its changes were made, its reply
 -- was said, of which `whole` says all of it was, and then the changes of the turn behind it were
--- made. A saying failed where `linked` is false; the disk failed while the record of the last
+-- made. A saying failed where `linked` is false; where the disk failed within the answer a byte of
+-- it was told; the disk failed while the record of the last
 -- change was being written where `writing` is true. Unless the disk failed, what was handed to it
 -- is what the steps hand on.
 pub record IsAnswerStep {State Request : Type 0} (m : Machine State Request) (b : Beginning State)
@@ -109,14 +112,13 @@ pub record IsAnswerStep {State Request : Type 0} (m : Machine State Request) (b 
   pub begun : Open m b old given held said finished steps n
   pub is : IsStep m held.taken held.state step
   pub text : held.unread ≡ step_text step ++ rest
-  pub effect_is : (at : Stage State) → at.state ≡ held.state → effect m at step ≡ record {
-    pieces = interim_pieces (interim_where said) ++ Reply bytes (at.made + made) ∷ [];
-    changes = states ++ later;
-    moments = moments;
-  }
+  pub effect_is : (at : Stage State) → at.state ≡ held.state
+      → without_counts (effect m at step) ≡ record (telling (interim_pieces (interim_where said)
+      ++ Reply bytes (at.made + made) ∷ []) moments) { changes = states ++ later }
   pub told : (sent : List ℕ) × Sends whole bytes sent
       × (new.link.connections ≡ change_last (after_say linked sent) old.link.connections)
   pub full : linked ≡ true → stops_in_answer (step ∷ []) ≡ false → whole ≡ true
+  pub some : stops_in_answer (step ∷ []) ≡ true → 1 ≤ length told.0
   pub reached : Reached m b
       (answered_trace states bytes made later (asked_trace m b said finished steps)) whole writing
       new

@@ -18,7 +18,8 @@ use Rattle.http_wire.specs.declared.stage.FeedStage.{FeedStage}
 use Rattle.http_wire.specs.declared.stage.FeedStage.TheVariants as stages
 use Rattle.media_rows.specs.declared.refusal.Refusal.{Refusal}
 use Rattle.run_history.specs.Steps.{Interim}
-use Rattle.run_history.specs.Traces.{Trace, with_piece}
+use Rattle.run_history.specs.Traces.{Trace}
+use Rattle.run_history.specs.Growing.{with_piece}
 use Rattle.tams_machine.specs.Requests.{HadInterim, IsCut, SpellsRequest, TamsRequest, ends_behind, interim_text}
 use Rattle.request_hearing.specs.declared.heard.Heard.{Heard}
 use Rattle.request_hearing.specs.declared.heard.Heard.TheVariants.{Whole, Media, Refused, Ended, Cut, Unheard, Unsaid, MediaUnsaid}

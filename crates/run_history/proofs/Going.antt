@@ -1,6 +1,5 @@
 -- How a run goes on: a connection begins, hears, is answered and ends.
-use Rattle.std.proofs.Common.{◌≡◌, ◌≢◌, ◌+◌, ℕ, Bool, true, false, List, [], ◌∷◌, ◌++◌, length, All, refl, sym, ap, ◌∙◌, subst, arith}
-use Rattle.std.proofs.lemmas.Bool.{false≢true}
+use Rattle.std.proofs.Common.{◌≡◌, ◌≢◌, ◌+◌, ◌-◌, ℕ, Bool, true, false, List, [], ◌∷◌, ◌++◌, length, All, None, refl, sym, ap, ◌∙◌, subst, arith}
 use Rattle.std.proofs.lemmas.List.{append-nil, append_assoc, length-append}
 use Rattle.std.proofs.lemmas.List.Elements.{All-cons, All-nil}
 use Rattle.disk_trait.specs.Device.{Connection, Device, HearCall, IsDevice, Left, as_read, may_leave}
@@ -8,18 +7,20 @@ use Rattle.disk_trait.specs.Calls.{Elapses, Unchanged}
 use Rattle.site_edge.specs.Links.{AddsConnection, change_last, fresh}
 use Rattle.site_edge.proofs.Theorems.{change_last_push}
 use Rattle.run_history.specs.Machine.{Machine}
-use Rattle.run_history.specs.Steps.{Answered, Cut, Piece, Refused, Stage, Starved, Step, Stopped}
-use Rattle.run_history.specs.Sessions.{AreServed, Hearing, IsServed, IsTold, LinkEnd, Saying, Session, Whole, after_sessions, after_steps, all_changes, all_moments, bytes_of_pieces, changes_of, has_hearing_failed, has_saying_failed, pieces_of, stops, texts_of}
-use Rattle.run_history.specs.Traces.{start_of, states_of, trace_of, with_connection}
-use Rattle.run_history.specs.Runs.{Beginning, Ran, Reached, run_stops_writing, stops_writing}
-use Rattle.run_history.specs.Handing.{HasHanded}
+use Rattle.run_history.specs.Steps.{Piece, Stage, Step}
+use Rattle.run_history.specs.Sessions.{AreServed, Hearing, IsServed, IsTold, LinkEnd, Saying, Session, Whole, after_steps, bytes_of_pieces, is_writing, last_step, stop_of, texts_of}
+use Rattle.run_history.specs.Traces.{counts_of_run, start_of, states_of, trace_of}
+use Rattle.run_history.specs.Runs.{Beginning, HasHanded, Ran}
 use Rattle.run_history.specs.Laws.{under_way}
-use Rattle.run_history.specs.Serving.{RunCounts, Going, HasServed, Held, all_answers, connection_with, counts_of_run, run_stops}
+use Rattle.run_history.specs.Serving.{Going, HasServed, Held, RunCounts, connection_with}
+use Rattle.run_history.specs.Parts.{after_sessions, all_answers, all_changes, all_moments, changes_of, has_hearing_failed, has_saying_failed, pieces_of, run_stops, run_stops_writing, stops_writing}
+use Rattle.run_history.specs.Growing.{with_connection}
+use Rattle.run_history.specs.Reaching.{Reached}
 use Rattle.run_history.proofs.Hearings.{EndsOnTime}
 use Rattle.run_history.proofs.Growth.{all_changes-push, all_moments-push, scripts-push, stages_count, trace-opened, trace-same}
 use Rattle.run_history.proofs.Handed.{handed_link, handed_opened}
 use Rattle.run_history.proofs.Invariant.{parts_suffice, peers_come, quiet_calls, runs_begin}
-use Rattle.run_history.proofs.Ends.{or_left, or_right, all_answers-push, all_skips-push, end-heard, open-going, rest-none, run_stops-push, served-push, writing-push}
+use Rattle.run_history.proofs.Ends.{all_answers-push, all_skips-push, counts-parts, open-going, ends-open, failure-push, heard-marks, said-marks, served-push, unfailed, writing-push}
 
 -- ---- counts and traces
 
@@ -31,12 +32,14 @@ counts-link : {State Request : Type 0} (m : Machine State Request) (from : State
     (link link_after : LinkEnd)
     → counts_of_run m from (finished ++ under_way steps link ∷ []) ≡ counts_of_run m from (finished ++ under_way steps link_after ∷ [])
 counts-link m from finished steps link link_after =
-    counts-same _ _
+    counts-parts m from (finished ++ under_way steps link ∷ [])
+    ∙ counts-same _ _
     (ap all_answers (scripts-push m (start_of from) finished (under_way steps link) ∙ sym (scripts-push m (start_of from) finished
     (under_way steps link_after))))
     (ap length (all_changes-push m (start_of from) finished (under_way steps link) ∙ sym (all_changes-push m (start_of from) finished
     (under_way steps link_after))))
     (all_skips-push finished (under_way steps link) ∙ sym (all_skips-push finished (under_way steps link_after)))
+    ∙ sym (counts-parts m from (finished ++ under_way steps link_after ∷ []))
 
 pub trace-link : {State Request : Type 0} (m : Machine State Request) (from : State) (finished : List (Session Request)) (steps : List (Step Request))
     (link link_after : LinkEnd)
@@ -79,20 +82,6 @@ made-now m from finished steps =
       ap length (all_changes-push m (start_of from) finished (under_way steps Whole)),
     )
 
--- where no connection stopped the run no record was being written
-steps-unwritten : {Request : Type 0} (steps : List (Step Request)) → stops steps ≡ false → stops_writing steps ≡ false
-steps-unwritten [] e = refl
-steps-unwritten (Answered a t ∷ steps) e = steps-unwritten steps e
-steps-unwritten (Refused a t ∷ steps) e = steps-unwritten steps e
-steps-unwritten (Starved a ∷ steps) e = steps-unwritten steps e
-steps-unwritten (Stopped a t ∷ steps) e = absurd (false≢true (sym e))
-steps-unwritten (Cut a i t ∷ steps) e = steps-unwritten steps e
-
-unwritten : {Request : Type 0} (sessions : List (Session Request)) → run_stops sessions ≡ false → run_stops_writing sessions ≡ false
-unwritten [] e = refl
-unwritten (s ∷ []) e = steps-unwritten s.steps (or_left (stops s.steps) false e)
-unwritten (s ∷ t ∷ sessions) e = unwritten (t ∷ sessions) (or_right (stops s.steps) (run_stops (t ∷ sessions)) e)
-
 -- ---- a connection begins
 
 pub goes_first : {State Request : Type 0} (m : Machine State Request) (b : Beginning State) (old new : Device) (given : List ℕ)
@@ -101,7 +90,8 @@ pub goes_first : {State Request : Type 0} (m : Machine State Request) (b : Begin
     → Going m b new given (record { state = (after_sessions m (start_of b.state) sessions).state; unread = []; taken = 0 }) sessions [] n
 goes_first {State} {Request} m b old new given sessions n h run time connections handed =
     let opened = trace-opened m b.state sessions Whole in
-    let writing = unwritten sessions run in
+    let none = unfailed sessions run in
+    let writing = ap is_writing none in
     record {
       connections = h.connections;
       hearings = [];
@@ -119,15 +109,16 @@ goes_first {State} {Request} m b old new given sessions n h run time connections
       answers = refl;
       few = omega arith;
       state = refl;
-      counts = h.counts ∙ counts-same _ _
+      counts = h.counts ∙ counts-parts m b.state sessions ∙ counts-same _ _
           (sym (ap all_answers (scripts-push m (start_of b.state) sessions (under_way [] Whole)) ∙ all_answers-push _ [] ∙ plus_none _))
           (sym (ap length (all_changes-push m (start_of b.state) sessions (under_way [] Whole) ∙ append-nil (all_changes m (start_of b.state) sessions))))
-          (sym (all_skips-push sessions (under_way [] Whole) ∙ plus_none _));
+          (sym (all_skips-push sessions (under_way [] Whole) ∙ plus_none _))
+          ∙ sym (counts-parts m b.state (sessions ++ under_way [] Whole ∷ []));
       reached = subst (λ t. Reached m b t true false new) (sym opened)
           (subst (λ w. Reached m b (with_connection (trace_of m b.state sessions)) true w new) writing
           (peers_come State Request m b (trace_of m b.state sessions) false (run_stops_writing sessions) old new h.reached time));
       good = subst (λ t. All m.good (states_of t)) (sym opened) h.good;
-      handed = subst (HasHanded m b (sessions ++ under_way [] Whole ∷ [])) (sym handed) (handed_opened sessions Whole (h.handed run));
+      handed = subst (HasHanded m b (sessions ++ under_way [] Whole ∷ [])) (sym handed) (handed_opened sessions Whole (h.handed none));
     }
   where
     plus_none : (k : ℕ) → k + 0 ≡ k
@@ -142,7 +133,8 @@ pub ends_with : {State Request : Type 0} (m : Machine State Request) (b : Beginn
     → IsServed m (after_sessions m (start_of b.state) finished) c session → given ≡ b.given ++ all_moments m (start_of b.state) (finished ++ session ∷ [])
     → n ≡ counts_of_run m b.state (finished ++ session ∷ []) → Reached m b (trace_of m b.state (finished ++ session ∷ [])) false (stops_writing session.steps) d
     → All m.good (states_of (trace_of m b.state (finished ++ session ∷ [])))
-    → (stops session.steps ≡ false → HasHanded m b (finished ++ session ∷ []) d.handed) → HasServed m b d given (finished ++ session ∷ []) n
+    → (stop_of (last_step session.steps) ≡ None → HasHanded m b (finished ++ session ∷ []) d.handed)
+    → HasServed m b d given (finished ++ session ∷ []) n
 ends_with m b d given finished session n connections c are served run is given_is counts reached good handed = record {
   connections = connections ++ c ∷ [];
   connections_are = are;
@@ -151,7 +143,7 @@ ends_with m b d given finished session n connections c are served run is given_i
   counts = counts;
   reached = subst (λ w. Reached m b (trace_of m b.state (finished ++ session ∷ [])) false w d) (sym (writing-push finished session)) reached;
   good = good;
-  handed = λ on. handed (sym (run_stops-push finished session run) ∙ on);
+  handed = λ on. handed (sym (failure-push finished session) ∙ on);
 }
 
 -- the connection under way is the last one, behind those before the run and those that ended
@@ -173,7 +165,7 @@ unsaid-none Whole not_saying = refl
 unsaid-none Hearing not_saying = refl
 unsaid-none Saying not_saying = absurd (not_saying refl)
 
-told-whole : (link : LinkEnd) (pieces : List Piece) → link ≢ Saying → IsTold false link (bytes_of_pieces pieces) pieces
+told-whole : (link : LinkEnd) (pieces : List Piece) → link ≢ Saying → IsTold None link (bytes_of_pieces pieces) pieces
 told-whole Whole pieces not_saying = refl
 told-whole Hearing pieces not_saying = refl
 told-whole Saying pieces not_saying = absurd (not_saying refl)
@@ -199,11 +191,10 @@ ends_heard {State} {Request} m b old new given held finished steps n link ended 
       steps = g.steps_are;
       few = omega (arith, g.few, g.answers);
       heard = ap (λ u. texts_of steps ++ u) none;
-      rest_is = rest-none m 0 steps link g.stay;
-      told = subst (λ s. IsTold s link (bytes_of_pieces pieces) pieces) (sym going.in_answer) (told-whole link pieces not_saying);
-      unheard = refl;
-      unsaid = unsaid-none link not_saying;
-      ended = end-heard m steps link ended whole;
+      told = subst (λ s. IsTold s link (bytes_of_pieces pieces) pieces) (sym going.failure) (told-whole link pieces not_saying);
+      ends = ends-open m (length steps - 1) steps link ended [] g.stay (record { none_left = λ _. refl; to_the_end = whole });
+      unheard = heard-marks link (has_hearing_failed link) refl;
+      unsaid = said-marks link false (unsaid-none link not_saying);
       owes = on_time.owes;
       last = on_time.last;
     })

@@ -5,10 +5,12 @@ use Rattle.std.proofs.lemmas.Grind.{flat_map-append}
 use Rattle.site_edge.specs.Links.{change_last}
 use Rattle.site_edge.proofs.Theorems.{change_last_push}
 use Rattle.run_history.specs.Machine.{Machine}
-use Rattle.run_history.specs.Steps.{Piece, Stage, Step, stage_after, effect, last_or, step_text}
-use Rattle.run_history.specs.Sessions.{LinkEnd, Session, after_sessions, after_steps, all_changes, all_moments, changes_of, moments_of, pieces_of, scripts_of, texts_of}
-use Rattle.run_history.specs.Traces.{Trace, start_of, trace_of, with_connection}
+use Rattle.run_history.specs.Steps.{Piece, Stage, Step, effect, last_or, stage_after, step_text}
+use Rattle.run_history.specs.Sessions.{LinkEnd, Session, after_steps, texts_of}
+use Rattle.run_history.specs.Traces.{Trace, start_of, trace_of}
 use Rattle.run_history.specs.Laws.{StagesCount, StepsGrow, TracesGrow, under_way}
+use Rattle.run_history.specs.Parts.{after_sessions, all_changes, all_moments, changes_of, moments_of, pieces_of, scripts_of}
+use Rattle.run_history.specs.Growing.{with_connection}
 
 -- ---- steps
 

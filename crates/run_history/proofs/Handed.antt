@@ -1,32 +1,59 @@
 -- How the bytes that a run hands to its device grow by a step and by a connection.
-use Rattle.std.proofs.Common.{◌≡◌, ◌≤◌, ◌+◌, ℕ, List, [], ◌∷◌, ◌++◌, arith}
-use Rattle.run_history.specs.Machine.{Machine}
-use Rattle.run_history.specs.Steps.{Stage, Step, stage_after}
-use Rattle.run_history.specs.Sessions.{LinkEnd, Session, after_sessions, after_steps}
+use Rattle.std.proofs.Common.{◌≡◌, ◌≤◌, ◌+◌, ℕ, List, [], ◌∷◌, ◌++◌, None, Some, refl, arith}
+use Rattle.run_history.specs.Machine.{BeforeAnswer, InAnswer, InTurn, Machine}
+use Rattle.run_history.specs.Steps.{Answered, Cut, Made, Refused, Skipped, Stage, Starved, Step, Stopped, effect, stage_after}
+use Rattle.run_history.specs.Sessions.{LinkEnd, Session, after_steps, run_effect, steps_effect}
 use Rattle.run_history.specs.Traces.{start_of}
-use Rattle.run_history.specs.Runs.{Beginning}
-use Rattle.run_history.specs.Handing.{HasHanded, all_cut, all_handed, step_cut, steps_cut, step_handed, steps_handed}
+use Rattle.run_history.specs.Runs.{Beginning, HasHanded}
 use Rattle.run_history.specs.Laws.{under_way}
+use Rattle.run_history.specs.Parts.{after_sessions, step_cut, step_handed}
+
+-- what a step hands on, by itself
+handed-step : {State Request : Type 0} (m : Machine State Request) (at : Stage State) (step : Step Request)
+    → (effect m at step).handed ≡ step_handed m at.state step
+handed-step m at (Answered a Made) = refl
+handed-step m at (Answered a Skipped) = refl
+handed-step m at (Refused t r) = refl
+handed-step m at (Starved a) = refl
+handed-step m at (Stopped a (BeforeAnswer w)) = refl
+handed-step m at (Stopped a InAnswer) = refl
+handed-step m at (Stopped a (InTurn w)) = refl
+handed-step m at (Cut t i o) = refl
+
+cut-step : {State Request : Type 0} (m : Machine State Request) (at : Stage State) (step : Step Request) → (effect m at step).cut ≡ step_cut m step
+cut-step m at (Answered a Made) = refl
+cut-step m at (Answered a Skipped) = refl
+cut-step m at (Refused t r) = refl
+cut-step m at (Starved a) = refl
+cut-step m at (Stopped a (BeforeAnswer w)) = refl
+cut-step m at (Stopped a InAnswer) = refl
+cut-step m at (Stopped a (InTurn w)) = refl
+cut-step m at (Cut t i None) = refl
+cut-step m at (Cut t i (Some o)) = refl
 
 handed-push : {State Request : Type 0} (m : Machine State Request) (at : Stage State) (steps : List (Step Request)) (step : Step Request)
-    → steps_handed m at (steps ++ step ∷ []) ≡ steps_handed m at steps + step_handed m (after_steps m at steps).state step
-handed-push m at [] step = omega arith
-handed-push m at (x ∷ steps) step = omega (arith, handed-push m (stage_after m at x) steps step)
+    → (steps_effect m at (steps ++ step ∷ [])).handed ≡ (steps_effect m at steps).handed + step_handed m (after_steps m at steps).state step
+handed-push m at [] step = let here = handed-step m at step in omega (arith, here)
+handed-push m at (x ∷ steps) step = let later = handed-push m (stage_after m at x) steps step in omega (arith, later)
 
-cut-push : {State Request : Type 0} (m : Machine State Request) (steps : List (Step Request)) (step : Step Request)
-    → steps_cut m (steps ++ step ∷ []) ≡ steps_cut m steps + step_cut m step
-cut-push m [] step = omega arith
-cut-push m (x ∷ steps) step = omega (arith, cut-push m steps step)
+cut-push : {State Request : Type 0} (m : Machine State Request) (at : Stage State) (steps : List (Step Request)) (step : Step Request)
+    → (steps_effect m at (steps ++ step ∷ [])).cut ≡ (steps_effect m at steps).cut + step_cut m step
+cut-push m at [] step = let here = cut-step m at step in omega (arith, here)
+cut-push m at (x ∷ steps) step = let later = cut-push m (stage_after m at x) steps step in omega (arith, later)
 
 all_handed-push : {State Request : Type 0} (m : Machine State Request) (at : Stage State) (finished : List (Session Request)) (session : Session Request)
-    → all_handed m at (finished ++ session ∷ []) ≡ all_handed m at finished + steps_handed m (after_sessions m at finished) session.steps
+    → (run_effect m at (finished ++ session ∷ [])).handed
+    ≡ (run_effect m at finished).handed + (steps_effect m (after_sessions m at finished) session.steps).handed
 all_handed-push m at [] session = omega arith
-all_handed-push m at (x ∷ finished) session = omega (arith, all_handed-push m (after_steps m at x.steps) finished session)
+all_handed-push m at (x ∷ finished) session =
+    let later = all_handed-push m (after_steps m at x.steps) finished session in omega (arith, later)
 
-all_cut-push : {State Request : Type 0} (m : Machine State Request) (finished : List (Session Request)) (session : Session Request)
-    → all_cut m (finished ++ session ∷ []) ≡ all_cut m finished + steps_cut m session.steps
-all_cut-push m [] session = omega arith
-all_cut-push m (x ∷ finished) session = omega (arith, all_cut-push m finished session)
+all_cut-push : {State Request : Type 0} (m : Machine State Request) (at : Stage State) (finished : List (Session Request)) (session : Session Request)
+    → (run_effect m at (finished ++ session ∷ [])).cut
+    ≡ (run_effect m at finished).cut + (steps_effect m (after_sessions m at finished) session.steps).cut
+all_cut-push m at [] session = omega arith
+all_cut-push m at (x ∷ finished) session =
+    let later = all_cut-push m (after_steps m at x.steps) finished session in omega (arith, later)
 
 module _ {State Request : Type 0} {m : Machine State Request} {b : Beginning State} {before : ℕ} (finished : List (Session Request)) where
   -- A connection began.
@@ -37,7 +64,7 @@ module _ {State Request : Type 0} {m : Machine State Request} {b : Beginning Sta
       arith,
       h.most,
       all_handed-push m (start_of b.state) finished (under_way [] link),
-      all_cut-push m finished (under_way [] link),
+      all_cut-push m (start_of b.state) finished (under_way [] link),
     );
   }
 
@@ -56,8 +83,8 @@ module _ {State Request : Type 0} {m : Machine State Request} {b : Beginning Sta
       h.most,
       all_handed-push m (start_of b.state) finished (under_way steps link),
       all_handed-push m (start_of b.state) finished (under_way steps link_after),
-      all_cut-push m finished (under_way steps link),
-      all_cut-push m finished (under_way steps link_after),
+      all_cut-push m (start_of b.state) finished (under_way steps link),
+      all_cut-push m (start_of b.state) finished (under_way steps link_after),
     );
   }
 
@@ -81,8 +108,8 @@ module _ {State Request : Type 0} {m : Machine State Request} {b : Beginning Sta
           all_before,
           all_now,
           here,
-          all_cut-push m finished (under_way steps link),
-          all_cut-push m finished (under_way (steps ++ step ∷ []) link_after),
-          cut-push m steps step,
+          all_cut-push m (start_of b.state) finished (under_way steps link),
+          all_cut-push m (start_of b.state) finished (under_way (steps ++ step ∷ []) link_after),
+          cut-push m at steps step,
         );
       }

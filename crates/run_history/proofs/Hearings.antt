@@ -1,8 +1,8 @@
 -- Calls of `hear` that began when nothing was owed, while their connection goes on and when it has ended.
-use Rattle.std.proofs.Common.{◌≡◌, ◌≢◌, ◌+◌, ℕ, Bool, true, false, List, [], ◌∷◌, ◌++◌, length, refl, sym, ap, ◌∙◌}
+use Rattle.std.proofs.Common.{ℕ, List, [], ◌∷◌, ◌++◌, ap, ◌∙◌}
 use Rattle.std.specs.List.{AllByRecursion}
 use Rattle.std.proofs.lemmas.List.{append_assoc}
-use Rattle.disk_trait.specs.Device.{Connection, HearCall, Unheard}
+use Rattle.disk_trait.specs.Device.{Connection, HearCall}
 use Rattle.run_history.specs.Machine.{Machine}
 use Rattle.run_history.specs.Steps.{Stage, Step}
 use Rattle.run_history.specs.Sessions.{IsLastHearing, OwesNothing, texts_of}

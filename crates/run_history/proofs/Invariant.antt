@@ -11,9 +11,11 @@ use Rattle.site_edge.proofs.Theorems.{change_last_push, part_length, prefixes_pu
 use Rattle.run_history.specs.Machine.{Machine}
 use Rattle.run_history.specs.Steps.{Piece, last_or, piece_bytes}
 use Rattle.run_history.specs.Sessions.{bytes_of_pieces}
-use Rattle.run_history.specs.Traces.{CountAtMost, Trace, state_after, state_now, trace_of, then_change, with_connection, with_piece}
-use Rattle.run_history.specs.Runs.{AllRight, Beginning, IsNow, IsRight, Reached, StandsNow, sure_changes, told_first}
-use Rattle.run_history.specs.Laws.{DurableChanges, PartsSuffice, PeersCome, QuietCalls, RunsBegin, SaidPieces, TornChanges, Wrote, Writes}
+use Rattle.run_history.specs.Traces.{Trace, state_after, state_now, trace_of}
+use Rattle.run_history.specs.Runs.{AllRight, Beginning, IsRight, StandsNow}
+use Rattle.run_history.specs.Laws.{DurableChanges, PartsSuffice, PeersCome, QuietCalls, RunsBegin, SaidPieces, TornChanges, Writes, Wrote}
+use Rattle.run_history.specs.Growing.{CountAtMost, then_change, with_connection, with_piece}
+use Rattle.run_history.specs.Reaching.{IsNow, Reached, sure_changes, told_first}
 use Rattle.run_history.proofs.Pieces.{begun-most, bytes-connection, bytes-piece, count-connection, count-more, count-piece}
 use Rattle.run_history.proofs.Pairs.{all_grown, calls_add_up, right_grows, state_after-change}
 

@@ -7,9 +7,10 @@ use Rattle.site_edge.proofs.Theorems.{prefixes_longer, prefixes_more}
 use Rattle.run_history.specs.Machine.{Machine}
 use Rattle.run_history.specs.Steps.{Piece, last_or, piece_bytes}
 use Rattle.run_history.specs.Sessions.{bytes_of_pieces}
-use Rattle.run_history.specs.Traces.{IsLeft, Trace, state_after, then_change, with_connection, with_piece}
+use Rattle.run_history.specs.Traces.{IsLeft, Trace, state_after}
 use Rattle.run_history.specs.Runs.{AllRight, Beginning, IsRight}
 use Rattle.run_history.specs.Laws.{CallsAddUp, RightGrows}
+use Rattle.run_history.specs.Growing.{then_change, with_connection, with_piece}
 use Rattle.run_history.proofs.Pieces.{begun-connection, begun-piece, bytes-connection, bytes-piece}
 
 -- the states that were there stay where they are

@@ -5,10 +5,11 @@ use Rattle.std.specs.List.{AllByRecursion}
 use Rattle.std.proofs.lemmas.Grind.{flat_map-append}
 use Rattle.site_edge.specs.Links.{change_last}
 use Rattle.site_edge.specs.Saying.{ArePrefixes, IsPrefix, said_also}
-use Rattle.run_history.specs.Steps.{Piece, Interim, Reply, piece_bytes}
+use Rattle.run_history.specs.Steps.{Interim, Piece, Reply, piece_bytes}
 use Rattle.run_history.specs.Sessions.{bytes_of_pieces}
-use Rattle.run_history.specs.Traces.{CountAtMost, begun, begun_in, counted_by}
+use Rattle.run_history.specs.Traces.{begun, begun_in}
 use Rattle.run_history.specs.Laws.{BegunIsGreatest, ReplyHasBegun}
+use Rattle.run_history.specs.Growing.{CountAtMost, counted_by}
 
 pub bytes-push : (pieces : List Piece) (p : Piece) → bytes_of_pieces (pieces ++ p ∷ []) ≡ bytes_of_pieces pieces ++ piece_bytes p
 bytes-push pieces p =

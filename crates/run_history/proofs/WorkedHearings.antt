@@ -1,11 +1,11 @@
 -- The worked hearings: when nothing is owed to the small machine's connections, and when something is.
-use Rattle.std.proofs.Common.{◌≡◌, ◌≢◌, ◌+◌, ℕ, Bool, true, false, List, [], ◌∷◌, ◌++◌, length, get_or, drop, Option, Some, None, refl, sym, ap, ◌∙◌, arith}
+use Rattle.std.proofs.Common.{◌≡◌, ℕ, false, List, [], ◌∷◌, ◌++◌, length, get_or, drop, Option, Some, None, refl, sym, ap, arith}
 use Rattle.std.proofs.lemmas.List.{length-append}
-use Rattle.disk_trait.specs.Device.{Connection, Gave, HearCall}
-use Rattle.run_history.specs.Machine.{WireRefusal}
-use Rattle.run_history.specs.Steps.{Answered, Made, Stage, Starved, Step, interim_pieces, step_text}
-use Rattle.run_history.specs.Sessions.{IsLastHearing, IsUnfinished, OwesNothing, bytes_of_pieces, pieces_of, texts_of}
+use Rattle.disk_trait.specs.Device.{Connection, Gave}
+use Rattle.run_history.specs.Steps.{Answered, Made, Stage, Step, interim_pieces, step_text}
+use Rattle.run_history.specs.Sessions.{IsLastHearing, IsUnfinished, OwesNothing, bytes_of_pieces, texts_of}
 use Rattle.run_history.specs.Worked.{Add, Demand, IsCutAddition, Show, adder, asks, demand_reply, hears, starved_session}
+use Rattle.run_history.specs.Parts.{pieces_of}
 
 two_bytes : (d : Demand) → length (demand_reply d 0).bytes ≡ 2
 two_bytes Show = refl

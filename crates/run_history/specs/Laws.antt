@@ -5,9 +5,12 @@ use Rattle.disk_trait.specs.Calls.{Elapses, Unchanged}
 use Rattle.site_edge.specs.Links.{AddsConnection, Tells}
 use Rattle.run_history.specs.Machine.{Machine}
 use Rattle.run_history.specs.Steps.{Piece, Reply, Stage, Step, stage_after, effect, last_or, piece_bytes, step_text}
-use Rattle.run_history.specs.Sessions.{Session, LinkEnd, after_sessions, after_steps, all_moments, bytes_of_pieces, changes_of, moments_of, pieces_of, texts_of}
-use Rattle.run_history.specs.Traces.{Trace, begun_in, counted_by, start_of, trace_of, then_change, with_connection, with_effect, with_piece}
-use Rattle.run_history.specs.Runs.{AllRight, Beginning, IsRight, Reached, StandsNow, sure_changes}
+use Rattle.run_history.specs.Sessions.{Session, LinkEnd, after_steps, bytes_of_pieces, texts_of}
+use Rattle.run_history.specs.Traces.{Trace, begun_in, start_of, trace_of}
+use Rattle.run_history.specs.Parts.{after_sessions, all_moments, changes_of, moments_of, pieces_of}
+use Rattle.run_history.specs.Growing.{counted_by, then_change, with_connection, with_effect, with_piece}
+use Rattle.run_history.specs.Runs.{AllRight, Beginning, IsRight, StandsNow}
+use Rattle.run_history.specs.Reaching.{Reached, sure_changes}
 
 -- ---- how pairs stay right
 

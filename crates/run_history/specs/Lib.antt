@@ -3,7 +3,9 @@ pub mod Steps
 pub mod Sessions
 pub mod Traces
 pub mod Runs
-pub mod Handing
-pub mod Laws
 pub mod Worked
+pub mod Parts
+pub mod Growing
+pub mod Reaching
 pub mod Serving
+pub mod Laws

@@ -1,67 +1,17 @@
 -- A run that goes on: the connections that have ended, the one that is under way, and what they
--- count.
-use Rattle.std.specs.Prelude.{◌≡◌, ◌≢◌, ◌<◌, ◌+◌, ◌||◌, ℕ, Bool, true, false, List, [], ◌∷◌, ◌++◌, length, All}
+-- count. Contracts of the parts speak in these; whoever reads the claim may pass over them.
+use Rattle.std.specs.Prelude.{◌≡◌, ◌≢◌, ◌<◌, ℕ, true, false, List, [], ◌∷◌, ◌++◌, length, All, None}
 use Rattle.std.specs.List.{AllByRecursion}
 use Rattle.disk_trait.specs.Device.{Connection, Device, HearCall, Unheard}
 use Rattle.run_history.specs.Machine.{Machine}
-use Rattle.run_history.specs.Steps.{Piece, Stage, Step, Answered, Refused, Starved, Stopped, Cut, is_last}
-use Rattle.run_history.specs.Sessions.{AreServed, AreSteps, OwesNothing, Session, Whole, after_sessions, after_steps, all_changes, all_moments, answers_in, bytes_of_pieces, most_answers, pieces_of, scripts_of, skips_in, stops, texts_of}
-use Rattle.run_history.specs.Traces.{start_of, states_of, trace_of}
-use Rattle.run_history.specs.Runs.{Beginning, Reached, run_stops_writing}
-use Rattle.run_history.specs.Handing.{HasHanded}
+use Rattle.run_history.specs.Steps.{Stage, Step, is_last}
+use Rattle.run_history.specs.Sessions.{AreServed, AreSteps, OwesNothing, Session, Whole, after_steps, answers_in, bytes_of_pieces, failure_of, most_answers, texts_of}
+use Rattle.run_history.specs.Traces.{counts_of_run, start_of, states_of, trace_of}
+pub use Rattle.run_history.specs.Traces.{RunCounts}
+use Rattle.run_history.specs.Parts.{after_sessions, all_moments, pieces_of, run_stops, run_stops_writing}
+use Rattle.run_history.specs.Runs.{Beginning, HasHanded}
+use Rattle.run_history.specs.Reaching.{Reached}
 use Rattle.run_history.specs.Laws.{under_way}
-
--- ---- what connections count
-
--- how many answers a run gave, how many changes it made, and how many turns it skipped
-pub record RunCounts : Type 0 where
-  pub answers : ℕ
-  pub changes : ℕ
-  pub skipped : ℕ
-
--- the number of answers of all scripts
-abbrev pub all_answers : List (List Piece) → ℕ
-all_answers [] = 0
-all_answers (script ∷ scripts) = answers_in script + all_answers scripts
-
--- the number of turns that were skipped
-abbrev pub all_skips : {Request : Type 0} → List (Session Request) → ℕ
-all_skips [] = 0
-all_skips (session ∷ later) = skips_in session.steps + all_skips later
-
--- the numbers of connections, from a state
-abbrev pub counts_of_run : {State Request : Type 0} → Machine State Request → State
-    → List (Session Request) → RunCounts
-counts_of_run m from sessions = record {
-  answers = all_answers (scripts_of m (start_of from) sessions);
-  changes = length (all_changes m (start_of from) sessions);
-  skipped = all_skips sessions;
-}
-
--- ---- how connections ended
-
--- whether there was no memory for the last of these steps
-abbrev pub starves : {Request : Type 0} → List (Step Request) → Bool
-starves [] = false
-starves (Answered ask turned ∷ steps) = starves steps
-starves (Refused text refusal ∷ steps) = starves steps
-starves (Starved ask ∷ steps) = true
-starves (Stopped ask failure ∷ steps) = starves steps
-starves (Cut text interim moment ∷ steps) = starves steps
-
--- whether the last of these steps is a request that was cut
-abbrev pub is_cut : {Request : Type 0} → List (Step Request) → Bool
-is_cut [] = false
-is_cut (Answered ask turned ∷ steps) = is_cut steps
-is_cut (Refused text refusal ∷ steps) = is_cut steps
-is_cut (Starved ask ∷ steps) = is_cut steps
-is_cut (Stopped ask failure ∷ steps) = is_cut steps
-is_cut (Cut text interim moment ∷ steps) = true
-
--- whether the disk failed in one of these connections, which ends the run
-abbrev pub run_stops : {Request : Type 0} → List (Session Request) → Bool
-run_stops [] = false
-run_stops (session ∷ later) = stops session.steps || run_stops later
 
 -- ---- a run between two connections, and within one
 
@@ -76,7 +26,7 @@ pub record HasServed {State Request : Type 0} (m : Machine State Request) (b : B
   pub counts : n ≡ counts_of_run m b.state sessions
   pub reached : Reached m b (trace_of m b.state sessions) false (run_stops_writing sessions) d
   pub good : All m.good (states_of (trace_of m b.state sessions))
-  pub handed : run_stops sessions ≡ false → HasHanded m b sessions d.handed
+  pub handed : failure_of sessions ≡ None → HasHanded m b sessions d.handed
 
 -- what is to be known of the connection that is under way: the state, the bytes that were heard and
 -- not yet taken, and the number of requests that it had

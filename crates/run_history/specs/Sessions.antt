@@ -1,34 +1,35 @@
--- Connections by their steps: the script, the states and the moments of each, and how one is
--- served.
-use Rattle.std.specs.Prelude.{◌≡◌, ◌≢◌, ◌≤◌, ◌+◌, ◌||◌, ℕ, suc, Bool, true, false, List, [], ◌∷◌, ◌++◌, length, None}
+-- Connections by their steps: what they come to, and how one is served.
+use Rattle.std.specs.Prelude.{◌≡◌, ◌≢◌, ◌≤◌, ◌+◌, ◌-◌, ◌↔◌, ℕ, suc, Bool, true, false, List, [], ◌∷◌, ◌++◌, length, map, Option, Some, None, IsTrue}
 use Rattle.std.specs.List.{AllByRecursion, flat_map}
 use Rattle.disk_trait.specs.Device.{Connection, HearCall, Unheard}
 use Rattle.site_edge.specs.Saying.{IsPrefix}
-use Rattle.run_history.specs.Machine.{Cutting, Machine, WireRefusal, InAnswer}
-use Rattle.run_history.specs.Steps.{Step, Answered, Refused, Starved, Stopped, Cut, Made, Skipped, Piece, Interim, Reply, Stage, effect, interim_pieces, stage_after, piece_bytes, step_text, is_last, IsStep}
+use Rattle.run_history.specs.Machine.{Cutting, Failure, Machine, WireRefusal, BeforeAnswer, InAnswer, InTurn}
+use Rattle.run_history.specs.Steps.{Effect, Step, Answered, Refused, Starved, Stopped, Cut, Piece, Interim, Reply, Stage, effect, interim_pieces, last_or, stage_after, piece_bytes, step_text, telling, is_last, IsStep}
 
--- ---- the steps of one connection, from a stage of the run
+-- ---- effects in a row, from a stage of the run
 
--- all that they tell
-abbrev pub pieces_of : {State Request : Type 0} → Machine State Request → Stage State
-    → List (Step Request) → List Piece
-pieces_of m at [] = []
-pieces_of m at (step ∷ steps) =
-    (effect m at step).pieces ++ pieces_of m (stage_after m at step) steps
+-- what each of these steps comes to
+abbrev pub effects_of : {State Request : Type 0} → Machine State Request → Stage State
+    → List (Step Request) → List (Effect State)
+effects_of m at [] = []
+effects_of m at (step ∷ steps) = effect m at step ∷ effects_of m (stage_after m at step) steps
 
--- their changes, each as the state after it
-abbrev pub changes_of : {State Request : Type 0} → Machine State Request → Stage State
-    → List (Step Request) → List State
-changes_of m at [] = []
-changes_of m at (step ∷ steps) =
-    (effect m at step).changes ++ changes_of m (stage_after m at step) steps
+-- effects one behind another, as one
+abbrev pub together : {State : Type 0} → List (Effect State) → Effect State
+together [] = telling [] []
+together (e ∷ later) = record {
+  pieces = e.pieces ++ (together later).pieces;
+  changes = e.changes ++ (together later).changes;
+  moments = e.moments ++ (together later).moments;
+  skipped = e.skipped + (together later).skipped;
+  handed = e.handed + (together later).handed;
+  cut = e.cut + (together later).cut;
+}
 
--- the moments that they took
-abbrev pub moments_of : {State Request : Type 0} → Machine State Request → Stage State
-    → List (Step Request) → List ℕ
-moments_of m at [] = []
-moments_of m at (step ∷ steps) =
-    (effect m at step).moments ++ moments_of m (stage_after m at step) steps
+-- what the steps of a connection come to
+abbrev pub steps_effect : {State Request : Type 0} → Machine State Request → Stage State
+    → List (Step Request) → Effect State
+steps_effect m at steps = together (effects_of m at steps)
 
 -- the stage after them
 abbrev pub after_steps : {State Request : Type 0} → Machine State Request → Stage State
@@ -53,20 +54,6 @@ answers_by (Reply bytes made) = 1
 abbrev pub answers_in : List Piece → ℕ
 answers_in [] = 0
 answers_in (p ∷ ps) = answers_by p + answers_in ps
-
--- a turn that was skipped
-abbrev pub skips_by : {Request : Type 0} → Step Request → ℕ
-skips_by (Answered ask Made) = 0
-skips_by (Answered ask Skipped) = 1
-skips_by (Refused text refusal) = 0
-skips_by (Starved ask) = 0
-skips_by (Stopped ask failure) = 0
-skips_by (Cut text interim moment) = 0
-
--- the number of skipped turns among steps
-abbrev pub skips_in : {Request : Type 0} → List (Step Request) → ℕ
-skips_in [] = 0
-skips_in (step ∷ steps) = skips_by step + skips_in steps
 
 -- ---- one connection
 
@@ -101,78 +88,57 @@ pub record IsUnfinished {State Request : Type 0} (m : Machine State Request) (n 
   pub refusal : (front rest : List ℕ) (r : WireRefusal) → text ≡ front ++ rest
       → ¬ (m.refuses front r)
 
--- What was heard behind the steps of a connection, the first of which stands behind n requests. An
--- answer that ends the connection, or that couldn't be said, leaves the rest unread. Otherwise
--- nothing is left but a request that isn't whole, which is cut. Where a saying failed in a request
--- that was cut, it was that of its interim.
-abbrev pub RestIs : {State Request : Type 0} → Machine State Request → ℕ → List (Step Request)
-    → LinkEnd → List ℕ → Type 0
-RestIs m n [] link rest = rest ≡ []
-RestIs m n (Answered ask turned ∷ []) link rest =
-    m.ends ask.request ≡ false → link ≢ Saying → rest ≡ []
-RestIs m n (Refused text refusal ∷ []) link rest = Unit {0}
-RestIs m n (Starved ask ∷ []) link rest = Unit {0}
-RestIs m n (Stopped ask failure ∷ []) link rest = Unit {0}
-RestIs m n (Cut text interim moment ∷ []) link rest =
-    (link ≢ Saying → (rest ≡ []) × IsUnfinished m n text) × (link ≡ Saying → interim ≢ None)
-RestIs m n (step ∷ next ∷ steps) link rest = RestIs m (suc n) (next ∷ steps) link rest
+-- ---- how a connection ends, by its last step
 
--- A connection was told all of these pieces but the last, and a prefix of the last.
-pub record IsToldPart (told : List ℕ) (pieces : List Piece) : Type 0 where
+-- the last of some steps, where there is one
+abbrev pub last_step : {Request : Type 0} → List (Step Request) → Option (Step Request)
+last_step steps = last_or None (map Some steps)
+
+-- the failure of the disk in which a step stopped, where it did
+abbrev pub stop_of : {Request : Type 0} → Option (Step Request) → Option Failure
+stop_of (Some (Stopped ask failure)) = Some failure
+stop_of step = None
+
+-- Nothing that was heard is left unread, unless a saying failed, and the peer's end was heard,
+-- unless a call of the link failed.
+pub record IsHeardOut (link : LinkEnd) (ended : Bool) (rest : List ℕ) : Type 0 where
+  pub none_left : link ≢ Saying → rest ≡ []
+  pub to_the_end : link ≡ Whole → ended ≡ true
+
+-- How a connection ends whose last step stands behind n others, if it had one. Unless a step ended
+-- it, it is heard out. So is one whose last request isn't whole and was cut; where a saying failed
+-- in that, it was that of its interim.
+abbrev pub EndsBy : {State Request : Type 0} → Machine State Request → ℕ → Option (Step Request)
+    → LinkEnd → Bool → List ℕ → Type 0
+EndsBy m n None link ended rest = IsHeardOut link ended rest
+EndsBy m n (Some (Answered ask turned)) link ended rest =
+    m.ends ask.request ≡ false → IsHeardOut link ended rest
+EndsBy m n (Some (Refused text refusal)) link ended rest = Unit {0}
+EndsBy m n (Some (Starved ask)) link ended rest = Unit {0}
+EndsBy m n (Some (Stopped ask failure)) link ended rest = Unit {0}
+EndsBy m n (Some (Cut text interim moment)) link ended rest =
+    IsHeardOut link ended rest
+    × (link ≢ Saying → IsUnfinished m n text) × (link ≡ Saying → interim ≢ None)
+
+-- A connection was told all of these pieces but the last, and a prefix of the last, of so many
+-- bytes at least.
+pub record IsToldPart (least : ℕ) (told : List ℕ) (pieces : List Piece) : Type 0 where
   pub front : List Piece
   pub last : Piece
   pub part : List ℕ
   pub pieces_are : pieces ≡ front ++ last ∷ []
   pub told_is : told ≡ bytes_of_pieces front ++ part
   pub prefix : IsPrefix part (piece_bytes last)
+  pub some : least ≤ length part
 
--- whether the last of these steps is an answer within which the disk failed
-abbrev pub stops_in_answer : {Request : Type 0} → List (Step Request) → Bool
-stops_in_answer [] = false
-stops_in_answer (Stopped ask InAnswer ∷ []) = true
-stops_in_answer (step ∷ steps) = stops_in_answer steps
-
--- whether one of these steps is a fault of the disk, which ends the run
-abbrev pub stops : {Request : Type 0} → List (Step Request) → Bool
-stops [] = false
-stops (Stopped ask failure ∷ steps) = true
-stops (step ∷ steps) = stops steps
-
--- What a connection was told of its pieces: all of them, or, where a saying failed or the disk
--- within an answer, all but a part of the last.
-abbrev pub IsTold : Bool → LinkEnd → List ℕ → List Piece → Type 0
-IsTold false Whole told pieces = told ≡ bytes_of_pieces pieces
-IsTold false Hearing told pieces = told ≡ bytes_of_pieces pieces
-IsTold false Saying told pieces = IsToldPart told pieces
-IsTold true link told pieces = IsToldPart told pieces
-
--- whether a hearing failed
-abbrev pub has_hearing_failed : LinkEnd → Bool
-has_hearing_failed Whole = false
-has_hearing_failed Hearing = true
-has_hearing_failed Saying = false
-
--- whether a saying failed
-abbrev pub has_saying_failed : LinkEnd → Bool
-has_saying_failed Whole = false
-has_saying_failed Hearing = false
-has_saying_failed Saying = true
-
--- whether a call of the link failed
-abbrev pub has_link_failed : LinkEnd → Bool
-has_link_failed link = has_hearing_failed link || has_saying_failed link
-
--- Where nothing ended a connection and no call of its link failed, it was heard to its peer's end.
-abbrev pub EndIs : {State Request : Type 0} → Machine State Request → List (Step Request) → LinkEnd
-    → Bool → Type 0
-EndIs m [] link ended = link ≡ Whole → ended ≡ true
-EndIs m (Answered ask turned ∷ []) link ended =
-    m.ends ask.request ≡ false → link ≡ Whole → ended ≡ true
-EndIs m (Refused text refusal ∷ []) link ended = Unit {0}
-EndIs m (Starved ask ∷ []) link ended = Unit {0}
-EndIs m (Stopped ask failure ∷ []) link ended = Unit {0}
-EndIs m (Cut text interim moment ∷ []) link ended = link ≡ Whole → ended ≡ true
-EndIs m (step ∷ next ∷ steps) link ended = EndIs m (next ∷ steps) link ended
+-- What a connection was told of its pieces, by the failure of the disk in its last step: all of
+-- them; where a saying failed, a part of the last; and where the disk failed within an answer, a
+-- part of it that isn't empty.
+abbrev pub IsTold : Option Failure → LinkEnd → List ℕ → List Piece → Type 0
+IsTold (Some InAnswer) link told pieces = IsToldPart 1 told pieces
+IsTold failure Saying told pieces = IsToldPart 0 told pieces
+IsTold failure Whole told pieces = told ≡ bytes_of_pieces pieces
+IsTold failure Hearing told pieces = told ≡ bytes_of_pieces pieces
 
 -- The store owes nothing to a connection that heard these bytes, when it waits for more of them in
 -- a call of `hear`. What had been heard by then is the texts of the first of its steps, none of
@@ -191,8 +157,8 @@ pub record OwesNothing {State Request : Type 0} (m : Machine State Request) (at 
   pub unfinished : IsUnfinished m (length front) part
   pub cuts : m.cuts part cutting
   pub heard_is : call.heard ≡ length (texts_of front ++ part)
-  pub told_is : call.told
-      ≡ length (bytes_of_pieces (pieces_of m at front ++ interim_pieces cutting.interim))
+  pub told_is : call.told ≡ length (bytes_of_pieces ((steps_effect m at front).pieces
+      ++ interim_pieces cutting.interim))
   pub said : call.unsaid ≡ false
 
 -- behind a call of `hear` that failed nothing more was heard or told
@@ -205,45 +171,30 @@ pub record IsServed {State Request : Type 0} (m : Machine State Request) (at : S
     (c : Connection) (session : Session Request) : Type 0 where
   pub rest : List ℕ
   pub steps : AreSteps m 0 at session.steps
-  pub few : answers_in (pieces_of m at session.steps) ≤ most_answers
+  pub few : answers_in (steps_effect m at session.steps).pieces ≤ most_answers
   pub heard : c.heard ≡ texts_of session.steps ++ rest
-  pub rest_is : RestIs m 0 session.steps session.link rest
-  pub told : IsTold (stops_in_answer session.steps) session.link c.told
-      (pieces_of m at session.steps)
-  pub unheard : c.unheard ≡ has_hearing_failed session.link
-  pub unsaid : c.unsaid ≡ has_saying_failed session.link
-  pub ended : EndIs m session.steps session.link c.ended
+  pub told : IsTold (stop_of (last_step session.steps)) session.link c.told
+      (steps_effect m at session.steps).pieces
+  pub ends : EndsBy m (length session.steps - 1) (last_step session.steps) session.link c.ended
+      rest
+  pub unheard : IsTrue c.unheard ↔ (session.link ≡ Hearing)
+  pub unsaid : IsTrue c.unsaid ↔ (session.link ≡ Saying)
   pub owes : AllByRecursion (OwesNothing m at c.heard session.steps) c.hearings
   pub last : AllByRecursion (IsLastHearing c) c.hearings
 
 -- ---- connections one after another
 
--- what each of them is to be told
-abbrev pub scripts_of : {State Request : Type 0} → Machine State Request → Stage State
-    → List (Session Request) → List (List Piece)
-scripts_of m at [] = []
-scripts_of m at (session ∷ later) =
-    pieces_of m at session.steps ∷ scripts_of m (after_steps m at session.steps) later
+-- what each of them comes to
+abbrev pub session_effects : {State Request : Type 0} → Machine State Request → Stage State
+    → List (Session Request) → List (Effect State)
+session_effects m at [] = []
+session_effects m at (session ∷ later) =
+    steps_effect m at session.steps ∷ session_effects m (after_steps m at session.steps) later
 
--- all their changes
-abbrev pub all_changes : {State Request : Type 0} → Machine State Request → Stage State
-    → List (Session Request) → List State
-all_changes m at [] = []
-all_changes m at (session ∷ later) =
-    changes_of m at session.steps ++ all_changes m (after_steps m at session.steps) later
-
--- all moments that they took
-abbrev pub all_moments : {State Request : Type 0} → Machine State Request → Stage State
-    → List (Session Request) → List ℕ
-all_moments m at [] = []
-all_moments m at (session ∷ later) =
-    moments_of m at session.steps ++ all_moments m (after_steps m at session.steps) later
-
--- the stage after them
-abbrev pub after_sessions : {State Request : Type 0} → Machine State Request → Stage State
-    → List (Session Request) → Stage State
-after_sessions m at [] = at
-after_sessions m at (session ∷ later) = after_sessions m (after_steps m at session.steps) later
+-- what all of them come to
+abbrev pub run_effect : {State Request : Type 0} → Machine State Request → Stage State
+    → List (Session Request) → Effect State
+run_effect m at sessions = together (session_effects m at sessions)
 
 -- Connections were served one after another, each by its session. A fault of the disk ends the last
 -- one.
@@ -253,5 +204,16 @@ AreServed m at [] [] = Unit {0}
 AreServed m at [] (session ∷ later) = ⊥
 AreServed m at (c ∷ cs) [] = ⊥
 AreServed m at (c ∷ cs) (session ∷ later) =
-    IsServed m at c session × (stops session.steps ≡ true → later ≡ [])
+    IsServed m at c session × (stop_of (last_step session.steps) ≢ None → later ≡ [])
     × AreServed m (after_steps m at session.steps) cs later
+
+-- the failure of the disk with which the last of these connections ended, where one did
+abbrev pub failure_of : {Request : Type 0} → List (Session Request) → Option Failure
+failure_of sessions = stop_of (last_or None (map (λ session. last_step session.steps) sessions))
+
+-- whether the record of a change was being written when the disk failed
+abbrev pub is_writing : Option Failure → Bool
+is_writing None = false
+is_writing (Some (BeforeAnswer writing)) = writing
+is_writing (Some InAnswer) = false
+is_writing (Some (InTurn writing)) = writing

@@ -1,11 +1,9 @@
 -- What a run has told and changed so far, and what a crash may leave of it.
-use Rattle.std.specs.Prelude.{◌≤◌, ◌-◌, ℕ, zero, suc, max, List, [], ◌∷◌, ◌++◌, length, map, take}
-use Rattle.std.specs.List.{AllByRecursion}
-use Rattle.site_edge.specs.Links.{change_last}
+use Rattle.std.specs.Prelude.{◌≤◌, ◌-◌, ℕ, zero, suc, max, List, [], ◌∷◌, length, map, take}
 use Rattle.site_edge.specs.Saying.{ArePrefixes}
 use Rattle.run_history.specs.Machine.{Machine}
-use Rattle.run_history.specs.Steps.{Effect, Piece, Interim, Reply, Stage, last_or}
-use Rattle.run_history.specs.Sessions.{Session, bytes_of_pieces, scripts_of, all_changes}
+use Rattle.run_history.specs.Steps.{Piece, Interim, Reply, Stage, last_or}
+use Rattle.run_history.specs.Sessions.{Session, answers_in, bytes_of_pieces, run_effect, session_effects}
 
 -- What a run comes to, without its steps: the script of each connection, the first state, and the
 -- state after each change.
@@ -22,9 +20,9 @@ start_of from = record { made = 0; state = from }
 abbrev pub trace_of : {State Request : Type 0} → Machine State Request → State
     → List (Session Request) → Trace State
 trace_of m from sessions = record {
-  scripts = scripts_of m (start_of from) sessions;
+  scripts = map (λ e. e.pieces) (session_effects m (start_of from) sessions);
   first = from;
-  changes = all_changes m (start_of from) sessions;
+  changes = (run_effect m (start_of from) sessions).changes;
 }
 
 -- its states, the first one and one after each change
@@ -64,32 +62,15 @@ pub record IsLeft {State Request : Type 0} (m : Machine State Request) (t : Trac
   pub acknowledged : begun t.scripts told ≤ count
   pub prefixes : ArePrefixes told (map bytes_of_pieces t.scripts)
 
--- ---- how a trace grows
+-- how many answers a run gave, how many changes it made, and how many turns it skipped
+pub record RunCounts : Type 0 where
+  pub answers : ℕ
+  pub changes : ℕ
+  pub skipped : ℕ
 
--- by a change, before its answer
-abbrev pub then_change : {State : Type 0} → State → Trace State → Trace State
-then_change s t = record t { changes = t.changes ++ s ∷ [] }
-
--- by a piece of the connection under way
-abbrev pub with_piece : {State : Type 0} → Piece → Trace State → Trace State
-with_piece p t = record t { scripts = change_last (λ script. script ++ p ∷ []) t.scripts }
-
--- by a connection
-abbrev pub with_connection : {State : Type 0} → Trace State → Trace State
-with_connection t = record t { scripts = t.scripts ++ [] ∷ [] }
-
--- by what a step comes to
-abbrev pub with_effect : {State : Type 0} → Effect State → Trace State → Trace State
-with_effect e t = record t {
-  scripts = change_last (λ script. script ++ e.pieces) t.scripts;
-  changes = t.changes ++ e.changes;
-}
-
--- the number of changes that a piece counts
-abbrev pub counted_by : Piece → ℕ
-counted_by (Interim bytes) = 0
-counted_by (Reply bytes made) = made
-
--- each piece counts at most so many changes
-abbrev pub CountAtMost : ℕ → List (List Piece) → Type 0
-CountAtMost n = AllByRecursion (AllByRecursion (λ p. counted_by p ≤ n))
+-- the numbers of connections, from a state
+abbrev pub counts_of_run : {State Request : Type 0} → Machine State Request → State
+    → List (Session Request) → RunCounts
+counts_of_run m from sessions =
+    let all = run_effect m (start_of from) sessions in
+    record { answers = answers_in all.pieces; changes = length all.changes; skipped = all.skipped }

@@ -3,12 +3,11 @@
 use Rattle.std.specs.Prelude.{◌≡◌, ◌+◌, ◌-◌, ℕ, true, false, List, [], ◌∷◌, length, Option, Some, None, nat_lt, if◌then◌else◌}
 use Rattle.disk_trait.specs.Device.{Connection, Gave, HearCall, HearEnd, Unheard}
 use Rattle.run_history.specs.Machine.{Machine, MachineReply, BeforeAnswer, InAnswer, InTurn}
-use Rattle.run_history.specs.Steps.{TakenRequest, CanFail, Step, Answered, Refused, Starved, Stopped, Cut, Made, Piece, Interim}
+use Rattle.run_history.specs.Steps.{TakenRequest, IsStep, Step, Answered, Refused, Starved, Stopped, Cut, Made, Piece, Interim}
 use Rattle.run_history.specs.Steps as steps
-use Rattle.run_history.specs.Sessions.{Hearing, IsServed, LinkEnd, Saying, Session, Whole, all_moments, scripts_of, skips_in}
-use Rattle.run_history.specs.Handing.{all_cut, all_handed}
+use Rattle.run_history.specs.Sessions.{Hearing, IsServed, LinkEnd, Saying, Session, Whole, run_effect}
 use Rattle.run_history.specs.Runs.{StandsNow}
-use Rattle.run_history.specs.Traces.{Trace, begun, start_of, states_of, trace_of}
+use Rattle.run_history.specs.Traces.{Trace, begun, counts_of_run, start_of, states_of, trace_of}
 
 -- what the small machine is asked: to show its number, or to add to it
 pub data Demand : Type 0 where
@@ -82,23 +81,24 @@ six =
 -- was cut, and what had begun, by what was told when a crash came: an interim alone, a byte of the
 -- second connection's answer, all of its answers, and a byte of the last one.
 pub record SixSteps : Type 0 where
-  pub scripts : scripts_of adder (start_of 3) six ≡
+  pub scripts : (trace_of adder 3 six).scripts ≡
       (Interim (1 ∷ []) ∷ steps.Reply (101 ∷ 1 ∷ []) 1 ∷ steps.Reply (4 ∷ []) 1 ∷ [])
       ∷ (Interim (1 ∷ []) ∷ steps.Reply (101 ∷ 3 ∷ []) 2 ∷ steps.Reply (5 ∷ []) 3 ∷ [])
       ∷ (Interim (1 ∷ []) ∷ [])
       ∷ (steps.Reply (100 ∷ 2 ∷ []) 3 ∷ [])
       ∷ []
   pub states : states_of (trace_of adder 3 six) ≡ 3 ∷ 4 ∷ 7 ∷ 2 ∷ []
-  pub moments : all_moments adder (start_of 3) six ≡ 10 ∷ 11 ∷ 12 ∷ 13 ∷ 14 ∷ []
-  pub handed : all_handed adder (start_of 3) six ≡ 11 + (13 + 20)
-  pub cut : all_cut adder six ≡ 1
-  pub none : begun (scripts_of adder (start_of 3) six) ((1 ∷ []) ∷ []) ≡ 0
-  pub first : begun (scripts_of adder (start_of 3) six) ((1 ∷ 101 ∷ []) ∷ []) ≡ 1
-  pub second : begun (scripts_of adder (start_of 3) six)
+  pub moments : (run_effect adder (start_of 3) six).moments ≡ 10 ∷ 11 ∷ 12 ∷ 13 ∷ 14 ∷ []
+  pub handed : (run_effect adder (start_of 3) six).handed ≡ 11 + (13 + 20)
+  pub cut : (run_effect adder (start_of 3) six).cut ≡ 1
+  pub counts : counts_of_run adder 3 six ≡ record { answers = 5; changes = 3; skipped = 0 }
+  pub none : begun (trace_of adder 3 six).scripts ((1 ∷ []) ∷ []) ≡ 0
+  pub first : begun (trace_of adder 3 six).scripts ((1 ∷ 101 ∷ []) ∷ []) ≡ 1
+  pub second : begun (trace_of adder 3 six).scripts
       ((1 ∷ 101 ∷ 1 ∷ 4 ∷ []) ∷ (1 ∷ 101 ∷ []) ∷ []) ≡ 2
-  pub starved : begun (scripts_of adder (start_of 3) six)
+  pub starved : begun (trace_of adder 3 six).scripts
       ((1 ∷ 101 ∷ 1 ∷ 4 ∷ []) ∷ (1 ∷ 101 ∷ 3 ∷ 5 ∷ []) ∷ (1 ∷ []) ∷ []) ≡ 3
-  pub last : begun (scripts_of adder (start_of 3) six)
+  pub last : begun (trace_of adder 3 six).scripts
       ((1 ∷ 101 ∷ 1 ∷ 4 ∷ []) ∷ (1 ∷ 101 ∷ 3 ∷ 5 ∷ []) ∷ (1 ∷ []) ∷ (100 ∷ []) ∷ []) ≡ 3
 
 -- One session with other failures: the turn skipped; the disk failed before an answer and in a
@@ -109,10 +109,10 @@ alone step = record { steps = step ∷ []; link = Whole } ∷ []
 pub record OtherSteps : Type 0 where
   pub skipped : states_of (trace_of adder 3 (alone (Answered (asks (Add 3) 1) steps.Skipped)))
       ≡ 3 ∷ 6 ∷ []
-  pub skipped_handed : all_handed adder (start_of 3)
-      (alone (Answered (asks (Add 3) 1) steps.Skipped)) ≡ 13
-  pub counted : skips_in
-      (Answered (asks (Add 3) 1) steps.Skipped ∷ Answered (asks Show 2) Made ∷ []) ≡ 1
+  pub skipped_handed : (run_effect adder (start_of 3)
+      (alone (Answered (asks (Add 3) 1) steps.Skipped))).handed ≡ 13
+  pub counted : counts_of_run adder 3 (alone (Answered (asks (Add 3) 1) steps.Skipped))
+      ≡ record { answers = 1; changes = 1; skipped = 1 }
   pub torn : trace_of adder 3 (alone (Stopped (asks (Add 3) 1) (BeforeAnswer true))) ≡
       record {
         scripts = (Interim (1 ∷ []) ∷ steps.Reply (6 ∷ []) 0 ∷ []) ∷ [];
@@ -231,13 +231,21 @@ broken_connection = unfailed (100 ∷ 0 ∷ []) (100 ∷ []) (hears 0 0 (Gave 2)
 abbrev pub broken_session : Session Demand
 broken_session = record { steps = Stopped (asks Show 14) InAnswer ∷ []; link = Whole }
 
--- The disk fails within an answer only of a machine that calls it there, and while a record is
--- being written only of a request that has a change.
+-- one that was told nothing of it
+abbrev pub mute_connection : Connection
+mute_connection = unfailed (100 ∷ 0 ∷ []) [] (hears 0 0 (Gave 2) ∷ [])
+
+-- The disk fails within an answer only of a machine that calls it there, and only once a byte of
+-- the answer was told; and while a record is being written only of a request that has a change.
 pub record Failing : Type 0 where
   pub within : IsServed adder (start_of 2) broken_connection broken_session
+  pub mute : (link : LinkEnd) → ¬ (IsServed adder (start_of 2) mute_connection record {
+    steps = broken_session.steps;
+    link = link;
+  })
   pub not_within : ¬ (IsServed writing_adder (start_of 2) broken_connection broken_session)
-  pub writing : CanFail writing_adder 0 3 (asks (Add 3) 1) (BeforeAnswer true)
-  pub unchanged : ¬ (CanFail adder 0 3 (asks Show 1) (BeforeAnswer true))
+  pub writing : IsStep writing_adder 0 3 (Stopped (asks (Add 3) 1) (BeforeAnswer true))
+  pub unchanged : ¬ (IsStep adder 0 3 (Stopped (asks Show 1) (BeforeAnswer true)))
 
 -- ---- how a connection ends
 

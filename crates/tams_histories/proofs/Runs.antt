@@ -1,5 +1,5 @@
 -- The states of a run of the machine are a chain.
-use Rattle.std.proofs.Common.{◌≡◌, ℕ, Bool, true, false, List, [], ◌∷◌, Option, Some, None, Result, Ok, Err, refl, subst, unwrap_or, arith}
+use Rattle.std.proofs.Common.{◌≡◌, ℕ, Bool, true, false, List, [], ◌∷◌, Option, Some, None, Result, Ok, Err, refl, subst, unwrap_or}
 use Rattle.std.specs.Prelude.{IfOk, IfSome, IsTrue, if◌then◌else◌, option_map}
 use Rattle.std.specs.List.{AllByRecursion}
 use Rattle.std.proofs.lemmas.Bool.{false≢true}
@@ -21,11 +21,12 @@ use Rattle.media_rows.specs.Apply.{is_allowed, turn}
 use Rattle.media_rows.specs.Library.{Library}
 use Rattle.media_rows.specs.Media.{answer_to}
 use Rattle.media_rows.specs.Moments.{is_moment}
-use Rattle.run_history.specs.Machine.{Failure, BeforeAnswer, InAnswer, InTurn}
-use Rattle.run_history.specs.Sessions.{Session, after_steps, all_changes, all_moments, changes_of, moments_of}
-use Rattle.run_history.specs.Steps.{Answered, TakenRequest, Cut, Refused, Stage, Starved, Step, Stopped, stage_after, answered, effect, is_made, last_or, effect_of_stop}
+use Rattle.run_history.specs.Machine.{BeforeAnswer, Failure, InAnswer, InTurn}
+use Rattle.run_history.specs.Sessions.{Session, after_steps}
+use Rattle.run_history.specs.Steps.{Answered, Cut, Made, Refused, Skipped, Stage, Starved, Step, Stopped, TakenRequest, answered, effect, last_or, stage_after}
 use Rattle.run_history.proofs.Growth.{stages_count}
 use Rattle.run_history.specs.Traces.{start_of, states_of, trace_of}
+use Rattle.run_history.specs.Parts.{all_changes, all_moments, changes_of, moments_of}
 use Rattle.store_states.specs.Fitting.{fitted_by}
 use Rattle.store_states.specs.States.{StoreState}
 use Rattle.tams_http.specs.declared.ask.Ask as asked
@@ -148,8 +149,8 @@ module _ (sends : RequestsSendBytes) (allowed : AnswersAreAllowed) (turns : Turn
         (answer_links base ask.request ask.moment at.state time) (turn_links ask.moment (unwrap_or change at.state) time)
 
     stopped_chain : (at : Stage StoreState) (ask : TakenRequest TamsRequest) (failure : Failure)
-        → AllByRecursion IsTime (effect_of_stop (tams_machine base) at ask failure).moments
-        → Chain at.state (effect_of_stop (tams_machine base) at ask failure).changes
+        → AllByRecursion IsTime (effect (tams_machine base) at (Stopped ask failure)).moments
+        → Chain at.state (effect (tams_machine base) at (Stopped ask failure)).changes
     stopped_chain at ask (BeforeAnswer writing) times =
         chain_done at.state (answer_in base ask.request ask.moment at.state).change writing (answer_links base ask.request ask.moment at.state times.0)
     stopped_chain at ask InAnswer times = answered_chain at ask false times.0
@@ -157,7 +158,8 @@ module _ (sends : RequestsSendBytes) (allowed : AnswersAreAllowed) (turns : Turn
 
     step_chain : (at : Stage StoreState) (step : Step TamsRequest) → AllByRecursion IsTime (effect (tams_machine base) at step).moments
         → Chain at.state (effect (tams_machine base) at step).changes
-    step_chain at (Answered ask turned) times = answered_chain at ask (is_made turned) times.0
+    step_chain at (Answered ask Made) times = answered_chain at ask true times.0
+    step_chain at (Answered ask Skipped) times = answered_chain at ask false times.0
     step_chain at (Refused text refusal) times = tt
     step_chain at (Starved ask) times = tt
     step_chain at (Stopped ask failure) times = stopped_chain at ask failure times

@@ -3,7 +3,7 @@ use Rattle.std.specs.Prelude.{ℕ, List, [], ◌∷◌, All, IsTrue}
 use Rattle.std.specs.List.{AllByRecursion}
 use Rattle.media_rows.specs.Moments.{is_moment}
 use Rattle.store_states.specs.States.{StoreState}
-use Rattle.run_history.specs.Sessions.{Session, all_moments}
+use Rattle.run_history.specs.Sessions.{Session, run_effect}
 use Rattle.run_history.specs.Traces.{start_of, states_of, trace_of}
 use Rattle.tams_machine.specs.Laws.{KeepsBytes}
 use Rattle.tams_machine.specs.Machine.{tams_machine}
@@ -20,5 +20,5 @@ abbrev pub RunsKeepBytes : Type 0
 RunsKeepBytes = (base : List ℕ) (from : StoreState) (sessions : List (Session TamsRequest))
     → All (tams_machine base).good (states_of (trace_of (tams_machine base) from sessions))
     → All (λ moment. IsTrue (is_moment moment))
-    (all_moments (tams_machine base) (start_of from) sessions)
+    (run_effect (tams_machine base) (start_of from) sessions).moments
     → KeepBytes (states_of (trace_of (tams_machine base) from sessions))

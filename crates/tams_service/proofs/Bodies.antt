@@ -13,12 +13,12 @@ use Rattle.media_store.specs.Puts.{PutSeen}
 use Rattle.media_store.specs.Stores.{StoreSeen}
 use Rattle.store_states.specs.Kept.{AgreesWith, StoreView, kept_state}
 use Rattle.store_writes.specs.Writes.{Keeps}
-use Rattle.run_history.specs.Runs.{Reached}
+use Rattle.run_history.specs.Runs.{HasHanded}
 use Rattle.run_history.specs.Serving.{RunCounts}
-use Rattle.run_history.specs.Handing.{HasHanded}
 use Rattle.run_history.specs.Laws.{under_way}
 use Rattle.run_history.specs.Sessions.{Hearing, IsUnfinished, Whole}
 use Rattle.run_history.specs.Steps.{Cut}
+use Rattle.run_history.specs.Reaching.{Reached}
 use Rattle.connection_loop.specs.declared.ending.ConnectionEnd.{ConnectionEnd}
 use Rattle.connection_loop.specs.declared.ending.ConnectionEnd.TheVariants as endings
 use Rattle.connection_loop.specs.Turns.{SiteCalls, TurnLeads, held_with}

@@ -5,7 +5,8 @@ use Rattle.http_wire.specs.Framing.{wants_interim}
 use Rattle.store_states.specs.States.{StoreState}
 use Rattle.run_history.specs.Machine.{BeforeAnswer, InAnswer, InTurn}
 use Rattle.run_history.specs.Machine as runs
-use Rattle.run_history.specs.Steps.{Answered, TakenRequest, Effect, Piece, Reply, Stage, Starved, Stopped, Turned, effect, interim_pieces, is_made, last_or, told_pieces, where_done}
+use Rattle.run_history.specs.Steps.{Answered, Effect, Made, Piece, Reply, Skipped, Stage, Starved, Stopped, TakenRequest, Turned, effect, interim_pieces, last_or, telling, told_pieces, where_done}
+use Rattle.run_history.specs.Parts.{is_made, without_counts}
 use Rattle.tams_http.specs.Constants.{failure}
 use Rattle.tams_machine.specs.Answers.{answer_in, turn_in}
 use Rattle.tams_machine.specs.Machine.{tams_machine}
@@ -20,7 +21,7 @@ ask_of text r moment = record { text = text; request = r; moment = moment }
 
 -- an effect by its parts
 abbrev pub effect_by : List Piece → List StoreState → List ℕ → Effect StoreState
-effect_by pieces changes moments = record { pieces = pieces; changes = changes; moments = moments }
+effect_by pieces changes moments = record (telling pieces moments) { changes = changes }
 
 -- a reply behind the interim response, where it was said
 abbrev pub replied : Bool → List ℕ → ℕ → List Piece
@@ -50,7 +51,7 @@ module _ (p : RunPlace) (text : List ℕ) (r : TamsRequest) (moment : ℕ) (byte
   made_of at = effect_by (replied p.said bytes (at.made + length states)) (states ++ later) (moment ∷ [])
 
   here_so : (turned : Bool) → where_done turned (turn_in moment (last_or p.state states)) ≡ later → (at : Stage StoreState) → at.state ≡ p.state
-      → Rattle.run_history.specs.Steps.answered (tams_machine p.base) at (ask_of text r moment) turned ≡ made_of at
+      → without_counts (Rattle.run_history.specs.Steps.answered (tams_machine p.base) at (ask_of text r moment) turned) ≡ made_of at
   here_so turned behind at here =
       let reply = answer_in p.base r moment p.state in
       subst (λ s. effect_by (told_pieces (interim_of r.head) (answer_in p.base r moment s).bytes (at.made + length (option_to_list
@@ -62,17 +63,18 @@ module _ (p : RunPlace) (text : List ℕ) (r : TamsRequest) (moment : ℕ) (byte
 
   pub answered_effect : (turned : Turned) → where_done (is_made turned) (turn_in moment (last_or p.state states)) ≡ later
       → (at : Stage StoreState) → at.state ≡ p.state
-      → effect (tams_machine p.base) at (Answered (ask_of text r moment) turned) ≡ made_of at
-  answered_effect turned behind = here_so (is_made turned) behind
+      → without_counts (effect (tams_machine p.base) at (Answered (ask_of text r moment) turned)) ≡ made_of at
+  answered_effect Made behind = here_so true behind
+  answered_effect Skipped behind = here_so false behind
 
   -- the disk failed in the turn behind it, while its record was being written
   pub turning_effect : where_done true (turn_in moment (last_or p.state states)) ≡ later → (at : Stage StoreState) → at.state ≡ p.state
-      → effect (tams_machine p.base) at (Stopped (ask_of text r moment) (InTurn true)) ≡ made_of at
+      → without_counts (effect (tams_machine p.base) at (Stopped (ask_of text r moment) (InTurn true))) ≡ made_of at
   turning_effect behind = here_so true behind
 
   -- it failed within the answer
   pub reading_effect : [] ≡ later → (at : Stage StoreState) → at.state ≡ p.state
-      → effect (tams_machine p.base) at (Stopped (ask_of text r moment) InAnswer) ≡ made_of at
+      → without_counts (effect (tams_machine p.base) at (Stopped (ask_of text r moment) InAnswer)) ≡ made_of at
   reading_effect behind = here_so false behind
 
 -- ---- no answer
@@ -82,7 +84,7 @@ plus_none n = omega arith
 
 -- there was no memory
 pub starved_effect : (p : RunPlace) (text : List ℕ) (r : TamsRequest) (moment : ℕ) → p.said ≡ wants_interim r.head → (at : Stage StoreState)
-    → effect (tams_machine p.base) at (Starved (ask_of text r moment)) ≡ effect_by (replied p.said (failure 500) (at.made + 0)) [] (moment ∷ [])
+    → without_counts (effect (tams_machine p.base) at (Starved (ask_of text r moment))) ≡ effect_by (replied p.said (failure 500) (at.made + 0)) [] (moment ∷ [])
 starved_effect p text r moment interim at =
     ap (λ i. effect_by (told_pieces i (failure 500) at.made) [] (moment ∷ [])) (interim_is p.said r interim)
     ∙ ap (λ k. effect_by (replied p.said (failure 500) k) [] (moment ∷ [])) (plus_none at.made)
@@ -91,7 +93,7 @@ starved_effect p text r moment interim at =
 pub stopped_effect : (p : RunPlace) (text : List ℕ) (r : TamsRequest) (moment : ℕ) (writing : Bool) (states : List StoreState)
     → p.said ≡ wants_interim r.head → where_done writing (answer_in p.base r moment p.state).change ≡ states → (at : Stage StoreState)
     → at.state ≡ p.state
-    → effect (tams_machine p.base) at (Stopped (ask_of text r moment) (BeforeAnswer writing))
+    → without_counts (effect (tams_machine p.base) at (Stopped (ask_of text r moment) (BeforeAnswer writing)))
     ≡ effect_by (replied p.said (failure 503) (at.made + 0)) states (moment ∷ [])
 stopped_effect p text r moment writing states interim is at here =
     ap (λ s. effect_by (told_pieces (interim_of r.head) (failure 503) at.made) (where_done writing (answer_in p.base r moment s).change) (moment ∷ [])) here

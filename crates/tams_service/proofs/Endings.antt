@@ -17,7 +17,8 @@ use Rattle.run_history.specs.Serving.{RunCounts}
 use Rattle.run_history.specs.Sessions.{Saying, Whole}
 use Rattle.connection_loop.specs.declared.ending.ConnectionEnd.TheVariants as endings
 use Rattle.connection_loop.specs.Tallies.{plus_answer}
-use Rattle.connection_loop.specs.Turns.{ending_of, held_with}
+use Rattle.connection_loop.specs.Turns.{held_with}
+use Rattle.connection_loop.specs.Endings.{ending_of}
 use Rattle.tams_http.specs.Constants.{failure}
 use Rattle.tams_machine.specs.Answers.{answer_in}
 use Rattle.tams_machine.specs.Machine.{tams_machine}
@@ -54,13 +55,14 @@ module _ (old new : Device) (n now : RunCounts) (ok : Bool) (tells : old.tells �
         effect_is = λ at here. starved_effect p text r moment begun.interim at;
         told = said.connections tells;
         full = λ linked _. linked;
+        some = λ in_answer. absurd (false≢true in_answer);
         reached = changed_none (replied t [] (failure 500) 0 (omega arith) (λ no. absurd (false≢true no)) (changed_none asks.asking.reached) time);
         good = All-nil is_good;
         written = refl;
         handed = λ on. handed_nothing new asks same (Starved (ask_of text r moment)) refl refl;
       } in
       subst (λ k. EndsThere p new store (moment ∷ []) k endings.Starved) (sym counts)
-      (step_ends answered (KeepsState store new) endings.Starved refl tt tt (λ on. keeps_told store p.state ok (failure 500) old new keeps time))
+      (step_ends answered (KeepsState store new) endings.Starved refl tt (λ on. keeps_told store p.state ok (failure 500) old new keeps time))
 
   -- ---- the disk failed
 
@@ -84,6 +86,7 @@ module _ (old new : Device) (n now : RunCounts) (ok : Bool) (tells : old.tells �
               ∙ ap (λ c. effect_by (effects.replied p.said (failure 503) (at.made + 0)) c (moment ∷ [])) none;
           told = said.connections tells;
           full = λ linked _. linked;
+          some = λ in_answer. absurd (false≢true in_answer);
           reached = changed_none (replied t states (failure 503) 0 (omega arith) some changed.reached time);
           good = subst (All is_good) none changed.good;
           written = refl;
@@ -91,7 +94,7 @@ module _ (old new : Device) (n now : RunCounts) (ok : Bool) (tells : old.tells �
         } in
         subst (λ k. EndsThere p new store (moment ∷ []) k endings.Stopped)
         (ap (λ s. plus_answer (length s) false n) (append-nil states) ∙ sym counts)
-        (step_ends answered (KeepsState store new) endings.Stopped refl tt tt (λ on. absurd (false≢true (sym on))))
+        (step_ends answered (KeepsState store new) endings.Stopped refl tt (λ on. absurd (false≢true (sym on))))
 
     stopped_by : (states : List StoreState) (changes : ℕ) → ChangedAt p old (text ++ rest) n states (is_writing states) → FailedIn p text r moment states
         → length states ≡ changes → now ≡ plus_answer changes false n → EndsThere p new store (moment ∷ []) now endings.Stopped
@@ -124,6 +127,7 @@ module _ (base : List ℕ) (old new : Device) (store : StoreSeen) (n now : RunCo
     effect_is = λ at here. ap (λ k. effect_by (effects.replied p.said response k) [] []) (omega arith);
     told = said.connections tells;
     full = λ linked _. linked;
+    some = λ in_answer. absurd (false≢true in_answer);
     reached = changed_none (replied (asked_trace (tams_machine p.base) p.beginning p.said p.finished p.steps) [] response 0 (omega arith)
         (λ no. absurd (false≢true no)) (changed_none asks.asking.reached) time);
     good = All-nil is_good;
@@ -139,11 +143,11 @@ module _ (base : List ℕ) (old new : Device) (store : StoreSeen) (n now : RunCo
       (λ bytes. IsStep (tams_machine p.base) p.taken p.state (Refused all (record { interim = interim_where p.said; response = bytes })))
       (sym responded) (refused_step p.base p.taken p.state all p.said fed refusal refused) in
       subst (λ k. EndsThere p new store [] k (if ok then endings.Complete else endings.Unlinked)) (sym counts)
-      (step_ends (refused_at p all asks step) (KeepsState store new) (if ok then endings.Complete else endings.Unlinked) (ending_by ok) tt tt
+      (step_ends (refused_at p all asks step) (KeepsState store new) (if ok then endings.Complete else endings.Unlinked) (ending_if ok) tt
       (λ on. keeps_told store p.state ok response old new keeps time))
     where
-      ending_by : (k : Bool) → (if k then endings.Complete else endings.Unlinked)
+      ending_if : (k : Bool) → (if k then endings.Complete else endings.Unlinked)
           ≡ ending_of {Request = TamsRequest} (under_way (Refused all (record { interim = interim_where p.said; response = response }) ∷ [])
           (if k then Whole else Saying))
-      ending_by true = refl
-      ending_by false = refl
+      ending_if true = refl
+      ending_if false = refl

@@ -1,5 +1,5 @@
 -- What the calls behind a request's change lead to: by how its reply was said, and by what the turn behind it made.
-use Rattle.std.proofs.Common.{◌≡◌, ◌+◌, ℕ, Bool, true, false, cond, not, List, [], ◌∷◌, length, Option, None, Some, refl, sym, ap, ◌∙◌, subst, arith}
+use Rattle.std.proofs.Common.{◌≡◌, ◌≤◌, ◌+◌, ℕ, Bool, true, false, cond, not, List, [], ◌∷◌, length, Option, None, Some, refl, sym, ap, ◌∙◌, subst, arith}
 use Rattle.std.specs.Prelude.{is_some, option_to_list}
 use Rattle.std.proofs.lemmas.Bool.{false≢true}
 use Rattle.disk_trait.specs.Device.{Device}
@@ -65,13 +65,13 @@ turn_counts journal due moment Swept is =
 module _ (old mid new : Device) (store behind next : StoreSeen) (n : RunCounts) (bytes : List ℕ) (changes moment : ℕ) (ends : Bool) (t : AnswerTold)
     (all : TellsAllOf old) (says : Says (is_whole t) (is_linked t) bytes old mid) where
   -- A read of the object's bytes failed.
-  pub read_failed : not (is_told_unfailed t) ≡ true → FinishLeads old mid store behind n (plus_answer changes false n) bytes changes moment ends
+  pub read_failed : not (is_told_unfailed t) ≡ true → (is_linked t ≡ true → 1 ≤ length (says.connections all.tells).0) → FinishLeads old mid store behind n (plus_answer changes false n) bytes changes moment ends
       (Some endings.Stopped)
-  read_failed lost p text rest r states changed keeps request reply handed counts few =
+  read_failed lost begun p text rest r states changed keeps request reply handed counts few =
       let by = failed_is t lost in
       reading_stopped p old mid n bytes moment ends text rest r states (is_whole t)
       (is_linked t) all.tells says changed request reply handed behind changes by.0
-      by.1 counts
+      by.1 (begun by.1) counts
 
   -- ---- the turn behind it
 

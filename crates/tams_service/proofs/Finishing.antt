@@ -1,10 +1,10 @@
 -- A reply that was said, or a part of it, behind the changes of its request, and the turn behind it: what they lead to.
-use Rattle.std.proofs.Common.{◌≡◌, ◌≢◌, ◌<◌, ◌+◌, ◌==◌, ◌||◌, ℕ, suc, Bool, true, false, List, [], ◌∷◌, ◌++◌, length, All, Option, None, Some, inl, inr, if◌then◌else◌, refl, sym, ap, ◌∙◌, subst, append-nil, length-append, arith}
+use Rattle.std.proofs.Common.{◌≡◌, ◌≢◌, ◌<◌, ◌≤◌, ◌+◌, ◌==◌, ◌||◌, ℕ, suc, Bool, true, false, List, [], ◌∷◌, ◌++◌, length, All, Option, None, Some, inl, inr, if◌then◌else◌, refl, sym, ap, ◌∙◌, subst, append-nil, length-append, arith}
 use Rattle.std.specs.Prelude.{is_some, option_map, option_to_list}
 use Rattle.std.proofs.lemmas.Bool.{cases_lt, eq-eqb, false≢true}
 use Rattle.std.proofs.lemmas.List.Elements.{All-append, All-cons, All-nil}
 use Rattle.disk_trait.specs.Calls.{Elapses}
-use Rattle.disk_trait.specs.Device.{Device}
+use Rattle.disk_trait.specs.Device.{Device, Link}
 use Rattle.httparse.specs.Grammar.{RequestHead}
 use Rattle.media_rows.specs.declared.change.Change.{Change}
 use Rattle.media_rows.specs.Apply.{turn}
@@ -15,23 +15,25 @@ use Rattle.media_store.specs.Turns.{turn_change}
 use Rattle.store_states.specs.Kept.{AgreesWith}
 use Rattle.store_states.specs.States.{StoreState}
 use Rattle.run_history.specs.Machine.{InAnswer, InTurn}
-use Rattle.run_history.specs.Handing.{HasHanded}
 use Rattle.run_history.specs.Laws.{Wrote, under_way}
-use Rattle.run_history.specs.Runs.{Reached, stops_writing}
+use Rattle.run_history.specs.Runs.{HasHanded}
 use Rattle.run_history.specs.Traces.{Trace, state_now}
 use Rattle.run_history.specs.Serving.{RunCounts}
-use Rattle.run_history.specs.Sessions.{Saying, Whole, most_answers, stops, stops_in_answer}
-use Rattle.run_history.specs.Steps.{Answered, IsStep, Made, Skipped, Stage, Step, Stopped, Turned, after_answer, effect, is_made, last_or, step_text, where_done}
+use Rattle.run_history.specs.Sessions.{Saying, Whole, most_answers}
+use Rattle.run_history.specs.Steps.{Answered, IsStep, Made, Skipped, Stage, Step, Stopped, Turned, after_answer, effect, last_or, step_text, where_done}
+use Rattle.run_history.specs.Reaching.{Reached}
+use Rattle.run_history.specs.Parts.{is_made, stops, stops_in_answer, stops_writing, without_counts}
 use Rattle.connection_loop.specs.declared.ending.ConnectionEnd.TheVariants as endings
 use Rattle.connection_loop.specs.Tallies.{plus_answer}
-use Rattle.connection_loop.specs.Turns.{ending_of, held_with}
+use Rattle.connection_loop.specs.Turns.{held_with}
+use Rattle.connection_loop.specs.Endings.{ending_of}
 use Rattle.tams_machine.specs.Answers.{answer_handed, answer_in, is_turn_due, state_with_change, turn_handed, turn_in}
 use Rattle.tams_machine.specs.Laws.{TurnsKeepGood}
 use Rattle.tams_machine.specs.Machine.{tams_machine}
 use Rattle.tams_machine.specs.Requests.{TamsRequest, ends_behind}
 use Rattle.request_hearing.specs.Asking.{IsAnswerStep, asked_trace, counted_more, replied_trace, with_states}
 use Rattle.request_hearing.proofs.Asking.{kept_calls}
-use Rattle.request_hearing.proofs.AskingReached.{changed_none, changed_one, changed_torn, replied, state_now-replied, told_between}
+use Rattle.request_hearing.proofs.AskingReached.{changed_none, changed_one, changed_torn, replied, state_now-replied}
 use Rattle.tams_service.specs.Answering.{ChangedAt, EndsThere, HandedAt, IsMachineReply, IsRequest, LeadsTo, RunPlace}
 use Rattle.tams_service.specs.Keeping.{KeepsState}
 use Rattle.tams_service.specs.Saying.{Says}
@@ -86,8 +88,9 @@ module _ (p : RunPlace) (old mid : Device) (n : RunCounts) (bytes : List ℕ) (m
   module _ (new : Device) (step : Step TamsRequest) (later : List StoreState) (writing : Bool) (link : new.link ≡ mid.link)
       (is : IsStep (tams_machine p.base) p.taken p.state step) (text_is : step_text step ≡ text)
       (effect_is : (at : Stage StoreState) → at.state ≡ p.state
-      → effect (tams_machine p.base) at step ≡ made_of p text r moment bytes states reply request.interim later at)
+      → without_counts (effect (tams_machine p.base) at step) ≡ made_of p text r moment bytes states reply request.interim later at)
       (full : linked ≡ true → stops_in_answer (step ∷ []) ≡ false → whole ≡ true)
+      (some : stops_in_answer (step ∷ []) ≡ true → 1 ≤ length (says.connections tells).0)
       (reached : Reached (tams_machine p.base) p.beginning (with_states later told_trace) whole writing new)
       (good : All is_good later) (written : stops_writing (step ∷ []) ≡ writing)
       (handed_on : stops (step ∷ []) ≡ false
@@ -99,8 +102,13 @@ module _ (p : RunPlace) (old mid : Device) (n : RunCounts) (bytes : List ℕ) (m
       is = is;
       text = ap (λ t. t ++ rest) (sym text_is);
       effect_is = effect_is;
-      told = told_between linked old old mid new refl link (says.connections tells);
+      told = (
+        (says.connections tells).0,
+        (says.connections tells).1,
+        ap (λ (l : Link). l.connections) link ∙ (says.connections tells).2,
+      );
       full = full;
+      some = some;
       reached = reached;
       good = All-append is_good states later changed.good good;
       written = written;
@@ -109,16 +117,16 @@ module _ (p : RunPlace) (old mid : Device) (n : RunCounts) (bytes : List ℕ) (m
 
   -- ---- the disk failed within the answer
 
-  pub reading_stopped : (store : StoreSeen) (changes : ℕ) → whole ≡ false → linked ≡ true → length states ≡ changes
-      → EndsThere p mid store (moment ∷ []) (plus_answer changes false n) endings.Stopped
-  reading_stopped store changes part on is =
+  pub reading_stopped : (store : StoreSeen) (changes : ℕ) → whole ≡ false → linked ≡ true → 1 ≤ length (says.connections tells).0
+      → length states ≡ changes → EndsThere p mid store (moment ∷ []) (plus_answer changes false n) endings.Stopped
+  reading_stopped store changes part on begun is =
       let step = Stopped (ask_of text r moment) InAnswer in
       let a = answered mid step [] false refl (tt, request.spells) refl
       (reading_effect p text r moment bytes states reply request.interim [] refl)
-      (λ _ no. absurd (false≢true (sym no))) (changed_none reached_reply) (All-nil is_good) refl (λ on. absurd (false≢true (sym on))) in
+      (λ _ no. absurd (false≢true (sym no))) (λ _. begun) (changed_none reached_reply) (All-nil is_good) refl (λ on. absurd (false≢true (sym on))) in
       subst (λ k. EndsThere p mid store (moment ∷ []) k endings.Stopped)
       (ap (λ k. plus_answer k false n) (ap length (append-nil states) ∙ is))
-      (step_ends a (KeepsState store mid) endings.Stopped (by_link linked) tt tt (λ on. absurd (false≢true (sym on))))
+      (step_ends a (KeepsState store mid) endings.Stopped (by_link linked) tt (λ on. absurd (false≢true (sym on))))
     where
       by_link : (l : Bool) → endings.Stopped ≡ ending_of
           (under_way (Stopped (ask_of text r moment) InAnswer ∷ []) (if l then Whole else Saying))
@@ -140,7 +148,7 @@ module _ (p : RunPlace) (old mid : Device) (n : RunCounts) (bytes : List ℕ) (m
     turned_leads turned later k skipped behind is reached good keeps later_handed counts_are =
         let step = Answered (ask_of text r moment) turned in
         let a = answered new step later false link is refl
-        (answered_effect p text r moment bytes states reply request.interim later turned behind) (λ on _. same ∙ on) reached good (written_of turned)
+        (answered_effect p text r moment bytes states reply request.interim later turned behind) (λ on _. same ∙ on) (λ in_answer. absurd (false≢true in_answer)) reached good (written_of turned)
         (λ on. step_handed turned later_handed) in
         subst (λ c. LeadsTo p new next moment rest c (answered_ending linked ends)) counts_are
         (answer_leads turned linked ends a request.ends_is (few_more p text ends r request few) (KeepsState next new) keeps)
@@ -166,11 +174,11 @@ module _ (p : RunPlace) (old mid : Device) (n : RunCounts) (bytes : List ℕ) (m
     turn_stopped after is some reached good =
         let step = Stopped (ask_of text r moment) (InTurn true) in
         let a = answered new step (after ∷ []) true link (tt, (request.spells, some)) refl
-        (turning_effect p text r moment bytes states reply request.interim (after ∷ []) (ap (where_done true) is)) (λ on _. same ∙ on) reached
+        (turning_effect p text r moment bytes states reply request.interim (after ∷ []) (ap (where_done true) is)) (λ on _. same ∙ on) (λ in_answer. absurd (false≢true in_answer)) reached
         (All-cons is_good after [] good (All-nil is_good)) refl (λ on. absurd (false≢true (sym on))) in
         subst (λ k. EndsThere p new next (moment ∷ []) k endings.Stopped)
         (ap (λ k. plus_answer k false n) (omega (arith, length-append states (after ∷ []), counts)))
-        (step_ends a (KeepsState next new) endings.Stopped refl tt tt (λ on. absurd (false≢true (sym on))))
+        (step_ends a (KeepsState next new) endings.Stopped refl tt (λ on. absurd (false≢true (sym on))))
 
     -- ---- by what the store's turn made
 

@@ -1,12 +1,16 @@
 -- An answer that was planned, and whose change was written, or may have been when the disk failed.
-use Rattle.std.proofs.Common.{◌≡◌, ◌≢◌, ◌<◌, ◌+◌, ◌⊎◌, inl, inr, ◌++◌, ℕ, Bool, true, false, List, [], ◌∷◌, Option, None, Some, refl, sym, ap, ◌∙◌, subst, arith}
-use Rattle.std.specs.Prelude.{IfSome, option_map, option_to_list}
+use Rattle.std.proofs.Common.{◌≡◌, ◌≢◌, ◌<◌, ◌+◌, ◌⊎◌, inl, inr, ◌++◌, ℕ, Bool, true, false, List, [], ◌∷◌, length, Option, None, Some, refl, sym, ap, ◌∙◌, subst, arith, length-append}
+use Rattle.std.specs.List.{flat_map}
+use Rattle.std.specs.Prelude.{IfSome, codes, decimal, option_map, option_to_list, unwrap_or}
 use Rattle.std.proofs.lemmas.List.Elements.{All-cons, All-nil}
 use Rattle.disk_trait.specs.Device.{Device}
 use Rattle.http_wire.specs.Framing.{method_kind}
-use Rattle.http_wire.specs.Response.{body_unless}
+use Rattle.http.specs.StatusCode.{reason_phrase}
+use Rattle.http_wire.specs.Response.{body_unless, crlf, field_line, response_head, status_line}
+use Rattle.json_replies.specs.Replies.{reply_text}
 use Rattle.media_rows.specs.declared.change.Change.{Change}
 use Rattle.media_rows.specs.declared.object.Extent.{Extent}
+use Rattle.media_rows.specs.declared.reply.Reply.{Reply}
 use Rattle.media_rows.specs.Apply.{applied}
 use Rattle.media_rows.specs.Media.{fits_bytes}
 use Rattle.media_store.specs.Changes.{CameThere, IsAfterChange, ChangesStore, archive_next, bytes_by, bytes_if, kept_by, kept_with, stores}
@@ -24,7 +28,7 @@ use Rattle.connection_loop.specs.declared.ending.ConnectionEnd.TheVariants as en
 use Rattle.connection_loop.specs.Turns.{held_with}
 use Rattle.tams_answers.specs.Answers.{AnswersRequest, MediaFollows, following_bytes}
 use Rattle.tams_answers.specs.declared.answers.Answer.{Answer}
-use Rattle.tams_http.specs.Answered.{response_to}
+use Rattle.tams_http.specs.Answered.{Context, reply_status, response_fields, response_to}
 use Rattle.tams_machine.specs.Answers.{answer_handed, answer_in, asked_in, journal_of_state, object_bytes, outcome_of, state_with_change}
 use Rattle.tams_machine.specs.Machine.{tams_machine}
 use Rattle.tams_machine.specs.Requests.{TamsRequest, context_of, is_head_only}
@@ -208,3 +212,38 @@ module _ (p : RunPlace) (old mid new : Device) (n now : RunCounts) (text rest : 
 pub media_or_none : (A : Extent → Type 0) (B : Type 0) (media : Option Extent) → IfSome media (λ extent. A extent × B) → (media ≡ None) ⊎ B
 media_or_none A B None h = inl refl
 media_or_none A B (Some extent) h = inr h.1
+
+-- ---- a response has a byte
+
+longer : (xs ys : List ℕ) → 0 < length xs → 0 < length (xs ++ ys)
+longer xs ys some = omega (arith, some, length-append xs ys)
+
+line_some : (status : ℕ) → 0 < length (status_line status)
+line_some status =
+    let word : length (codes "HTTP/1.1 ") ≡ 9 = refl in
+    let phrase = unwrap_or (reason_phrase status) [] in
+    longer (codes "HTTP/1.1 " ++ decimal status ++ codes " " ++ phrase) crlf
+    (longer (codes "HTTP/1.1 " ++ decimal status ++ codes " ") phrase
+    (longer (codes "HTTP/1.1 " ++ decimal status) (codes " ") (longer (codes "HTTP/1.1 ") (decimal status) (omega (arith, word)))))
+
+response_some : (context : Context) (reply : Reply) → 0 < length (response_to context reply)
+unfolding response_to
+response_some context reply =
+    let status = reply_status reply in
+    let body = reply_text context.store context.base reply in
+    let fields = response_fields context reply body in
+    longer (response_head status fields) (body_unless context.head_only body)
+    (longer (status_line status ++ flat_map field_line fields) crlf (longer (status_line status) (flat_map field_line fields) (line_some status)))
+
+-- so has that of an answer, also where bytes of an object follow it
+pub response_there : (p : RunPlace) (r : TamsRequest) (moment : ℕ) (answer : Answer) → AnswersRequest p.base p.state r moment answer → {A : Type 0}
+    (media : Option A) → IfSome media (λ extent. 0 < length answer.response)
+response_there p r moment answer answers None = tt
+response_there p r moment answer answers (Some extent) =
+    let some = response_some (context_of p.state.archive.library.id p.base r) answer.planned.reply in
+    omega (arith, some, ap length answers.response)
+
+-- no bytes follow
+pub none_follows : {A : Type 0} (media : Option A) (n : ℕ) → media ≡ None → IfSome media (λ extent. 0 < n)
+none_follows None n is = tt
+none_follows (Some extent) n is = absurd cc

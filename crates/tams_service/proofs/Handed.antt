@@ -21,12 +21,13 @@ use Rattle.store_plans.specs.declared.puts.PutPlan.TheVariants.{Kept, Refused, W
 use Rattle.store_states.specs.Kept.{StoreView, kept_state}
 use Rattle.store_states.specs.States.{StoreState}
 use Rattle.change_codec.specs.Fitting.{State, fits}
-use Rattle.run_history.specs.Handing.{HasHanded, step_cut, step_handed}
 use Rattle.run_history.specs.Laws.{under_way}
 use Rattle.run_history.specs.Serving.{RunCounts}
-use Rattle.run_history.specs.Sessions.{Whole, after_sessions, after_steps}
+use Rattle.run_history.specs.Sessions.{Whole, after_steps}
 use Rattle.run_history.specs.Steps.{Step}
 use Rattle.run_history.specs.Traces.{start_of}
+use Rattle.run_history.specs.Runs.{HasHanded}
+use Rattle.run_history.specs.Parts.{after_sessions, step_cut, step_handed}
 use Rattle.run_history.proofs.Handed.{handed_more}
 use Rattle.tams_machine.specs.Answers.{fitting_turn, handed_if, journal_of_state, turn_handed}
 use Rattle.tams_machine.specs.Machine.{tams_machine}

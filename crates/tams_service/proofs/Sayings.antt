@@ -1,13 +1,13 @@
 -- Sayings one after another, with reads of the disk before them.
-use Rattle.std.proofs.Common.{◌≡◌, ℕ, Bool, true, false, ◌||◌, List, [], ◌++◌, inl, inr, refl, sym, ap, ◌∙◌, subst}
+use Rattle.std.proofs.Common.{◌≡◌, ◌≤◌, ℕ, Bool, true, false, ◌||◌, List, [], ◌++◌, length, inl, inr, refl, sym, ap, ◌∙◌, subst, arith}
 use Rattle.std.proofs.lemmas.Bool.{false≢true}
-use Rattle.std.proofs.lemmas.List.{append-nil, append_assoc}
+use Rattle.std.proofs.lemmas.List.{append-nil, append_assoc, length-append}
 use Rattle.disk_trait.specs.Device.{Connection, Device, Left, Link}
 use Rattle.disk_trait.specs.Calls.{Elapses, SameDevice, Unchanged}
 use Rattle.disk_trait.proofs.Theorems.{elapses_twice, elapses_weaker, no_time}
 use Rattle.site_edge.specs.Links.{Said, Sends, Tells, after_say, change_last}
 use Rattle.request_hearing.proofs.SiteLemmas.{change_last-itself, change_last-none, change_last-twice}
-use Rattle.tams_service.specs.Saying.{Says}
+use Rattle.tams_service.specs.Saying.{Says, SaysAnswer}
 
 -- ---- what was sent
 
@@ -152,3 +152,37 @@ says_none d = record {
       image = ap (λ (l : Left). l.image) same;
       told = ([], all_of_none, ap (λ (l : Left). l.told) same ∙ sym (change_last-none q.told));
     }
+
+-- ---- a response, and what follows it
+
+sent-more : (xs ys : List ℕ) (n : ℕ) → n ≤ length xs → n ≤ length (xs ++ ys)
+sent-more xs ys n least = omega (arith, least, length-append xs ys)
+
+-- it couldn't be said
+pub answers_part : (response behind : List ℕ) (old new : Device) → Says false false response old new → SaysAnswer false false response behind old new
+answers_part response behind old new says =
+    record { says = says_at_most response behind false old new says; front = λ tells linked. absurd (false≢true linked) }
+
+-- it was said whole, and nothing follows it
+pub answers_alone : (response : List ℕ) (old new : Device) → Says true true response old new → SaysAnswer true true response [] old new
+answers_alone response old new says = record {
+  says = record {
+    time = subst (λ b. Elapses (Tells false b) (Tells true b) old new) (sym (append-nil response)) says.time;
+    connections = λ tells.
+        let told = says.connections tells in
+        (told.0, subst (λ b. Sends true b told.0) (sym (append-nil response)) told.1, told.2);
+    handed = says.handed;
+  };
+  front = λ tells linked. let all = ap length ((says.connections tells).1.whole refl) in omega (arith, all);
+}
+
+-- it was said whole, and then what follows it, or a part of that
+pub answers_twice : (whole linked : Bool) (response behind : List ℕ) (old mid new : Device) → SameDevice old mid → Says true true response old mid
+    → Says whole linked behind mid new → SaysAnswer whole linked response behind old new
+unfolding says_twice
+answers_twice whole linked response behind old mid new same one two = record {
+  says = says_twice whole linked response behind old mid new same one two;
+  front = λ tells on.
+      let all = ap length ((one.connections tells).1.whole refl) in
+      sent-more (one.connections tells).0 (two.connections (same.tells ∙ tells)).0 (length response) (omega (arith, all));
+}

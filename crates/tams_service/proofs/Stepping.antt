@@ -1,21 +1,23 @@
 -- A step more of a connection, as a turn of it: what the turn leads to. Over any machine.
 use Rattle.std.proofs.Common.{◌≡◌, ◌≢◌, ◌<◌, ◌+◌, ℕ, Bool, true, false, List, [], ◌∷◌, ◌++◌, not, Option, None, Some, if◌then◌else◌, refl, sym, ap, ◌∙◌, subst}
-use Rattle.std.specs.Prelude.{option_to_list}
+use Rattle.std.specs.Prelude.{option_to_list, is_some}
 use Rattle.std.proofs.lemmas.Bool.{false≢true}
 use Rattle.disk_trait.specs.Device.{Device}
 use Rattle.site_edge.specs.Links.{change_last}
 use Rattle.run_history.specs.Machine.{Machine}
-use Rattle.run_history.specs.Steps.{Answered, TakenRequest, Cut, Stage, Step, Turned, is_last, is_there, last_or}
-use Rattle.run_history.specs.Sessions.{EndIs, IsUnfinished, LinkEnd, RestIs, Saying, Session, Whole, has_link_failed, most_answers, stops}
+use Rattle.run_history.specs.Steps.{Answered, Cut, Refused, Stage, Starved, Step, Stopped, TakenRequest, Turned, is_last, last_or}
+use Rattle.run_history.specs.Sessions.{EndsBy, Hearing, IsUnfinished, LinkEnd, Saying, Session, Whole, most_answers}
 use Rattle.run_history.specs.Traces.{start_of}
-use Rattle.run_history.specs.Runs.{Beginning, Reached}
-use Rattle.run_history.specs.Handing.{HasHanded}
+use Rattle.run_history.specs.Runs.{Beginning, HasHanded}
 use Rattle.run_history.specs.Laws.{under_way}
-use Rattle.run_history.specs.Serving.{RunCounts, Going, Held}
-use Rattle.run_history.proofs.Ends.{EndLike, end_like-push, open-going, stage-sessions}
+use Rattle.run_history.specs.Serving.{Going, Held, RunCounts}
+use Rattle.run_history.specs.Parts.{has_link_failed, stops}
+use Rattle.run_history.specs.Reaching.{Reached}
+use Rattle.run_history.proofs.Ends.{EndLike, end_like-push, stage-sessions}
 use Rattle.connection_loop.specs.declared.ending.ConnectionEnd.{ConnectionEnd}
 use Rattle.connection_loop.specs.declared.ending.ConnectionEnd.TheVariants as endings
-use Rattle.connection_loop.specs.Turns.{EndsAs, GoesOn, TurnLeads, ending_of}
+use Rattle.connection_loop.specs.Turns.{EndsAs, GoesOn, TurnLeads}
+use Rattle.connection_loop.specs.Endings.{ending_by, ending_of}
 use Rattle.std.specs.List.{AllByRecursion}
 use Rattle.request_hearing.specs.Hearing.{HearPart, HearsAndSays, IsPartOf, after_hearing, interim_bytes, interim_where}
 use Rattle.request_hearing.specs.Asking.{Asking, IsAnswerStep, WaitsFor, asked_trace, counted_more}
@@ -27,7 +29,34 @@ use Rattle.request_hearing.proofs.Endings.{cut_state, ends_behind_request, ends_
 -- how steps end with the last one
 ending-like : {Request : Type 0} (steps : List (Step Request)) (step : Step Request) (link : LinkEnd) → EndLike (steps ++ step ∷ []) step
     → ending_of (under_way (steps ++ step ∷ []) link) ≡ ending_of (under_way (step ∷ []) link)
-ending-like steps step link like = rw (like.stops, like.starves, like.cut) refl
+ending-like steps step link like = ap (λ last. ending_by last link) like.last
+
+-- how steps end that leave their connection open
+ending-open : {State Request : Type 0} (m : Machine State Request) (steps : List (Step Request)) (link : LinkEnd) → AllByRecursion (λ step. is_last m step ≡ false) steps
+    → (if has_link_failed link then endings.Unlinked else endings.Complete) ≡ ending_of (under_way steps link)
+ending-open m [] Whole stay = refl
+ending-open m [] Hearing stay = refl
+ending-open m [] Saying stay = refl
+ending-open m (Answered a t ∷ []) Whole stay = refl
+ending-open m (Answered a t ∷ []) Hearing stay = refl
+ending-open m (Answered a t ∷ []) Saying stay = refl
+ending-open m (Refused a t ∷ []) link stay = absurd (false≢true (sym stay.0))
+ending-open m (Starved a ∷ []) link stay = absurd (false≢true (sym stay.0))
+ending-open m (Stopped a t ∷ []) link stay = absurd (false≢true (sym stay.0))
+ending-open m (Cut a i t ∷ []) link stay = absurd (false≢true (sym stay.0))
+ending-open m (x ∷ y ∷ steps) link stay = ending-open m (y ∷ steps) link stay.1
+
+-- and how those whose last one is cut
+cut_by : (Request : Type 0) (text : List ℕ) (interim : Option (List ℕ)) (moment : Option ℕ) (link : LinkEnd)
+    → (if has_link_failed link then endings.Unlinked else endings.Cut) ≡ ending_by {Request = Request} (Some (Cut text interim moment)) link
+cut_by Request text interim moment Whole = refl
+cut_by Request text interim moment Hearing = refl
+cut_by Request text interim moment Saying = refl
+
+ending-cut : {Request : Type 0} (steps : List (Step Request)) (text : List ℕ) (interim : Option (List ℕ)) (moment : Option ℕ) (link : LinkEnd)
+    → (if has_link_failed link then endings.Unlinked else endings.Cut) ≡ ending_of (under_way (steps ++ Cut text interim moment ∷ []) link)
+ending-cut {Request} steps text interim moment link =
+    cut_by Request text interim moment link ∙ sym (ending-like steps (Cut text interim moment) link (end_like-push steps (Cut text interim moment)))
 
 -- ---- an answer
 
@@ -58,14 +87,14 @@ module _ {State Request : Type 0} {m : Machine State Request} {b : Beginning Sta
   link_behind = if linked then Whole else Saying
 
   -- The connection has ended.
-  pub step_ends : (ending : ConnectionEnd) → ending ≡ ending_of (under_way (step ∷ []) link_behind) → RestIs m held.taken (step ∷ []) link_behind rest
-      → EndIs m (step ∷ []) link_behind false → (stops (step ∷ []) ≡ false → keeps (last_or held.state (states ++ later)))
+  pub step_ends : (ending : ConnectionEnd) → ending ≡ ending_of (under_way (step ∷ []) link_behind) → EndsBy m held.taken (Some step) link_behind false rest
+      → (stops (step ∷ []) ≡ false → keeps (last_or held.state (states ++ later)))
       → EndsAs m b new (given ++ moments) keeps finished (counted_more n (states ++ later) step) ending
-  step_ends ending ending_is rest_is end_is kept =
-      let like = end_like-push m steps step s.begun.so_far.stay in
+  step_ends ending ending_is ends kept =
+      let like = end_like-push steps step in
       record {
         session = under_way (steps ++ step ∷ []) link_behind;
-        served = answered_ends s rest_is end_is;
+        served = answered_ends s ends;
         unstopped = s.begun.so_far.unstopped;
         ending_is = ending_is ∙ sym (ending-like steps step link_behind like);
         kept = λ on. subst keeps (sym (answered_state s link_behind)) (kept (sym like.stops ∙ on));
@@ -81,9 +110,10 @@ pub answer_leads : {State Request : Type 0} {m : Machine State Request} {b : Beg
     (answered_ending linked last)
 answer_leads turned true false s ends few keeps kept = step_goes s keeps (s.full refl refl) refl ends (few refl) kept
 answer_leads turned true true s ends few keeps kept =
-    step_ends s keeps endings.Complete refl (λ stays. absurd (false≢true (sym stays ∙ ends))) (λ stays. absurd (false≢true (sym stays ∙ ends))) (λ on. kept)
+    step_ends s keeps endings.Complete refl (λ stays. absurd (false≢true (sym stays ∙ ends))) (λ on. kept)
 answer_leads turned false last s ends few keeps kept =
-    step_ends s keeps endings.Unlinked refl (λ stays whole. absurd (whole refl)) (λ stays whole. absurd (saying whole)) (λ on. kept)
+    step_ends s keeps endings.Unlinked refl
+    (λ stays. record { none_left = λ whole. absurd (whole refl); to_the_end = λ whole. absurd (saying whole) }) (λ on. kept)
   where
     saying : Saying ≡ Whole → ⊥
     saying same = cc
@@ -102,7 +132,7 @@ module _ {State Request : Type 0} {m : Machine State Request} {b : Beginning Sta
     session = under_way steps link;
     served = ends_behind_request m b old new given held finished steps n bytes said ended link g h waits tells at_end none silent not_saying;
     unstopped = g.unstopped;
-    ending_is = let going = open-going m steps g.stay in rw (going.stops, going.starves, going.cut) refl;
+    ending_is = ending-open m steps link g.stay;
     kept = λ on.
         subst keeps (g.state ∙ sym (ap (λ (at : Stage State). at.state) (stage-sessions m (start_of b.state) finished (under_way steps link)))) kept;
   }
@@ -112,7 +142,7 @@ module _ {State Request : Type 0} {m : Machine State Request} {b : Beginning Sta
       → Going m b old given held finished steps n
       → HearsAndSays parts bytes said (saying_held_on link) (not (has_link_failed link)) ended old new
       → AllByRecursion (λ p. WaitsFor m held.taken (held.unread ++ p.heard) p.told) parts → old.tells ≡ true → (link ≡ Whole → ended ≡ true)
-      → held.unread ++ bytes ≡ text ++ rest → text ≢ [] → m.cuts text (record { interim = interim_where said; takes_moment = is_there moment })
+      → held.unread ++ bytes ≡ text ++ rest → text ≢ [] → m.cuts text (record { interim = interim_where said; takes_moment = is_some moment })
       → (link ≢ Saying → (rest ≡ []) × IsUnfinished m held.taken text) → (link ≡ Saying → said ≡ true)
       → EndsAs m b new (given ++ option_to_list moment) keeps finished n (if has_link_failed link then endings.Unlinked else endings.Cut)
   within_ends bytes said ended link text rest moment g h waits tells at_end text_is some cuts unfinished saying = record {
@@ -120,7 +150,7 @@ module _ {State Request : Type 0} {m : Machine State Request} {b : Beginning Sta
     served = ends_within_request m b old new given held finished steps n bytes said ended link g h waits tells at_end text rest moment text_is some cuts unfinished
         saying;
     unstopped = g.unstopped;
-    ending_is = sym (ending-like steps (Cut text (interim_where said) moment) link (end_like-push m steps (Cut text (interim_where said) moment) g.stay));
+    ending_is = ending-cut steps text (interim_where said) moment link;
     kept = λ on. subst keeps (sym (cut_state (under_way-going g) said text moment link)) kept;
   }
 
@@ -132,14 +162,13 @@ module _ {State Request : Type 0} {m : Machine State Request} {b : Beginning Sta
       → AllByRecursion (λ p. WaitsFor m held.taken (held.unread ++ p.heard) (interim_bytes said ++ p.told)) parts
       → Reached m b (asked_trace m b said finished steps) true false new
       → link ≢ Saying → (link ≡ Whole → ended ≡ true) → held.unread ++ bytes ≡ text → text ≢ []
-      → m.cuts text (record { interim = interim_where said; takes_moment = is_there moment }) → IsUnfinished m held.taken text
+      → m.cuts text (record { interim = interim_where said; takes_moment = is_some moment }) → IsUnfinished m held.taken text
       → HasHanded m b (finished ++ under_way (steps ++ Cut text (interim_where said) moment ∷ []) Whole ∷ []) new.handed
       → EndsAs m b new (given ++ option_to_list moment) keeps finished n (if has_link_failed link then endings.Unlinked else endings.Cut)
   taken_ends parts bytes said ended link text moment a heard are waits reached not_saying at_end text_is some cuts unfinished handed = record {
     session = under_way (steps ++ Cut text (interim_where said) moment ∷ []) link;
     served = taken_cut a text moment parts bytes link ended heard are waits reached not_saying at_end text_is some cuts unfinished handed;
     unstopped = a.begun.so_far.unstopped;
-    ending_is =
-        sym (ending-like steps (Cut text (interim_where said) moment) link (end_like-push m steps (Cut text (interim_where said) moment) a.begun.so_far.stay));
+    ending_is = ending-cut steps text (interim_where said) moment link;
     kept = λ on. subst keeps (sym (cut_state a.begun.so_far said text moment link)) kept;
   }

@@ -14,7 +14,8 @@ use Rattle.run_history.specs.Serving.{RunCounts, Going}
 use Rattle.run_history.specs.Sessions.{Session}
 use Rattle.run_history.specs.Steps.{Step}
 use Rattle.connection_loop.specs.declared.ending.ConnectionEnd.{ConnectionEnd}
-use Rattle.connection_loop.specs.Turns.{TellsAll, TurnLeads, held_with}
+use Rattle.connection_loop.specs.Turns.{TurnLeads, held_with}
+use Rattle.connection_loop.specs.Endings.{TellsAll}
 use Rattle.tams_machine.specs.Machine.{tams_machine}
 use Rattle.tams_machine.specs.Requests.{TamsRequest, ends_behind}
 use Rattle.std.specs.List.{AllByRecursion}

@@ -14,12 +14,12 @@ use Rattle.media_store.specs.Stores.{StoreSeen}
 use Rattle.media_store.specs.declared.turns.TurnMade.{TurnMade}
 use Rattle.media_store.specs.declared.turns.TurnMade.TheVariants.{Deleted, NoRoom, Nothing, Swept}
 use Rattle.store_states.specs.States.{StoreState}
-use Rattle.run_history.specs.Runs.{Beginning, Reached}
+use Rattle.run_history.specs.Runs.{Beginning, HasHanded}
 use Rattle.run_history.specs.Serving.{RunCounts}
-use Rattle.run_history.specs.Handing.{HasHanded}
 use Rattle.run_history.specs.Laws.{under_way}
 use Rattle.run_history.specs.Sessions.{Session, Whole, most_answers}
 use Rattle.run_history.specs.Steps.{Step, last_or}
+use Rattle.run_history.specs.Reaching.{Reached}
 use Rattle.connection_loop.specs.declared.ending.ConnectionEnd.{ConnectionEnd}
 use Rattle.connection_loop.specs.declared.ending.ConnectionEnd.TheVariants.{Complete, Starved, Stopped, Unlinked}
 use Rattle.connection_loop.specs.Turns.{EndsAs, TurnLeads, held_with}

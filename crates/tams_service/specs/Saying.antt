@@ -1,6 +1,6 @@
 -- What it leaves of a site that an answer was said: the response, and behind it the bytes of an
 -- object, which are read in pieces between the sayings.
-use Rattle.std.specs.Prelude.{◌≡◌, Bool, true, false, ℕ, List}
+use Rattle.std.specs.Prelude.{◌≡◌, ◌≤◌, Bool, true, false, ℕ, List, ◌++◌, length}
 use Rattle.disk_trait.specs.Calls.{Elapses}
 use Rattle.disk_trait.specs.Device.{Device}
 use Rattle.site_edge.specs.Links.{Sends, Tells, after_say, change_last}
@@ -32,3 +32,11 @@ pub record Says (whole linked : Bool) (bytes : List ℕ) (old new : Device) : Ty
   pub connections : old.tells ≡ true → (sent : List ℕ) × Sends whole bytes sent
       × (new.link.connections ≡ change_last (after_say linked sent) old.link.connections)
   pub handed : new.handed ≡ old.handed
+
+-- The last connection was told a response and the bytes behind it, or a part of them. Where no
+-- saying failed the whole response was told.
+pub record SaysAnswer (whole linked : Bool) (response behind : List ℕ) (old new : Device) : Type 0
+  where
+    pub says : Says whole linked (response ++ behind) old new
+    pub front : (tells : old.tells ≡ true) → linked ≡ true
+        → length response ≤ length (says.connections tells).0

@@ -1,5 +1,5 @@
 //! Answers behind the change of a request: the reply is said, and the turn behind it is made.
-ghost use Rattle.std.specs.Prelude.{◌≡◌, ◌≤◌, ◌<◌, ◌+◌, ◌++◌, ◌^◌, true, IfSome, IsFalse, IsSome, IsTrue};
+ghost use Rattle.std.specs.Prelude.{◌≡◌, ◌≤◌, ◌<◌, ◌+◌, ◌++◌, ◌^◌, true, length, IfSome, IsFalse, IsSome, IsTrue};
 ghost use Rattle.media_rows.specs.Moments.{is_moment};
 ghost use Rattle.media_store.specs.Pieces.{IsExtent};
 ghost use Rattle.media_store.specs.Stores.{size_of};
@@ -59,7 +59,9 @@ impl TamsService {
         ensures needs { needs_in self.new.store ≤ needs_in self.old.store }
         ensures fed { self.new.fed ≡ self.old.fed }
         ensures base { self.new.base ≡ self.old.base }
-        ensures leads { TellsAllOf (X.device site.old) → FinishLeads (X.device site.old)
+        ensures leads { TellsAllOf (X.device site.old)
+            → IfSome reply.now.media (λ extent. 0 < length reply.now.response.now)
+            → FinishLeads (X.device site.old)
             (X.device site.new) self.old.store self.new.store tally.old tally.new
             (reply.now.response.now
             ++ following_bytes (media_start self.old.store.kept.journal.half) reply.now.media

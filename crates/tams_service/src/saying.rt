@@ -1,5 +1,5 @@
 //! Saying an answer.
-ghost use Rattle.std.specs.Prelude.{◌≡◌, ◌≤◌, ◌+◌, ◌++◌, ℕ, List, true, not, length, IfSome, IsFalse};
+ghost use Rattle.std.specs.Prelude.{◌≡◌, ◌≤◌, ◌+◌, ℕ, List, None, true, not, length, IfSome, IsFalse};
 ghost use Rattle.disk_trait.specs.Calls.{bytes_at};
 ghost use Rattle.object_blobs.specs.Extents.{extent_bytes};
 ghost use Rattle.store_states.specs.Kept.{AgreesWith};
@@ -7,7 +7,7 @@ ghost use Rattle.store_states.specs.States.{media_start};
 ghost use Rattle.media_store.specs.Pieces.{IsExtent};
 ghost use Rattle.media_store.specs.Stores.{size_of};
 ghost use Rattle.tams_answers.specs.Answers.{following_bytes};
-ghost use Rattle.tams_service.specs.Saying.{Says, is_told_unfailed, is_linked, is_whole};
+ghost use Rattle.tams_service.specs.Saying.{Says, SaysAnswer, is_told_unfailed, is_linked, is_whole};
 ghost use Rattle.tams_service.specs.Sites.{SiteCounts};
 
 use disk_trait::Failed;
@@ -50,9 +50,10 @@ pub(crate) fn say_answer<X: Site>(
     requires media { IfSome media (IsExtent store.old.kept.library) }
     requires room { length room.old ≡ PIECE }
     ensures calls { SiteCounts (is_linked result) (is_told_unfailed result) (X.device site.old) (X.device site.new) }
-    ensures says { (X.device site.old).shows ≡ true → Says (is_whole result) (is_linked result)
-        (response.now ++ following_bytes (media_start store.old.kept.journal.half) media
+    ensures says { (X.device site.old).shows ≡ true → SaysAnswer (is_whole result) (is_linked result)
+        response.now (following_bytes (media_start store.old.kept.journal.half) media
         (X.device site.old).seen) (X.device site.old) (X.device site.new) }
+    ensures bare { media ≡ None → is_told_unfailed result ≡ true }
     ensures keeps { (held : List (List ℕ)) → AgreesWith (X.device site.old) store.old.kept held
         → AgreesWith (X.device site.new) store.old.kept held }
     ensures kept { store.new.kept ≡ store.old.kept }

@@ -1,21 +1,24 @@
 -- What a run has done where nothing failed: one that serves by its history, one of `format` by its end.
-use Rattle.std.proofs.Common.{◌≡◌, ◌≢◌, ◌⊎◌, ◌++◌, ◌∷◌, ◌||◌, ℕ, zero, suc, Bool, true, false, List, [], length, if◌then◌else◌, nat_lt, refl, sym, ap, ◌∙◌, subst, inl, inr, arith}
+use Rattle.std.proofs.Common.{◌≡◌, ◌≢◌, ◌⊎◌, ◌++◌, ◌∷◌, ℕ, zero, suc, Bool, true, false, List, [], length, Option, None, Some, if◌then◌else◌, nat_lt, refl, sym, ap, ◌∙◌, subst, inl, inr, arith}
+use Rattle.std.specs.Prelude.{is_some}
 use Rattle.std.proofs.lemmas.Bool.{false≢true, lt-ltb}
 use Rattle.std.proofs.lemmas.List.{append-nil}
 use Rattle.std.specs.List.{AllByRecursion}
 use Rattle.disk_trait.specs.Device.{Connection, Device}
 use Rattle.disk_trait.specs.Calls.{IsCounted, Rose}
 use Rattle.media_journal.specs.declared.header.Header.{Header}
-use Rattle.run_history.specs.Sessions.{AreServed, Hearing, IsServed, IsTold, LinkEnd, Saying, Session, Whole, has_link_failed, pieces_of, skips_in, stops, stops_in_answer}
-use Rattle.run_history.specs.Serving.{RunCounts, counts_of_run, is_cut, run_stops, starves}
+use Rattle.run_history.specs.Sessions.{AreServed, Hearing, IsServed, IsTold, LinkEnd, Saying, Session, Whole, failure_of, last_step, steps_effect, stop_of}
+use Rattle.run_history.specs.Serving.{RunCounts}
 use Rattle.run_history.specs.Steps.{Answered, Cut, Refused, Starved, Step, Stopped}
-use Rattle.run_history.specs.Traces.{start_of}
+use Rattle.run_history.specs.Traces.{counts_of_run, start_of}
+use Rattle.run_history.specs.Parts.{run_stops, stops}
+use Rattle.run_history.proofs.Ends.{or_left, or_right, unstopped}
+use Rattle.run_history.specs.Machine.{Failure}
 use Rattle.connection_loop.specs.declared.ending.ConnectionEnd.{ConnectionEnd}
 use Rattle.connection_loop.specs.declared.ending.ConnectionEnd.TheVariants as endings
 use Rattle.connection_loop.specs.declared.run.RunEnd.{RunEnd}
 use Rattle.connection_loop.specs.declared.run.RunEnd.TheVariants as run_ends
-use Rattle.connection_loop.specs.Loops.{AreCounted}
-use Rattle.connection_loop.specs.Loops as loops
+use Rattle.connection_loop.specs.Endings.{AreCounted, RunEnds, ending_by, ending_of}
 use Rattle.store_states.specs.States.{StoreState}
 use Rattle.tams_machine.specs.Machine.{tams_machine}
 use Rattle.tams_machine.specs.Requests.{TamsRequest}
@@ -23,7 +26,7 @@ use Rattle.tams_top.specs.declared.outcome.RunOutcome.{RunOutcome}
 use Rattle.tams_top.specs.declared.outcome.RunOutcome.TheVariants.{Formatted, Checked, Worked, Served, NotStore, AlreadyStore, TooSmall, Damaged, DiskFault, NoMemory, LinkFault}
 use Rattle.tams_top.specs.declared.words.Invocation.TheVariants.{Format, Check, Work}
 use Rattle.tams_top.specs.Words.{IsCommand}
-use Rattle.tams_top.specs.Completeness.{AreServedWhole, IsAnswered, IsServedWhole, NoneRose, OneAnswered}
+use Rattle.tams_top.specs.Completeness.{AreServedWhole, EndsWell, IsAnswered, IsServedWhole, NoneRose, OneAnswered}
 use Rattle.tams_top.specs.Histories.{EndsWithoutPeer, OnePeer, Replayed, ServedAll, beginning, replay_outcome, serve_outcome}
 use Rattle.tams_top.specs.Running.{CheckEnds, CommandEnds, FormatRunEnds, EndsWithCause, WorkCause, no_disk_fault, status_of}
 use Rattle.tams_top.proofs.WordTheorems.{one_command}
@@ -33,17 +36,10 @@ no_disk old new o counts none is = none.disk (counts.rises (rw is refl))
 
 -- ---- how a connection ended where nothing failed
 
--- by what ended it
-pub record EndedWell (stopped starved failed cut : Bool) (skipped status : ℕ) : Type 0 where
-  pub on : stopped ≡ false
-  pub fed : starved ≡ false
-  pub linked : failed ≡ false
+-- by how it ended, with no turn skipped
+pub record EndedWell (end : ConnectionEnd) (skipped status : ℕ) : Type 0 where
   pub made : skipped ≡ 0
-  pub by_input : status ≡ (if cut then 6 else 0)
-
-abbrev pub ending_by : Bool → Bool → Bool → Bool → ConnectionEnd
-ending_by stopped starved failed cut =
-    if stopped then endings.Stopped else if starved then endings.Starved else if failed then endings.Unlinked else if cut then endings.Cut else endings.Complete
+  pub ends : EndsWell end status
 
 abbrev pub FailsBy : RunOutcome → Type 0
 FailsBy o = (o ≡ DiskFault) ⊎ ((o ≡ LinkFault) ⊎ (status_of o ≡ 4))
@@ -58,34 +54,44 @@ some_skipped true o e = inr (inr refl)
 some_skipped false o e = absurd (false≢true e)
 
 -- it ended well, or the outcome says what failed
-well_by : (stopped starved failed cut : Bool) (answers changes skipped : ℕ) (some : Bool) → nat_lt 0 skipped ≡ some
-    → EndedWell stopped starved failed cut skipped
-    (status_of (replay_outcome (ending_by stopped starved failed cut) (record { answers = answers; changes = changes; skipped = skipped })))
-    ⊎ FailsBy (replay_outcome (ending_by stopped starved failed cut) (record { answers = answers; changes = changes; skipped = skipped }))
-well_by true starved failed cut answers changes skipped some e = inr (inl refl)
-well_by false true failed cut answers changes skipped some e = inr (inr (inr refl))
-well_by false false true cut answers changes skipped true e = inr (some_skipped (nat_lt 0 skipped) _ e)
-well_by false false true cut answers changes skipped false e = inr (rw e (inr (inl refl)))
-well_by false false false true answers changes skipped true e = inr (some_skipped (nat_lt 0 skipped) _ e)
-well_by false false false true answers changes skipped false e =
-    inl record { on = refl; fed = refl; linked = refl; made = none_skipped skipped e; by_input = rw e refl }
-well_by false false false false answers changes skipped true e = inr (some_skipped (nat_lt 0 skipped) _ e)
-well_by false false false false answers changes skipped false e =
-    inl record { on = refl; fed = refl; linked = refl; made = none_skipped skipped e; by_input = rw e refl }
+well_by : (end : ConnectionEnd) (answers changes skipped : ℕ) (some : Bool) → nat_lt 0 skipped ≡ some
+    → EndedWell end skipped (status_of (replay_outcome end (record { answers = answers; changes = changes; skipped = skipped })))
+    ⊎ FailsBy (replay_outcome end (record { answers = answers; changes = changes; skipped = skipped }))
+well_by endings.Stopped answers changes skipped some e = inr (inl refl)
+well_by endings.Starved answers changes skipped some e = inr (inr (inr refl))
+well_by endings.Unlinked answers changes skipped true e = inr (some_skipped (nat_lt 0 skipped) _ e)
+well_by endings.Unlinked answers changes skipped false e = inr (rw e (inr (inl refl)))
+well_by endings.Cut answers changes skipped true e = inr (some_skipped (nat_lt 0 skipped) _ e)
+well_by endings.Cut answers changes skipped false e = inl record { made = none_skipped skipped e; ends = rw e refl }
+well_by endings.Complete answers changes skipped true e = inr (some_skipped (nat_lt 0 skipped) _ e)
+well_by endings.Complete answers changes skipped false e = inl record { made = none_skipped skipped e; ends = rw e refl }
 
-linked-whole : (link : LinkEnd) → has_link_failed link ≡ false → link ≡ Whole
-linked-whole Whole e = refl
-linked-whole Hearing e = absurd (false≢true (sym e))
-linked-whole Saying e = absurd (false≢true (sym e))
+-- then no call of its link failed, nor did the disk
+well_link : (last : Option (Step TamsRequest)) (link : LinkEnd) (status : ℕ) → EndsWell (ending_by last link) status → link ≡ Whole
+well_link last Whole status well = refl
+well_link None Hearing status well = absurd well
+well_link None Saying status well = absurd well
+well_link (Some (Answered a t)) Hearing status well = absurd well
+well_link (Some (Answered a t)) Saying status well = absurd well
+well_link (Some (Refused a t)) Hearing status well = absurd well
+well_link (Some (Refused a t)) Saying status well = absurd well
+well_link (Some (Starved a)) Hearing status well = absurd well
+well_link (Some (Starved a)) Saying status well = absurd well
+well_link (Some (Stopped a t)) Hearing status well = absurd well
+well_link (Some (Stopped a t)) Saying status well = absurd well
+well_link (Some (Cut a i t)) Hearing status well = absurd well
+well_link (Some (Cut a i t)) Saying status well = absurd well
 
--- where the disk didn't fail it didn't within an answer
-unstopped-answer : (steps : List (Step TamsRequest)) → stops steps ≡ false → stops_in_answer steps ≡ false
-unstopped-answer [] e = refl
-unstopped-answer (Answered a t ∷ steps) e = unstopped-answer steps e
-unstopped-answer (Refused a t ∷ steps) e = unstopped-answer steps e
-unstopped-answer (Starved a ∷ steps) e = unstopped-answer steps e
-unstopped-answer (Stopped a t ∷ steps) e = absurd (false≢true (sym e))
-unstopped-answer (Cut a i t ∷ steps) e = unstopped-answer steps e
+well_disk : (last : Option (Step TamsRequest)) (link : LinkEnd) (status : ℕ) → EndsWell (ending_by last link) status → stop_of last ≡ None
+well_disk None link status well = refl
+well_disk (Some (Answered a t)) link status well = refl
+well_disk (Some (Refused a t)) link status well = refl
+well_disk (Some (Starved a)) link status well = refl
+well_disk (Some (Stopped a t)) link status well = absurd well
+well_disk (Some (Cut a i t)) link status well = refl
+
+pub well_unstopped : (session : Session TamsRequest) (status : ℕ) → EndsWell (ending_of session) status → stop_of (last_step session.steps) ≡ None
+well_unstopped session status well = well_disk (last_step session.steps) session.link status well
 
 -- the one connection of a run
 one_served : (base : List ℕ) (from : StoreState) (cs : List Connection) (session : Session TamsRequest)
@@ -101,20 +107,18 @@ none_served base from (c ∷ cs) served = absurd served
 
 answered : (base : List ℕ) (from : StoreState) (c : Connection) (session : Session TamsRequest) (status : ℕ)
     → IsServed (tams_machine base) (start_of from) c session
-    → EndedWell (stops session.steps) (starves session.steps) (has_link_failed session.link) (is_cut session.steps) (skips_in session.steps) status
+    → EndedWell (ending_of session) (steps_effect (tams_machine base) (start_of from) session.steps).skipped status
     → IsAnswered base from c session status
 answered base from c session status served well =
-    let pieces = pieces_of (tams_machine base) (start_of from) session.steps in
-    let whole = linked-whole session.link well.linked in
+    let pieces = (steps_effect (tams_machine base) (start_of from) session.steps).pieces in
+    let whole = well_link (last_step session.steps) session.link status well.ends in
     record {
       served = served;
       whole = whole;
-      fed = well.fed;
-      unstopped = well.on;
       made = well.made;
-      told = subst (λ (link : LinkEnd). IsTold false link c.told pieces) whole
-          (subst (λ (b : Bool). IsTold b session.link c.told pieces) (unstopped-answer session.steps well.on) served.told);
-      status_is = well.by_input;
+      told = subst (λ (link : LinkEnd). IsTold None link c.told pieces) whole
+          (subst (λ (failure : Option Failure). IsTold failure session.link c.told pieces) (well_unstopped session status well.ends) served.told);
+      ends = well.ends;
     }
 
 module _ (base : List ℕ) (from : StoreState) (old new : Device) (begun given : List ℕ) (o : RunOutcome)
@@ -144,15 +148,14 @@ module _ (base : List ℕ) (from : StoreState) (old new : Device) (begun given :
       let session = p.session in
       let one = one_served base from ran.connections session ran.served in
       let n = counts_of_run (tams_machine base) from (session ∷ []) in
-      let well = well_by (stops session.steps) (starves session.steps) (has_link_failed session.link) (is_cut session.steps) n.answers n.changes n.skipped
-      (nat_lt 0 n.skipped) refl in
+      let well = well_by (ending_of session) n.answers n.changes n.skipped (nat_lt 0 n.skipped) refl in
       elim well [
         | inl good ↦
-            let skips : skips_in session.steps ≡ 0 = let made = good.made in omega (arith, made) in (
+            let skips : (steps_effect (tams_machine base) (start_of from) session.steps).skipped ≡ 0 = let made = good.made in omega (arith, made) in (
               one.0,
               one.1,
               answered base from one.0 session (status_of o) one.2
-                  (record { on = good.on; fed = good.fed; linked = good.linked; made = skips; by_input = ap status_of p.outcome_is ∙ good.by_input }),
+                  (record { made = skips; ends = subst (EndsWell (ending_of session)) (sym (ap status_of p.outcome_is)) good.ends }),
             )
         | inr failed ↦ absurd (never (subst FailsBy (sym p.outcome_is) failed))
       ]
@@ -185,34 +188,33 @@ module _ (base : List ℕ) (from : StoreState) (old new : Device) (begun given :
 
   -- ---- `serve`
 
-  whole-by : (starved : Bool) (link : LinkEnd) (cut : Bool) → starved ≡ false
-      → (ending_by false starved (has_link_failed link) cut ≡ endings.Unlinked → Rose old.link.faults new.link.faults) → link ≡ Whole
-  whole-by true link cut e rose = absurd (false≢true (sym e))
-  whole-by false Whole cut e rose = refl
-  whole-by false Hearing cut e rose = absurd (none.link (rose refl))
-  whole-by false Saying cut e rose = absurd (none.link (rose refl))
-
-  no_stops : (a b : Bool) → a || b ≡ false → (a ≡ false) × (b ≡ false)
-  no_stops false false e = (refl, refl)
-  no_stops false true e = absurd (false≢true (sym e))
-  no_stops true b e = absurd (false≢true (sym e))
+  whole-by : (last : Option (Step TamsRequest)) (link : LinkEnd) → is_some (stop_of last) ≡ false → ending_by last link ≢ endings.Starved
+      → (ending_by last link ≡ endings.Unlinked → Rose old.link.faults new.link.faults) → link ≡ Whole
+  whole-by last Whole on fed rose = refl
+  whole-by None Hearing on fed rose = absurd (none.link (rose refl))
+  whole-by None Saying on fed rose = absurd (none.link (rose refl))
+  whole-by (Some (Answered a t)) Hearing on fed rose = absurd (none.link (rose refl))
+  whole-by (Some (Answered a t)) Saying on fed rose = absurd (none.link (rose refl))
+  whole-by (Some (Refused a t)) Hearing on fed rose = absurd (none.link (rose refl))
+  whole-by (Some (Refused a t)) Saying on fed rose = absurd (none.link (rose refl))
+  whole-by (Some (Starved a)) Hearing on fed rose = absurd (fed refl)
+  whole-by (Some (Starved a)) Saying on fed rose = absurd (fed refl)
+  whole-by (Some (Stopped a t)) Hearing on fed rose = absurd (false≢true (sym on))
+  whole-by (Some (Stopped a t)) Saying on fed rose = absurd (false≢true (sym on))
+  whole-by (Some (Cut a i t)) Hearing on fed rose = absurd (none.link (rose refl))
+  whole-by (Some (Cut a i t)) Saying on fed rose = absurd (none.link (rose refl))
 
   all-whole : (sessions : List (Session TamsRequest)) → run_stops sessions ≡ false → AreCounted old.link.faults new.link.faults sessions
-      → AllByRecursion (λ (session : Session TamsRequest). starves session.steps ≡ false → session.link ≡ Whole) sessions
+      → AllByRecursion (λ (session : Session TamsRequest). ending_of session ≢ endings.Starved → session.link ≡ Whole) sessions
   all-whole [] e counted = tt
-  all-whole (session ∷ sessions) e counted =
-      let on = no_stops (stops session.steps) (run_stops sessions) e in (
-        (λ fed. whole-by (starves session.steps) session.link (is_cut session.steps) fed (subst
-            (λ (stopped : Bool).
-            ending_by stopped (starves session.steps) (has_link_failed session.link) (is_cut session.steps) ≡ endings.Unlinked
-            → Rose old.link.faults new.link.faults)
-            on.0 counted.0)),
-        all-whole sessions on.1 counted.1,
-      )
+  all-whole (session ∷ sessions) e counted = (
+    (λ fed. whole-by (last_step session.steps) session.link (or_left (stops session.steps) (run_stops sessions) e) fed counted.0),
+    all-whole sessions (or_right (stops session.steps) (run_stops sessions) e) counted.1,
+  )
 
   by_end : (end : RunEnd) (n : RunCounts) (sessions : List (Session TamsRequest)) (connections : ℕ) → o ≡ serve_outcome end n
-      → loops.RunEnds old.link.closed new sessions connections end
-      → (run_stops sessions ≡ false) × (((length sessions ≡ connections) ⊎ Rose old.link.closed new.link.closed) × (status_of o ≡ 0))
+      → RunEnds old.link.closed new sessions connections end
+      → (failure_of sessions ≡ None) × (((length sessions ≡ connections) ⊎ Rose old.link.closed new.link.closed) × (status_of o ≡ 0))
   by_end run_ends.Complete n sessions connections is ends = (ends.1, (inl ends.0, ap status_of is))
   by_end run_ends.NoMore n sessions connections is ends = (ends.1, (inr ends.2, ap status_of is))
   by_end run_ends.Unlinked n sessions connections is ends = absurd (never (inr (inl is)))
@@ -227,7 +229,7 @@ module _ (base : List ℕ) (from : StoreState) (old new : Device) (begun given :
         sessions = p.sessions;
         runs = p.runs;
         unstopped = ended.0;
-        whole = all-whole p.sessions ended.0 p.counted;
+        whole = all-whole p.sessions (unstopped (tams_machine base) (start_of from) p.runs.ran.connections p.sessions p.runs.ran.served ended.0) p.counted;
         number = ended.1.0;
         status_is = ended.1.1;
       }

@@ -8,19 +8,21 @@ use Rattle.disk_trait.specs.Calls.{DiskReads, Rose, SameDevice}
 use Rattle.site_edge.specs.Clocks.{IsMoment}
 use Rattle.media_rows.specs.Moments.{is_moment}
 use Rattle.run_history.specs.Runs.{Beginning}
-use Rattle.run_history.specs.Sessions.{Session, all_moments}
-use Rattle.run_history.specs.Serving.{RunCounts, HasServed}
+use Rattle.run_history.specs.Sessions.{Session}
+use Rattle.run_history.specs.Serving.{HasServed, RunCounts}
 use Rattle.run_history.specs.Traces.{start_of}
+use Rattle.run_history.specs.Parts.{all_moments}
 use Rattle.run_history.proofs.Going.{has_run}
 use Rattle.connection_loop.specs.declared.connection.Next.{Next}
 use Rattle.connection_loop.specs.declared.connection.Next.TheVariants.{NoMore, Unlinked, Ended}
 use Rattle.connection_loop.specs.declared.ending.ConnectionEnd.{ConnectionEnd}
 use Rattle.connection_loop.specs.declared.ending.ConnectionEnd.TheVariants as endings
 use Rattle.connection_loop.specs.declared.run.RunEnd.{RunEnd}
-use Rattle.connection_loop.specs.Loops.{AreCounted, HasEnded, NextCalls, NextLeads, NextLinkCount, RunCalls, RunEnds, next_disk_held}
+use Rattle.connection_loop.specs.Loops.{HasEnded, NextCalls, NextLeads, NextLinkCount, RunCalls, next_disk_held}
 use Rattle.connection_loop.specs.Tallies.{nothing_counted}
 use Rattle.connection_loop.proofs.Turning.{tells_later}
-use Rattle.connection_loop.specs.Turns.{ClockCalls, GivesMore, IsBetween, TellsAll}
+use Rattle.connection_loop.specs.Turns.{ClockCalls, GivesMore, IsBetween}
+use Rattle.connection_loop.specs.Endings.{AreCounted, RunEnds, TellsAll}
 use Rattle.store_opening.specs.Opening.{IsKept, bytes_in_image}
 use Rattle.store_opening.proofs.Kept.{kept_stands}
 use Rattle.store_states.specs.Kept.{StoreView, kept_state}

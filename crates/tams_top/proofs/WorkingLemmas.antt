@@ -5,7 +5,7 @@ use Rattle.std.proofs.lemmas.Bool.{false≢true}
 use Rattle.std.proofs.lemmas.Bool.Decides.{nat_tests}
 use Rattle.std.proofs.lemmas.List.Elements.{All-append, All-cons, All-head, All-nil, All-tail}
 use Rattle.change_codec.specs.Fitting.{State}
-use Rattle.connection_loop.specs.Turns.{TellsAll}
+use Rattle.connection_loop.specs.Endings.{TellsAll}
 use Rattle.connection_loop.proofs.Turning.{tells_later}
 use Rattle.disk_trait.proofs.Theorems.{calls_twice, no_calls}
 use Rattle.disk_trait.specs.Calls.{DiskCalls, DiskReads, LeavesOnly}
@@ -26,8 +26,9 @@ use Rattle.media_store.specs.Stores.{StoreSeen, journal_of, size_of}
 use Rattle.media_store.specs.Turns.{TurnIs, turn_change}
 use Rattle.request_hearing.proofs.Asking.{kept_calls}
 use Rattle.run_history.proofs.Invariant.{durable_changes, state_now-change, torn_changes}
-use Rattle.run_history.specs.Runs.{Beginning, Reached}
+use Rattle.run_history.specs.Runs.{Beginning}
 use Rattle.run_history.specs.Steps.{last_or}
+use Rattle.run_history.specs.Reaching.{Reached}
 use Rattle.site_edge.specs.Clocks.{IsMoment}
 use Rattle.store_opening.specs.Laws.{DamagedStandsForNone, KeptStands}
 use Rattle.store_opening.specs.Opening.{IsKept, bytes_in_image}

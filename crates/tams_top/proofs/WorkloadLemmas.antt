@@ -15,14 +15,11 @@ use Rattle.media_rows.specs.Snapshot.{rows_of}
 use Rattle.media_rows.specs.declared.row.Row.{Row}
 use Rattle.generated_workload.specs.StoredBytes.{StoredBytesAreTheObjects, stored_total, stored_bytes_of}
 use Rattle.generated_workload.specs.Workload.{workload_requests}
-use Rattle.run_history.specs.Runs.{stops_writing}
-use Rattle.run_history.specs.Serving.{RunCounts, counts_of_run}
-use Rattle.run_history.specs.Sessions.{stops}
-use Rattle.run_history.specs.Steps.{Step}
-use Rattle.run_history.specs.Steps as steps
+use Rattle.run_history.specs.Serving.{RunCounts}
+use Rattle.run_history.specs.Traces.{counts_of_run}
 use Rattle.connection_loop.specs.declared.ending.ConnectionEnd.{ConnectionEnd}
 use Rattle.connection_loop.specs.declared.ending.ConnectionEnd.TheVariants as endings
-use Rattle.connection_loop.specs.Turns.{ending_of}
+use Rattle.connection_loop.specs.Endings.{ending_of}
 use Rattle.snapshot_rows.specs.Texts.{IsOneList, SpellsRows}
 use Rattle.store_opening.specs.Laws.{KeptStands}
 use Rattle.store_opening.specs.Opening.{IsKept, bytes_in_image}
@@ -41,7 +38,7 @@ use Rattle.tams_top.specs.Generating.{IsWorkloadRun, workload_base, workload_sta
 use Rattle.tams_top.specs.Histories.{NoPeer, OnePeer, beginning, replay_outcome}
 use Rattle.tams_top.specs.Running.{FormatMoments, IsMade, ReplayEnds}
 use Rattle.tams_top.specs.Within.Standing.{HasAnswered, HeardToItsEnd, IsMadeInMemory, kept_of_library, zeros}
-use Rattle.tams_top.proofs.CompletenessLemmas.{none_served, peer_answered}
+use Rattle.tams_top.proofs.CompletenessLemmas.{none_served, peer_answered, well_unstopped}
 
 -- ---- the store
 
@@ -118,15 +115,6 @@ served_numbers endings.Unlinked answers changes skipped n e = absurd (never_serv
 served_numbers endings.Starved answers changes skipped n e = absurd cc
 served_numbers endings.Stopped answers changes skipped n e = absurd cc
 
--- where the disk didn't fail, it didn't while a record was being written
-unstopped_writing : (steps : List (Step TamsRequest)) → stops steps ≡ false → stops_writing steps ≡ false
-unstopped_writing [] e = refl
-unstopped_writing (steps.Answered a t ∷ later) e = unstopped_writing later e
-unstopped_writing (steps.Refused a t ∷ later) e = unstopped_writing later e
-unstopped_writing (steps.Starved a ∷ later) e = unstopped_writing later e
-unstopped_writing (steps.Stopped a t ∷ later) e = absurd (false≢true (sym e))
-unstopped_writing (steps.Cut a i t ∷ later) e = unstopped_writing later e
-
 first_of_one : {c d : Connection} → c ∷ [] ≡ d ∷ [] → c ≡ d
 first_of_one e = cc
 
@@ -164,7 +152,7 @@ module _ (bytes : List ℕ) (old new : Device) (given : List ℕ) (answers chang
         still = subst (All (λ moment. moment ≡ 0)) (sym moments ∙ ran.given_is) (are_zeros n);
         requests = numbers.0;
         changes = numbers.1;
-        stands = rw (unstopped_writing p.session.steps one.2.unstopped) at ran.stands;
+        stands = rw (well_unstopped p.session 0 one.2.ends) at ran.stands;
       }
 
   by_nobody : NoPeer workload_base (beginning workload_start old []) new given (Served answers changes skipped) → ⊥

@@ -3,9 +3,8 @@ use Rattle.std.specs.Prelude.{◌≡◌, ℕ, true, List, [], ◌∷◌, All, co
 use Rattle.disk_trait.specs.Device.{Connection}
 use Rattle.generated_workload.specs.StoredBytes.{stored_total}
 use Rattle.generated_workload.specs.Workload.{workload_requests}
-use Rattle.run_history.specs.Serving.{counts_of_run}
-use Rattle.run_history.specs.Sessions.{Session, all_moments}
-use Rattle.run_history.specs.Traces.{start_of, state_now, trace_of}
+use Rattle.run_history.specs.Sessions.{Session, run_effect}
+use Rattle.run_history.specs.Traces.{counts_of_run, start_of, state_now, trace_of}
 use Rattle.store_core.specs.Prepared as core
 use Rattle.store_states.specs.States.{StoreState}
 use Rattle.tams_machine.specs.Machine.{tams_machine}
@@ -51,7 +50,7 @@ pub record IsWorkloadRun (number count : ℕ) (run : WorkloadRun) : Type 0 where
   pub ended : connection.ended ≡ true
   pub answered : IsAnswered workload_base workload_start connection session 0
   pub still : All (λ moment. moment ≡ 0)
-      (all_moments (tams_machine workload_base) (start_of workload_start) (session ∷ []))
+      (run_effect (tams_machine workload_base) (start_of workload_start) (session ∷ [])).moments
   pub numbers : run ≡ workload_numbers number count session
 
 -- the ends of `workload`

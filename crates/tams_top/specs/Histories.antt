@@ -1,21 +1,17 @@
 -- What a run over a file that stands for a state heard, told and left, by one history of its
 -- connections over the machine of the media store, with the base of its words.
-use Rattle.std.specs.Prelude.{◌≡◌, ◌≤◌, ◌^◌, ◌⊎◌, ℕ, Bool, true, false, List, [], ◌∷◌, length, All, nat_lt, if◌then◌else◌}
+use Rattle.std.specs.Prelude.{◌≡◌, ◌≤◌, ◌^◌, ◌⊎◌, ℕ, Bool, true, false, List, [], ◌∷◌, length, All, None, nat_lt, if◌then◌else◌}
 use Rattle.disk_trait.specs.Calls.{LeavesOnly, Rose}
 use Rattle.disk_trait.specs.Device.{Device}
 use Rattle.site_edge.specs.Clocks.{IsMoment}
-use Rattle.run_history.specs.Handing.{HasHanded}
-use Rattle.run_history.specs.Runs.{Beginning, Ran}
-use Rattle.run_history.specs.Serving.{RunCounts, counts_of_run, run_stops}
-use Rattle.run_history.specs.Sessions.{Session, all_moments}
-use Rattle.run_history.specs.Traces.{start_of, states_of, trace_of}
+use Rattle.run_history.specs.Runs.{Beginning, HasHanded, Ran}
+use Rattle.run_history.specs.Sessions.{Session, failure_of, run_effect}
+use Rattle.run_history.specs.Traces.{RunCounts, counts_of_run, start_of, states_of, trace_of}
 use Rattle.connection_loop.specs.declared.ending.ConnectionEnd.{ConnectionEnd}
 use Rattle.connection_loop.specs.declared.ending.ConnectionEnd.TheVariants as endings
 use Rattle.connection_loop.specs.declared.run.RunEnd.{RunEnd}
 use Rattle.connection_loop.specs.declared.run.RunEnd.TheVariants as run_ends
-use Rattle.connection_loop.specs.Loops.{AreCounted}
-use Rattle.connection_loop.specs.Loops as loops
-use Rattle.connection_loop.specs.Turns.{TellsAll, ending_of}
+use Rattle.connection_loop.specs.Endings.{AreCounted, RunEnds, TellsAll, ending_of}
 use Rattle.store_states.specs.States.{StandsFor, StoreState}
 use Rattle.tams_histories.specs.Along.{KeepBytes}
 use Rattle.tams_machine.specs.Machine.{tams_machine}
@@ -58,9 +54,9 @@ pub record BeginsFrom (from : StoreState) (old : Device) (clock : Bool) (given :
 pub record RunsAs (base : List ℕ) (b : Beginning StoreState) (sessions : List (Session TamsRequest))
     (new : Device) (given : List ℕ) : Type 0 where
   pub ran : Ran (tams_machine base) b sessions new given
-  pub moments : All IsMoment (all_moments (tams_machine base) (start_of b.state) sessions)
+  pub moments : All IsMoment (run_effect (tams_machine base) (start_of b.state) sessions).moments
   pub bytes : KeepBytes (states_of (trace_of (tams_machine base) b.state sessions))
-  pub handed : run_stops sessions ≡ false → HasHanded (tams_machine base) b sessions new.handed
+  pub handed : failure_of sessions ≡ None → HasHanded (tams_machine base) b sessions new.handed
 
 -- ---- outcomes by numbers
 
@@ -105,7 +101,7 @@ pub record SomePeers (base : List ℕ) (b : Beginning StoreState) (old new : Dev
   pub sessions : List (Session TamsRequest)
   pub end : RunEnd
   pub runs : RunsAs base b sessions new given
-  pub ends : loops.RunEnds b.closed new sessions connections end
+  pub ends : RunEnds b.closed new sessions connections end
   pub outcome_is : outcome ≡ serve_outcome end (counts_of_run (tams_machine base) b.state sessions)
   pub counted : AreCounted old.link.faults new.link.faults sessions
 

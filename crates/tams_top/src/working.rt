@@ -1,6 +1,6 @@
 //! The command that works: it makes turns, each at a moment of its own, until one changes nothing.
 ghost use Rattle.std.specs.Prelude.{◌≡◌, ◌≤◌, [], true, length, IsFalse};
-ghost use Rattle.connection_loop.specs.Turns.{TellsAll};
+ghost use Rattle.connection_loop.specs.Endings.{TellsAll};
 ghost use Rattle.disk_trait.specs.Calls.{DiskCalls, IsCounted};
 ghost use Rattle.media_store.specs.Faults.{not_disk_fault};
 ghost use Rattle.media_store.specs.Stores.{size_of};

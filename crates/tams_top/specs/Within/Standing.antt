@@ -3,9 +3,9 @@ use Rattle.std.specs.Prelude.{◌≡◌, ℕ, zero, suc, Bool, true, List, [], �
 use Rattle.disk_trait.specs.Device.{Connection, Device}
 use Rattle.generated_workload.specs.StoredBytes.{stored_total}
 use Rattle.media_rows.specs.Library.{Library}
-use Rattle.run_history.specs.Serving.{counts_of_run}
-use Rattle.run_history.specs.Sessions.{Session, all_moments}
-use Rattle.run_history.specs.Traces.{start_of, state_now, trace_of}
+use Rattle.run_history.specs.Sessions.{Session}
+use Rattle.run_history.specs.Traces.{counts_of_run, start_of, state_now, trace_of}
+use Rattle.run_history.specs.Parts.{all_moments}
 use Rattle.store_core.specs.Prepared as core
 use Rattle.tams_machine.specs.Machine.{tams_machine}
 use Rattle.tams_machine.specs.Requests.{TamsRequest}

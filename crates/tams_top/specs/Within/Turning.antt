@@ -3,11 +3,12 @@ use Rattle.std.specs.Prelude.{◌≡◌, ◌≤◌, ◌+◌, ℕ, Bool, true, fa
 use Rattle.disk_trait.specs.Calls.{DiskCalls}
 use Rattle.disk_trait.specs.Device.{Device}
 use Rattle.site_edge.specs.Clocks.{IsMoment}
-use Rattle.connection_loop.specs.Turns.{TellsAll}
+use Rattle.connection_loop.specs.Endings.{TellsAll}
 use Rattle.library_laws.specs.MediaLaws.{IsGoodArchive}
 use Rattle.media_store.specs.Stores.{StoreSeen, size_of}
-use Rattle.run_history.specs.Runs.{Beginning, Reached}
+use Rattle.run_history.specs.Runs.{Beginning}
 use Rattle.run_history.specs.Steps.{last_or}
+use Rattle.run_history.specs.Reaching.{Reached}
 use Rattle.store_states.specs.States.{StoreState}
 use Rattle.tams_machine.specs.Machine.{tams_machine}
 use Rattle.tams_service.specs.Keeping.{KeepsState}

@@ -1,6 +1,6 @@
 use Rattle.std.proofs.Common.{refl, arith}
-use Rattle.run_history.specs.Sessions.{after_sessions}
 use Rattle.run_history.specs.Traces.{start_of}
+use Rattle.run_history.specs.Parts.{after_sessions}
 use Rattle.run_history.proofs.Going.{goes_first}
 use Rattle.connection_loop.proofs.Between.{between_quiet, ended_calls, ends_closed, no_more_calls, same_connected, same_unchanged, unlinked_calls}
 use Rattle.connection_loop.proofs.Turning.{clock_most, clock_none, tells_later}

@@ -1,4 +1,5 @@
 use Rattle.std.proofs.Common.{refl, sym, ◌∙◌, arith}
+use Rattle.run_history.proofs.Ends.{unfailed}
 use Rattle.connection_loop.proofs.Between.{counted_later, ended_stopped, served_more}
 use Rattle.connection_loop.proofs.Turning.{clock_most, clock_twice, tells_before, tells_later}
 use Rattle.connection_loop.proofs.run.serve.Goals as goal
@@ -16,7 +17,7 @@ returns-in-NoMore-clause-ended g c = λ all b between.
     record {
       sessions = so_far.sessions;
       served = leads.0.served;
-      ends = (omega (arith, so_far.count, c.loop-test.true), leads.0.unstopped, rose);
+      ends = (omega (arith, so_far.count, c.loop-test.true), unfailed so_far.sessions leads.0.unstopped, rose);
       counted = counted_later _ _ _ so_far.sessions so_far.counted c.loop.invariant.calls.link_faults
           (omega (arith, c.in-NoMore.ensures.calls.link_faults));
     }
@@ -31,7 +32,7 @@ returns-in-Unlinked-clause-ended g c = λ all b between.
     record {
       sessions = so_far.sessions;
       served = leads.served;
-      ends = (omega (arith, so_far.count, c.loop-test.true), leads.unstopped);
+      ends = (omega (arith, so_far.count, c.loop-test.true), unfailed so_far.sessions leads.unstopped);
       counted = counted_later _ _ _ so_far.sessions so_far.counted c.loop.invariant.calls.link_faults c.in-Unlinked.ensures.calls.link_faults.0;
     }
 
@@ -63,7 +64,7 @@ returns-clause-ended g c = λ all b between.
     record {
       sessions = so_far.sessions;
       served = so_far.between.served;
-      ends = (omega (arith, so_far.count, c.loop-test.false, c.loop.auto.counter-end), so_far.between.unstopped);
+      ends = (omega (arith, so_far.count, c.loop-test.false, c.loop.auto.counter-end), unfailed so_far.sessions so_far.between.unstopped);
       counted = so_far.counted;
     }
 

@@ -4,7 +4,7 @@ use Rattle.run_history.proofs.laws.ending.Goals as goal
 
 pub returns : goal.returns
 returns c = record {
-  unheard = λ served. absurd (false≢true (served.ended refl));
+  unheard = λ served. absurd (false≢true (served.ends.to_the_end refl));
   before = inr refl;
   after = inl refl;
   last = λ same. absurd (omega (arith, ap (λ (l : List ℕ). get_or l 0 0) same));

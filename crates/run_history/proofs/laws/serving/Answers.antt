@@ -1,8 +1,9 @@
-use Rattle.std.proofs.Common.{◌≡◌, ◌≤◌, ℕ, List, [], ◌∷◌, ◌++◌, length, refl, sym, ap, inl, arith}
+use Rattle.std.proofs.Common.{◌≡◌, ◌≤◌, ℕ, false, List, [], ◌∷◌, ◌++◌, length, refl, sym, ap, inl, arith}
 use Rattle.std.proofs.lemmas.Bool.{false≢true}
 use Rattle.std.proofs.lemmas.List.{length-append}
 use Rattle.run_history.specs.Steps.{Piece, piece_bytes}
-use Rattle.run_history.specs.Sessions.{bytes_of_pieces}
+use Rattle.run_history.specs.Sessions.{Whole, bytes_of_pieces}
+use Rattle.run_history.proofs.Ends.{heard-marks, said-marks}
 use Rattle.run_history.proofs.WorkedHearings.{first_stays, not_batch, not_dropped, not_late, owes_first, owes_head}
 use Rattle.run_history.proofs.laws.serving.Goals as goal
 
@@ -35,11 +36,10 @@ returns c =
         steps = ((refl, tt), λ e. absurd (false≢true e), (inl refl, λ e. refl, tt));
         few = few;
         heard = refl;
-        rest_is = tt;
         told = refl;
-        unheard = refl;
-        unsaid = refl;
-        ended = tt;
+        ends = tt;
+        unheard = heard-marks Whole false refl;
+        unsaid = said-marks Whole false refl;
         owes = (owes_first _ _, (owes_head _ _, tt));
         last = (first_stays _, (first_stays _, tt));
       };
@@ -49,7 +49,7 @@ returns c =
       batch = λ served.
           let o = served.owes.1.0 in
           not_batch o.front o.rear o.part o.cutting.interim o.prefix.0 _ (sym o.steps_are) o.heard_is o.told_is o.prefix.1 o.unfinished;
-      unanswered = λ served. absurd (omega (arith, ap length served.heard, ap length served.rest_is));
+      unanswered = λ served. absurd (omega (arith, ap length served.heard, ap length (served.ends.none_left (λ e. cc))));
       dropped = λ link served.
           let o = served.owes.1.0 in
           not_dropped o.front o.rear o.part o.prefix.0 (sym o.steps_are) o.heard_is o.prefix.1 o.unfinished;

@@ -2,7 +2,7 @@ use Rattle.std.proofs.Common.{◌≡◌, ◌∙◌, None, ap}
 use Rattle.std.proofs.lemmas.Bool.{false≢true}
 use Rattle.media_store.specs.Pieces.{IsExtent}
 use Rattle.tams_service.specs.Answering.{TellsAllOf}
-use Rattle.tams_service.proofs.Giving.{give_failed, give_made, media_or_none}
+use Rattle.tams_service.proofs.Giving.{give_failed, give_made, media_or_none, response_there}
 use Rattle.tams_service.proofs.Keeping.{bytes_seen}
 use Rattle.tams_service.proofs.service.TamsService.give_answer.Goals as goal
 
@@ -41,4 +41,5 @@ returns-clause-leads g c = λ all.
     (bytes_seen store old p.state (g.met.X.Disk.sound c.args.site.now) all.honest all.shows all.tells keeps)
     (media_or_none (IsExtent store.kept.library) (c.args.answer.planned.frame ≡ None) c.args.answer.media (rw (← c.self.view_is) at c.requires.media))
     c.finish.new.self.store c.args.request.head.ends request few c.finish.result
-    (rw (c.bytes.ensures, c.changes_of-changes.ensures) at c.finish.ensures.leads behind))
+    ((rw (c.bytes.ensures, c.changes_of-changes.ensures) at c.finish.ensures.leads behind)
+    (response_there p r c.args.request.moment c.args.answer answers c.args.answer.media)))

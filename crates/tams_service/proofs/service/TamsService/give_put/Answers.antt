@@ -1,5 +1,6 @@
 use Rattle.std.proofs.Common.{◌∙◌, ap, arith, false, refl, true}
 use Rattle.tams_answers.specs.Media.{response_by}
+use Rattle.tams_service.proofs.Giving.{none_follows}
 use Rattle.tams_service.proofs.Putting.{failed_leads, finishes_with, made_leads, needs_behind, none_leads, tells_on}
 use Rattle.tams_service.proofs.service.TamsService.give_put.Goals as goal
 
@@ -14,7 +15,7 @@ returns-in_default-clause-leads g c = λ all.
     rw c.in_default.is
     (none_leads old new c.args.tally.now c.finish.new.tally store next c.args.plan.responses c.args.request.moment head.ends c.finish.result
     (finishes_with old new store next c.args.tally.now c.finish.new.tally c.args.request.moment c.finish.result c.reply_with-reply.result _ _ 0 head.ends
-    (c.finish.ensures.leads all) (reply.response ∙ c.bytes.ensures) reply.rest))
+    (c.finish.ensures.leads all (none_follows c.reply_with-reply.result.media _ reply.rest.0)) (reply.response ∙ c.bytes.ensures) reply.rest))
 
 pub returns-in-Err-clause-leads : goal.returns-in-Err-clause-leads
 returns-in-Err-clause-leads g c = λ all.
@@ -49,5 +50,5 @@ returns-clause-leads g c = λ all.
     (ended.makes all.honest all.shows all.tells) refl c.put_end.new.self ended.kept ended.spent (ended.handed all.tells) c.finish-in-Ok.result
     (finishes_with mid new c.put_end.new.self next c.args.tally.now c.finish-in-Ok.new.tally request.moment c.finish-in-Ok.result
     c.reply_with-reply-in-Ok.result _ _ c.changes_of-changes.result request.head.ends
-    (c.finish-in-Ok.ensures.leads (tells_on old mid ended.calls.same all))
+    (c.finish-in-Ok.ensures.leads (tells_on old mid ended.calls.same all) (none_follows c.reply_with-reply-in-Ok.result.media _ reply.rest.0))
     (reply.response ∙ c.of.ensures ∙ ap (response_by c.args.plan.responses) ended.reply) reply.rest))
