@@ -37,17 +37,17 @@ impl Field for Change {
     }
 
     #[tactic(auto, unfolding(crate::specs::Changes::change_spelling, crate::specs::Changes::later_spelling))]
-    fn write_to(&self, out: &mut Text) -> Result<(), Memory> {
+    fn write_to(&self, alloc: Global, out: &mut Text) -> Result<(), Memory> {
         out.push(kind_of(self))?;
         write_u64(out, moment_of(self))?;
         match self {
-            Change::PutFlow { flow, .. } => flow.write_to(out),
+            Change::PutFlow { flow, .. } => flow.write_to(alloc, out),
             Change::SetFlow { flow, part, .. } => write_both(flow, part, out),
             Change::SetSource { source, part, .. } => {
-                source.write_to(out)?;
+                source.write_to(alloc, out)?;
                 write_source_part(part, out)
             }
-            Change::DropFlow { flow, .. } => flow.write_to(out),
+            Change::DropFlow { flow, .. } => flow.write_to(alloc, out),
             Change::Allocate { flow, objects, .. } => write_both(flow, objects, out),
             Change::Store {
                 object,
@@ -55,7 +55,7 @@ impl Field for Change {
                 length,
                 ..
             } => {
-                object.write_to(out)?;
+                object.write_to(alloc, out)?;
                 write_both(start_block, length, out)
             }
             Change::AddSegments { flow, segments, .. } => write_both(flow, segments, out),
@@ -66,12 +66,12 @@ impl Field for Change {
                 delete_flow,
                 ..
             } => {
-                flow.write_to(out)?;
+                flow.write_to(alloc, out)?;
                 write_both(range, delete_flow, out)
             }
             Change::DeleteStep { .. } | Change::SweepStep { .. } => Ok(()),
-            Change::PutHook { hook, .. } => hook.write_to(out),
-            Change::DropHook { url, .. } => url.write_to(out),
+            Change::PutHook { hook, .. } => hook.write_to(alloc, out),
+            Change::DropHook { url, .. } => url.write_to(alloc, out),
         }
     }
 }
@@ -251,7 +251,7 @@ fn write_both<A: Field, B: Field>(first: &A, second: &B, out: &mut Text) -> Resu
     requires { (pair A.spelling B.spelling).asks (first.now, second.now) }
     ensures { OnOk result (WritesValue (pair A.spelling B.spelling) out.old (first.now, second.now) out.new) }
 {
-    first.write_to(out)?;
-    second.write_to(out)?;
+    first.write_to(alloc, out)?;
+    second.write_to(alloc, out)?;
     Ok(())
 }
