@@ -34,7 +34,7 @@ impl Field for u64 {
         Ok(input.u64_field()?)
     }
 
-    fn write_to(&self, alloc: Global, out: &mut Text) -> Result<(), Memory> {
+    fn write_to(&self, _alloc: Global, out: &mut Text) -> Result<(), Memory> {
         write_u64(out, *self)
     }
 }
@@ -46,7 +46,7 @@ impl Field for u128 {
         Ok(input.u128_field()?)
     }
 
-    fn write_to(&self, alloc: Global, out: &mut Text) -> Result<(), Memory> {
+    fn write_to(&self, _alloc: Global, out: &mut Text) -> Result<(), Memory> {
         write_u128(out, *self)
     }
 }
@@ -58,7 +58,7 @@ impl Field for bool {
         Ok(input.bool_field()?)
     }
 
-    fn write_to(&self, alloc: Global, out: &mut Text) -> Result<(), Memory> {
+    fn write_to(&self, _alloc: Global, out: &mut Text) -> Result<(), Memory> {
         write_bool(out, *self)
     }
 }
@@ -70,7 +70,7 @@ impl Field for Ts {
         Ok(input.ts_field()?)
     }
 
-    fn write_to(&self, alloc: Global, out: &mut Text) -> Result<(), Memory> {
+    fn write_to(&self, _alloc: Global, out: &mut Text) -> Result<(), Memory> {
         write_ts(out, *self)
     }
 }
@@ -83,7 +83,7 @@ impl Field for TimeRange {
     }
 
     fn write_to(&self, alloc: Global, out: &mut Text) -> Result<(), Memory> {
-        write_range(out, self)
+        write_range(alloc, out, self)
     }
 }
 
@@ -96,7 +96,7 @@ impl Field for Text {
 
     #[tactic(auto, unfolding(field_codec::specs::Leaves::text_spelling))]
     fn write_to(&self, alloc: Global, out: &mut Text) -> Result<(), Memory> {
-        write_text(out, self)
+        write_text(alloc, out, self)
     }
 }
 

@@ -51,7 +51,7 @@ impl Field for FlowBody {
         self.description.write_to(alloc, out)?;
         self.max_bit_rate.write_to(alloc, out)?;
         self.avg_bit_rate.write_to(alloc, out)?;
-        write_tags(&self.tags, out)?;
+        write_tags(alloc, &self.tags, out)?;
         self.members.write_to(alloc, out)?;
         self.essence.write_to(alloc, out)?;
         Ok(())

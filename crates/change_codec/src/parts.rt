@@ -36,7 +36,7 @@ impl Field for Part {
         match self {
             Part::Tag(name, tag) => {
                 out.push(1)?;
-                write_tag_part(name, tag, out)?;
+                write_tag_part(alloc, name, tag, out)?;
             }
             Part::Label(text) => {
                 out.push(2)?;
@@ -85,7 +85,7 @@ pub(crate) fn read_source_part(alloc: Global, input: &mut Cursor) -> Result<Part
 }
 
 /// Writes a part of a source, which is spelled as a flow's.
-pub(crate) fn write_source_part(part: &Part, out: &mut Text) -> Result<(), Memory>
+pub(crate) fn write_source_part(alloc: Global, part: &Part, out: &mut Text) -> Result<(), Memory>
     requires { source_part_spelling.asks part.now }
     ensures { OnOk result (WritesValue source_part_spelling out.old part.now out.new) }
 {
@@ -126,17 +126,22 @@ fn read_tag_of(alloc: Global, name: &Text, input: &mut Cursor) -> Result<Tag, Re
 }
 
 #[tactic(auto, unfolding(crate::specs::Values::tag_part_spelling))]
-fn write_tag_part(name: &Text, tag: &Option<Tag>, out: &mut Text) -> Result<(), Memory>
+fn write_tag_part(
+    alloc: Global,
+    name: &Text,
+    tag: &Option<Tag>,
+    out: &mut Text,
+) -> Result<(), Memory>
     requires { tag_part_spelling.asks (name.now, tag.now) }
     ensures { OnOk result (WritesValue tag_part_spelling out.old (name.now, tag.now) out.new) }
 {
     name.write_to(alloc, out)?;
-    write_named(name, tag, out)?;
+    write_named(alloc, name, tag, out)?;
     Ok(())
 }
 
 /// Writes the tag of this name, where there is one.
-fn write_named(name: &Text, tag: &Option<Tag>, out: &mut Text) -> Result<(), Memory>
+fn write_named(alloc: Global, name: &Text, tag: &Option<Tag>, out: &mut Text) -> Result<(), Memory>
     requires { (optional (named_tag name.now)).asks tag.now }
     ensures { OnOk result (WritesValue (optional (named_tag name.now)) out.old tag.now out.new) }
 {

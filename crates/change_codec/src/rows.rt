@@ -35,7 +35,7 @@ impl Field for SourceRow {
         self.format.write_to(alloc, out)?;
         self.label.write_to(alloc, out)?;
         self.description.write_to(alloc, out)?;
-        write_tags(&self.tags, out)?;
+        write_tags(alloc, &self.tags, out)?;
         self.created.write_to(alloc, out)?;
         self.updated.write_to(alloc, out)?;
         Ok(())
@@ -158,7 +158,7 @@ impl Field for DeleteStatus {
     }
 
     #[tactic(auto, unfolding(crate::specs::Rows::status_spelling))]
-    fn write_to(&self, alloc: Global, out: &mut Text) -> Result<(), Memory> {
+    fn write_to(&self, _alloc: Global, out: &mut Text) -> Result<(), Memory> {
         write_u8(out, self.number())?;
         Ok(())
     }

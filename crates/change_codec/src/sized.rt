@@ -79,7 +79,7 @@ fn write_sized<T: Writable>(
         return Err(Memory);
     }
     let mut fields = Text::new(alloc);
-    value.write_to(&mut fields)?;
+    value.write_to(alloc, &mut fields)?;
     let bytes = fields.bytes();
     if bytes.len() > u32::MAX as usize {
         return Err(Memory);

@@ -26,7 +26,7 @@ impl Field for FormatKind {
     }
 
     #[tactic(auto, unfolding(crate::specs::Values::kind_spelling))]
-    fn write_to(&self, alloc: Global, out: &mut Text) -> Result<(), Memory> {
+    fn write_to(&self, _alloc: Global, out: &mut Text) -> Result<(), Memory> {
         write_u8(out, self.number())?;
         Ok(())
     }
@@ -52,7 +52,7 @@ impl Field for EventKind {
     }
 
     #[tactic(auto, unfolding(crate::specs::Values::event_spelling))]
-    fn write_to(&self, alloc: Global, out: &mut Text) -> Result<(), Memory> {
+    fn write_to(&self, _alloc: Global, out: &mut Text) -> Result<(), Memory> {
         write_u8(out, self.number())?;
         Ok(())
     }
@@ -98,7 +98,7 @@ pub(crate) fn read_tags(alloc: Global, input: &mut Cursor) -> Result<TagList, Re
 }
 
 #[tactic(auto, unfolding(crate::specs::Values::tags_spelling))]
-pub(crate) fn write_tags(tags: &TagList, out: &mut Text) -> Result<(), Memory>
+pub(crate) fn write_tags(alloc: Global, tags: &TagList, out: &mut Text) -> Result<(), Memory>
     requires { tags_spelling.asks tags.now }
     ensures { OnOk result (WritesValue tags_spelling out.old tags.now out.new) }
 {

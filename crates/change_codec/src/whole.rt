@@ -1,5 +1,5 @@
 //! Changes and rows in bytes, each with one spelling.
-ghost use Rattle.std.specs.Prelude.{◌≡◌, ℕ, IfOk, OnOk, OnErr};
+ghost use Rattle.std.specs.Prelude.{◌≡◌, ◌↔◌, ℕ, IfOk, IsTrue, OnOk, OnErr};
 ghost use Rattle.field_codec.specs.Laws.{Lawful};
 ghost use Rattle.field_codec.specs.Reading.{ReadsWhole};
 ghost use Rattle.field_codec.specs.Answers.{OnBad};
@@ -15,15 +15,30 @@ use field_codec::{BadField, CodecFault, Cursor, ReadFault};
 use media_rows::{Change, Row};
 use std::alloc::Global;
 
+/// Whether a change has a spelling.
+pub fn has_spelling(change: &Change) -> bool
+    ensures { IsTrue result ↔ CanWriteChange change.now }
+{
+    change.can_write()
+}
+
 /// The one spelling of a change. A change that has none is want of memory.
 pub fn encode_change(alloc: Global, change: &Change) -> Result<Text, Memory>
     ensures { IfOk result (λ text. SpellsChange text change.now) }
 {
-    if !change.can_write() {
+    if !has_spelling(change) {
         return Err(Memory);
     }
+    spell_change(alloc, change)
+}
+
+/// The one spelling of a change that has one.
+pub fn spell_change(alloc: Global, change: &Change) -> Result<Text, Memory>
+    requires { CanWriteChange change.now }
+    ensures { IfOk result (λ text. SpellsChange text change.now) }
+{
     let mut text = Text::new(alloc);
-    change.write_to(&mut text)?;
+    change.write_to(alloc, &mut text)?;
     Ok(text)
 }
 
