@@ -3,7 +3,7 @@ ghost use Rattle.std.specs.Prelude.{◌≡◌, ◌↔◌, ℕ, IfOk, IsTrue, OnO
 ghost use Rattle.field_codec.specs.Laws.{Lawful};
 ghost use Rattle.field_codec.specs.Reading.{ReadsWhole};
 ghost use Rattle.field_codec.specs.Answers.{OnBad};
-ghost use Rattle.change_codec.specs.Codec.{CanWriteRow, SpellsChange, CanWriteChange, ChangeFaultAt, BeginsWithRow, AppendsRow, RowFaultAt};
+ghost use Rattle.change_codec.specs.Codec.{CanWriteRow, SpellsChange, CanWriteChange, ChangeFaultAt, BeginsWithRow, AppendsRow, AppendsIfSpelled, RowFaultAt};
 ghost use Rattle.media_rows.specs.declared.change.Change.{Change};
 ghost use Rattle.media_rows.specs.declared.row.Row.{Row};
 
@@ -74,16 +74,30 @@ fn read_all<T: Field>(alloc: Global, bytes: &[u8]) -> Result<T, ReadFault>
     Ok(value)
 }
 
-/// Adds the one spelling of a row at the end of `out`. A row that has none is want of memory. After an error
-/// `out` is as it was.
+/// Adds the one spelling of a row that has one at the end of `out`. After an error `out` is as it was.
 pub fn encode_row(alloc: Global, row: &Row, out: &mut Text) -> Result<(), Memory>
+    requires { CanWriteRow row.now }
     ensures ok { OnOk result (AppendsRow out.old row.now out.new) }
     ensures err { OnErr result (out.new ≡ out.old) }
 {
+    match encode_row_if_spelled(alloc, row, out)? {
+        true => Ok(()),
+        false => unreachable!(),
+    }
+}
+
+/// Adds the spelling of a row at the end of `out`, where it has one, and tells whether it has. Where it
+/// has none, and after an error, `out` is as it was.
+pub fn encode_row_if_spelled(alloc: Global, row: &Row, out: &mut Text) -> Result<bool, Memory>
+    ensures ok { IfOk result (AppendsIfSpelled out.old row.now out.new) }
+    ensures err { OnErr result (out.new ≡ out.old) }
+{
     let mut spelling = Text::new(alloc);
-    write_row(alloc, row, &mut spelling)?;
+    if !write_row(alloc, row, &mut spelling)? {
+        return Ok(false);
+    }
     out.append(spelling.bytes())?;
-    Ok(())
+    Ok(true)
 }
 
 /// The row whose spelling the bytes begin with, and how many bytes it takes. `Bad` is as for
