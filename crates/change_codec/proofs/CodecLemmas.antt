@@ -1,5 +1,5 @@
 -- What the codec's calls promise, from what reading and writing gave.
-use Rattle.std.proofs.Common.{◌≡◌, ◌-◌, ℕ, List, [], ◌++◌, length, Ok, Err, sym, ap, ◌∙◌, arith}
+use Rattle.std.proofs.Common.{◌≡◌, ◌-◌, ℕ, List, [], ◌++◌, length, Bool, true, false, Ok, Err, sym, ap, subst, true≢false, ◌∙◌, arith}
 use Rattle.std.proofs.lemmas.List.{append-nil}
 use Rattle.media_rows.specs.declared.change.Change.{Change}
 use Rattle.media_rows.specs.declared.row.Row.{Row}
@@ -9,7 +9,7 @@ use Rattle.field_codec.specs.Laws.{IsBytes, Lawful}
 use Rattle.field_codec.specs.Reading.{WritesValue}
 use Rattle.field_codec.proofs.Wholes.{one_front, one_value, one_place, one_whole_place, left_over, less_left, fault_within, fault_begins_none, whole_within}
 use Rattle.change_codec.specs.Changes.{change_spelling}
-use Rattle.change_codec.specs.Rows.{row_spelling}
+use Rattle.change_codec.specs.Rows.{WritesIfSpelled, row_spelling}
 use Rattle.change_codec.specs.Codec.{ChangeFaultAt, BeginsWithRow, AppendsRow, RowFaultAt}
 use Rattle.change_codec.proofs.ChangeLaws.{change_lawful}
 use Rattle.change_codec.proofs.RowLaws.{row_lawful}
@@ -33,6 +33,11 @@ change_fault bytes left is fault =
 
 pub row_written : (old : List ℕ) (row : Row) (text new : List ℕ) → WritesValue row_spelling [] row text → new ≡ old ++ text → AppendsRow old row new
 row_written old row text new w e = record { spelling = text; spells = record { fits = w.fits; whole = w.written ∙ row_lawful.adds [] row }; appended = e }
+
+pub row_spelled : (old start : List ℕ) (row : Row) (text new : List ℕ) (spelled : Bool) → spelled ≡ true → start ≡ []
+    → WritesIfSpelled row_spelling start row text spelled → new ≡ old ++ text → AppendsRow old row new
+row_spelled old start row text new true is none w e = row_written old row text new (subst (λ (t : List ℕ). WritesValue row_spelling t row text) none w) e
+row_spelled old start row text new false is none w e = absurd (true≢false (sym is))
 
 pub row_read : (bytes rest : List ℕ) (row : Row) → IsBytes bytes → row_spelling.read bytes ≡ Ok (row, rest)
     → BeginsWithRow bytes row (length bytes - length rest)

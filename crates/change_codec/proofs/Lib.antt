@@ -4,7 +4,8 @@ pub mod RowLaws
 pub mod Loops
 pub mod TagLemmas
 pub mod PartLemmas
-pub mod SizedLemmas
+pub mod RowWriting
+mod SizedLemmas
 pub mod CodecLemmas
 pub mod Fitting
 pub mod Asking

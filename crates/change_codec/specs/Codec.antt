@@ -1,5 +1,5 @@
 -- What the codec's calls promise, in the words of the spellings.
-use Rattle.std.specs.Prelude.{◌≡◌, ◌+◌, ◌++◌, ℕ, List, length}
+use Rattle.std.specs.Prelude.{◌≡◌, ◌+◌, ◌++◌, ℕ, Bool, true, false, List, length}
 use Rattle.media_rows.specs.declared.change.Change.{Change}
 use Rattle.media_rows.specs.declared.row.Row.{Row}
 use Rattle.field_codec.specs.Meaning.{SpellsFirst, Spells, WholeFault}
@@ -33,6 +33,11 @@ pub record AppendsRow (old : List ℕ) (row : Row) (new : List ℕ) : Type 0 whe
   pub spelling : List ℕ
   pub spells : Spells row_spelling.meaning spelling row
   pub appended : new ≡ old ++ spelling
+
+-- the row's spelling stands behind what was there, or it has none, and then what was there stays
+abbrev pub AppendsIfSpelled : List ℕ → Row → List ℕ → Bool → Type 0
+AppendsIfSpelled old row new true = AppendsRow old row new
+AppendsIfSpelled old row new false = (row_spelling.asks row → ⊥) × (new ≡ old)
 
 -- The row can be written: as for changes, and its fields together have fewer than 2 ^ 32 bytes.
 abbrev pub CanWriteRow : Row → Type 0

@@ -1,6 +1,6 @@
 -- The spelling of rows: a kind, the length of the fields in 4 bytes, and the fields. Our own rules.
 use Rattle.std.proofs.Common.{inl, inr}
-use Rattle.std.specs.Prelude.{◌⊎◌, ◌==◌, ◌<◌, ◌^◌, ℕ, List, length, Option, Some, None, if◌then◌else◌}
+use Rattle.std.specs.Prelude.{◌⊎◌, ◌==◌, ◌<◌, ◌^◌, ℕ, List, length, Bool, true, false, Option, Some, None, if◌then◌else◌}
 use Rattle.media_rows.specs.Formats.{status_number, all_statuses}
 use Rattle.media_rows.specs.declared.event.EventRow.{EventRow}
 use Rattle.media_rows.specs.declared.flow.FlowRow.{FlowRow}
@@ -14,6 +14,7 @@ use Rattle.media_rows.specs.declared.row.Row.{Row}
 use Rattle.media_rows.specs.declared.row.Row.TheVariants as rows
 use Rattle.media_rows.specs.declared.segment.SegmentRow.{SegmentRow}
 use Rattle.media_rows.specs.declared.source.SourceRow.{SourceRow}
+use Rattle.field_codec.specs.Reading.{WritesValue}
 use Rattle.field_codec.specs.Spelling.{Spelling, no_field, pair, via, narrowed, either, no_kind, optional}
 use Rattle.field_codec.specs.Leaves.{u32_spelling, u64_spelling, u128_spelling, bool_spelling, text_spelling, range_spelling, one_of}
 use Rattle.change_codec.specs.Values.{kind_spelling, event_spelling, tags_spelling, flow_spelling, segment_spelling, hook_spelling}
@@ -143,6 +144,11 @@ abbrev pub sized : {A : Type 0} → Spelling A → Spelling A
 sized f =
     narrowed (measured f.meaning.spell) (λ x. (length (f.meaning.spell x), x)) (λ x. Unit {0})
     (λ x. length (f.meaning.spell x) < 2 ^ 32) (pair u32_spelling f)
+
+-- A value is written behind some bytes where it has a spelling.
+abbrev pub WritesIfSpelled : {A : Type 0} → Spelling A → List ℕ → A → List ℕ → Bool → Type 0
+WritesIfSpelled f old value new true = WritesValue f old value new
+WritesIfSpelled f old value new false = f.asks value → ⊥
 
 -- ---- rows
 

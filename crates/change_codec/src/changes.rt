@@ -37,41 +37,41 @@ impl Field for Change {
     }
 
     #[tactic(auto, unfolding(crate::specs::Changes::change_spelling, crate::specs::Changes::later_spelling))]
-    fn write_to(&self, out: &mut Text) -> Result<(), Memory> {
+    fn write_to(&self, alloc: Global, out: &mut Text) -> Result<(), Memory> {
         out.push(kind_of(self))?;
         write_u64(out, moment_of(self))?;
         match self {
-            Change::PutFlow { flow, .. } => flow.write_to(out),
-            Change::SetFlow { flow, part, .. } => write_both(flow, part, out),
+            Change::PutFlow { flow, .. } => flow.write_to(alloc, out),
+            Change::SetFlow { flow, part, .. } => write_both(alloc, flow, part, out),
             Change::SetSource { source, part, .. } => {
-                source.write_to(out)?;
-                write_source_part(part, out)
+                source.write_to(alloc, out)?;
+                write_source_part(alloc, part, out)
             }
-            Change::DropFlow { flow, .. } => flow.write_to(out),
-            Change::Allocate { flow, objects, .. } => write_both(flow, objects, out),
+            Change::DropFlow { flow, .. } => flow.write_to(alloc, out),
+            Change::Allocate { flow, objects, .. } => write_both(alloc, flow, objects, out),
             Change::Store {
                 object,
                 start_block,
                 length,
                 ..
             } => {
-                object.write_to(out)?;
-                write_both(start_block, length, out)
+                object.write_to(alloc, out)?;
+                write_both(alloc, start_block, length, out)
             }
-            Change::AddSegments { flow, segments, .. } => write_both(flow, segments, out),
-            Change::CutSegments { flow, range, .. } => write_both(flow, range, out),
+            Change::AddSegments { flow, segments, .. } => write_both(alloc, flow, segments, out),
+            Change::CutSegments { flow, range, .. } => write_both(alloc, flow, range, out),
             Change::AskDelete {
                 flow,
                 range,
                 delete_flow,
                 ..
             } => {
-                flow.write_to(out)?;
-                write_both(range, delete_flow, out)
+                flow.write_to(alloc, out)?;
+                write_both(alloc, range, delete_flow, out)
             }
             Change::DeleteStep { .. } | Change::SweepStep { .. } => Ok(()),
-            Change::PutHook { hook, .. } => hook.write_to(out),
-            Change::DropHook { url, .. } => url.write_to(out),
+            Change::PutHook { hook, .. } => hook.write_to(alloc, out),
+            Change::DropHook { url, .. } => url.write_to(alloc, out),
         }
     }
 }
@@ -247,11 +247,16 @@ pub fn moment_of(change: &Change) -> u64
 }
 
 /// Writes two fields, one after the other.
-fn write_both<A: Field, B: Field>(first: &A, second: &B, out: &mut Text) -> Result<(), Memory>
+fn write_both<A: Field, B: Field>(
+    alloc: Global,
+    first: &A,
+    second: &B,
+    out: &mut Text,
+) -> Result<(), Memory>
     requires { (pair A.spelling B.spelling).asks (first.now, second.now) }
     ensures { OnOk result (WritesValue (pair A.spelling B.spelling) out.old (first.now, second.now) out.new) }
 {
-    first.write_to(out)?;
-    second.write_to(out)?;
+    first.write_to(alloc, out)?;
+    second.write_to(alloc, out)?;
     Ok(())
 }

@@ -22,7 +22,7 @@ pub(crate) trait Field: Drop + Sized {
         ensures { GivesField spelling input.old input.new result };
 
     /// Writes the value at the end. After an error the text is any.
-    fn write_to(&self, out: &mut Text) -> Result<(), Memory>
+    fn write_to(&self, alloc: Global, out: &mut Text) -> Result<(), Memory>
         requires { spelling.asks self.now }
         ensures { OnOk result (WritesValue spelling out.old self.now out.new) };
 }
@@ -34,7 +34,7 @@ impl Field for u64 {
         Ok(input.u64_field()?)
     }
 
-    fn write_to(&self, out: &mut Text) -> Result<(), Memory> {
+    fn write_to(&self, _alloc: Global, out: &mut Text) -> Result<(), Memory> {
         write_u64(out, *self)
     }
 }
@@ -46,7 +46,7 @@ impl Field for u128 {
         Ok(input.u128_field()?)
     }
 
-    fn write_to(&self, out: &mut Text) -> Result<(), Memory> {
+    fn write_to(&self, _alloc: Global, out: &mut Text) -> Result<(), Memory> {
         write_u128(out, *self)
     }
 }
@@ -58,7 +58,7 @@ impl Field for bool {
         Ok(input.bool_field()?)
     }
 
-    fn write_to(&self, out: &mut Text) -> Result<(), Memory> {
+    fn write_to(&self, _alloc: Global, out: &mut Text) -> Result<(), Memory> {
         write_bool(out, *self)
     }
 }
@@ -70,7 +70,7 @@ impl Field for Ts {
         Ok(input.ts_field()?)
     }
 
-    fn write_to(&self, out: &mut Text) -> Result<(), Memory> {
+    fn write_to(&self, _alloc: Global, out: &mut Text) -> Result<(), Memory> {
         write_ts(out, *self)
     }
 }
@@ -82,8 +82,8 @@ impl Field for TimeRange {
         Ok(input.range_field()?)
     }
 
-    fn write_to(&self, out: &mut Text) -> Result<(), Memory> {
-        write_range(out, self)
+    fn write_to(&self, alloc: Global, out: &mut Text) -> Result<(), Memory> {
+        write_range(alloc, out, self)
     }
 }
 
@@ -95,8 +95,8 @@ impl Field for Text {
     }
 
     #[tactic(auto, unfolding(field_codec::specs::Leaves::text_spelling))]
-    fn write_to(&self, out: &mut Text) -> Result<(), Memory> {
-        write_text(out, self)
+    fn write_to(&self, alloc: Global, out: &mut Text) -> Result<(), Memory> {
+        write_text(alloc, out, self)
     }
 }
 
@@ -109,10 +109,10 @@ impl<A: Field, B: Field> Field for (A, B) {
         Ok((first, second))
     }
 
-    fn write_to(&self, out: &mut Text) -> Result<(), Memory> {
+    fn write_to(&self, alloc: Global, out: &mut Text) -> Result<(), Memory> {
         let (first, second) = self;
-        first.write_to(out)?;
-        second.write_to(out)?;
+        first.write_to(alloc, out)?;
+        second.write_to(alloc, out)?;
         Ok(())
     }
 }
@@ -129,12 +129,12 @@ impl<T: Field> Field for Option<T> {
         }
     }
 
-    fn write_to(&self, out: &mut Text) -> Result<(), Memory> {
+    fn write_to(&self, alloc: Global, out: &mut Text) -> Result<(), Memory> {
         match self {
             None => out.push(0)?,
             Some(value) => {
                 out.push(1)?;
-                value.write_to(out)?;
+                value.write_to(alloc, out)?;
             }
         }
         Ok(())

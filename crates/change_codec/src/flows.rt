@@ -40,20 +40,20 @@ impl Field for FlowBody {
     }
 
     #[tactic(auto, unfolding(crate::specs::Values::flow_spelling, crate::specs::Values::flow_head_spelling, crate::specs::Values::flow_texts_spelling, crate::specs::Values::flow_rest_spelling))]
-    fn write_to(&self, out: &mut Text) -> Result<(), Memory> {
-        self.id.write_to(out)?;
-        self.source.write_to(out)?;
-        self.format.write_to(out)?;
-        self.read_only.write_to(out)?;
-        self.codec.write_to(out)?;
-        self.container.write_to(out)?;
-        self.label.write_to(out)?;
-        self.description.write_to(out)?;
-        self.max_bit_rate.write_to(out)?;
-        self.avg_bit_rate.write_to(out)?;
-        write_tags(&self.tags, out)?;
-        self.members.write_to(out)?;
-        self.essence.write_to(out)?;
+    fn write_to(&self, alloc: Global, out: &mut Text) -> Result<(), Memory> {
+        self.id.write_to(alloc, out)?;
+        self.source.write_to(alloc, out)?;
+        self.format.write_to(alloc, out)?;
+        self.read_only.write_to(alloc, out)?;
+        self.codec.write_to(alloc, out)?;
+        self.container.write_to(alloc, out)?;
+        self.label.write_to(alloc, out)?;
+        self.description.write_to(alloc, out)?;
+        self.max_bit_rate.write_to(alloc, out)?;
+        self.avg_bit_rate.write_to(alloc, out)?;
+        write_tags(alloc, &self.tags, out)?;
+        self.members.write_to(alloc, out)?;
+        self.essence.write_to(alloc, out)?;
         Ok(())
     }
 }

@@ -20,5 +20,8 @@ pub use crate::laws::{
     change_faults_have_one_place, changes_have_one_spelling, fits_as_worked,
     row_faults_have_one_place, rows_are_no_prefixes, rows_begin_with_their_kinds,
 };
-pub use crate::whole::{decode_change, decode_row, encode_change, encode_row};
+pub use crate::whole::{
+    decode_change, decode_row, encode_change, encode_row, encode_row_if_spelled, has_spelling,
+    spell_change,
+};
 pub use field_codec::{CodecFault, Fields};

@@ -18,10 +18,10 @@ impl<T: Field> Field for Listed<T> {
         read_items(alloc, count, input)
     }
 
-    fn write_to(&self, out: &mut Text) -> Result<(), Memory> {
+    fn write_to(&self, alloc: Global, out: &mut Text) -> Result<(), Memory> {
         let items = self.items();
         write_u32(out, items.len() as u32)?;
-        write_items(items, out)?;
+        write_items(alloc, items, out)?;
         Ok(())
     }
 }
@@ -41,12 +41,12 @@ fn read_items<T: Field>(
     Ok(list)
 }
 
-fn write_items<T: Field>(list: &[T], out: &mut Text) -> Result<(), Memory>
+fn write_items<T: Field>(alloc: Global, list: &[T], out: &mut Text) -> Result<(), Memory>
     requires { AllByRecursion T.spelling.asks list.now }
     ensures { OnOk result (WritesValue (items T.spelling (length list.now)) out.old list.now out.new) }
 {
     for item in list {
-        item.write_to(out)?;
+        item.write_to(alloc, out)?;
     }
     Ok(())
 }

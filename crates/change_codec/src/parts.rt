@@ -32,35 +32,35 @@ impl Field for Part {
     }
 
     #[tactic(auto, unfolding(crate::specs::Values::flow_part_spelling))]
-    fn write_to(&self, out: &mut Text) -> Result<(), Memory> {
+    fn write_to(&self, alloc: Global, out: &mut Text) -> Result<(), Memory> {
         match self {
             Part::Tag(name, tag) => {
                 out.push(1)?;
-                write_tag_part(name, tag, out)?;
+                write_tag_part(alloc, name, tag, out)?;
             }
             Part::Label(text) => {
                 out.push(2)?;
-                text.write_to(out)?;
+                text.write_to(alloc, out)?;
             }
             Part::Description(text) => {
                 out.push(3)?;
-                text.write_to(out)?;
+                text.write_to(alloc, out)?;
             }
             Part::ReadOnly(mark) => {
                 out.push(4)?;
-                mark.write_to(out)?;
+                mark.write_to(alloc, out)?;
             }
             Part::Collection(members) => {
                 out.push(5)?;
-                members.write_to(out)?;
+                members.write_to(alloc, out)?;
             }
             Part::MaxBitRate(rate) => {
                 out.push(6)?;
-                rate.write_to(out)?;
+                rate.write_to(alloc, out)?;
             }
             Part::AvgBitRate(rate) => {
                 out.push(7)?;
-                rate.write_to(out)?;
+                rate.write_to(alloc, out)?;
             }
         }
         Ok(())
@@ -85,11 +85,11 @@ pub(crate) fn read_source_part(alloc: Global, input: &mut Cursor) -> Result<Part
 }
 
 /// Writes a part of a source, which is spelled as a flow's.
-pub(crate) fn write_source_part(part: &Part, out: &mut Text) -> Result<(), Memory>
+pub(crate) fn write_source_part(alloc: Global, part: &Part, out: &mut Text) -> Result<(), Memory>
     requires { source_part_spelling.asks part.now }
     ensures { OnOk result (WritesValue source_part_spelling out.old part.now out.new) }
 {
-    part.write_to(out)?;
+    part.write_to(alloc, out)?;
     Ok(())
 }
 
@@ -126,17 +126,22 @@ fn read_tag_of(alloc: Global, name: &Text, input: &mut Cursor) -> Result<Tag, Re
 }
 
 #[tactic(auto, unfolding(crate::specs::Values::tag_part_spelling))]
-fn write_tag_part(name: &Text, tag: &Option<Tag>, out: &mut Text) -> Result<(), Memory>
+fn write_tag_part(
+    alloc: Global,
+    name: &Text,
+    tag: &Option<Tag>,
+    out: &mut Text,
+) -> Result<(), Memory>
     requires { tag_part_spelling.asks (name.now, tag.now) }
     ensures { OnOk result (WritesValue tag_part_spelling out.old (name.now, tag.now) out.new) }
 {
-    name.write_to(out)?;
-    write_named(name, tag, out)?;
+    name.write_to(alloc, out)?;
+    write_named(alloc, name, tag, out)?;
     Ok(())
 }
 
 /// Writes the tag of this name, where there is one.
-fn write_named(name: &Text, tag: &Option<Tag>, out: &mut Text) -> Result<(), Memory>
+fn write_named(alloc: Global, name: &Text, tag: &Option<Tag>, out: &mut Text) -> Result<(), Memory>
     requires { (optional (named_tag name.now)).asks tag.now }
     ensures { OnOk result (WritesValue (optional (named_tag name.now)) out.old tag.now out.new) }
 {
@@ -144,7 +149,7 @@ fn write_named(name: &Text, tag: &Option<Tag>, out: &mut Text) -> Result<(), Mem
         None => out.push(0)?,
         Some(tag) => {
             out.push(1)?;
-            tag.write_to(out)?;
+            tag.write_to(alloc, out)?;
         }
     }
     Ok(())

@@ -30,14 +30,14 @@ impl Field for SourceRow {
     }
 
     #[tactic(auto, unfolding(crate::specs::Rows::source_row_spelling))]
-    fn write_to(&self, out: &mut Text) -> Result<(), Memory> {
-        self.id.write_to(out)?;
-        self.format.write_to(out)?;
-        self.label.write_to(out)?;
-        self.description.write_to(out)?;
-        write_tags(&self.tags, out)?;
-        self.created.write_to(out)?;
-        self.updated.write_to(out)?;
+    fn write_to(&self, alloc: Global, out: &mut Text) -> Result<(), Memory> {
+        self.id.write_to(alloc, out)?;
+        self.format.write_to(alloc, out)?;
+        self.label.write_to(alloc, out)?;
+        self.description.write_to(alloc, out)?;
+        write_tags(alloc, &self.tags, out)?;
+        self.created.write_to(alloc, out)?;
+        self.updated.write_to(alloc, out)?;
         Ok(())
     }
 }
@@ -56,11 +56,11 @@ impl Field for FlowRow {
     }
 
     #[tactic(auto, unfolding(crate::specs::Rows::flow_row_spelling))]
-    fn write_to(&self, out: &mut Text) -> Result<(), Memory> {
-        self.body.write_to(out)?;
-        self.created.write_to(out)?;
-        self.metadata_updated.write_to(out)?;
-        self.segments_updated.write_to(out)?;
+    fn write_to(&self, alloc: Global, out: &mut Text) -> Result<(), Memory> {
+        self.body.write_to(alloc, out)?;
+        self.created.write_to(alloc, out)?;
+        self.metadata_updated.write_to(alloc, out)?;
+        self.segments_updated.write_to(alloc, out)?;
         Ok(())
     }
 }
@@ -82,7 +82,7 @@ impl Field for ObjectState {
     }
 
     #[tactic(auto, unfolding(crate::specs::Rows::state_spelling))]
-    fn write_to(&self, out: &mut Text) -> Result<(), Memory> {
+    fn write_to(&self, alloc: Global, out: &mut Text) -> Result<(), Memory> {
         match self {
             ObjectState::Allocated => out.push(0)?,
             ObjectState::Stored {
@@ -90,8 +90,8 @@ impl Field for ObjectState {
                 length,
             } => {
                 out.push(1)?;
-                start_block.write_to(out)?;
-                length.write_to(out)?;
+                start_block.write_to(alloc, out)?;
+                length.write_to(alloc, out)?;
             }
         }
         Ok(())
@@ -113,11 +113,11 @@ impl Field for ObjectRow {
     }
 
     #[tactic(auto, unfolding(crate::specs::Rows::object_row_spelling))]
-    fn write_to(&self, out: &mut Text) -> Result<(), Memory> {
-        self.serial.write_to(out)?;
-        self.id.write_to(out)?;
-        self.state.write_to(out)?;
-        self.idle_since.write_to(out)?;
+    fn write_to(&self, alloc: Global, out: &mut Text) -> Result<(), Memory> {
+        self.serial.write_to(alloc, out)?;
+        self.id.write_to(alloc, out)?;
+        self.state.write_to(alloc, out)?;
+        self.idle_since.write_to(alloc, out)?;
         Ok(())
     }
 }
@@ -135,10 +135,10 @@ impl Field for SegmentRow {
     }
 
     #[tactic(auto, unfolding(crate::specs::Rows::segment_row_spelling))]
-    fn write_to(&self, out: &mut Text) -> Result<(), Memory> {
-        self.flow.write_to(out)?;
-        self.serial.write_to(out)?;
-        self.segment.write_to(out)?;
+    fn write_to(&self, alloc: Global, out: &mut Text) -> Result<(), Memory> {
+        self.flow.write_to(alloc, out)?;
+        self.serial.write_to(alloc, out)?;
+        self.segment.write_to(alloc, out)?;
         Ok(())
     }
 }
@@ -158,7 +158,7 @@ impl Field for DeleteStatus {
     }
 
     #[tactic(auto, unfolding(crate::specs::Rows::status_spelling))]
-    fn write_to(&self, out: &mut Text) -> Result<(), Memory> {
+    fn write_to(&self, _alloc: Global, out: &mut Text) -> Result<(), Memory> {
         write_u8(out, self.number())?;
         Ok(())
     }
@@ -181,14 +181,14 @@ impl Field for DeleteRow {
     }
 
     #[tactic(auto, unfolding(crate::specs::Rows::delete_row_spelling))]
-    fn write_to(&self, out: &mut Text) -> Result<(), Memory> {
-        self.serial.write_to(out)?;
-        self.flow.write_to(out)?;
-        self.range.write_to(out)?;
-        self.delete_flow.write_to(out)?;
-        self.status.write_to(out)?;
-        self.created.write_to(out)?;
-        self.updated.write_to(out)?;
+    fn write_to(&self, alloc: Global, out: &mut Text) -> Result<(), Memory> {
+        self.serial.write_to(alloc, out)?;
+        self.flow.write_to(alloc, out)?;
+        self.range.write_to(alloc, out)?;
+        self.delete_flow.write_to(alloc, out)?;
+        self.status.write_to(alloc, out)?;
+        self.created.write_to(alloc, out)?;
+        self.updated.write_to(alloc, out)?;
         Ok(())
     }
 }
@@ -206,10 +206,10 @@ impl Field for HookRow {
     }
 
     #[tactic(auto, unfolding(crate::specs::Rows::hook_row_spelling))]
-    fn write_to(&self, out: &mut Text) -> Result<(), Memory> {
-        self.serial.write_to(out)?;
-        self.hook.write_to(out)?;
-        self.failed.write_to(out)?;
+    fn write_to(&self, alloc: Global, out: &mut Text) -> Result<(), Memory> {
+        self.serial.write_to(alloc, out)?;
+        self.hook.write_to(alloc, out)?;
+        self.failed.write_to(alloc, out)?;
         Ok(())
     }
 }
@@ -230,13 +230,13 @@ impl Field for EventRow {
     }
 
     #[tactic(auto, unfolding(crate::specs::Rows::event_row_spelling))]
-    fn write_to(&self, out: &mut Text) -> Result<(), Memory> {
-        self.serial.write_to(out)?;
-        self.hook.write_to(out)?;
-        self.kind.write_to(out)?;
-        self.subject.write_to(out)?;
-        self.range.write_to(out)?;
-        self.moment.write_to(out)?;
+    fn write_to(&self, alloc: Global, out: &mut Text) -> Result<(), Memory> {
+        self.serial.write_to(alloc, out)?;
+        self.hook.write_to(alloc, out)?;
+        self.kind.write_to(alloc, out)?;
+        self.subject.write_to(alloc, out)?;
+        self.range.write_to(alloc, out)?;
+        self.moment.write_to(alloc, out)?;
         Ok(())
     }
 }

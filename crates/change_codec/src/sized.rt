@@ -1,8 +1,8 @@
 //! Rows: a kind, the length of the fields in 4 bytes, and the fields.
-ghost use Rattle.std.specs.Prelude.{◌≡◌, ◌∷◌, ◌++◌, [], OnOk};
+ghost use Rattle.std.specs.Prelude.{◌≡◌, ◌∷◌, ◌++◌, [], IfOk};
 ghost use Rattle.field_codec.specs.Laws.{Lawful};
-ghost use Rattle.field_codec.specs.Reading.{GivesField, WritesValue};
-ghost use Rattle.change_codec.specs.Rows.{sized, row_spelling};
+ghost use Rattle.field_codec.specs.Reading.{GivesField};
+ghost use Rattle.change_codec.specs.Rows.{WritesIfSpelled, row_spelling, sized};
 
 use crate::field::Field;
 use crate::writable::Writable;
@@ -31,21 +31,20 @@ pub(crate) fn read_row(alloc: Global, input: &mut Cursor) -> Result<Row, ReadFau
     }
 }
 
-#[tactic(auto, unfolding(crate::specs::Rows::row_spelling))]
-pub(crate) fn write_row(alloc: Global, row: &Row, out: &mut Text) -> Result<(), Memory>
-    ensures { OnOk result (WritesValue row_spelling out.old row.now out.new) }
+/// Writes a row where it has a spelling, and tells whether it has.
+pub(crate) fn write_row(alloc: Global, row: &Row, out: &mut Text) -> Result<bool, Memory>
+    ensures { IfOk result (WritesIfSpelled row_spelling out.old row.now out.new) }
 {
     match row {
-        Row::Source(row) => write_sized(alloc, 1, row, out)?,
-        Row::Flow(row) => write_sized(alloc, 2, row, out)?,
-        Row::Object(row) => write_sized(alloc, 3, row, out)?,
-        Row::Segment(row) => write_sized(alloc, 4, row, out)?,
-        Row::Request(row) => write_sized(alloc, 5, row, out)?,
-        Row::Hook(row) => write_sized(alloc, 6, row, out)?,
-        Row::Event(row) => write_sized(alloc, 7, row, out)?,
-        Row::Numbers { next_serial } => write_sized(alloc, 8, next_serial, out)?,
+        Row::Source(row) => write_sized(alloc, 1, row, out),
+        Row::Flow(row) => write_sized(alloc, 2, row, out),
+        Row::Object(row) => write_sized(alloc, 3, row, out),
+        Row::Segment(row) => write_sized(alloc, 4, row, out),
+        Row::Request(row) => write_sized(alloc, 5, row, out),
+        Row::Hook(row) => write_sized(alloc, 6, row, out),
+        Row::Event(row) => write_sized(alloc, 7, row, out),
+        Row::Numbers { next_serial } => write_sized(alloc, 8, next_serial, out),
     }
-    Ok(())
 }
 
 /// Reads fields behind their length. The fields are read without regard to it, and it is compared
@@ -64,28 +63,29 @@ fn read_sized<T: Field>(alloc: Global, input: &mut Cursor) -> Result<T, ReadFaul
     Ok(value)
 }
 
-/// Writes a kind, and the fields behind their length. Fields that have no spelling, or too long a one, are
-/// want of memory.
+/// Writes a kind, and the fields behind their length, where they have a spelling that isn't too long, and
+/// tells whether they have.
 fn write_sized<T: Writable>(
     alloc: Global,
     kind: u8,
     value: &T,
     out: &mut Text,
-) -> Result<(), Memory>
+) -> Result<bool, Memory>
     requires { Lawful T.spelling }
-    ensures { OnOk result (WritesValue (sized T.spelling) (out.old ++ kind ∷ []) value.now out.new) }
+    ensures { IfOk result
+        (WritesIfSpelled (sized T.spelling) (out.old ++ kind ∷ []) value.now out.new) }
 {
     if !value.can_write() {
-        return Err(Memory);
+        return Ok(false);
     }
     let mut fields = Text::new(alloc);
-    value.write_to(&mut fields)?;
+    value.write_to(alloc, &mut fields)?;
     let bytes = fields.bytes();
     if bytes.len() > u32::MAX as usize {
-        return Err(Memory);
+        return Ok(false);
     }
     out.push(kind)?;
     write_u32(out, bytes.len() as u32)?;
     out.append(bytes)?;
-    Ok(())
+    Ok(true)
 }

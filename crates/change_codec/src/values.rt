@@ -26,7 +26,7 @@ impl Field for FormatKind {
     }
 
     #[tactic(auto, unfolding(crate::specs::Values::kind_spelling))]
-    fn write_to(&self, out: &mut Text) -> Result<(), Memory> {
+    fn write_to(&self, _alloc: Global, out: &mut Text) -> Result<(), Memory> {
         write_u8(out, self.number())?;
         Ok(())
     }
@@ -52,7 +52,7 @@ impl Field for EventKind {
     }
 
     #[tactic(auto, unfolding(crate::specs::Values::event_spelling))]
-    fn write_to(&self, out: &mut Text) -> Result<(), Memory> {
+    fn write_to(&self, _alloc: Global, out: &mut Text) -> Result<(), Memory> {
         write_u8(out, self.number())?;
         Ok(())
     }
@@ -76,10 +76,10 @@ impl Field for Tag {
     }
 
     #[tactic(auto, unfolding(crate::specs::Values::tag_spelling))]
-    fn write_to(&self, out: &mut Text) -> Result<(), Memory> {
-        self.name.write_to(out)?;
-        self.single.write_to(out)?;
-        self.values.write_to(out)?;
+    fn write_to(&self, alloc: Global, out: &mut Text) -> Result<(), Memory> {
+        self.name.write_to(alloc, out)?;
+        self.single.write_to(alloc, out)?;
+        self.values.write_to(alloc, out)?;
         Ok(())
     }
 }
@@ -98,11 +98,11 @@ pub(crate) fn read_tags(alloc: Global, input: &mut Cursor) -> Result<TagList, Re
 }
 
 #[tactic(auto, unfolding(crate::specs::Values::tags_spelling))]
-pub(crate) fn write_tags(tags: &TagList, out: &mut Text) -> Result<(), Memory>
+pub(crate) fn write_tags(alloc: Global, tags: &TagList, out: &mut Text) -> Result<(), Memory>
     requires { tags_spelling.asks tags.now }
     ensures { OnOk result (WritesValue tags_spelling out.old tags.now out.new) }
 {
-    tags.write_to(out)?;
+    tags.write_to(alloc, out)?;
     Ok(())
 }
 
@@ -130,9 +130,9 @@ impl Field for Member {
     }
 
     #[tactic(auto, unfolding(crate::specs::Values::member_spelling))]
-    fn write_to(&self, out: &mut Text) -> Result<(), Memory> {
-        self.flow.write_to(out)?;
-        self.role.write_to(out)?;
+    fn write_to(&self, alloc: Global, out: &mut Text) -> Result<(), Memory> {
+        self.flow.write_to(alloc, out)?;
+        self.role.write_to(alloc, out)?;
         Ok(())
     }
 }
@@ -154,14 +154,14 @@ impl Field for Segment {
     }
 
     #[tactic(auto, unfolding(crate::specs::Values::segment_spelling))]
-    fn write_to(&self, out: &mut Text) -> Result<(), Memory> {
-        self.object.write_to(out)?;
-        self.range.write_to(out)?;
-        self.ts_offset.write_to(out)?;
-        self.last_duration.write_to(out)?;
-        self.sample_offset.write_to(out)?;
-        self.sample_count.write_to(out)?;
-        self.key_frames.write_to(out)?;
+    fn write_to(&self, alloc: Global, out: &mut Text) -> Result<(), Memory> {
+        self.object.write_to(alloc, out)?;
+        self.range.write_to(alloc, out)?;
+        self.ts_offset.write_to(alloc, out)?;
+        self.last_duration.write_to(alloc, out)?;
+        self.sample_offset.write_to(alloc, out)?;
+        self.sample_count.write_to(alloc, out)?;
+        self.key_frames.write_to(alloc, out)?;
         Ok(())
     }
 }
@@ -182,13 +182,13 @@ impl Field for Hook {
     }
 
     #[tactic(auto, unfolding(crate::specs::Values::hook_spelling))]
-    fn write_to(&self, out: &mut Text) -> Result<(), Memory> {
-        self.url.write_to(out)?;
-        self.events.write_to(out)?;
-        self.key_name.write_to(out)?;
-        self.key_value.write_to(out)?;
-        self.flow_ids.write_to(out)?;
-        self.source_ids.write_to(out)?;
+    fn write_to(&self, alloc: Global, out: &mut Text) -> Result<(), Memory> {
+        self.url.write_to(alloc, out)?;
+        self.events.write_to(alloc, out)?;
+        self.key_name.write_to(alloc, out)?;
+        self.key_value.write_to(alloc, out)?;
+        self.flow_ids.write_to(alloc, out)?;
+        self.source_ids.write_to(alloc, out)?;
         Ok(())
     }
 }

@@ -1,9 +1,9 @@
 //! Changes and rows in bytes, each with one spelling.
-ghost use Rattle.std.specs.Prelude.{◌≡◌, ℕ, IfOk, OnOk, OnErr};
+ghost use Rattle.std.specs.Prelude.{◌≡◌, ◌↔◌, ℕ, IfOk, IsTrue, OnOk, OnErr};
 ghost use Rattle.field_codec.specs.Laws.{Lawful};
 ghost use Rattle.field_codec.specs.Reading.{ReadsWhole};
 ghost use Rattle.field_codec.specs.Answers.{OnBad};
-ghost use Rattle.change_codec.specs.Codec.{CanWriteRow, SpellsChange, CanWriteChange, ChangeFaultAt, BeginsWithRow, AppendsRow, RowFaultAt};
+ghost use Rattle.change_codec.specs.Codec.{CanWriteRow, SpellsChange, CanWriteChange, ChangeFaultAt, BeginsWithRow, AppendsRow, AppendsIfSpelled, RowFaultAt};
 ghost use Rattle.media_rows.specs.declared.change.Change.{Change};
 ghost use Rattle.media_rows.specs.declared.row.Row.{Row};
 
@@ -15,15 +15,30 @@ use field_codec::{BadField, CodecFault, Cursor, ReadFault};
 use media_rows::{Change, Row};
 use std::alloc::Global;
 
+/// Whether a change has a spelling.
+pub fn has_spelling(change: &Change) -> bool
+    ensures { IsTrue result ↔ CanWriteChange change.now }
+{
+    change.can_write()
+}
+
 /// The one spelling of a change. A change that has none is want of memory.
 pub fn encode_change(alloc: Global, change: &Change) -> Result<Text, Memory>
     ensures { IfOk result (λ text. SpellsChange text change.now) }
 {
-    if !change.can_write() {
+    if !has_spelling(change) {
         return Err(Memory);
     }
+    spell_change(alloc, change)
+}
+
+/// The one spelling of a change that has one.
+pub fn spell_change(alloc: Global, change: &Change) -> Result<Text, Memory>
+    requires { CanWriteChange change.now }
+    ensures { IfOk result (λ text. SpellsChange text change.now) }
+{
     let mut text = Text::new(alloc);
-    change.write_to(&mut text)?;
+    change.write_to(alloc, &mut text)?;
     Ok(text)
 }
 
@@ -59,16 +74,30 @@ fn read_all<T: Field>(alloc: Global, bytes: &[u8]) -> Result<T, ReadFault>
     Ok(value)
 }
 
-/// Adds the one spelling of a row at the end of `out`. A row that has none is want of memory. After an error
-/// `out` is as it was.
+/// Adds the one spelling of a row that has one at the end of `out`. After an error `out` is as it was.
 pub fn encode_row(alloc: Global, row: &Row, out: &mut Text) -> Result<(), Memory>
+    requires { CanWriteRow row.now }
     ensures ok { OnOk result (AppendsRow out.old row.now out.new) }
     ensures err { OnErr result (out.new ≡ out.old) }
 {
+    match encode_row_if_spelled(alloc, row, out)? {
+        true => Ok(()),
+        false => unreachable!(),
+    }
+}
+
+/// Adds the spelling of a row at the end of `out`, where it has one, and tells whether it has. Where it
+/// has none, and after an error, `out` is as it was.
+pub fn encode_row_if_spelled(alloc: Global, row: &Row, out: &mut Text) -> Result<bool, Memory>
+    ensures ok { IfOk result (AppendsIfSpelled out.old row.now out.new) }
+    ensures err { OnErr result (out.new ≡ out.old) }
+{
     let mut spelling = Text::new(alloc);
-    write_row(alloc, row, &mut spelling)?;
+    if !write_row(alloc, row, &mut spelling)? {
+        return Ok(false);
+    }
     out.append(spelling.bytes())?;
-    Ok(())
+    Ok(true)
 }
 
 /// The row whose spelling the bytes begin with, and how many bytes it takes. `Bad` is as for

@@ -1,6 +1,6 @@
 //! Which rows can be written: each text has fewer than 2 ^ 32 bytes, each list has fewer items than that, and
 //! tags are as the file has them.
-ghost use Rattle.std.specs.Prelude.{◌≡◌, true};
+ghost use Rattle.std.specs.Prelude.{◌≡◌, true, false};
 ghost use Rattle.std.specs.List.{AllByRecursion};
 ghost use Rattle.change_codec.specs.Values.{tags_spelling};
 
@@ -17,7 +17,8 @@ use time_range::{TimeRange, Ts};
 pub(crate) trait Writable: Field {
     /// Whether it can.
     fn can_write(&self) -> bool
-        ensures { result ≡ true → Self.spelling.asks self.now };
+        ensures yes { result ≡ true → Self.spelling.asks self.now }
+        ensures no { result ≡ false → Self.spelling.asks self.now → ⊥ };
 }
 
 impl Writable for u64 {
@@ -75,7 +76,8 @@ impl<T: Writable> Writable for Listed<T> {
 
 /// Whether each item can be written.
 fn can_write_items<T: Writable>(list: &[T]) -> bool
-    ensures { result ≡ true → AllByRecursion T.spelling.asks list.now }
+    ensures yes { result ≡ true → AllByRecursion T.spelling.asks list.now }
+    ensures no { result ≡ false → AllByRecursion T.spelling.asks list.now → ⊥ }
 {
     for item in list {
         if !item.can_write() {
@@ -88,7 +90,8 @@ fn can_write_items<T: Writable>(list: &[T]) -> bool
 /// Whether tags can be written: each of them can, and they stand by rising name.
 #[tactic(auto, unfolding(crate::specs::Values::tags_spelling))]
 fn can_write_tags(tags: &TagList) -> bool
-    ensures { result ≡ true → tags_spelling.asks tags.now }
+    ensures yes { result ≡ true → tags_spelling.asks tags.now }
+    ensures no { result ≡ false → tags_spelling.asks tags.now → ⊥ }
 {
     tags.can_write() && are_rising(tags.items())
 }

@@ -1,6 +1,6 @@
 //! Which changes can be written: as of rows, and the tag of a part has the name beside it, and a part of a source
 //! is a tag, a label or a description.
-ghost use Rattle.std.specs.Prelude.{◌≡◌, true};
+ghost use Rattle.std.specs.Prelude.{◌≡◌, true, false};
 ghost use Rattle.field_codec.specs.Spelling.{optional, pair};
 ghost use Rattle.change_codec.specs.Values.{named_tag, source_part_spelling, tag_part_spelling};
 
@@ -24,7 +24,8 @@ impl Writable for Part {
 /// Whether a part of a source can be written.
 #[tactic(auto, unfolding(crate::specs::Values::source_part_spelling))]
 fn can_write_source_part(part: &Part) -> bool
-    ensures { result ≡ true → source_part_spelling.asks part.now }
+    ensures yes { result ≡ true → source_part_spelling.asks part.now }
+    ensures no { result ≡ false → source_part_spelling.asks part.now → ⊥ }
 {
     match part {
         Part::Tag(name, tag) => can_write_tag_part(name, tag),
@@ -38,14 +39,16 @@ fn can_write_source_part(part: &Part) -> bool
 /// Whether a tag's name and the tag of that name can be written.
 #[tactic(auto, unfolding(crate::specs::Values::tag_part_spelling))]
 fn can_write_tag_part(name: &Text, tag: &Option<Tag>) -> bool
-    ensures { result ≡ true → tag_part_spelling.asks (name.now, tag.now) }
+    ensures yes { result ≡ true → tag_part_spelling.asks (name.now, tag.now) }
+    ensures no { result ≡ false → tag_part_spelling.asks (name.now, tag.now) → ⊥ }
 {
     name.can_write() && can_write_named(name, tag)
 }
 
 /// Whether a tag, where there is one, has this name and can be written.
 fn can_write_named(name: &Text, tag: &Option<Tag>) -> bool
-    ensures { result ≡ true → (optional (named_tag name.now)).asks tag.now }
+    ensures yes { result ≡ true → (optional (named_tag name.now)).asks tag.now }
+    ensures no { result ≡ false → (optional (named_tag name.now)).asks tag.now → ⊥ }
 {
     match tag {
         None => true,

@@ -1,13 +1,20 @@
 -- What stands behind a text after its parts were written is the field's spelling.
-use Rattle.std.proofs.Common.{◌≡◌, ℕ, ℤ, List, [], ◌∷◌, ◌++◌, length, Option, Some, None, refl, ap, ◌∙◌, append_assoc, IfSome}
+use Rattle.std.proofs.Common.{◌≡◌, ℕ, ℤ, List, [], ◌∷◌, ◌++◌, length, Option, Some, None, refl, ap, ap₂, subst, take, ◌∙◌, append_assoc, IfSome}
+use Rattle.std.proofs.Math.Seq.{take-append_seam}
 use Rattle.std.specs.Int.{w128, cast_unsigned}
 use Rattle.disk_trait.specs.Numbers.{u32_bytes}
 use Rattle.time_range.specs.Points.{IsNanos, IsRange}
 use Rattle.time_range.specs.Spelling.{low_end, high_end}
 use Rattle.time_range.specs.declared.ranges.Span.{Span}
 use Rattle.time_range.specs.declared.ends.End.{End}
+use Rattle.field_codec.specs.Spelling.{pair}
 use Rattle.field_codec.specs.Leaves.{IsShort, text_spelling, u128_spelling, ts_spelling, end_spelling, range_spelling}
 use Rattle.field_codec.specs.Reading.{WritesValue}
+use Rattle.field_codec.proofs.RangeLaws.{end_lawful}
+
+-- a text that was cut back to what was there
+pub taken_back : (old more middle new : List ℕ) (n : ℕ) → n ≡ length old → middle ≡ old ++ more → new ≡ take n middle → new ≡ old
+taken_back old more middle new n size grown cut = cut ∙ ap₂ (λ (k : ℕ) (t : List ℕ). take k t) size grown ∙ take-append_seam old more
 
 pub text_wrote : (old middle text new : List ℕ) → IsShort text → middle ≡ old ++ u32_bytes (length text) → new ≡ middle ++ text
     → WritesValue text_spelling old text new
@@ -25,14 +32,26 @@ pub never_wrote : (old new : List ℕ) (range : Option Span) → range ≡ None 
 unfolding range_spelling
 never_wrote old new range never e = rw never (record { written = e; fits = (tt, tt) })
 
-spans_wrote : (old flag middle new : List ℕ) (span : Span) → IsRange (Some span) → flag ≡ old ++ 1 ∷ []
-    → WritesValue end_spelling flag (low_end span.low) middle → WritesValue end_spelling middle (high_end span.high) new → WritesValue range_spelling old
-    (Some span) new
+-- an end is written behind what was there
+pub end_back : (old middle last new : List ℕ) (low : End) (n : ℕ) → n ≡ length old → WritesValue end_spelling old low middle → last ≡ middle
+    → new ≡ take n last → new ≡ old
+end_back old middle last new low n size wrote same cut =
+    taken_back old (end_spelling.meaning.spell low) last new n size (same ∙ wrote.written ∙ end_lawful.adds old low) cut
+
+-- two ends, one behind the other
+pub both_wrote : (old middle new : List ℕ) (low high : End) → WritesValue end_spelling old low middle → WritesValue end_spelling middle high new
+    → WritesValue (pair end_spelling end_spelling) old (low, high) new
+both_wrote old middle new low high first second = record {
+  written = second.written ∙ ap (λ (t : List ℕ). end_spelling.onto t high) first.written;
+  fits = (first.fits, second.fits);
+}
+
+spans_wrote : (old flag new : List ℕ) (span : Span) → IsRange (Some span) → flag ≡ old ++ 1 ∷ []
+    → WritesValue (pair end_spelling end_spelling) flag (low_end span.low, high_end span.high) new → WritesValue range_spelling old (Some span) new
 unfolding range_spelling
-spans_wrote old flag middle new span is e low high = record {
-  written = high.written ∙ ap (λ (t : List ℕ). end_spelling.onto t (high_end span.high))
-      (low.written ∙ ap (λ (t : List ℕ). end_spelling.onto t (low_end span.low)) e);
-  fits = ((low.fits, high.fits), is);
+spans_wrote old flag new span is e ends = record {
+  written = ends.written ∙ ap (λ (t : List ℕ). (pair end_spelling end_spelling).onto t (low_end span.low, high_end span.high)) e;
+  fits = (ends.fits, is);
 }
 
 pair_is : {A : Type 0} (x y : A) → Some x ≡ Some y → x ≡ y
@@ -41,12 +60,10 @@ pair_is x y e = cc
 abbrev pub some_ends : End → End → Option (End × End)
 some_ends low high = Some (low, high)
 
-pub range_wrote : (old flag middle new : List ℕ) (range : Option Span) (low high : End) → IsRange range → (range ≡ None → ⊥)
+pub range_wrote : (old flag new : List ℕ) (range : Option Span) (low high : End) → IsRange range → (range ≡ None → ⊥)
     → IfSome range (λ s. some_ends low high ≡ some_ends (low_end s.low) (high_end s.high)) → flag ≡ old ++ 1 ∷ []
-    → WritesValue end_spelling flag low middle → WritesValue end_spelling middle high new → WritesValue range_spelling old range new
-range_wrote old flag middle new None low high is points value e first second = absurd (points refl)
-range_wrote old flag middle new (Some span) low high is points value e first second =
+    → WritesValue (pair end_spelling end_spelling) flag (low, high) new → WritesValue range_spelling old range new
+range_wrote old flag new None low high is points value e ends = absurd (points refl)
+range_wrote old flag new (Some span) low high is points value e ends =
     let both = pair_is (low, high) (low_end span.low, high_end span.high) value in
-    let low_is : low ≡ low_end span.low = ap (λ (p : End × End). p.0) both in
-    let high_is : high ≡ high_end span.high = ap (λ (p : End × End). p.1) both in
-    spans_wrote old flag middle new span is e (rw (← low_is) first) (rw (← high_is) second)
+    spans_wrote old flag new span is e (subst (λ (p : End × End). WritesValue (pair end_spelling end_spelling) flag p new) both ends)

@@ -1,5 +1,5 @@
 //! Reading one field after another from the front of some bytes.
-ghost use Rattle.std.specs.Prelude.{◌≡◌, length, OnErr};
+ghost use Rattle.std.specs.Prelude.{◌≡◌, length, OnErr, OnOk};
 ghost use Rattle.field_codec.specs.Leaves.{u8_spelling, u32_spelling, u64_spelling, u128_spelling, bool_spelling, ts_spelling, text_spelling, end_spelling, range_spelling};
 ghost use Rattle.field_codec.specs.Reading.{Finds, GivesField, TakesFirst};
 
@@ -9,7 +9,8 @@ use std::alloc::Global;
 use std::marker::Model;
 use time_range::{End, TimeRange, Ts};
 
-/// The bytes that are not read yet. After a fault they are any.
+/// The bytes that are not read yet. A field that can't be read is left unread, and so it is where there
+/// is no memory for it.
 #[derive(Drop)]
 pub struct Cursor<'a> {
     rest: &'a [u8],
@@ -58,10 +59,27 @@ impl<'a> Cursor<'a> {
         }
     }
 
+    /// What was read from a place on. Where it is a fault, the cursor goes back there.
+    fn or_back_to<T: Drop>(
+        &mut self,
+        start: &'a [u8],
+        found: Result<T, BadField>,
+    ) -> Result<T, BadField>
+        ensures same { result ≡ found }
+        ensures ok { OnOk result (self.new ≡ self.old) }
+        ensures err { OnErr result (self.new ≡ start.now) }
+    {
+        if found.is_err() {
+            self.rest = start;
+        }
+        found
+    }
+
     /// A number of 1 byte.
     #[tactic(auto, unfolding(crate::specs::Leaves::u8_spelling))]
     pub fn u8_field(&mut self) -> Result<u8, BadField>
-        ensures { Finds u8_spelling self.old self.new result }
+        ensures field { Finds u8_spelling self.old self.new result }
+        ensures err { OnErr result (self.new ≡ self.old) }
     {
         self.first().ok_or(BadField { left: 0 })
     }
@@ -69,7 +87,8 @@ impl<'a> Cursor<'a> {
     /// A number of 4 bytes, as a length or a count.
     #[tactic(auto, using(crate::proofs::ReadingLaws::u32_found), unfolding(crate::specs::Leaves::u32_spelling))]
     pub fn u32_field(&mut self) -> Result<u32, BadField>
-        ensures { Finds u32_spelling self.old self.new result }
+        ensures field { Finds u32_spelling self.old self.new result }
+        ensures err { OnErr result (self.new ≡ self.old) }
     {
         if self.rest.len() < 4 {
             return Err(BadField {
@@ -84,7 +103,8 @@ impl<'a> Cursor<'a> {
     /// A number of 8 bytes.
     #[tactic(auto, using(crate::proofs::ReadingLaws::u64_found), unfolding(crate::specs::Leaves::u64_spelling))]
     pub fn u64_field(&mut self) -> Result<u64, BadField>
-        ensures { Finds u64_spelling self.old self.new result }
+        ensures field { Finds u64_spelling self.old self.new result }
+        ensures err { OnErr result (self.new ≡ self.old) }
     {
         if self.rest.len() < 8 {
             return Err(BadField {
@@ -99,7 +119,8 @@ impl<'a> Cursor<'a> {
     /// An id, or the bits of a timestamp, of 16 bytes.
     #[tactic(auto, using(crate::proofs::ReadingLaws::u128_found), unfolding(crate::specs::Leaves::u128_spelling))]
     pub fn u128_field(&mut self) -> Result<u128, BadField>
-        ensures { Finds u128_spelling self.old self.new result }
+        ensures field { Finds u128_spelling self.old self.new result }
+        ensures err { OnErr result (self.new ≡ self.old) }
     {
         if self.rest.len() < 16 {
             return Err(BadField {
@@ -112,8 +133,18 @@ impl<'a> Cursor<'a> {
     }
 
     /// A mark: 0 or 1.
-    #[tactic(auto, unfolding(crate::specs::Leaves::u8_spelling, crate::specs::Leaves::bool_spelling))]
     pub fn bool_field(&mut self) -> Result<bool, BadField>
+        ensures field { Finds bool_spelling self.old self.new result }
+        ensures err { OnErr result (self.new ≡ self.old) }
+    {
+        let start = self.rest;
+        let found = self.read_mark();
+        self.or_back_to(start, found)
+    }
+
+    /// Reads a mark. After a fault any bytes are left.
+    #[tactic(auto, unfolding(crate::specs::Leaves::u8_spelling, crate::specs::Leaves::bool_spelling))]
+    fn read_mark(&mut self) -> Result<bool, BadField>
         ensures { Finds bool_spelling self.old self.new result }
     {
         let left = self.left();
@@ -125,8 +156,18 @@ impl<'a> Cursor<'a> {
     }
 
     /// A timestamp: its nanoseconds in 16 bytes, two's complement.
-    #[tactic(auto, unfolding(crate::specs::Leaves::ts_spelling))]
     pub fn ts_field(&mut self) -> Result<Ts, BadField>
+        ensures field { Finds ts_spelling self.old self.new result }
+        ensures err { OnErr result (self.new ≡ self.old) }
+    {
+        let start = self.rest;
+        let found = self.read_ts();
+        self.or_back_to(start, found)
+    }
+
+    /// Reads a timestamp. After a fault any bytes are left.
+    #[tactic(auto, unfolding(crate::specs::Leaves::ts_spelling))]
+    fn read_ts(&mut self) -> Result<Ts, BadField>
         ensures { Finds ts_spelling self.old self.new result }
     {
         let left = self.left();
@@ -137,7 +178,8 @@ impl<'a> Cursor<'a> {
     /// A text: the number of its bytes in 4 bytes, and these.
     #[tactic(auto, using(crate::proofs::ReadingLaws::text_found, crate::proofs::ReadingLaws::text_short), unfolding(crate::specs::Leaves::text_spelling))]
     pub fn text_field(&mut self, alloc: Global) -> Result<Text, ReadFault>
-        ensures { GivesField text_spelling self.old self.new result }
+        ensures field { GivesField text_spelling self.old self.new result }
+        ensures err { OnErr result (self.new ≡ self.old) }
     {
         let left = self.left();
         if left < 4 {
@@ -148,14 +190,25 @@ impl<'a> Cursor<'a> {
         if behind.len() < size {
             return Err(ReadFault::Bad(BadField { left }));
         }
-        let (text, rest) = behind.split_at(size);
+        let (bytes, rest) = behind.split_at(size);
+        let text = Text::from_bytes(alloc, bytes)?;
         self.rest = rest;
-        Ok(Text::from_bytes(alloc, text)?)
+        Ok(text)
     }
 
     /// An end of a range: 0 open, 1 and a timestamp that is in the range, 2 and one that is not.
-    #[tactic(auto, unfolding(crate::specs::Leaves::end_spelling))]
     pub fn end_field(&mut self) -> Result<End, BadField>
+        ensures field { Finds end_spelling self.old self.new result }
+        ensures err { OnErr result (self.new ≡ self.old) }
+    {
+        let start = self.rest;
+        let found = self.read_end();
+        self.or_back_to(start, found)
+    }
+
+    /// Reads an end. After a fault any bytes are left.
+    #[tactic(auto, unfolding(crate::specs::Leaves::end_spelling))]
+    fn read_end(&mut self) -> Result<End, BadField>
         ensures { Finds end_spelling self.old self.new result }
     {
         let left = self.left();
@@ -168,8 +221,18 @@ impl<'a> Cursor<'a> {
     }
 
     /// A range: 0 for never, or 1 and two ends that hold a point.
-    #[tactic(auto, unfolding(crate::specs::Leaves::range_spelling))]
     pub fn range_field(&mut self) -> Result<TimeRange, BadField>
+        ensures field { Finds range_spelling self.old self.new result }
+        ensures err { OnErr result (self.new ≡ self.old) }
+    {
+        let start = self.rest;
+        let found = self.read_range();
+        self.or_back_to(start, found)
+    }
+
+    /// Reads a range. After a fault any bytes are left.
+    #[tactic(auto, unfolding(crate::specs::Leaves::range_spelling))]
+    fn read_range(&mut self) -> Result<TimeRange, BadField>
         ensures { Finds range_spelling self.old self.new result }
     {
         let left = self.left();

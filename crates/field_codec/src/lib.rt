@@ -11,6 +11,6 @@ pub use crate::cursor::Cursor;
 pub use crate::fault::{BadField, CodecFault, ReadFault};
 pub use crate::fields::Fields;
 pub use crate::writing::{
-    write_bool, write_end, write_range, write_text, write_ts, write_u8, write_u32, write_u64,
-    write_u128,
+    cut_back, write_bool, write_end, write_range, write_text, write_ts, write_u8, write_u32,
+    write_u64, write_u128,
 };

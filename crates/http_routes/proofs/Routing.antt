@@ -1,6 +1,6 @@
 -- The router finds the route that the pieces of a path name: each route's text reads as the tokens of its pieces, and no path is one of two.
 use Rattle.std.proofs.Common.{◌≡◌, ◌⊎◌, inl, inr, ◌<◌, refl, sym, ◌∙◌, ap, ap₂, ℕ, List, [], ◌∷◌, Option, Some, None, Result, Ok, Err, Bool, true, false, cond, ◌==◌, ◌&&◌, ◌||◌, arith, subst, true≢false}
-use Rattle.std.specs.Prelude.{not, bytes_eq, find, nat_lt}
+use Rattle.std.specs.Prelude.{not, bytes_eq, find, nat_lt, if◌then◌else◌}
 use Rattle.std.specs.List.{list_all}
 use Rattle.std.specs.Str.{IsAscii, IsUtf8}
 use Rattle.std.proofs.lemmas.Bool.{and_parts}
@@ -14,11 +14,11 @@ use Rattle.matchit.specs.Order.{placed}
 use Rattle.matchit.specs.Route.{Scan, parse_route}
 use Rattle.matchit.specs.Router.{RouteOf, route_from}
 use Rattle.matchit.specs.Rows.{RowsOf, catch_all_token, comes_before, param_token}
-use Rattle.matchit.specs.Seek.{seek, slash}
+use Rattle.matchit.specs.Seek.{first, seek, slash}
 use Rattle.matchit.specs.declared.error.InsertError.{InsertError}
 use Rattle.media_rows.specs.Lists.{each_pair}
-use Rattle.http_routes.specs.Paths.{is_ascii_byte, is_in_braces, is_path_of, path_pieces, pieces_fit}
-use Rattle.http_routes.specs.Routing.{Routed, answered_route, table_rows, with_read, with_route, with_routes}
+use Rattle.http_routes.specs.Paths.{is_ascii_byte, is_in_braces, is_path_of, path_pieces, pieces_fit, route_of}
+use Rattle.http_routes.specs.Routing.{Routed, answered_route, route_in, table_rows, with_read, with_route, with_routes}
 use Rattle.http_routes.specs.Table.{all_routes, route_text}
 use Rattle.http_routes.specs.declared.route.Route.{Route}
 use Rattle.http_routes.proofs.Apart.{routes_apart}
@@ -304,3 +304,17 @@ table_at rows p t is_table ascii same =
 -- a path in ASCII is a text
 pub ascii_no_fault : (p : List ℕ) → list_all is_ascii_byte p ≡ true → ¬ (IsUtf8 p) → ⊥
 ascii_no_fault p ascii differs = differs (ascii_utf8 p ascii)
+
+-- the rows of the table have for each path the route that it names
+pub table_routes : (rows : Routed) (path : List ℕ) → rows ≡ table_rows → route_in rows path ≡ route_of path
+table_routes rows path is_table = by (list_all is_ascii_byte path) refl
+  where
+    by : (ascii : Bool) → list_all is_ascii_byte path ≡ ascii
+        → (if ascii then answered_route (first rows path) else None) ≡ (if ascii then find (is_path_of path) all_routes else None)
+    by true ascii = table_at rows path path is_table ascii refl
+    by false ascii = refl
+
+-- the same of a path in ASCII
+pub table_ascii : (rows : Routed) (path : List ℕ) → rows ≡ table_rows → list_all is_ascii_byte path ≡ true
+    → route_in rows path ≡ find (is_path_of path) all_routes
+table_ascii rows path is_table ascii = rw ascii (table_at rows path path is_table ascii refl)

@@ -1,10 +1,13 @@
 -- The rows of the router that holds the table: what each route's text puts in.
-use Rattle.std.specs.Prelude.{List, [], ◌∷◌, Option, Some, None, Result, Ok, Err}
+use Rattle.std.specs.Prelude.{ℕ, List, [], ◌∷◌, Option, Some, None, Result, Ok, Err, if◌then◌else◌}
+use Rattle.std.specs.List.{list_all}
 use Rattle.matchit.specs.Order.{placed}
 use Rattle.matchit.specs.Route.{Scan, parse_route}
 use Rattle.matchit.specs.Router.{RouteOf, route_from}
 use Rattle.matchit.specs.Rows.{RowsOf}
+use Rattle.matchit.specs.Seek.{first}
 use Rattle.matchit.specs.declared.error.InsertError.{InsertError}
+use Rattle.http_routes.specs.Paths.{is_ascii_byte}
 use Rattle.http_routes.specs.Table.{all_routes, route_text}
 use Rattle.http_routes.specs.declared.route.Route.{Route}
 
@@ -34,3 +37,8 @@ table_rows = with_routes all_routes []
 abbrev pub answered_route : Option (RouteOf Route) → Option Route
 answered_route None = None
 answered_route (Some found) = Some found.value
+
+-- the route that rows have for a path in ASCII; no other path has one
+abbrev pub route_in : Routed → List ℕ → Option Route
+route_in rows path =
+    if list_all is_ascii_byte path then answered_route (first rows path) else None

@@ -1,10 +1,10 @@
 //! The table of routes, in a router.
-ghost use Rattle.std.specs.Prelude.{◌≡◌, IfOk, IsTrue, OnOk, find};
+ghost use Rattle.std.specs.Prelude.{◌≡◌, ℕ, List, IfOk, IsTrue, OnOk, find};
 ghost use Rattle.std.specs.List.{list_all};
 ghost use Rattle.matchit.specs.Seek.{first};
 ghost use Rattle.http_routes.specs.Paths as spec;
 ghost use Rattle.http_routes.specs.Paths.{is_ascii_byte, is_path_of};
-ghost use Rattle.http_routes.specs.Routing.{answered_route, table_rows, with_route, with_routes};
+ghost use Rattle.http_routes.specs.Routing.{answered_route, route_in, table_rows, with_route, with_routes};
 ghost use Rattle.http_routes.specs.Table.{all_routes};
 
 use crate::route::{FlowPart, Route, SourcePart};
@@ -43,33 +43,38 @@ const ROUTES: [Route; 25] = [
     Route::Media,
 ];
 
-/// The table of routes, by which paths are looked up. Contracts see nothing of it: it is the same one always.
+/// The table of routes, by which paths are looked up. Contracts see the rows of its router, which are those
+/// of all routes.
 #[derive(Drop)]
 pub struct RouteTable {
     router: Router<Route>,
 }
 
 impl Model for RouteTable {
-    ghost use Rattle.std.specs.Prelude.{⊤, ◌≡◌};
-    ghost use Rattle.http_routes.specs.Routing.{table_rows};
+    ghost use Rattle.std.specs.Prelude.{◌≡◌};
+    ghost use Rattle.http_routes.specs.Routing.{Routed, table_rows};
 
-    ghost Value = { ⊤ };
+    ghost Value = { Routed };
 
-    ghost view = { λ _. tt };
+    ghost view = { λ t. t.router };
 
     ghost invariant = { λ t. t.router ≡ table_rows };
 }
 
 impl RouteTable {
     /// The table of all routes.
-    pub fn new(alloc: Global) -> Result<RouteTable, Memory> {
+    pub fn new(alloc: Global) -> Result<RouteTable, Memory>
+        ensures rows { IfOk result (λ table. table ≡ table_rows) }
+        ensures paths { IfOk result (λ table. (path : List ℕ) → route_in table path ≡ spec.route_of path) }
+    {
         let router = table_router(alloc)?;
         Ok(RouteTable { router })
     }
 
     /// The route that a path names. A path with a byte outside ASCII names none. It takes no memory.
     pub fn find(&self, path: &[u8]) -> Option<Route>
-        ensures { result ≡ spec.route_of path.now }
+        ensures route { result ≡ spec.route_of path.now }
+        ensures looked_up { result ≡ route_in self.now path.now }
     {
         if is_ascii(path) {
             route_at(&self.router, path)

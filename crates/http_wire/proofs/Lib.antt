@@ -6,6 +6,7 @@ pub mod Digits
 pub mod Ends
 pub mod Fronts
 pub mod Giving
+pub mod HeadEnds
 pub mod Hearings
 pub mod Interims
 pub mod Moves

@@ -3,6 +3,7 @@ pub mod Chunks
 pub mod Feeds
 pub mod Fields
 pub mod Framing
+pub mod HeadLines
 pub mod Heads
 pub mod Hearing
 pub mod Lines

@@ -2,6 +2,7 @@
 //! whole list of bytes.
 ghost use Rattle.http_wire.specs.Agreeing.{AgreesAtStart, AgreesOnBody, AgreesOnHead, AgreesOnPush, AgreesOnRefusal, AgreesOnWait, AgreesOnWhole};
 ghost use Rattle.http_wire.specs.Feeds.{HeadHasRoom, WaitsWithRoom};
+ghost use Rattle.http_wire.specs.HeadLines.{ChunkLinesNameSizes, HeadsEndAtEmptyLines, LinesEndAtFeeds, TrailersEndAtEmptyLines};
 ghost use Rattle.http_wire.specs.Hearing.{EndsLast, EndsLastMedia, HearsOn, HearsOnMedia, IsOneHearing, StandsAlone, StaysDecided, StaysRefused};
 
 /// A list of bytes spells one thing. What stands at the front of some bytes stands there whatever follows,
@@ -32,4 +33,14 @@ pub fn feed_agrees()
 pub fn a_byte_more_is_taken()
     ensures more { WaitsWithRoom }
     ensures head { HeadHasRoom }
+{}
+
+/// What the places of a look at bytes come to, by whole lines: a head ends exactly behind the first empty
+/// line that follows a line which isn't empty, a trailer behind its first empty line, and a line behind
+/// its first LF; and a chunk's line names the size of its digits.
+pub fn lines_are_whole()
+    ensures heads { HeadsEndAtEmptyLines }
+    ensures trailers { TrailersEndAtEmptyLines }
+    ensures lines { LinesEndAtFeeds }
+    ensures sizes { ChunkLinesNameSizes }
 {}

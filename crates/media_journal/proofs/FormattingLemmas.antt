@@ -1,5 +1,5 @@
 -- What formatting leaves in an image.
-use Rattle.std.proofs.Common.{◌≡◌, ◌<◌, ◌≤◌, ◌+◌, ◌^◌, ℕ, List, [], ◌∷◌, ◌++◌, length, take, get_or, refl, sym, ap, ◌∙◌, subst, arith, length-append}
+use Rattle.std.proofs.Common.{◌≡◌, ◌<◌, ◌≤◌, ◌+◌, ◌^◌, ℕ, List, [], ◌∷◌, ◌++◌, length, take, get_or, refl, sym, ap, ◌∙◌, arith, length-append}
 use Rattle.std.proofs.lemmas.List.{places}
 use Rattle.std.proofs.Math.Seq.{take-append_seam, take-length}
 use Rattle.disk_trait.specs.Calls.{bytes_at, overwritten}
@@ -160,17 +160,22 @@ module _ (image : List ℕ) (h : Header) (rows : List ℕ) (fits : FitsStore h (
         };
       }
 
+-- what was written is a header's text and a half's
+pub written_as : (header text half part seen now new : List ℕ) → header ≡ text → half ≡ part → now ≡ seen → IsFormatted header half now new
+    → IsFormatted text part seen new
+written_as header text half part seen now new header_is half_is same is =
+    is ∙ ap (λ (t : List ℕ). with_store t half now) header_is ∙ ap (λ (t : List ℕ). with_store text t now) half_is ∙ ap (with_store text part) same
+
 -- so does what formatting leaves of an image that had this length
 pub reads_formatted : (old new : List ℕ) (h : Header) (rows : List ℕ) → FitsStore h (length old) rows → h.id < 2 ^ 128
     → IsFormatted (header_text h) (half_text rows) old new → Reads new h (8192 + (8 + length rows)) rows []
-reads_formatted old new h rows fits id is =
-    rw is.store (formatted is.closed h rows (subst (λ (n : ℕ). FitsStore h n rows) (sym is.same_length) fits) id)
+reads_formatted old new h rows fits id is = rw is (formatted old h rows fits id)
 
 pub is_new_store : (old new : List ℕ) (h : Header) (rows : List ℕ) → FitsStore h (length old) rows → h.id < 2 ^ 128
     → IsFormatted (header_text h) (half_text rows) old new → IsNewStore new h rows
 is_new_store old new h rows fits id is = record {
   reads = reads_formatted old new h rows fits id is;
-  selector = rw is.store (selector_formatted is.closed h rows (subst (λ (n : ℕ). FitsStore h n rows) (sym is.same_length) fits));
+  selector = rw is (selector_formatted old h rows fits);
 }
 
 -- where the gate isn't that of a store, the header isn't an open one

@@ -5,6 +5,7 @@ mod CheckpointLemmas
 mod CrashLemmas
 mod FormattingLemmas
 mod FrameLemmas
+mod GateLemmas
 mod HeaderLemmas
 mod MomentLemmas
 mod OthersLemmas

@@ -18,6 +18,7 @@ use Rattle.media_journal.proofs.CrashLemmas.{torn_byte}
 use Rattle.disk_trait.proofs.Theorems.{elapses_along, elapses_weaker}
 use Rattle.media_journal.proofs.MomentLemmas.{synced_is_torn}
 use Rattle.media_journal.proofs.FormattingLemmas.{is_new_store}
+use Rattle.media_journal.proofs.GateLemmas.{gate_forgotten}
 
 -- no store behind a closed gate
 pub shut_is_none : (image : List ℕ) → IsClosedGate image 40 → ¬ (HasOpenHeader image)
@@ -113,14 +114,11 @@ none_so_far header half seen old new time =
     weaker q p none = record { told = none.told; image = inl none.image }
 
 -- The gate's write is the last: one of its bytes makes the store, and all others none.
-module _ (header half seen closed : List ℕ) (same_length : length closed ≡ length seen) (old mid new : Device) (long : 41 ≤ length mid.seen)
+module _ (header half seen closed : List ℕ) (text : length header ≡ 40) (room : 8192 + length half ≤ length seen) (gate : Torn 40 1 seen closed)
+    (old mid new : Device) (long : 41 ≤ length mid.seen)
     (written : mid.seen ≡ overwritten 8192 half (overwritten 4096 (0 ∷ []) (overwritten 0 header closed))) where
   made : (image : List ℕ) → image ≡ overwritten 40 (1 ∷ []) mid.seen → IsFormatted header half seen image
-  made image whole = record {
-    closed = closed;
-    same_length = same_length;
-    store = whole ∙ ap (overwritten 40 (1 ∷ [])) written;
-  }
+  made image whole = whole ∙ ap (overwritten 40 (1 ∷ [])) written ∙ gate_forgotten header half seen closed text room gate
 
   gate_torn : (q p : Left) → Then (Settles mid.seen) (TornWrite 40 1) q p → NoneOrFormatted header half seen q p
   gate_torn q p steps =

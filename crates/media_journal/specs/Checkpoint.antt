@@ -1,15 +1,14 @@
 -- What a checkpoint writes and leaves: the other half with its rows, and the selector that names
 -- it.
-use Rattle.std.specs.Prelude.{◌≡◌, ◌+◌, ◌-◌, ◌*◌, ◌/◌, ◌⊎◌, ◌==◌, ℕ, Bool, true, false, List, [], length, if◌then◌else◌}
+use Rattle.std.specs.Prelude.{◌≡◌, ◌+◌, ◌-◌, ◌*◌, ◌/◌, ◌⊎◌, ◌==◌, ℕ, Bool, true, false, List, [], ◌∷◌, length, if◌then◌else◌}
 use Rattle.disk_trait.specs.Device.{Left}
-use Rattle.disk_trait.specs.Calls.{Torn}
-use Rattle.media_journal.specs.declared.checkpoint.TheConstants.{ROW_PIECE}
-use Rattle.media_journal.specs.declared.header.TheConstants.{BLOCK, HALVES, SELECTOR}
+use Rattle.disk_trait.specs.Calls.{Torn, overwritten}
+use Rattle.media_journal.specs.Formatting.{half_text}
 use Rattle.media_journal.specs.Journal.{Contents, Gives, HasInHalf, Position}
 
 -- at most so many writes put n bytes of rows into a half, in pieces
 abbrev pub row_writes : ℕ → ℕ
-row_writes n = 1 + n / ROW_PIECE
+row_writes n = 1 + n / 1048576
 
 -- at most so many calls make a checkpoint with n bytes of rows: the writes of their length, of the
 -- rows, and of the closed gate, and a sync; and a write and a sync of the selector
@@ -18,7 +17,7 @@ checkpoint_calls n = 5 + row_writes n
 
 -- where the other half begins, where one of so many blocks begins here
 abbrev pub other_of : ℕ → ℕ → ℕ
-other_of start half = if start == HALVES then HALVES + BLOCK * half else HALVES
+other_of start half = if start == 8192 then 8192 + 4096 * half else 8192
 
 -- where the half begins that isn't the journal's
 abbrev pub other_start : Position → ℕ
@@ -26,15 +25,22 @@ other_start p = other_of p.start p.half
 
 -- the selector's byte that names the half that begins here
 abbrev pub selector_for : ℕ → ℕ
-selector_for start = if start == HALVES then 0 else 1
+selector_for start = if start == 8192 then 0 else 1
 
 -- the position in the other half, behind n bytes of rows
 abbrev pub after_checkpoint : Position → ℕ → Position
 after_checkpoint p n = record p {
   start = other_start p;
   gate = other_start p + (8 + n);
-  room = BLOCK * p.half - (8 + n);
+  room = 4096 * p.half - (8 + n);
 }
+
+-- The image with a checkpoint: the other half with its rows and a closed gate, and then the
+-- selector, which is 0 for half A and 1 for half B.
+abbrev pub with_checkpoint : Position → List ℕ → List ℕ → List ℕ
+with_checkpoint p rows image =
+    overwritten 4096 (selector_for (other_start p) ∷ [])
+    (overwritten (other_start p) (half_text rows) image)
 
 -- what a half holds after a checkpoint: these rows, and no record
 abbrev pub with_rows : List ℕ → Contents → Contents
@@ -44,7 +50,7 @@ with_rows rows held = record held { rows = rows; records = [] }
 pub record WritesOther (p : Position) (n : ℕ) (old new : List ℕ) : Type 0 where
   pub between : List ℕ
   pub half : Torn (other_start p) (9 + n) old between
-  pub selector : Torn SELECTOR 1 between new
+  pub selector : Torn 4096 1 between new
 
 -- the journal's half holds what it held, and the other one these rows and no record
 pub record HoldsBoth (image : List ℕ) (p : Position) (rows : List ℕ)

@@ -1,7 +1,6 @@
 -- The file, store format 1: a header, a selector, two halves with rows and records, and media
 -- blocks. Our own format. All numbers are big-endian, and a block has 4,096 bytes.
 use Rattle.std.specs.Prelude.{◌≡◌, ◌≢◌, ◌<◌, ◌≤◌, ◌+◌, ◌*◌, ◌%◌, ◌^◌, ◌==◌, ℕ, List, [], ◌∷◌, ◌++◌, length, slice_index, codes, Option, Some, None, if◌then◌else◌}
-use Rattle.media_journal.specs.declared.header.TheConstants.{BLOCK, HALVES, SELECTOR, MOST_BLOCKS, MOST_HALF}
 use Rattle.disk_trait.specs.Calls.{bytes_at}
 use Rattle.disk_trait.specs.Numbers.{u32_bytes, u64_bytes, u128_bytes}
 use Rattle.media_journal.specs.declared.header.Header.{Header}
@@ -44,16 +43,16 @@ HeaderAnswer image (Some h) = IsHeader image h
 -- the numbers of a header that a file of so many bytes may have
 pub record AreSizes (h : Header) (size : ℕ) : Type 0 where
   pub some_half : 1 ≤ h.half
-  pub half : h.half ≤ MOST_HALF
-  pub blocks : h.blocks ≤ MOST_BLOCKS
+  pub half : h.half ≤ 65536
+  pub blocks : h.blocks ≤ 1073741824
   pub fits : 2 * h.half + 3 ≤ h.blocks
-  pub within : BLOCK * h.blocks ≤ size
+  pub within : 4096 * h.blocks ≤ size
 
 -- where the half begins that the selector names: A at block 2 where its byte is even, and B behind
 -- A
 abbrev pub active_start : List ℕ → ℕ → ℕ
 active_start image half =
-    if slice_index image SELECTOR % 2 == 0 then HALVES else HALVES + BLOCK * half
+    if slice_index image 4096 % 2 == 0 then 8192 else 8192 + 4096 * half
 
 -- the rows of a half with their length before them
 unfoldable pub rows_text : List ℕ → List ℕ
@@ -91,7 +90,7 @@ pub record Reads (image : List ℕ) (h : Header) (gate : ℕ) (rows : List ℕ)
   pub header : IsHeader image h
   pub sizes : AreSizes h (length image)
   pub half : HasHalf image (active_start image h.half)
-      (active_start image h.half + BLOCK * h.half) gate rows records
+      (active_start image h.half + 4096 * h.half) gate rows records
 
 -- the image doesn't read as a store
 abbrev pub IsUnreadable : List ℕ → Type 0
@@ -130,4 +129,4 @@ pub record ReadsTorn (image : List ℕ) (h : Header) (at : ℕ) (rows : List ℕ
   pub header : IsHeader image h
   pub sizes : AreSizes h (length image)
   pub half : HasTornHalf image (active_start image h.half)
-      (active_start image h.half + BLOCK * h.half) at rows records
+      (active_start image h.half + 4096 * h.half) at rows records

@@ -1,6 +1,5 @@
 -- What formatting a device answers and leaves.
 use Rattle.std.specs.Prelude.{◌≡◌, ◌≤◌, ◌+◌, ◌*◌, ℕ, Bool, true, false, List, [], ◌∷◌, ◌++◌, length, Result, Ok, Err}
-use Rattle.media_journal.specs.declared.header.TheConstants.{BLOCK, HALVES, SELECTOR}
 use Rattle.disk_trait.specs.Calls.{overwritten}
 use Rattle.media_journal.specs.declared.header.Header.{Header}
 use Rattle.media_journal.specs.declared.format.Gate.{Gate}
@@ -12,14 +11,14 @@ use Rattle.media_journal.specs.File.{HasOpenHeader, AreSizes, IsClosedGate, IsOp
 -- the numbers fit the device, and the rows a half
 pub record FitsStore (h : Header) (size : ℕ) (rows : List ℕ) : Type 0 where
   pub sizes : AreSizes h size
-  pub room : length rows + 9 ≤ BLOCK * h.half
+  pub room : length rows + 9 ≤ 4096 * h.half
 
 -- what formatting answers over an image, and the image that it leaves at Ok: the header, half A
 -- active with the rows, and no record
 abbrev pub FormatAnswer : List ℕ → List ℕ → Header → List ℕ → Result (Unit {0}) FormatFault → Type 0
 FormatAnswer old new h rows (Ok _) =
     (¬ (HasOpenHeader old)) × FitsStore h (length old) rows
-    × Reads new h (HALVES + (8 + length rows)) rows []
+    × Reads new h (8192 + (8 + length rows)) rows []
 FormatAnswer old new h rows (Err AlreadyStore) = HasOpenHeader old
 FormatAnswer old new h rows (Err TooSmall) =
     (¬ (HasOpenHeader old)) × (¬ (FitsStore h (length old) rows))
@@ -50,18 +49,18 @@ GateIs image gates.Store = HasOpenHeader image
 GateIs image gates.Stray = IsStray image
 GateIs image gates.Closed = IsClosedGate image 40
 
--- the bytes of a half without a record
+-- the bytes of a half without a record: its rows with their length before them, and a closed gate
+-- of 0
 unfoldable pub half_text : List ℕ → List ℕ
 half_text rows = rows_text rows ++ 0 ∷ []
 
--- the image with a header, a selector and half A, whose gate was opened last
+-- The image with a store: the header's text, a selector of 0, half A, and the header's gate, which
+-- is opened last.
 abbrev pub with_store : List ℕ → List ℕ → List ℕ → List ℕ
 with_store header half image =
     overwritten 40 (1 ∷ [])
-    (overwritten HALVES half (overwritten SELECTOR (0 ∷ []) (overwritten 0 header image)))
+    (overwritten 8192 half (overwritten 4096 (0 ∷ []) (overwritten 0 header image)))
 
--- the new image is the old one, whose gate may have been closed first, with a store
-pub record IsFormatted (header half old new : List ℕ) : Type 0 where
-  pub closed : List ℕ
-  pub same_length : length closed ≡ length old
-  pub store : new ≡ with_store header half closed
+-- the new image is the old one with a store: that its gate may have been closed first leaves nothing
+abbrev pub IsFormatted : List ℕ → List ℕ → List ℕ → List ℕ → Type 0
+IsFormatted header half old new = new ≡ with_store header half old

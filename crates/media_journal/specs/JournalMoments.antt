@@ -2,7 +2,6 @@
 use Rattle.std.specs.Prelude.{◌≡◌, ◌+◌, ◌-◌, ◌⊎◌, ℕ, Bool, true, false, List, [], ◌∷◌, ◌++◌, drop, length, slice_index, Result, Ok, Err}
 use Rattle.disk_trait.specs.Device.{Device, Left, may_leave}
 use Rattle.disk_trait.specs.Calls.{LeavesOnly, Torn, Unchanged, bytes_at}
-use Rattle.media_journal.specs.declared.header.TheConstants.{BLOCK, HALVES, HEADER, SELECTOR}
 use Rattle.media_journal.specs.declared.header.Header.{Header}
 use Rattle.media_journal.specs.declared.fault.FormatFault.{FormatFault}
 use Rattle.media_journal.specs.declared.fault.FormatFault.TheVariants.{AlreadyStore, TooSmall, Disk, Memory}
@@ -53,8 +52,8 @@ pub record IsAtRest (d : Device) : Type 0 where
 -- the image is the store that was asked for: its header, half A active with these rows, and no
 -- record
 pub record IsNewStore (image : List ℕ) (h : Header) (rows : List ℕ) : Type 0 where
-  pub reads : Reads image h (HALVES + (8 + length rows)) rows []
-  pub selector : slice_index image SELECTOR ≡ 0
+  pub reads : Reads image h (8192 + (8 + length rows)) rows []
+  pub selector : slice_index image 4096 ≡ 0
 
 -- what formatting may have done so far: nothing was told, and the image is no store or the new one
 pub record NoneOrNew (h : Header) (rows : List ℕ) (old new : Left) : Type 0 where
@@ -78,9 +77,9 @@ FormattingEnds (Err Memory) h rows = Unchanged
 -- those of the header's block behind its gate, those of the selector's block behind its first, and
 -- all behind the closed gate of half A, half B and the media blocks among them.
 pub record KeepsOthers (size : ℕ) (old new : List ℕ) : Type 0 where
-  pub header : bytes_at new HEADER (BLOCK - HEADER) ≡ bytes_at old HEADER (BLOCK - HEADER)
-  pub selector : bytes_at new (SELECTOR + 1) (BLOCK - 1) ≡ bytes_at old (SELECTOR + 1) (BLOCK - 1)
-  pub rest : drop (HALVES + size) new ≡ drop (HALVES + size) old
+  pub header : bytes_at new 41 (4096 - 41) ≡ bytes_at old 41 (4096 - 41)
+  pub selector : bytes_at new (4096 + 1) (4096 - 1) ≡ bytes_at old (4096 + 1) (4096 - 1)
+  pub rest : drop (8192 + size) new ≡ drop (8192 + size) old
   pub same_length : length new ≡ length old
 
 -- a step that writes no other bytes than those of a store, and tells nothing

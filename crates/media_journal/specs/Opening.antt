@@ -1,17 +1,15 @@
 -- What opening a journal answers.
 use Rattle.std.specs.Prelude.{◌≡◌, ◌≤◌, ◌+◌, ◌*◌, ◌⊎◌, ℕ, List, length, Option, Some, None, Result, Ok, Err}
-use Rattle.media_journal.specs.declared.header.TheConstants.{BLOCK}
 use Rattle.media_journal.specs.declared.header.Header.{Header}
 use Rattle.media_journal.specs.declared.open.Opened.{Opened}
 use Rattle.media_journal.specs.declared.fault.JournalFault.{JournalFault}
 use Rattle.media_journal.specs.declared.fault.JournalFault.TheVariants.{NotStore, Damaged, Disk, Memory}
-use Rattle.media_journal.specs.declared.open.TheConstants.{SHORTEST}
 use Rattle.media_journal.specs.File.{HasOpenHeader, IsHeader, AreSizes, HasLongRows, ReadsTorn, active_start}
 use Rattle.media_journal.specs.Journal.{Contents, Gives, IsWhole, Position}
 
 -- a file of at least five blocks whose header is an open one
 pub record IsStore (image : List ℕ) : Type 0 where
-  pub size : SHORTEST ≤ length image
+  pub size : 20480 ≤ length image
   pub header : HasOpenHeader image
 
 -- the header's numbers are none that the file may have
@@ -27,7 +25,7 @@ pub record HasWrongRows (image : List ℕ) (start : ℕ) : Type 0 where
   pub is : IsHeader image header
   pub sizes : AreSizes header (length image)
   pub active : start ≡ active_start image header.half
-  pub long : HasLongRows image start (start + BLOCK * header.half)
+  pub long : HasLongRows image start (start + 4096 * header.half)
 
 -- The offset at which the image of a store is damaged, as far as its records' payloads and its rows
 -- aren't looked into: that of the header's numbers, or that of the active half.

@@ -5,7 +5,7 @@ ghost use Rattle.disk_trait.specs.Calls.{DiskCalls, Elapses, Follows, LeavesOnly
 ghost use Rattle.media_journal.specs.Formatting.{half_text};
 ghost use Rattle.media_journal.specs.Journal.{Contents, Gives, IsPosition, IsWhole};
 ghost use Rattle.media_journal.specs.JournalMoments.{EachGives};
-ghost use Rattle.media_journal.specs.Checkpoint.{CheckpointEnds, KeepsOrSwitches, WritesOther, after_checkpoint, checkpoint_calls, other_of, row_writes, selector_for, with_rows};
+ghost use Rattle.media_journal.specs.Checkpoint.{CheckpointEnds, KeepsOrSwitches, WritesOther, after_checkpoint, checkpoint_calls, other_of, row_writes, selector_for, with_checkpoint, with_rows};
 ghost use Rattle.media_journal.specs.Within.Steps.{SyncedWriteEnds, WithinWrites, WritesEnd};
 
 use crate::header::{BLOCK, HALVES, MOST_HALF, SELECTOR};
@@ -38,6 +38,8 @@ impl Journal {
         ensures content { (D.device disk.old).shows ≡ true → OnOk result
             ((held : Contents) → Gives (D.device disk.old).seen self.old held
             → Gives (D.device disk.new).seen self.new (with_rows rows.now held)) }
+        ensures written { (D.device disk.old).shows ≡ true → OnOk result
+            ((D.device disk.new).seen ≡ with_checkpoint self.old rows.now (D.device disk.old).seen) }
         ensures elsewhere { (D.device disk.old).shows ≡ true → OnOk result
             (WritesOther self.old (length rows.now) (D.device disk.old).seen (D.device disk.new).seen) }
         ensures handed { (D.device disk.old).tells ≡ true → OnOk result

@@ -1,9 +1,9 @@
 //! Formatting a device: a header, a selector and half A with its rows. At each moment the file is no
 //! store, or the new one.
 ghost use Rattle.std.specs.Prelude.{◌≡◌, ◌≤◌, ◌<◌, ◌+◌, ◌*◌, ◌∷◌, [], ℕ, true, ◌↔◌, length, is_ok, IfOk, IsTrue, OnOk};
-ghost use Rattle.disk_trait.specs.Calls.{DiskCalls, DiskReads, Elapses, LeavesOnly, overwritten};
+ghost use Rattle.disk_trait.specs.Calls.{DiskCalls, DiskReads, Elapses, LeavesOnly, Torn, overwritten};
 ghost use Rattle.media_journal.specs.File.{HasOpenHeader, IsClosedGate, header_text};
-ghost use Rattle.media_journal.specs.Formatting.{FitsStore, FormatAnswer, GateIs, IsFormatted, OnRefusal, format_ok, half_text};
+ghost use Rattle.media_journal.specs.Formatting.{FitsStore, FormatAnswer, GateIs, IsFormatted, OnRefusal, format_ok, half_text, with_store};
 ghost use Rattle.media_journal.specs.JournalMoments.{FormattingEnds, IsAtRest, NoneOrNew, WritesStore};
 ghost use Rattle.media_journal.specs.Within.Steps.{KeepsGate, LeavesNone, NoneOrFormatted, StoreEnds};
 
@@ -45,6 +45,11 @@ pub fn format_device<D: Disk>(
     ensures answer { (D.device disk.old).shows ≡ true
         → FormatAnswer (D.device disk.old).seen (D.device disk.new).seen
         record { blocks = blocks; half = half; id = id } rows.now result }
+
+    // At Ok the device has just the bytes of a store over those that it had.
+    ensures written { (D.device disk.old).shows ≡ true → OnOk result ((D.device disk.new).seen
+        ≡ with_store (header_text record { blocks = blocks; half = half; id = id })
+        (half_text rows.now) (D.device disk.old).seen) }
 
     // What is refused is left as it was, and so is a device for which there is no memory.
     ensures refused { OnRefusal result (DiskReads true (D.device disk.old) (D.device disk.new)) }
@@ -140,8 +145,8 @@ fn gate_of(bytes: &[u8]) -> Gate
 fn close_stray<D: Disk>(disk: &mut D, gate: Gate) -> Result<(), Failed>
     requires { HEADER ≤ (D.device disk.old).size }
     ensures calls { DiskCalls (is_ok result) (D.device disk.old) (D.device disk.new) }
-    ensures length { (D.device disk.old).shows ≡ true → OnOk result
-        (length (D.device disk.new).seen ≡ length (D.device disk.old).seen) }
+    ensures gate_alone { (D.device disk.old).shows ≡ true → OnOk result
+        (Torn GATE 1 (D.device disk.old).seen (D.device disk.new).seen) }
     ensures closed { (D.device disk.old).shows ≡ true → GateIs (D.device disk.old).seen gate
         → ¬ (HasOpenHeader (D.device disk.old).seen)
         → OnOk result (IsClosedGate (D.device disk.new).seen 40) }

@@ -2,7 +2,7 @@
 ghost use Rattle.std.specs.Prelude.{◌≡◌, ◌≤◌, ◌<◌, ◌+◌, ◌*◌, ◌∷◌, ◌↔◌, ◌^◌, [], true, false, length, is_ok, OnOk, OnErr, IsErrOf};
 ghost use Rattle.disk_trait.specs.Device.{as_read, may_leave};
 ghost use Rattle.disk_trait.specs.Calls.{DiskCalls, Elapses, Follows, LeavesOnly, Torn, overwritten};
-ghost use Rattle.media_journal.specs.Journal.{Contents, Gives, IsPosition, IsWhole, after_append};
+ghost use Rattle.media_journal.specs.Journal.{Contents, Gives, IsPosition, IsWhole, after_append, with_record};
 ghost use Rattle.media_journal.specs.JournalMoments.{AppendEnds, EachGives, KeepsOrAdds, with_payload};
 ghost use Rattle.media_journal.specs.Within.Steps.{RecordEnds, WithinRecord};
 
@@ -79,6 +79,9 @@ impl Journal {
         ensures content { (D.device disk.old).shows ≡ true → OnOk result
             ((held : Contents) → Gives (D.device disk.old).seen self.old held
             → Gives (D.device disk.new).seen self.new (with_payload self.old frame.now held)) }
+        ensures written { (D.device disk.old).shows ≡ true → OnOk result
+            ((D.device disk.new).seen
+            ≡ with_record self.old.gate frame.now (D.device disk.old).seen) }
         ensures elsewhere { (D.device disk.old).shows ≡ true
             → OnOk result (Torn self.old.gate (length frame.now + 6)
             (D.device disk.old).seen (D.device disk.new).seen) }

@@ -3,11 +3,10 @@
 use Rattle.std.specs.Prelude.{◌+◌, ◌*◌, ◌≤◌, ℕ, List}
 use Rattle.disk_trait.specs.Calls.{bytes_at}
 use Rattle.media_rows.specs.declared.object.Extent.{Extent}
-use Rattle.object_blobs.specs.declared.extent.TheConstants.{BLOCK}
 
 -- where an extent begins in a file whose media blocks begin here
 abbrev pub extent_start : ℕ → Extent → ℕ
-extent_start area extent = area + BLOCK * extent.start
+extent_start area extent = area + 4096 * extent.start
 
 -- the bytes of an extent in an image
 abbrev pub extent_bytes : ℕ → Extent → List ℕ → List ℕ

@@ -6,7 +6,6 @@ use Rattle.media_rows.specs.declared.refusal.Refusal.TheVariants.{JournalFull}
 use Rattle.media_rows.specs.declared.reply.Reply.TheVariants.{Refused}
 use Rattle.media_rows.specs.Answer.{Outcome, unchanged}
 use Rattle.change_codec.specs.Fitting.{State, fits}
-use Rattle.media_journal.specs.declared.header.TheConstants.{BLOCK}
 use Rattle.media_journal.specs.Journal.{Position}
 
 -- an outcome, by its change: one that doesn't fit the journal is refused after all else
@@ -24,4 +23,4 @@ fitted journal outcome = fitted_by journal outcome outcome.change
 -- it, and the length of rows takes 8.
 abbrev pub FitsJournal : Position → Option (List ℕ) → List ℕ → Type 0
 FitsJournal p None payload = length payload + 6 ≤ p.room
-FitsJournal p (Some rows) payload = length rows + length payload + 14 ≤ BLOCK * p.half
+FitsJournal p (Some rows) payload = length rows + length payload + 14 ≤ 4096 * p.half

@@ -8,7 +8,6 @@ use Rattle.media_rows.specs.Changes.{after}
 use Rattle.media_rows.specs.Good.{Good}
 use Rattle.media_rows.specs.Library.{Library}
 use Rattle.media_rows.specs.Media.{Archive, archive_after, fits_bytes, is_held}
-use Rattle.media_journal.specs.declared.header.TheConstants.{BLOCK}
 use Rattle.store_states.specs.States.{held_in, state_bytes}
 
 -- what comes for the storing of an object stands at its place in the image
@@ -24,7 +23,7 @@ archive_in image area library =
 
 -- the media blocks of a library lie in the image
 abbrev pub HasBlocks : List ℕ → ℕ → Library → Type 0
-HasBlocks image area library = area + BLOCK * library.blocks ≤ length image
+HasBlocks image area library = area + 4096 * library.blocks ≤ length image
 
 -- the bytes of a good library's objects have their lengths there
 abbrev pub BytesHaveTheirLengths : Type 0

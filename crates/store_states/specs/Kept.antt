@@ -5,7 +5,6 @@ use Rattle.media_rows.specs.declared.object.ObjectRow.{ObjectRow}
 use Rattle.media_rows.specs.Library.{Library}
 use Rattle.disk_trait.specs.Device.{Device, Left, may_leave}
 use Rattle.media_journal.specs.declared.header.Header.{Header}
-use Rattle.media_journal.specs.declared.header.TheConstants.{BLOCK}
 use Rattle.media_journal.specs.declared.record.Record.{Record}
 use Rattle.media_journal.specs.Checkpoint.{after_checkpoint}
 use Rattle.media_journal.specs.Journal.{Contents, Position, after_append}
@@ -22,7 +21,7 @@ abbrev pub kept_state : StoreView → List (List ℕ) → StoreState
 kept_state kept held = record {
   archive = record { library = kept.library; held = held };
   room = kept.journal.room;
-  half = BLOCK * kept.journal.half;
+  half = 4096 * kept.journal.half;
 }
 
 -- what is kept once a record with a payload of n bytes was appended, and this is the library then

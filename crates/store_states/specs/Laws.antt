@@ -9,7 +9,6 @@ use Rattle.media_rows.specs.Objects.{is_clear_of}
 use Rattle.library_laws.specs.MediaLaws.{IsGoodArchive}
 use Rattle.disk_trait.specs.Calls.{Torn}
 use Rattle.media_journal.specs.declared.header.Header.{Header}
-use Rattle.media_journal.specs.declared.header.TheConstants.{BLOCK}
 use Rattle.media_journal.specs.declared.record.Record.{Record}
 use Rattle.store_states.specs.States.{Makes, StandsFor, StoreState, blocks_before, held_in}
 
@@ -27,8 +26,8 @@ is_clear objects start count = IsTrue (list_all (λ row. is_clear_of start count
 
 -- so many bytes from one place on lie in these media blocks
 pub record AreInBlocks (area start count at n : ℕ) : Type 0 where
-  pub from : area + BLOCK * start ≤ at
-  pub to : at + n ≤ area + BLOCK * (start + count)
+  pub from : area + 4096 * start ≤ at
+  pub to : at + n ≤ area + 4096 * (start + count)
 
 -- a write in blocks that no stored object has leaves the bytes of all objects
 abbrev pub ClearWritesLeaveBytes : Type 0

@@ -16,7 +16,6 @@ use Rattle.change_codec.specs.Codec.{SpellsChange}
 use Rattle.snapshot_rows.specs.Texts.{SpellsRows}
 use Rattle.object_blobs.specs.Extents.{extent_bytes}
 use Rattle.media_journal.specs.declared.header.Header.{Header}
-use Rattle.media_journal.specs.declared.header.TheConstants.{BLOCK}
 use Rattle.media_journal.specs.declared.record.Record.{Record}
 use Rattle.media_journal.specs.File.{Reads, active_start}
 
@@ -28,7 +27,7 @@ blocks_before half = 2 * half + 2
 
 -- where the media blocks begin
 abbrev pub media_start : ℕ → ℕ
-media_start half = BLOCK * blocks_before half
+media_start half = 4096 * blocks_before half
 
 -- the bytes of an object in this state, where the media blocks begin at this place: those at its
 -- extent, and none where it isn't stored
@@ -95,5 +94,5 @@ pub record StandsFor (image : List ℕ) (s : StoreState) : Type 0 where
   pub reads : Reads image header gate text records
   pub makes : Makes header text records s.archive.library
   pub held : s.archive.held ≡ held_in image (media_start header.half) s.archive.library.objects
-  pub room : gate + s.room ≡ active_start image header.half + BLOCK * header.half
-  pub half : s.half ≡ BLOCK * header.half
+  pub room : gate + s.room ≡ active_start image header.half + 4096 * header.half
+  pub half : s.half ≡ 4096 * header.half

@@ -3,6 +3,7 @@ mod Addresses
 mod Dropping
 mod Found
 mod Listing
+mod Order
 mod Placing
 pub mod Posting
 mod Restoring

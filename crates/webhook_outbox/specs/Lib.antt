@@ -1,4 +1,5 @@
 pub mod Delivered
+pub mod Ordered
 pub mod Posting
 pub mod Within
 pub use Rattle.media_rows.specs.Outbox

@@ -1,11 +1,12 @@
 //! The outbox and its public calls.
-ghost use Rattle.std.specs.Prelude.{◌≡◌, [], ◌∷◌, IfOk, IsTrue, map, option_copied};
+ghost use Rattle.std.specs.Prelude.{◌≡◌, [], ◌∷◌, IfOk, IfSome, IsTrue, map, option_copied};
 ghost use Rattle.media_rows.specs.Outbox.{after_drop_hook, after_post, after_put_hook, hook_of, hook_row, waiting_for, with_events};
 ghost use Rattle.media_rows.specs.Good.{has_hook};
 ghost use Rattle.media_rows.specs.Refusals.{Restores};
 ghost use Rattle.media_rows.specs.Restoring.{can_restore_outbox, outbox_of};
 ghost use Rattle.shared_tree.specs.Pairs.{first};
 ghost use Rattle.webhook_outbox.specs.Delivered.{IsBehind, IsBehindHooks, WaitsFirst, after_delivered, counted};
+ghost use Rattle.webhook_outbox.specs.Ordered.{EventsRise, HooksRise, IsLeastFor};
 ghost use Rattle.webhook_outbox.specs.Within.Slots.{with_last_hook};
 ghost use Rattle.webhook_outbox.specs.Posting.{posted_within, shown_in};
 
@@ -117,15 +118,19 @@ impl Outbox {
 
     /// All hooks by rising serial.
     pub fn hooks(&self, alloc: Global) -> Result<HookList, Memory>
-        ensures { IfOk result (λ list. list ≡ self.now.hooks) }
+        ensures all { IfOk result (λ list. list ≡ self.now.hooks) }
+        ensures rise { IfOk result HooksRise }
     {
+        self.serials_rise();
         hook_list(alloc, &self.slots)
     }
 
     /// All events by rising serial.
     pub fn waiting(&self, alloc: Global) -> Result<EventRowList, Memory>
-        ensures { IfOk result (λ list. list ≡ self.now.events) }
+        ensures all { IfOk result (λ list. list ≡ self.now.events) }
+        ensures rise { IfOk result EventsRise }
     {
+        self.serials_rise();
         event_list(alloc, &self.events)
     }
 
@@ -146,8 +151,10 @@ impl Outbox {
 
     /// The event of least serial that waits for the hook of this serial.
     pub fn first_of(&self, hook: u64) -> Option<&EventRow>
-        ensures { option_copied result ≡ first (waiting_for hook self.now.events) }
+        ensures first { option_copied result ≡ first (waiting_for hook self.now.events) }
+        ensures least { IfSome result (λ row. IsLeastFor hook self.now.events row.now) }
     {
+        self.events.keys_rise();
         let slot = value_at(&self.slots, hook)?;
         first_waiting(&slot.waiting)
     }
@@ -194,6 +201,15 @@ impl Outbox {
                 next: None,
             }),
         }
+    }
+
+    /// Tells what holds of each outbox: its hooks and its events stand by rising serial.
+    pub fn serials_rise(&self)
+        ensures hooks { HooksRise self.now.hooks }
+        ensures events { EventsRise self.now.events }
+    {
+        self.slots.keys_rise();
+        self.events.keys_rise();
     }
 
     /// Tells what holds of each outbox: hooks for which the most events wait have failed.

@@ -1,6 +1,5 @@
 -- What a scan of a half finds, from one place on.
 use Rattle.std.specs.Prelude.{◌≡◌, ◌<◌, ◌+◌, ◌*◌, ℕ, Bool, true, false, List, length, Result, Ok, Err}
-use Rattle.media_journal.specs.declared.header.TheConstants.{BLOCK}
 use Rattle.media_journal.specs.declared.header.Header.{Header}
 use Rattle.media_journal.specs.declared.record.Record.{Record}
 use Rattle.media_journal.specs.declared.scan.AtPlace.{AtPlace}
@@ -55,5 +54,5 @@ pub record IsReadHalf (image : List ℕ) (h : Header) (start : ℕ) (half : Half
   pub header : IsHeader image h
   pub sizes : AreSizes h (length image)
   pub start_is : start ≡ active_start image h.half
-  pub found : HalfFound image start (start + BLOCK * h.half) half.chain.gate half.rows
+  pub found : HalfFound image start (start + 4096 * h.half) half.chain.gate half.rows
       half.chain.records half.chain.torn

@@ -1,4 +1,4 @@
-use Rattle.std.proofs.Common.{◌+◌, ◌∙◌, length, arith}
+use Rattle.std.proofs.Common.{◌∙◌, arith}
 use Rattle.std.proofs.lemmas.Result.{on_ok_weaker}
 use Rattle.media_journal.proofs.CheckpointLemmas.{half_written}
 use Rattle.media_journal.proofs.MomentLemmas.{torn_then, torn_within}

@@ -2,7 +2,7 @@ use Rattle.std.proofs.Common.{◌∙◌, true, false, length, ap, refl, sym, rul
 use Rattle.std.proofs.lemmas.Result.{err_from_is_err_and}
 use Rattle.media_journal.specs.declared.header.Header.{Header}
 use Rattle.media_journal.specs.Formatting.{FitsStore}
-use Rattle.media_journal.proofs.FormattingLemmas.{not_store, reads_formatted}
+use Rattle.media_journal.proofs.FormattingLemmas.{not_store, reads_formatted, written_as}
 use Rattle.media_journal.proofs.OthersLemmas.{others_along, others_quiet}
 use Rattle.media_journal.proofs.StoreLemmas.{formats, reads_failed}
 use Rattle.media_journal.proofs.format.format_device.Goals as goal
@@ -19,6 +19,7 @@ returns-in_err-make_store g c =
     rw (failed.1, failed.2) record {
       calls = search rules;
       answer = λ shows. tt;
+      written = λ shows. tt;
       refused = tt;
       moments = λ rest none.
           let size = (g.met.D.Disk.sound c.args.disk.now).length rest.shows ∙ sym (c.len.ensures ∙ first.reads.calls.same.size) in
@@ -39,6 +40,9 @@ returns g c =
     record {
       calls = search rules;
       refused = tt;
+      written = λ shows.
+          written_as _ _ _ _ _ _ _ c.header_bytes.ensures (c.deref.ensures.value ∙ c.in_ok-half.ensures.text) first.reads.seen
+          (c.in_ok-make_store.ensures.written (first.reads.calls.same.shows ∙ shows));
       answer = λ shows.
           let size = (g.met.D.Disk.sound c.args.disk.now).length shows ∙ sym (c.len.ensures ∙ first.reads.calls.same.size) in
           let fits : FitsStore header (length (g.D.Disk.device c.args.disk.now).seen) c.args.rows.now = rw size (c.if-not-fits_store.ensures.0 refl) in
@@ -46,7 +50,7 @@ returns g c =
             not_store _ c.in_ok-gate.gate c.in_default.not-Store (first.gate shows),
             fits,
             reads_formatted _ _ header c.args.rows.now fits c.ranges.id.fits
-                (rw (c.header_bytes.ensures, c.deref.ensures.value, c.in_ok-half.ensures.text, first.reads.seen) at made),
+                (written_as _ _ _ _ _ _ _ c.header_bytes.ensures (c.deref.ensures.value ∙ c.in_ok-half.ensures.text) first.reads.seen made),
           );
       moments = λ rest none.
           let size = (g.met.D.Disk.sound c.args.disk.now).length rest.shows ∙ sym (c.len.ensures ∙ first.reads.calls.same.size) in

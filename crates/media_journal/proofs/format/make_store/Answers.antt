@@ -1,6 +1,7 @@
 use Rattle.std.proofs.Common.{◌∙◌, arith}
 use Rattle.std.proofs.lemmas.Result.{on_ok_weaker, err_from_is_err_and}
 use Rattle.media_journal.proofs.StoreLemmas.{front_none, none_so_far, store_made}
+use Rattle.media_journal.proofs.GateLemmas.{gate_forgotten}
 use Rattle.media_journal.proofs.OthersLemmas.{others_along, others_header}
 use Rattle.media_journal.proofs.format.make_store.Goals as goal
 
@@ -12,12 +13,10 @@ returns-clause-written g c = λ shows.
     let once = first.same.shows ∙ shows in
     let written = c.in_ok-write_store.ensures.written once in
     let twice = second.same.shows ∙ once in
+    let whole = (g.met.D.Disk.sound c.args.disk.now).length shows in
     on_ok_weaker c.write_synced.result
-    (λ opened. record {
-      closed = _;
-      same_length = c.in_ok-close_stray.ensures.length shows;
-      store = rw written at opened;
-    })
+    (λ opened. (rw written at opened) ∙ gate_forgotten _ _ _ _ c.requires.header (omega (arith, whole, c.requires.device))
+    (c.in_ok-close_stray.ensures.gate_alone shows))
     (c.write_synced.ensures.written twice)
 
 pub returns-in_err-close_stray-clause-moments : goal.returns-in_err-close_stray-clause-moments
@@ -42,7 +41,9 @@ returns-clause-moments g c = λ rest gate none.
     let same = writes.calls.same in
     let opens = c.write_synced.ensures.moments (same.honest ∙ once.honest) (same.shows ∙ once.shows) in
     let whole = (g.met.D.Disk.sound c.write_store.new.disk).length (same.shows ∙ once.shows) in
-    store_made _ _ _ _ (closes.length rest.shows) _ _ _ (omega (arith, whole, c.requires.device, same.size, closes.calls.same.size)) (writes.written once.shows)
+    let begun = (g.met.D.Disk.sound c.args.disk.now).length rest.shows in
+    store_made _ _ _ _ c.requires.header (omega (arith, begun, c.requires.device)) (closes.gate_alone rest.shows) _ _ _
+    (omega (arith, whole, c.requires.device, same.size, closes.calls.same.size)) (writes.written once.shows)
     _ (writes.durable once.honest) front opens
 
 pub returns-in_err-close_stray-clause-others : goal.returns-in_err-close_stray-clause-others

@@ -1,5 +1,5 @@
 use Rattle.change_codec.proofs.Asking.{u128_asks}
 use Rattle.change_codec.proofs.writable.U128Writable.can_write.Goals as goal
 
-pub returns : goal.returns
-returns c = λ told. u128_asks _
+pub returns-clause-yes : goal.returns-clause-yes
+returns-clause-yes c = λ told. u128_asks _

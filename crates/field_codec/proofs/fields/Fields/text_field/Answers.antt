@@ -13,7 +13,7 @@ invariant_of-self c =
       cursor_is = c.new-cursor.ensures;
     } in
     rw (ap (λ (u : Unread). u.bytes) c.self.view_is) (shorter text_spelling text_lawful c.args.self.now c.unread-rest.result.now c.new-cursor.result
-    c.text_field.new.self c.rest-self-inside.result.now c.in-Ok.value started c.in-Ok.ensures c.rest-self-inside.ensures
+    c.text_field.new.self c.rest-self-inside.result.now c.in-Ok.value started c.in-Ok.ensures.field c.rest-self-inside.ensures
     (subst IsShorter c.self.view_is c.self.invariant))
 
 pub overflow_sub-result : goal.overflow_sub-result
@@ -25,7 +25,7 @@ overflow_sub-result c =
     } in
     rw c.in-Err-Bad.field-0-is (rw (ap (λ (u : Unread). u.bytes) c.self.view_is)
     (field_within text_spelling text_lawful c.args.self.now c.unread-rest.result.now c.new-cursor.result c.in-Err-Bad.field.left started
-    (rw c.in-Err-Bad.field-0-is at c.in-Err-Bad.ensures) (subst IsShorter c.self.view_is c.self.invariant)))
+    (rw c.in-Err-Bad.field-0-is at c.in-Err-Bad.ensures.field) (subst IsShorter c.self.view_is c.self.invariant)))
 
 pub returns-in-Ok-clause-ok : goal.returns-in-Ok-clause-ok
 returns-in-Ok-clause-ok c =
@@ -35,7 +35,7 @@ returns-in-Ok-clause-ok c =
       cursor_is = c.new-cursor.ensures;
     } in
     field_taken text_spelling text_lawful c.args.self.now _ c.unread-rest.result.now c.new-cursor.result c.text_field.new.self c.in-Ok.value started
-    c.in-Ok.ensures c.rest-self-inside.ensures
+    c.in-Ok.ensures.field c.rest-self-inside.ensures
     (ap (λ (u : Unread). u.bytes) c.self.view_is)
 
 pub returns-in-Err-Bad-clause-bad : goal.returns-in-Err-Bad-clause-bad
@@ -46,5 +46,5 @@ returns-in-Err-Bad-clause-bad c =
       cursor_is = c.new-cursor.ensures;
     } in
     rw c.in-Err-Bad.field-0-is (rw (ap (λ (u : Unread). u.bytes) c.self.view_is) (field_bad text_spelling text_lawful c.args.self.now c.unread-rest.result.now
-    c.new-cursor.result c.in-Err-Bad.field.left started (rw c.in-Err-Bad.field-0-is at c.in-Err-Bad.ensures)
+    c.new-cursor.result c.in-Err-Bad.field.left started (rw c.in-Err-Bad.field-0-is at c.in-Err-Bad.ensures.field)
     (subst IsShorter c.self.view_is c.self.invariant)))
