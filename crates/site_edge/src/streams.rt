@@ -91,17 +91,21 @@ pub(crate) fn may_reach(length: u64) -> bool {
     length <= most_bytes()
 }
 
-/// Whether so many bytes can be put to a stream within that limit, from the place on where it stands. One that has
-/// no place, as a pipe, has room.
+/// Whether so many bytes can be put to a stream within that limit: from the place on where it stands, and from the end
+/// of its file on, since it can't be asked whether it only appends. One that has no place, as a pipe, has room.
 pub(crate) fn has_room(descriptor: i32, count: usize) -> bool {
     let most = most_bytes();
     if most == u64::MAX {
         return true;
     }
-    match u64::try_from(libc::lseek(descriptor, 0, libc::SEEK_CUR)) {
-        Ok(place) => place.saturating_add(count as u64) <= most,
-        Err(_) => true,
+    let place = libc::lseek(descriptor, 0, libc::SEEK_CUR);
+    if place < 0 {
+        return true;
     }
+    let end = libc::lseek(descriptor, 0, libc::SEEK_END);
+    libc::lseek(descriptor, place, libc::SEEK_SET);
+    let furthest = u64::try_from(place.max(end)).unwrap_or(u64::MAX);
+    furthest.saturating_add(count as u64) <= most
 }
 
 fn most_bytes() -> u64 {
