@@ -61,6 +61,7 @@ with_store header half image =
     overwritten 40 (1 ∷ [])
     (overwritten 8192 half (overwritten 4096 (0 ∷ []) (overwritten 0 header image)))
 
--- the new image is the old one with a store: that its gate may have been closed first leaves nothing
+-- the new image is the old one with a store: that its gate may have been closed first leaves
+-- nothing
 abbrev pub IsFormatted : List ℕ → List ℕ → List ℕ → List ℕ → Type 0
 IsFormatted header half old new = new ≡ with_store header half old

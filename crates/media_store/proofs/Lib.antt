@@ -4,6 +4,6 @@ pub mod Commands
 mod Written
 mod Places
 mod Storing
-mod Outcomes
+pub mod Outcomes
 pub mod PutFacts
 mod PutReplies

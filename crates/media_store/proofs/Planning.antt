@@ -1,33 +1,27 @@
 -- What is known of a plan: its library has the file's media blocks, its record what fits, and what is kept behind it.
 use Rattle.std.proofs.Common.{◌≡◌, ◌+◌, ◌-◌, ◌*◌, ℕ, Bool, cond, List, length, Option, Some, None, refl, sym, ap, ap₂, subst, ◌∙◌, arith}
 use Rattle.media_rows.specs.declared.change.Change.{Change}
-use Rattle.media_rows.specs.Answer.{Outcome}
 use Rattle.media_rows.specs.Changes.{after}
 use Rattle.media_rows.specs.Library.{Library}
 use Rattle.change_codec.specs.Codec.{SpellsChange}
 use Rattle.change_codec.specs.Fitting.{State, change_size, fits_room, room_before, snapshot_size}
 use Rattle.library_laws.proofs.ChangeFacts.{store_stays}
 use Rattle.library_laws.proofs.SoundLemmas.{applied_is_sound}
-use Rattle.store_states.specs.Fitting.{fitted}
 use Rattle.store_states.specs.Kept.{StoreView}
 use Rattle.store_commits.specs.Carrying.{kept_written, written_bytes}
 use Rattle.store_plans.specs.declared.outcome.Planned.{Planned}
-use Rattle.store_plans.specs.Plans.{ComesFirst, IsPlanOf, MakesChange, MakesStep}
+use Rattle.store_plans.specs.Plans.{ComesFirst, MakesChange, MakesStep}
 use Rattle.media_store.specs.Changes.{IsAfterChange, bytes_by, bytes_of_change, bytes_with, kept_by, kept_with}
 use Rattle.media_store.specs.Stores.{journal_of}
 
 -- ---- media blocks
 
-step_blocks : (journal : State) (change : Option Change) (planned : Planned) → MakesStep journal change planned
+pub step_blocks : (journal : State) (change : Option Change) (planned : Planned) → MakesStep journal change planned
     → planned.next.blocks ≡ journal.library.blocks
 step_blocks journal None planned makes = ap (λ (x : Library). x.blocks) makes.same
 step_blocks journal (Some change) planned makes =
     ap (λ (x : Library). x.blocks) (applied_is_sound journal.library change planned.next makes.made).gives
     ∙ (store_stays journal.library change).blocks
-
-pub planned_blocks : (journal : State) (outcome : Outcome) (planned : Planned) → IsPlanOf journal outcome planned
-    → planned.next.blocks ≡ journal.library.blocks
-planned_blocks journal outcome planned is = step_blocks journal (fitted journal outcome).change planned is.step
 
 -- ---- what is kept behind a change
 

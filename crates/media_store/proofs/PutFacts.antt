@@ -1,81 +1,149 @@
--- What is known of a put's plan: where its bytes lie, and that it is one of the store for which it was made.
-use Rattle.std.proofs.Common.{◌≤◌, ◌∙◌, ℕ, Bool, List, ap, arith, refl}
-use Rattle.std.proofs.lemmas.Bool.Decides.{nat_tests}
-use Rattle.media_rows.specs.declared.change.Change.TheVariants as changes
+-- What is known of a put of a store: where its bytes lie, that it stays one of the store behind a piece, and what it was
+-- planned as.
+use Rattle.std.proofs.Common.{◌≡◌, ◌≤◌, ◌+◌, ◌++◌, ℕ, Bool, true, List, length, take, Option, Some, arith, refl, subst, sym}
+use Rattle.std.specs.Prelude.{◌&&◌, IfSome, bytes_eq}
+use Rattle.std.proofs.lemmas.Bool.{eqb-true}
 use Rattle.media_rows.specs.declared.object.Extent.{Extent}
 use Rattle.media_rows.specs.Good.{Good}
 use Rattle.media_rows.specs.Library.{Library}
-use Rattle.disk_trait.specs.Calls.{Unchanged}
+use Rattle.disk_trait.specs.Calls.{Unchanged, bytes_at}
 use Rattle.disk_trait.specs.Device.{Device}
 use Rattle.disk_trait.proofs.Theorems.{no_time}
-use Rattle.library_laws.proofs.ChangeFacts.{store_stays}
 use Rattle.library_laws.proofs.ListLemmas.{Contains-from_In, find-In}
-use Rattle.library_laws.proofs.SoundLemmas.{applied_is_sound}
+use Rattle.object_blobs.specs.Extents.{extent_bytes}
 use Rattle.store_states.specs.Kept.{AgreesWith, StoreView}
 use Rattle.store_states.specs.States.{media_start}
 use Rattle.store_plans.specs.declared.outcome.Planned.{Planned}
 use Rattle.store_plans.specs.declared.puts.PutPlan.{PutPlan}
 use Rattle.store_plans.specs.declared.puts.PutPlan.TheVariants.{Refused, Kept, Write}
-use Rattle.store_plans.specs.Plans.{HasExtent, IsStoredAt, PlanFits, PutFits, TakesExtent}
+use Rattle.store_plans.specs.Plans.{HasExtent, IsPutPlan, IsStoredAt, PlanFits, PutFits, TakesExtent}
 use Rattle.store_writes.specs.Writes.{Keeps}
 use Rattle.store_writes.proofs.Keeping.{quiet}
+use Rattle.media_store.specs.Changes.{FileStands}
 use Rattle.media_store.specs.Pieces.{IsExtent}
-use Rattle.media_store.specs.Puts.{CanWrite, IsPlanFor, may_be_same}
-use Rattle.media_store.specs.Stores.{IsSoundStore, journal_of, size_of}
-use Rattle.media_store.specs.Within.{IsPlacedOn, LeavesObjects}
+use Rattle.media_store.specs.Puts.{HandsOn, IsFreshPut, IsPutOf, IsStore, MayTake, PutMovesOn, TakesPiece, bytes_at_extent, may_be_same, put_change}
+use Rattle.media_store.specs.Stores.{IsSoundStore, PutSeen, journal_of, size_of}
+use Rattle.media_store.specs.Within.{IsPlacedOn, LeavesObjects, TakesAt}
 use Rattle.media_store.proofs.Places.{extent_within, on_device}
+use Rattle.media_store.proofs.Planning.{step_blocks}
 
 -- ---- where a put's bytes lie
 
--- on each device of the file's blocks, up to as many as were announced
-pub placed : (kept : StoreView) (device total end : ℕ) (same : Bool) (plan : PutPlan) → Good kept.library → IsSoundStore kept → size_of kept ≤ device
-    → end ≤ total → IsPlanFor kept total same plan → IsPlacedOn (media_start kept.journal.half) device plan same end
-placed kept device total end same (Refused why) good store sized fits is = tt
-placed kept device total end same (Kept extent) good store sized fits is =
-    (on_device kept extent device store sized (extent_within kept.library extent good is.stored), λ so. omega (arith, fits, is.sized so))
-placed kept device total end same (Write extent planned) good store sized fits is =
-    (on_device kept extent device store sized is.within, omega (arith, fits, is.sized))
-
--- no stored object has a block of what is written
-pub leaves : (kept : StoreView) (total : ℕ) (same : Bool) (plan : PutPlan) → IsPlanFor kept total same plan → LeavesObjects kept.library plan
-leaves kept total same (Refused why) is = tt
-leaves kept total same (Kept extent) is = tt
-leaves kept total same (Write extent planned) is = is.free
-
--- ---- a plan of a store
-
 -- where an object is stored is the extent of a stored object
-stored_extent : (library : Library) (object : List ℕ) (extent : Extent) → IsStoredAt library.objects object extent → IsExtent library extent
+pub stored_extent : (library : Library) (object : List ℕ) (extent : Extent) → IsStoredAt library.objects object extent → IsExtent library extent
 stored_extent library object extent is = record {
   row = is.row;
   kept = Contains-from_In library.objects is.row (find-In _ library.objects is.row is.kept).0;
   stored = is.stored;
 }
 
--- the plan that takes an extent can be written
-can_write : (kept : StoreView) (object : List ℕ) (size moment : ℕ) (extent : Extent) (planned : Planned)
-    → TakesExtent (journal_of kept) object size moment extent planned → PlanFits kept.journal planned → CanWrite kept size extent planned
-can_write kept object size moment extent planned takes fits =
-    let change = changes.Store moment object extent.start extent.length in
-    record {
-      sized = takes.sized;
-      free = takes.clear;
-      within = takes.within;
-      commit = record {
-        fits = fits;
-        blocks = ap (λ (x : Library). x.blocks) (applied_is_sound kept.library change planned.next takes.makes.made).gives
-            ∙ (store_stays kept.library change).blocks;
-      };
-    }
+placed_by : (kept : StoreView) (device size moment end : ℕ) (object : List ℕ) (same : Bool) (plan : PutPlan) → Good kept.library → IsSoundStore kept
+    → size_of kept ≤ device → end ≤ size → HasExtent (journal_of kept) object size moment plan → (same ≡ true → may_be_same size plan ≡ true)
+    → IsPlacedOn (media_start kept.journal.half) device plan same end
+placed_by kept device size moment end object same (Refused why) good store sized fits has may = tt
+placed_by kept device size moment end object same (Kept extent) good store sized fits has may = (
+  on_device kept extent device store sized (extent_within kept.library extent good (stored_extent kept.library object extent has)),
+  λ so. let long = eqb-true extent.length size (may so) in omega (arith, fits, long),
+)
+placed_by kept device size moment end object same (Write extent planned) good store sized fits has may =
+    (on_device kept extent device store sized has.within, omega (arith, fits, has.sized))
 
-pub plan_for : (kept : StoreView) (object : List ℕ) (size moment : ℕ) (plan : PutPlan) → HasExtent (journal_of kept) object size moment plan
-    → PutFits kept.journal plan → IsPlanFor kept size (may_be_same size plan) plan
-plan_for kept object size moment (Refused why) has fits = tt
-plan_for kept object size moment (Kept extent) has fits =
-    record { stored = stored_extent kept.library object extent has; sized = λ same. grind (arith, nat_tests) }
-plan_for kept object size moment (Write extent planned) has fits = can_write kept object size moment extent planned has fits
+-- on each device of the file's blocks, up to as many as were announced
+pub placed : (kept : StoreView) (device end : ℕ) (put : PutSeen) → Good kept.library → IsSoundStore kept → size_of kept ≤ device
+    → end ≤ put.size → IsPutOf kept put → IsPlacedOn (media_start kept.journal.half) device put.plan put.same end
+placed kept device end put good store sized fits is =
+    placed_by kept device put.size put.moment end put.object put.same put.plan good store sized fits is.extent is.same
+
+-- no stored object has a block of what is written
+leaves_by : (kept : StoreView) (object : List ℕ) (size moment : ℕ) (plan : PutPlan) → HasExtent (journal_of kept) object size moment plan
+    → LeavesObjects kept.library plan
+leaves_by kept object size moment (Refused why) has = tt
+leaves_by kept object size moment (Kept extent) has = tt
+leaves_by kept object size moment (Write extent planned) has = has.clear
+
+pub leaves : (kept : StoreView) (put : PutSeen) → IsPutOf kept put → LeavesObjects kept.library put.plan
+leaves kept put is = leaves_by kept put.object put.size put.moment put.plan is.extent
+
+-- ---- the put that is under way
+
+pub put_of : (kept : StoreView) (put : Option PutSeen) (some : PutSeen) → IsStore kept put → put ≡ Some some → IsPutOf kept some
+put_of kept put some store is = subst (λ (p : Option PutSeen). IfSome p (IsPutOf kept)) is store.of_store
+
+pub may_take : (put : Option PutSeen) (some : PutSeen) (count : ℕ) → MayTake put count → put ≡ Some some → some.handed + count ≤ some.size
+may_take put some count may is = subst (λ (p : Option PutSeen). MayTake p count) is may
+
+-- ---- behind a piece
+
+-- a put of a store stays one
+pub moves_on : (kept : StoreView) (old new : PutSeen) (piece : List ℕ) → IsPutOf kept old → PutMovesOn old new piece
+    → old.handed + length piece ≤ old.size → (new.same ≡ true → old.same ≡ true) → IsPutOf kept new
+moves_on kept old new piece is moves inside still = record {
+  plan = rw (moves.object_is, moves.sized, moves.moment_is, moves.plan) is.plan;
+  extent = rw (moves.object_is, moves.sized, moves.moment_is, moves.plan) is.extent;
+  fits = rw moves.plan is.fits;
+  few = omega (arith, inside, moves.handed, moves.sized);
+  same = λ so. rw (moves.sized, moves.plan) (is.same (still so));
+}
+
+-- what it takes there
+takes_piece : (kept : StoreView) (area : ℕ) (plan : PutPlan) (piece : List ℕ) (old new : PutSeen) (before after : Device)
+    → area ≡ media_start kept.journal.half → new.handed ≡ old.handed + length piece
+    → TakesAt area plan piece old.handed old.same new.same before.seen after.seen → TakesPiece kept plan piece old new before after
+takes_piece kept area (Refused why) piece old new before after place moved takes = tt
+takes_piece kept area (Kept extent) piece old new before after place moved takes =
+    subst
+    (λ (a : ℕ). new.same ≡ (old.same && bytes_eq (bytes_at (extent_bytes a extent before.seen) old.handed (length piece)) piece)) place takes
+takes_piece kept area (Write extent planned) piece old new before after place moved takes =
+    subst (λ (n : ℕ). take n (bytes_at_extent kept extent after.seen) ≡ take old.handed (bytes_at_extent kept extent before.seen) ++ piece) (sym moved)
+    (subst (λ (a : ℕ). take (old.handed + length piece) (extent_bytes a extent after.seen) ≡ take old.handed (extent_bytes a extent before.seen) ++ piece)
+    place takes)
+
+pub hands_on : (kept : StoreView) (area : ℕ) (piece : List ℕ) (old later : PutSeen) (put next : Option PutSeen) (before after : Device)
+    → put ≡ Some old → next ≡ Some later → IsPutOf kept old → area ≡ media_start kept.journal.half → PutMovesOn old later piece
+    → old.handed + length piece ≤ old.size → (later.same ≡ true → old.same ≡ true)
+    → (before.shows ≡ true → TakesAt area old.plan piece old.handed old.same later.same before.seen after.seen)
+    → HandsOn kept piece put next before after
+hands_on kept area piece old later put next before after is then of_store place moves inside still takes =
+    subst (λ (p : Option PutSeen). HandsOn kept piece p next before after) (sym is) (record {
+      later = later;
+      is = then;
+      goes = moves;
+      of_store = moves_on kept old later piece of_store moves inside still;
+      takes = λ shows. takes_piece kept area old.plan piece old later before after place moves.handed (takes shows);
+    })
+
+-- ---- what it was planned as
+
+pub fresh_plan : (kept : StoreView) (object : List ℕ) (size moment : ℕ) (put : PutSeen) → IsFreshPut kept object size moment put
+    → IsPutPlan (journal_of kept) object size moment put.plan
+fresh_plan kept object size moment put is = rw (← is.object_is, ← is.sized, ← is.moment_is) is.of_store.plan
+
+pub fresh_extent : (kept : StoreView) (object : List ℕ) (size moment : ℕ) (put : PutSeen) → IsFreshPut kept object size moment put
+    → HasExtent (journal_of kept) object size moment put.plan
+fresh_extent kept object size moment put is = rw (← is.object_is, ← is.sized, ← is.moment_is) is.of_store.extent
+
+-- ---- what is written for it
+
+pub takes_extent : (kept : StoreView) (put : PutSeen) (extent : Extent) (planned : Planned) → IsPutOf kept put → put.plan ≡ Write extent planned
+    → TakesExtent (journal_of kept) put.object put.size put.moment extent planned
+takes_extent kept put extent planned is at = subst (HasExtent (journal_of kept) put.object put.size put.moment) at is.extent
+
+pub takes_room : (kept : StoreView) (put : PutSeen) (extent : Extent) (planned : Planned) → IsPutOf kept put → put.plan ≡ Write extent planned
+    → PlanFits kept.journal planned
+takes_room kept put extent planned is at = subst (PutFits kept.journal) at is.fits
+
+-- its library has the file's media blocks
+pub takes_blocks : (kept : StoreView) (put : PutSeen) (extent : Extent) (planned : Planned) → IsPutOf kept put → put.plan ≡ Write extent planned
+    → planned.next.blocks ≡ kept.library.blocks
+takes_blocks kept put extent planned is at =
+    step_blocks (journal_of kept) (Some (put_change put extent)) planned (takes_extent kept put extent planned is at).makes
 
 -- ---- no call
+
+-- where what is kept stays, the file stands for it
+pub keeps_stand : (kept : StoreView) (old new : Device) → ((held : List (List ℕ)) → AgreesWith old kept held → Keeps kept held old new)
+    → FileStands old kept → FileStands new kept
+keeps_stand kept old new keeps stands = record { held = stands.held; agrees = (keeps stands.held stands.agrees).agrees }
 
 -- where none is made, what is kept stays
 pub nothing_keeps : (kept : StoreView) (held : List (List ℕ)) (d : Device) → AgreesWith d kept held → Keeps kept held d d

@@ -21,9 +21,10 @@ use Rattle.store_plans.specs.declared.outcome.Planned.{Planned}
 use Rattle.store_plans.specs.declared.puts.PutPlan.{PutPlan}
 use Rattle.store_plans.specs.declared.puts.PutPlan.TheVariants.{Refused, Write}
 use Rattle.store_plans.specs.Plans.{HasExtent, IsPutPlan, MakesStep, TakesExtent}
-use Rattle.media_store.specs.Puts.{IsBegun, PutSeen, put_reply}
-use Rattle.media_store.specs.Stores.{journal_of}
+use Rattle.media_store.specs.Puts.{IsPlannedPut, put_reply}
+use Rattle.media_store.specs.Stores.{PutSeen, journal_of}
 use Rattle.media_store.specs.Within.{is_put_refusal}
+use Rattle.media_store.proofs.PutFacts.{fresh_extent, fresh_plan}
 
 -- a reply that isn't a refusal, or one of those
 abbrev may_be : Reply → Bool
@@ -97,18 +98,18 @@ reply_of_put journal object size moment extent planned is takes =
     ∙ made_reply journal outcome.change outcome.reply planned takes.makes.payload plan.step takes.makes.frame
     (may_put journal (without_bytes journal) object bytes moment).made
 
--- ---- of a put that has begun
+-- ---- of a put that was planned
 
-pub begun_refusal : (put : PutSeen) (why : Refusal) → IsBegun put → put.plan ≡ Refused why → is_put_refusal why ≡ true
-begun_refusal put why is at =
+pub planned_refusal : (put : PutSeen) (why : Refusal) → IsPlannedPut put → put.plan ≡ Refused why → is_put_refusal why ≡ true
+planned_refusal put why is at =
     refusal_of_put (journal_of is.kept) is.object put.size is.moment why
-    (subst (IsPutPlan (journal_of is.kept) is.object put.size is.moment) at is.begun.plan)
+    (subst (IsPutPlan (journal_of is.kept) is.object put.size is.moment) at (fresh_plan is.kept is.object put.size is.moment put is.fresh))
 
-pub begun_write : (put : PutSeen) (extent : Extent) (planned : Planned) → IsBegun put → put.plan ≡ Write extent planned
+pub planned_write : (put : PutSeen) (extent : Extent) (planned : Planned) → IsPlannedPut put → put.plan ≡ Write extent planned
     → replies.Created ≡ put_reply (record put { same = true }) put.plan
-begun_write put extent planned is at =
+planned_write put extent planned is at =
     let journal = journal_of is.kept in
     let reply = reply_of_put journal is.object put.size is.moment extent planned
-    (subst (IsPutPlan journal is.object put.size is.moment) at is.begun.plan)
-    (subst (HasExtent journal is.object put.size is.moment) at is.begun.extent) in
+    (subst (IsPutPlan journal is.object put.size is.moment) at (fresh_plan is.kept is.object put.size is.moment put is.fresh))
+    (subst (HasExtent journal is.object put.size is.moment) at (fresh_extent is.kept is.object put.size is.moment put is.fresh)) in
     subst (λ (p : PutPlan). replies.Created ≡ put_reply (record put { same = true }) p) (sym at) (sym reply)

@@ -1,5 +1,5 @@
 -- What a change makes of a store and of its device. Our own rules.
-use Rattle.std.specs.Prelude.{◌≡◌, ◌+◌, ◌*◌, ℕ, Bool, true, false, List, [], Option, Some, None, if◌then◌else◌}
+use Rattle.std.specs.Prelude.{◌≡◌, ◌+◌, ◌*◌, ℕ, Bool, true, false, List, [], Option, Some, None, IsFalse, if◌then◌else◌}
 use Rattle.media_rows.specs.declared.change.Change.{Change}
 use Rattle.media_rows.specs.declared.change.Change.TheVariants as changes
 use Rattle.media_rows.specs.declared.command.Command.{Command}
@@ -17,14 +17,23 @@ use Rattle.store_states.specs.States.{media_start}
 use Rattle.store_commits.specs.Carrying.{ReplaceEnds, Replaces, kept_written, written_bytes}
 use Rattle.store_writes.specs.Writes.{Keeps}
 use Rattle.store_plans.specs.declared.outcome.Planned.{Planned}
-use Rattle.store_plans.specs.Plans.{PlanFits}
+use Rattle.store_plans.specs.Plans.{MakesStep, PlanFits}
 use Rattle.media_store.specs.Stores.{archive_of, journal_of}
 
--- A plan can be written to a store: its record has the room that it needs, and the library
--- afterwards has the media blocks of the file.
+-- whether a change, if there is one, stores an object
+abbrev pub stores : Option Change → Bool
+stores None = false
+stores (Some (changes.Store moment object start size)) = true
+stores (Some other) = false
+
+-- A plan can be committed to a store: it makes a change of the store's own library, in the journal
+-- as it stands, or leaves that library as it is, and its record has the room that it needs. It
+-- stores no object: the bytes of one go by a put.
 pub record CanCommit (kept : StoreView) (planned : Planned) : Type 0 where
+  pub change : Option Change
+  pub step : MakesStep (journal_of kept) change planned
   pub fits : PlanFits kept.journal planned
-  pub blocks : planned.next.blocks ≡ kept.library.blocks
+  pub bare : IsFalse (stores change)
 
 -- what is kept once a plan was written, by its record
 abbrev pub kept_with : StoreView → Planned → Option (List ℕ) → StoreView
@@ -43,6 +52,13 @@ bytes_with planned (Some payload) = written_bytes planned.rows payload
 -- the bytes that a plan hands to the disk
 abbrev pub bytes_by : Planned → ℕ
 bytes_by planned = bytes_with planned planned.frame
+
+-- ---- the file
+
+-- The file stands for what is kept: it agrees with the device, with some bytes of the objects.
+pub record FileStands (d : Device) (kept : StoreView) : Type 0 where
+  pub held : List (List ℕ)
+  pub agrees : AgreesWith d kept held
 
 -- ---- changes
 
@@ -98,12 +114,6 @@ bytes_if journal None = 0
 bytes_if journal (Some change) = bytes_of_change journal change
 
 -- ---- commands
-
--- whether a change, if there is one, stores an object
-abbrev pub stores : Option Change → Bool
-stores None = false
-stores (Some (changes.Store moment object start size)) = true
-stores (Some other) = false
 
 -- whether a command comes with the bytes of an object, which go by a put
 abbrev pub brings_bytes : Command → Bool

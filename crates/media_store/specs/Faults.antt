@@ -30,3 +30,9 @@ abbrev pub OnDisk : {X : Type 0} → Result X StoreFault → Type 0 → Type 0
 OnDisk (Ok x) Holds = Unit {0}
 OnDisk (Err Disk) Holds = Holds
 OnDisk (Err Memory) Holds = Unit {0}
+
+-- what holds unless one did
+abbrev pub UnlessDisk : {X : Type 0} → Result X StoreFault → Type 0 → Type 0
+UnlessDisk (Ok x) Holds = Holds
+UnlessDisk (Err Disk) Holds = Unit {0}
+UnlessDisk (Err Memory) Holds = Holds

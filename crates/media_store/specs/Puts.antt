@@ -1,6 +1,6 @@
--- A put of an object's bytes that is under way, and what its pieces and its end make of a store.
--- Our own rules.
-use Rattle.std.specs.Prelude.{◌≡◌, ◌≤◌, ◌+◌, ◌==◌, ◌&&◌, ℕ, Bool, true, false, List, ◌++◌, length, take, bytes_eq, Option, Some, None, IsTrue}
+-- A put of an object's bytes, and what its beginning, its pieces and its end make of a store. Our
+-- own rules.
+use Rattle.std.specs.Prelude.{◌≡◌, ◌≤◌, ◌+◌, ◌==◌, ◌&&◌, ℕ, Bool, true, false, List, ◌++◌, length, take, bytes_eq, Option, Some, None, option_map, IfSome}
 use Rattle.media_rows.specs.declared.change.Change.{Change}
 use Rattle.media_rows.specs.declared.change.Change.TheVariants as changes
 use Rattle.media_rows.specs.declared.object.Extent.{Extent}
@@ -8,59 +8,20 @@ use Rattle.media_rows.specs.declared.refusal.Refusal.{Refusal}
 use Rattle.media_rows.specs.declared.reply.Reply.{Reply}
 use Rattle.media_rows.specs.declared.reply.Reply.TheVariants as replies
 use Rattle.media_rows.specs.Answer.{stored_put}
-use Rattle.media_rows.specs.Objects.{blocks_of}
 use Rattle.disk_trait.specs.Calls.{bytes_at}
 use Rattle.disk_trait.specs.Device.{Device}
 use Rattle.object_blobs.specs.Extents.{extent_bytes}
 use Rattle.store_states.specs.Kept.{StoreView}
 use Rattle.store_states.specs.States.{media_start}
-use Rattle.store_plans.specs.declared.outcome.Planned.{Planned}
 use Rattle.store_plans.specs.declared.puts.PutPlan.{PutPlan}
 use Rattle.store_plans.specs.declared.puts.PutPlan.TheVariants.{Refused, Kept, Write}
-use Rattle.store_plans.specs.Plans.{HasExtent, IsPutPlan, MakesChange}
-use Rattle.store_writes.specs.Writes.{IsFree, Keeps}
+use Rattle.store_plans.specs.Plans.{HasExtent, IsPutPlan, PutFits}
+use Rattle.store_writes.specs.Writes.{Keeps}
 use Rattle.media_store.specs.declared.puts.TheConstants.{PIECE}
-use Rattle.media_store.specs.Changes.{CanCommit, ChangesStore, bytes_by, kept_by}
-use Rattle.media_store.specs.Pieces.{IsExtent}
-use Rattle.media_store.specs.Stores.{journal_of}
+use Rattle.media_store.specs.Changes.{ChangesStore, bytes_by, kept_by}
+use Rattle.media_store.specs.Stores.{IsSoundStore, PutSeen, journal_of}
 
--- What a put under way is seen as: how many bytes were announced, how many were handed to it so
--- far, what is planned of them, and for an object that is stored whether its bytes are the same so
--- far.
-pub record PutSeen : Type 0 where
-  pub size : ℕ
-  pub handed : ℕ
-  pub plan : PutPlan
-  pub same : Bool
-
--- ---- what a store asks of a put
-
--- The bytes can be written to this extent of a store and stored by this plan: no stored object has
--- a block of it, and it lies in the media blocks.
-pub record CanWrite (kept : StoreView) (size : ℕ) (extent : Extent) (planned : Planned) : Type 0
-  where
-    pub sized : extent.length ≡ size
-    pub free : IsFree kept.library.objects extent
-    pub within : extent.start + blocks_of extent.length ≤ kept.library.blocks
-    pub commit : CanCommit kept planned
-
--- They can be compared with those of this extent, as far as they may be the same.
-pub record CanCompare (kept : StoreView) (size : ℕ) (same : Bool) (extent : Extent) : Type 0 where
-  pub stored : IsExtent kept.library extent
-  pub sized : same ≡ true → extent.length ≡ size
-
--- the put's plan is one of this store
-abbrev pub IsPlanFor : StoreView → ℕ → Bool → PutPlan → Type 0
-IsPlanFor kept size same (Refused why) = Unit {0}
-IsPlanFor kept size same (Kept extent) = CanCompare kept size same extent
-IsPlanFor kept size same (Write extent planned) = CanWrite kept size extent planned
-
--- a put is one of this store, and no more was handed to it than was announced
-pub record IsPutOf (kept : StoreView) (put : PutSeen) : Type 0 where
-  pub few : put.handed ≤ put.size
-  pub plan : IsPlanFor kept put.size put.same put.plan
-
--- ---- how a put begins
+-- ---- a put of a store
 
 -- whether bytes of an object may be the same as so many that come: there are as many
 abbrev pub may_be_same : ℕ → PutPlan → Bool
@@ -68,25 +29,47 @@ may_be_same size (Refused why) = true
 may_be_same size (Kept extent) = extent.length == size
 may_be_same size (Write extent planned) = true
 
--- A put of so many bytes as those of an object has begun: what is planned of it answers any bytes
--- of that length.
-pub record HasBegun (kept : StoreView) (object : List ℕ) (size moment : ℕ)
+-- A put is one of a store: what is planned of it is what the store's own library, in the journal as
+-- it stands, makes of any bytes of its length for its object at its moment, at the extent that the
+-- object has there or takes. No more was handed to it than was announced, and bytes that are the
+-- same so far may be so to the end.
+pub record IsPutOf (kept : StoreView) (put : PutSeen) : Type 0 where
+  pub plan : IsPutPlan (journal_of kept) put.object put.size put.moment put.plan
+  pub extent : HasExtent (journal_of kept) put.object put.size put.moment put.plan
+  pub fits : PutFits kept.journal put.plan
+  pub few : put.handed ≤ put.size
+  pub same : put.same ≡ true → may_be_same put.size put.plan ≡ true
+
+-- A store that isn't spent is a sound one, and the put that is under way, if there is one, is its.
+pub record IsStore (kept : StoreView) (put : Option PutSeen) : Type 0 where
+  pub sound : IsSoundStore kept
+  pub of_store : IfSome put (IsPutOf kept)
+
+-- ---- a put that was planned
+
+-- A put of so many bytes as those of an object was planned of a store, and none came.
+pub record IsFreshPut (kept : StoreView) (object : List ℕ) (size moment : ℕ)
     (put : PutSeen) : Type 0 where
   pub of_store : IsPutOf kept put
+  pub object_is : put.object ≡ object
   pub sized : put.size ≡ size
+  pub moment_is : put.moment ≡ moment
   pub none : put.handed ≡ 0
   pub same : put.same ≡ may_be_same size put.plan
-  pub plan : IsPutPlan (journal_of kept) object size moment put.plan
-  pub extent : HasExtent (journal_of kept) object size moment put.plan
 
--- a put has begun, of some object of some store
-pub record IsBegun (put : PutSeen) : Type 0 where
+-- a put was planned, of some object of some store
+pub record IsPlannedPut (put : PutSeen) : Type 0 where
   pub kept : StoreView
   pub object : List ℕ
   pub moment : ℕ
-  pub begun : HasBegun kept object put.size moment put
+  pub fresh : IsFreshPut kept object put.size moment put
 
 -- ---- pieces
+
+-- a put is under way, of which so many bytes are to come at least
+abbrev pub MayTake : Option PutSeen → ℕ → Type 0
+MayTake None count = ⊥
+MayTake (Some put) count = put.handed + count ≤ put.size
 
 -- the bytes of an extent of a store in an image
 abbrev pub bytes_at_extent : StoreView → Extent → List ℕ → List ℕ
@@ -104,11 +87,54 @@ TakesPiece kept (Write extent planned) piece old new before after =
     take new.handed (bytes_at_extent kept extent after.seen)
     ≡ take old.handed (bytes_at_extent kept extent before.seen) ++ piece
 
+-- a put goes on behind a piece
+pub record PutMovesOn (old new : PutSeen) (piece : List ℕ) : Type 0 where
+  pub object_is : new.object ≡ old.object
+  pub sized : new.size ≡ old.size
+  pub moment_is : new.moment ≡ old.moment
+  pub handed : new.handed ≡ old.handed + length piece
+  pub plan : new.plan ≡ old.plan
+
+-- the same over a store and its device
+pub record PutGoesOn (kept : StoreView) (piece : List ℕ) (put : PutSeen) (next : Option PutSeen)
+    (before now : Device) : Type 0 where
+  pub later : PutSeen
+  pub is : next ≡ Some later
+  pub goes : PutMovesOn put later piece
+  pub of_store : IsPutOf kept later
+  pub takes : before.shows ≡ true → TakesPiece kept put.plan piece put later before now
+
+-- a piece was handed to the put that is under way, if there is one
+abbrev pub HandsOn : StoreView → List ℕ → Option PutSeen → Option PutSeen → Device → Device → Type 0
+HandsOn kept piece None next before now = next ≡ None
+HandsOn kept piece (Some put) next before now = PutGoesOn kept piece put next before now
+
 -- how many bytes of a piece are handed to the disk
 abbrev pub handed_of_piece : PutPlan → List ℕ → ℕ
 handed_of_piece (Refused why) piece = 0
 handed_of_piece (Kept extent) piece = 0
 handed_of_piece (Write extent planned) piece = length piece
+
+-- what is planned, where there is a put
+abbrev pub plan_of : Option PutSeen → Option PutPlan
+plan_of put = option_map (λ p. p.plan) put
+
+-- how many bytes of a part of its body are handed to the device
+abbrev pub body_handed : Option PutPlan → List ℕ → ℕ
+body_handed None part = 0
+body_handed (Some plan) part = handed_of_piece plan part
+
+-- whether a put asks anything of the disk for a piece: one that is refused doesn't, nor does one
+-- whose bytes are other ones already
+abbrev pub asks_disk : Bool → PutPlan → Bool
+asks_disk same (Refused why) = false
+asks_disk same (Kept extent) = same
+asks_disk same (Write extent planned) = true
+
+-- the same of the put that is under way
+abbrev pub asks_disk_if : Option PutSeen → Bool
+asks_disk_if None = false
+asks_disk_if (Some put) = asks_disk put.same put.plan
 
 -- the put has room for a piece of the bytes that it compares
 abbrev pub HasRoomToCompare : PutPlan → ℕ → Type 0
@@ -128,19 +154,17 @@ writes_by (Refused why) = false
 writes_by (Kept extent) = false
 writes_by (Write extent planned) = true
 
--- a put goes on behind a piece
-pub record PutMovesOn (old new : PutSeen) (piece : List ℕ) : Type 0 where
-  pub sized : new.size ≡ old.size
-  pub handed : new.handed ≡ old.handed + length piece
-  pub plan : new.plan ≡ old.plan
-
 -- ---- the end
 
--- a change stores an object at this extent
-abbrev pub stores_at : Change → Extent → Bool
-stores_at (changes.Store moment object start size) extent =
-    (start == extent.start) && (size == extent.length)
-stores_at other extent = false
+-- a put is under way, and all of its bytes were handed to it
+abbrev pub AllCame : Option PutSeen → Type 0
+AllCame None = ⊥
+AllCame (Some put) = put.handed ≡ put.size
+
+-- whether the end of the put that is under way writes a change
+abbrev pub writes_if : Option PutSeen → Bool
+writes_if None = false
+writes_if (Some put) = writes_by put.plan
 
 -- the reply to a put
 abbrev pub put_reply : PutSeen → PutPlan → Reply
@@ -148,18 +172,20 @@ put_reply put (Refused why) = replies.Refused why
 put_reply put (Kept extent) = (stored_put put.same).reply
 put_reply put (Write extent planned) = planned.reply
 
+-- the same of the put that is under way, if there is one
+abbrev pub reply_if : Option PutSeen → Option Reply
+reply_if put = option_map (λ p. put_reply p p.plan) put
+
 -- what is kept behind a put
 abbrev pub kept_after_put : StoreView → PutPlan → StoreView
 kept_after_put kept (Refused why) = kept
 kept_after_put kept (Kept extent) = kept
 kept_after_put kept (Write extent planned) = kept_by kept planned
 
--- the change that a put's plan makes
-abbrev pub StoresAs : StoreView → Change → PutPlan → Type 0
-StoresAs kept change (Refused why) = Unit {0}
-StoresAs kept change (Kept extent) = Unit {0}
-StoresAs kept change (Write extent planned) =
-    MakesChange (journal_of kept) change planned × IsTrue (stores_at change extent)
+-- the same behind the put that is under way, if there is one
+abbrev pub kept_behind : StoreView → Option PutSeen → StoreView
+kept_behind kept None = kept
+kept_behind kept (Some put) = kept_after_put kept put.plan
 
 -- how many bytes the end of a put hands to the disk
 abbrev pub handed_at_end : PutPlan → ℕ
@@ -167,11 +193,25 @@ handed_at_end (Refused why) = 0
 handed_at_end (Kept extent) = 0
 handed_at_end (Write extent planned) = bytes_by planned
 
--- What the end of a put makes of a store: the change of its plan, for which the bytes came that a
+-- the same of the put that is under way, if there is one
+abbrev pub end_handed : Option PutSeen → ℕ
+end_handed None = 0
+end_handed (Some put) = handed_at_end put.plan
+
+-- the change that stores a put's object at this extent
+abbrev pub put_change : PutSeen → Extent → Change
+put_change put extent = changes.Store put.moment put.object extent.start extent.length
+
+-- What the end of a put makes of a store: its object is stored, for which the bytes came that a
 -- read gives at the extent. Behind a put that writes nothing what is kept stays.
-abbrev pub EndsPut : Bool → PutPlan → Change → StoreView → List (List ℕ) → Device → Device → Type 0
-EndsPut ok (Refused why) change kept held old new = Keeps kept held old new
-EndsPut ok (Kept extent) change kept held old new = Keeps kept held old new
-EndsPut ok (Write extent planned) change kept held old new =
-    ChangesStore ok change (bytes_at_extent kept extent old.seen) kept
+abbrev pub EndsPut : Bool → PutSeen → PutPlan → StoreView → List (List ℕ) → Device → Device → Type 0
+EndsPut ok put (Refused why) kept held old new = Keeps kept held old new
+EndsPut ok put (Kept extent) kept held old new = Keeps kept held old new
+EndsPut ok put (Write extent planned) kept held old new =
+    ChangesStore ok (put_change put extent) (bytes_at_extent kept extent old.seen) kept
     (kept_by kept planned) held old new
+
+-- the same of the put that is under way
+abbrev pub EndsIf : Bool → Option PutSeen → StoreView → List (List ℕ) → Device → Device → Type 0
+EndsIf ok None kept held old new = ⊥
+EndsIf ok (Some put) kept held old new = EndsPut ok put put.plan kept held old new

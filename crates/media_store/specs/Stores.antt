@@ -12,13 +12,26 @@ use Rattle.media_journal.specs.Journal.{IsWhole}
 use Rattle.store_states.specs.Kept.{StoreView}
 use Rattle.store_states.specs.States.{blocks_before}
 use Rattle.store_opening.specs.Opening.{IsKept, StoreAnswer}
+use Rattle.store_plans.specs.declared.puts.PutPlan.{PutPlan}
 use Rattle.store_plans.specs.Plans.{journal_in}
 
--- What a store is seen as: its library and where its journal stands, and whether a call of the disk
--- failed, after which it must be opened again.
+-- What a put is seen as: its object, how many bytes were announced, its moment, how many were
+-- handed to it so far, what is planned of them, and for an object that is stored whether its bytes
+-- are the same so far.
+pub record PutSeen : Type 0 where
+  pub object : List ℕ
+  pub size : ℕ
+  pub moment : ℕ
+  pub handed : ℕ
+  pub plan : PutPlan
+  pub same : Bool
+
+-- What a store is seen as: its library and where its journal stands, whether a call of the disk
+-- failed, after which it must be opened again, and the put that is under way, if there is one.
 pub record StoreSeen : Type 0 where
   pub kept : StoreView
   pub spent : Bool
+  pub put : Option PutSeen
 
 -- A store's journal goes to the end of its half, its halves lie in the file, and its library has
 -- all media blocks of the file.

@@ -1,5 +1,8 @@
 -- Words that the calls within this crate cite, and no other crate.
 use Rattle.std.specs.Prelude.{◌≡◌, ◌≤◌, ◌+◌, ◌&&◌, ℕ, Bool, true, false, List, ◌++◌, length, take, bytes_eq}
+use Rattle.media_rows.specs.declared.change.Change.{Change}
+use Rattle.media_rows.specs.declared.change.Change.TheVariants as changes
+use Rattle.media_rows.specs.declared.object.Extent.{Extent}
 use Rattle.media_rows.specs.declared.refusal.Refusal.{Refusal}
 use Rattle.media_rows.specs.declared.refusal.Refusal.TheVariants as refusals
 use Rattle.media_rows.specs.Library.{Library}
@@ -33,6 +36,12 @@ TakesAt area (Kept extent) piece at same still before after =
 TakesAt area (Write extent planned) piece at same still before after =
     take (at + length piece) (extent_bytes area extent after)
     ≡ take at (extent_bytes area extent before) ++ piece
+
+-- a change stores an object at this extent
+abbrev pub StoresAt : Extent → Change → Type 0
+StoresAt extent (changes.Store moment object start size) =
+    (start ≡ extent.start) × (size ≡ extent.length)
+StoresAt extent other = ⊥
 
 -- the refusals that a put may have
 abbrev pub is_put_refusal : Refusal → Bool

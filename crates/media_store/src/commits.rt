@@ -1,21 +1,20 @@
 //! Commands: what they make of a store is planned, and the plan is written.
-ghost use Rattle.std.specs.Prelude.{◌≡◌, ◌≤◌, ◌+◌, ℕ, true, List, None, IfOk, IsFalse, IsTrue, OnOk, is_ok};
+ghost use Rattle.std.specs.Prelude.{◌≡◌, ◌≤◌, ◌+◌, ℕ, true, List, Option, None, IfOk, IsFalse, IsTrue, OnOk, is_ok};
 ghost use Rattle.std.specs.Result.{is_err};
 ghost use Rattle.media_rows.specs.declared.change.Change.{Change};
-ghost use Rattle.media_rows.specs.Answer.{Outcome, answer, unchanged};
+ghost use Rattle.media_rows.specs.Answer.{answer, unchanged};
 ghost use Rattle.media_rows.specs.Media.{fits_bytes};
 ghost use Rattle.media_rows.specs.Moments.{is_moment};
 ghost use Rattle.media_rows.specs.Sound.{is_good_command};
 ghost use Rattle.disk_trait.specs.Calls.{DiskCalls};
-ghost use Rattle.store_plans.specs.Plans.{IsPlanOf, IsPlanned, MakesChange};
+ghost use Rattle.store_plans.specs.Plans.{IsPlanOf, IsPlanned, MakesChange, MakesStep, PlanFits};
 ghost use Rattle.store_states.specs.Kept.{AgreesWith};
-ghost use Rattle.media_store.specs.Changes.{CameThere, CanCommit, IsNextIf, ChangesStore, MakesIf, brings_bytes, bytes_by, bytes_if, kept_by, fitted_outcome, stores};
-ghost use Rattle.media_store.specs.Faults.{OnCalls, OnMemory, is_disk, not_disk_fault};
+ghost use Rattle.media_store.specs.Changes.{CameThere, CanCommit, ChangesStore, FileStands, IsNextIf, MakesIf, brings_bytes, bytes_by, bytes_if, kept_by, fitted_outcome};
+ghost use Rattle.media_store.specs.Faults.{OnCalls, OnMemory, UnlessDisk, is_disk, not_disk_fault};
 ghost use Rattle.media_store.specs.Stores.{journal_of, size_of};
 
 use crate::{Store, StoreFault};
 use disk_trait::{Disk, Failed, Memory};
-use library_laws::store_stays;
 use media_rows::{Command, Reply};
 use std::alloc::Global;
 use store_commits::write_change;
@@ -25,16 +24,17 @@ use store_states::images_have_the_bytes;
 impl Store {
     /// What a command makes of the store at a moment, in seconds since 1970-01-01T00:00:00Z: its refusal, or its
     /// reply with the record of its change. A change that doesn't fit the journal, even behind a checkpoint, is
-    /// refused after all else, as `JournalFull`. It takes all memory of the command, and changes nothing.
+    /// refused after all else, as `JournalFull`. It takes all memory of the command, and changes nothing. The bytes
+    /// of an object go by a put.
     pub fn plan(&self, alloc: Global, command: &Command, now: u64) -> Result<Planned, Memory>
         requires unspent { IsFalse self.now.spent }
         requires good { IsTrue (is_good_command self.now.kept.library command.now) }
+        requires sent { IsFalse (brings_bytes command.now) }
         requires moment { IsTrue (is_moment now) }
         ensures planned { IfOk result (IsPlanOf (journal_of self.now.kept)
             (answer self.now.kept.library command.now now)) }
         ensures ready { IfOk result (CanCommit self.now.kept) }
     {
-        store_stays();
         let planned = plan(alloc, &self.library, &self.journal, command, now)?;
         Ok(planned)
     }
@@ -52,14 +52,48 @@ impl Store {
         })
     }
 
-    /// Writes what was planned of this store, and becomes it: a checkpoint first where the plan has rows, then the
-    /// record. It takes no memory. After `Failed` the store is spent.
+    /// Writes what was planned of this store as it is, and becomes it: a checkpoint first where the plan has rows,
+    /// then the record. It takes no memory. After `Failed` the store is spent.
     pub fn commit<D: Disk>(&mut self, disk: &mut D, planned: Planned) -> Result<Reply, Failed>
         requires unspent { IsFalse self.old.spent }
+        requires idle { self.old.put ≡ None }
         requires device { size_of self.old.kept ≤ (D.device disk.old).size }
         requires ready { CanCommit self.old.kept planned }
 
-        // The plan's change is made, if it has one. For the storing of an object its bytes are there already.
+        // The plan's change is made, if it has one.
+        ensures makes { (D.device disk.old).honest ≡ true → (D.device disk.old).shows ≡ true
+            → (held : List (List ℕ)) → AgreesWith (D.device disk.old) self.old.kept held
+            → (change : Option Change) → MakesStep (journal_of self.old.kept) change planned
+            → MakesIf (is_ok result) change self.old.kept self.new.kept held
+            (D.device disk.old) (D.device disk.new) }
+        ensures stands { (D.device disk.old).honest ≡ true → (D.device disk.old).shows ≡ true
+            → FileStands (D.device disk.old) self.old.kept
+            → OnOk result (FileStands (D.device disk.new) self.new.kept) }
+
+        // A plan without a change asks nothing of the disk.
+        ensures unchanged { planned.frame ≡ None
+            → (disk.new ≡ disk.old) × IsTrue (is_ok result) × (self.new ≡ self.old) }
+
+        ensures reply { IfOk result (λ reply. reply ≡ planned.reply) }
+        ensures kept { OnOk result (self.new.kept ≡ kept_by self.old.kept planned) }
+        ensures idle { self.new.put ≡ None }
+        ensures spent { self.new.spent ≡ is_err result }
+        ensures handed { (D.device disk.old).tells ≡ true → OnOk result ((D.device disk.new).handed
+            ≡ (D.device disk.old).handed + bytes_by planned) }
+        ensures handed_at_most { (D.device disk.old).tells ≡ true
+            → (D.device disk.new).handed ≤ (D.device disk.old).handed + bytes_by planned }
+        ensures calls { DiskCalls (is_ok result) (D.device disk.old) (D.device disk.new) }
+    {
+        self.write(disk, planned)
+    }
+
+    /// Writes a plan, and becomes what it makes, where the bytes of an object that it stores are durable.
+    pub(crate) fn write<D: Disk>(&mut self, disk: &mut D, planned: Planned) -> Result<Reply, Failed>
+        requires unspent { IsFalse self.old.spent }
+        requires idle { self.old.put ≡ None }
+        requires device { size_of self.old.kept ≤ (D.device disk.old).size }
+        requires fits { PlanFits self.old.kept.journal planned }
+        requires blocks { planned.next.blocks ≡ self.old.kept.library.blocks }
         ensures makes { (D.device disk.old).honest ≡ true → (D.device disk.old).shows ≡ true
             → (held : List (List ℕ)) → (change : Change) → (came : List ℕ)
             → AgreesWith (D.device disk.old) self.old.kept held
@@ -67,10 +101,11 @@ impl Store {
             → IsTrue (fits_bytes change came) → CameThere (D.device disk.old) self.old.kept change came
             → ChangesStore (is_ok result) change came self.old.kept (kept_by self.old.kept planned) held
             (D.device disk.old) (D.device disk.new) }
-        ensures unchanged { planned.frame ≡ None → (disk.new ≡ disk.old) × IsTrue (is_ok result) }
-
+        ensures unchanged { planned.frame ≡ None
+            → (disk.new ≡ disk.old) × IsTrue (is_ok result) × (self.new ≡ self.old) }
         ensures reply { IfOk result (λ reply. reply ≡ planned.reply) }
         ensures kept { OnOk result (self.new.kept ≡ kept_by self.old.kept planned) }
+        ensures idle { self.new.put ≡ None }
         ensures spent { self.new.spent ≡ is_err result }
         ensures handed { (D.device disk.old).tells ≡ true → OnOk result ((D.device disk.new).handed
             ≡ (D.device disk.old).handed + bytes_by planned) }
@@ -100,36 +135,6 @@ impl Store {
         }
     }
 
-    /// Writes the plan of an outcome whose change needs no bytes, if it has one, and becomes what it makes. It
-    /// takes no memory. After `Failed` the store is spent.
-    pub fn make<D: Disk>(&mut self, disk: &mut D, planned: Planned) -> Result<Reply, Failed>
-        requires unspent { IsFalse self.old.spent }
-        requires device { size_of self.old.kept ≤ (D.device disk.old).size }
-        requires ready { CanCommit self.old.kept planned }
-        ensures makes { (D.device disk.old).honest ≡ true → (D.device disk.old).shows ≡ true
-            → (held : List (List ℕ)) → (outcome : Outcome)
-            → AgreesWith (D.device disk.old) self.old.kept held
-            → IsPlanned (journal_of self.old.kept) outcome planned → IsFalse (stores outcome.change)
-            → MakesIf (is_ok result) outcome.change self.old.kept self.new.kept held
-            (D.device disk.old) (D.device disk.new) }
-        ensures next { (outcome : Outcome) → IsPlanned (journal_of self.old.kept) outcome planned
-            → OnOk result (IsNextIf self.old.kept outcome.change self.new.kept) }
-        ensures reply { IfOk result (λ reply. reply ≡ planned.reply) }
-        ensures spent { self.new.spent ≡ is_err result }
-        ensures handed { (D.device disk.old).tells ≡ true → (outcome : Outcome)
-            → IsPlanned (journal_of self.old.kept) outcome planned → OnOk result ((D.device disk.new).handed
-            ≡ (D.device disk.old).handed + bytes_if (journal_of self.old.kept) outcome.change) }
-        ensures handed_at_most { (D.device disk.old).tells ≡ true → (outcome : Outcome)
-            → IsPlanned (journal_of self.old.kept) outcome planned → (D.device disk.new).handed
-            ≤ (D.device disk.old).handed + bytes_if (journal_of self.old.kept) outcome.change }
-        ensures calls { DiskCalls (is_ok result) (D.device disk.old) (D.device disk.new) }
-    {
-        match self.commit(disk, planned) {
-            Ok(reply) => Ok(reply),
-            Err(fault) => Err(fault),
-        }
-    }
-
     /// Plans a command and writes its plan. All memory of the command comes before its first call of the disk.
     /// After `Disk` the store is spent.
     pub fn handle<D: Disk>(
@@ -140,6 +145,7 @@ impl Store {
         now: u64,
     ) -> Result<Reply, StoreFault>
         requires unspent { IsFalse self.old.spent }
+        requires idle { self.old.put ≡ None }
         requires device { size_of self.old.kept ≤ (D.device disk.old).size }
         requires good { IsTrue (is_good_command self.old.kept.library command.now) }
         requires sent { IsFalse (brings_bytes command.now) }
@@ -150,9 +156,18 @@ impl Store {
             → (held : List (List ℕ)) → AgreesWith (D.device disk.old) self.old.kept held
             → OnCalls result (λ ok. MakesIf ok (fitted_outcome self.old.kept command.now now).change
             self.old.kept self.new.kept held (D.device disk.old) (D.device disk.new)) }
+        ensures stands { (D.device disk.old).honest ≡ true → (D.device disk.old).shows ≡ true
+            → FileStands (D.device disk.old) self.old.kept
+            → UnlessDisk result (FileStands (D.device disk.new) self.new.kept) }
         ensures next { OnOk result (IsNextIf self.old.kept
             (fitted_outcome self.old.kept command.now now).change self.new.kept) }
+
+        // A command that changes nothing, as one that is refused, asks nothing of the disk.
+        ensures unchanged { (fitted_outcome self.old.kept command.now now).change ≡ None
+            → (self.new ≡ self.old) × (disk.new ≡ disk.old) }
+
         ensures memory { OnMemory result ((self.new ≡ self.old) × (disk.new ≡ disk.old)) }
+        ensures idle { self.new.put ≡ None }
         ensures spent { self.new.spent ≡ is_disk result }
         ensures handed { (D.device disk.old).tells ≡ true → OnOk result ((D.device disk.new).handed
             ≡ (D.device disk.old).handed + bytes_if (journal_of self.old.kept)
@@ -163,7 +178,7 @@ impl Store {
         ensures calls { DiskCalls (not_disk_fault result) (D.device disk.old) (D.device disk.new) }
     {
         let planned = self.plan(alloc, command, now)?;
-        match self.make(disk, planned) {
+        match self.commit(disk, planned) {
             Ok(reply) => Ok(reply),
             Err(_) => Err(StoreFault::Disk),
         }

@@ -1,5 +1,5 @@
 //! Opening a store.
-ghost use Rattle.std.specs.Prelude.{◌≡◌, ◌≤◌, true, IfOk, IsFalse};
+ghost use Rattle.std.specs.Prelude.{◌≡◌, ◌≤◌, true, None, IfOk, IsFalse};
 ghost use Rattle.disk_trait.specs.Calls.{DiskReads, LeavesOnly};
 ghost use Rattle.media_journal.specs.Answers.{not_disk};
 ghost use Rattle.store_opening.specs.Opening.{bytes_in_image};
@@ -20,6 +20,7 @@ impl Store {
         ensures reads { DiskReads (not_disk result) (D.device disk.old) (D.device disk.new) }
         ensures within { IfOk result (λ store. size_of store.kept ≤ (D.device disk.new).size) }
         ensures unspent { IfOk result (λ store. IsFalse store.spent) }
+        ensures idle { IfOk result (λ store. store.put ≡ None) }
         ensures answer { (D.device disk.old).shows ≡ true
             → OpensAs (D.device disk.old).seen result }
 
@@ -34,6 +35,7 @@ impl Store {
             library: core,
             journal,
             spent: false,
+            put: None,
         })
     }
 }

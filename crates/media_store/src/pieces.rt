@@ -6,6 +6,7 @@ ghost use Rattle.object_blobs.specs.Extents.{extent_bytes};
 ghost use Rattle.store_states.specs.Kept.{AgreesWith};
 ghost use Rattle.store_states.specs.States.{media_start};
 ghost use Rattle.store_writes.specs.Writes.{Keeps};
+ghost use Rattle.media_store.specs.Changes.{FileStands};
 ghost use Rattle.media_store.specs.Pieces.{IsExtent};
 ghost use Rattle.media_store.specs.Stores.{size_of};
 
@@ -36,7 +37,12 @@ impl Store {
         ensures keeps { (held : List (List ℕ)) → AgreesWith (D.device disk.old) self.old.kept held
             → Keeps self.old.kept held (D.device disk.old) (D.device disk.new) }
 
+        // So it does where the read fails.
+        ensures stands { FileStands (D.device disk.old) self.old.kept
+            → FileStands (D.device disk.new) self.new.kept }
+
         ensures kept { self.new.kept ≡ self.old.kept }
+        ensures put { self.new.put ≡ self.old.put }
         ensures spent { self.new.spent ≡ is_err result }
         ensures call { DiskCall Unchanged (is_ok result) (D.device disk.old) (D.device disk.new) }
         ensures seen { (D.device disk.new).seen ≡ (D.device disk.old).seen }

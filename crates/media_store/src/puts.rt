@@ -1,39 +1,38 @@
 //! Puts of objects' bytes, in pieces.
-ghost use Rattle.std.specs.Prelude.{◌≡◌, ◌≤◌, ◌+◌, ℕ, true, List, length, bytes_eq, IfOk, IsFalse, IsTrue, OnOk, is_ok};
+ghost use Rattle.std.specs.Prelude.{◌≡◌, ◌≤◌, ◌+◌, ℕ, true, false, List, None, Some, length, bytes_eq, IfOk, IsFalse, IsTrue, OnOk, is_ok};
 ghost use Rattle.std.specs.Option.{option_copied};
 ghost use Rattle.std.specs.Result.{is_err};
 ghost use Rattle.media_rows.specs.declared.change.Change.{Change};
 ghost use Rattle.media_rows.specs.Answer.{stored_put};
 ghost use Rattle.media_rows.specs.Moments.{is_moment};
-ghost use Rattle.media_rows.specs.Objects.{blocks_of};
 ghost use Rattle.disk_trait.specs.Calls.{DiskCalls, bytes_at};
 ghost use Rattle.object_blobs.specs.Extents.{IsOnDevice, extent_bytes};
-ghost use Rattle.store_plans.specs.Plans.{MakesChange};
+ghost use Rattle.store_plans.specs.Plans.{MakesChange, PlanFits};
 ghost use Rattle.store_states.specs.Kept.{AgreesWith, StoreView};
 ghost use Rattle.store_states.specs.States.{media_start};
 ghost use Rattle.store_writes.specs.Writes.{Keeps};
-ghost use Rattle.media_store.specs.Changes.{CanCommit, ChangesStore, bytes_by, kept_by};
-ghost use Rattle.media_store.specs.Puts.{EndsPut, PutMovesOn, HasBegun, HasRoomToCompare, IsBegun, IsPutOf, StoresAs, TakesPiece, bytes_at_extent, handed_at_end, kept_after_put, may_be_same, handed_of_piece, put_reply, put_plan_refusal, stores_at, writes_by};
+ghost use Rattle.media_store.specs.Changes.{ChangesStore, FileStands, bytes_by, kept_by};
+ghost use Rattle.media_store.specs.Puts.{AllCame, EndsIf, HandsOn, HasRoomToCompare, IsFreshPut, IsPlannedPut, IsPutOf, MayTake, PutMovesOn, asks_disk, asks_disk_if, body_handed, bytes_at_extent, end_handed, handed_of_piece, kept_behind, may_be_same, plan_of, put_plan_refusal, put_reply, reply_if, writes_by, writes_if};
 ghost use Rattle.media_store.specs.Stores.{journal_of, size_of};
-ghost use Rattle.media_store.specs.Within.{IsPlacedOn, LeavesObjects, TakesAt, is_put_refusal};
+ghost use Rattle.media_store.specs.Within.{IsPlacedOn, LeavesObjects, StoresAt, TakesAt, is_put_refusal};
 
 use crate::Store;
 use disk_trait::{Disk, Failed, Memory, Text, same_bytes};
 use media_rows::{Extent, Refusal, Reply};
 use std::alloc::Global;
 use std::marker::Model;
-use store_commits::store_change;
 use store_plans::{Planned, PutPlan, plan_put};
-use store_states::images_have_the_bytes;
 use store_writes::{read_kept, write_free};
 
 /// The most bytes of a piece.
 pub const PIECE: usize = 65_536;
 
-/// A put of an object's bytes that is under way. Dropped, it leaves the store's library as it is.
+/// A put of an object's bytes, as it was planned of a store. It is under way once the store has begun it.
 #[derive(Drop)]
 pub struct Put {
+    object: Text,
     size: u64,
+    moment: u64,
     handed: u64,
     plan: PutPlan,
     same: bool,
@@ -43,11 +42,19 @@ pub struct Put {
 
 impl Model for Put {
     ghost use Rattle.std.specs.Prelude.{◌≡◌, length};
-    ghost use Rattle.media_store.specs.Puts.{HasRoomToCompare, PutSeen};
+    ghost use Rattle.media_store.specs.Puts.{HasRoomToCompare};
+    ghost use Rattle.media_store.specs.Stores.{PutSeen};
 
     ghost Value = { PutSeen };
 
-    ghost view = { λ p. record { size = p.size; handed = p.handed; plan = p.plan; same = p.same } };
+    ghost view = { λ p. record {
+      object = p.object;
+      size = p.size;
+      moment = p.moment;
+      handed = p.handed;
+      plan = p.plan;
+      same = p.same;
+    } };
 
     ghost invariant = { λ p. HasRoomToCompare p.plan (length p.buffer.items) };
 }
@@ -63,10 +70,10 @@ impl Put {
         }
     }
 
-    /// What a put that has begun is answered once its bytes are all there, where they are the same as those that
-    /// are kept, if some are.
+    /// What a put is answered once its bytes are all there, where they are the same as those that are kept, if some
+    /// are.
     pub fn reply_if_same(&self) -> Reply
-        requires begun { IsBegun self.now }
+        requires planned { IsPlannedPut self.now }
         ensures { result ≡ put_reply (record self.now { same = true }) self.now.plan }
     {
         match &self.plan {
@@ -85,11 +92,11 @@ impl Put {
 }
 
 impl Store {
-    /// Begins a put of so many bytes as those of an object, at a moment in seconds since 1970-01-01T00:00:00Z.
-    /// An object that isn't kept is refused as `UnknownObject`, bytes for which no place is free as `MediaFull`,
-    /// and those whose change doesn't fit the journal, after all else, as `JournalFull`; a put that is refused
-    /// takes its bytes and drops them. All memory of the put is taken here.
-    pub fn put_begin(
+    /// What a put of so many bytes as those of an object makes of the store, at a moment in seconds since
+    /// 1970-01-01T00:00:00Z. An object that isn't kept is refused as `UnknownObject`, bytes for which no place is free
+    /// as `MediaFull`, and those whose change doesn't fit the journal, after all else, as `JournalFull`; a put that
+    /// is refused takes its bytes and drops them. It takes all memory of the put, and changes nothing.
+    pub fn plan_put(
         &self,
         alloc: Global,
         object: &Text,
@@ -98,13 +105,16 @@ impl Store {
     ) -> Result<Put, Memory>
         requires unspent { IsFalse self.now.spent }
         requires moment { IsTrue (is_moment now) }
-        ensures { IfOk result (HasBegun self.now.kept object.now length now) }
+        ensures { IfOk result (IsFreshPut self.now.kept object.now length now) }
     {
+        let id = object.copy(alloc)?;
         let plan = plan_put(alloc, &self.library, &self.journal, object, length, now)?;
         let same = may_be_same(&plan, length);
         let buffer = buffer_for(alloc, &plan)?;
         Ok(Put {
+            object: id,
             size: length,
+            moment: now,
             handed: 0,
             plan,
             same,
@@ -112,38 +122,53 @@ impl Store {
         })
     }
 
-    /// Takes the next piece of a put, of at most 65,536 bytes: it is written to the object's place, or compared
-    /// with the bytes that are kept. It takes no memory. After `Failed` the store is spent.
-    pub fn put_piece<D: Disk>(
-        &mut self,
-        disk: &mut D,
-        put: &mut Put,
-        piece: &[u8],
-    ) -> Result<(), Failed>
+    /// Begins a put that was planned of this store as it is. Until it is ended or dropped the store takes no other
+    /// change. It takes no memory.
+    pub fn put_begin(&mut self, put: Put)
+        requires unspent { IsFalse self.old.spent }
+        requires idle { self.old.put ≡ None }
+        requires of_store { IsPutOf self.old.kept put }
+        ensures put { self.new.put ≡ Some put }
+        ensures kept { self.new.kept ≡ self.old.kept }
+        ensures spent { self.new.spent ≡ false }
+    {
+        self.put = Some(put);
+    }
+
+    /// Takes the next piece of the put that is under way, of at most 65,536 bytes: it is written to the object's
+    /// place, or compared with the bytes that are kept. It takes no memory. After `Failed` the store is spent.
+    pub fn put_piece<D: Disk>(&mut self, disk: &mut D, piece: &[u8]) -> Result<(), Failed>
         requires unspent { IsFalse self.old.spent }
         requires device { size_of self.old.kept ≤ (D.device disk.old).size }
-        requires of_store { IsPutOf self.old.kept put.old }
-        requires inside { put.old.handed + length piece.now ≤ put.old.size }
+        requires under_way { MayTake self.old.put (length piece.now) }
         requires short { length piece.now ≤ PIECE }
 
         // What is kept stays, also where the call fails, and at each moment a crash leaves its state.
         ensures keeps { (held : List (List ℕ)) → AgreesWith (D.device disk.old) self.old.kept held
             → Keeps self.old.kept held (D.device disk.old) (D.device disk.new) }
+        ensures stands { FileStands (D.device disk.old) self.old.kept
+            → FileStands (D.device disk.new) self.new.kept }
 
-        ensures piece { (D.device disk.old).shows ≡ true → OnOk result
-            (TakesPiece self.old.kept put.old.plan piece.now put.old put.new
+        ensures hands { OnOk result (HandsOn self.old.kept piece.now self.old.put self.new.put
             (D.device disk.old) (D.device disk.new)) }
-        ensures put { OnOk result (PutMovesOn put.old put.new piece.now × IsPutOf self.new.kept put.new) }
+
+        // A put that is refused asks nothing of the disk, nor does one whose bytes are other ones already.
+        ensures unchanged { asks_disk_if self.old.put ≡ false
+            → (disk.new ≡ disk.old) × IsTrue (is_ok result) }
+
         ensures kept { self.new.kept ≡ self.old.kept }
         ensures spent { self.new.spent ≡ is_err result }
         ensures handed { (D.device disk.old).tells ≡ true → OnOk result ((D.device disk.new).handed
-            ≡ (D.device disk.old).handed + handed_of_piece put.old.plan piece.now) }
+            ≡ (D.device disk.old).handed + body_handed (plan_of self.old.put) piece.now) }
         ensures handed_at_most { (D.device disk.old).tells ≡ true → (D.device disk.new).handed
-            ≤ (D.device disk.old).handed + handed_of_piece put.old.plan piece.now }
+            ≤ (D.device disk.old).handed + body_handed (plan_of self.old.put) piece.now }
         ensures calls { DiskCalls (is_ok result) (D.device disk.old) (D.device disk.new) }
     {
         self.library.keeps_good();
         let area = self.area();
+        let Some(put) = &mut self.put else {
+            unreachable!()
+        };
         match put.take(disk, area, piece) {
             Ok(()) => Ok(()),
             Err(fault) => {
@@ -153,28 +178,37 @@ impl Store {
         }
     }
 
-    /// Ends a put whose bytes are all there: they are synced, and then the change that stores them is written. It
-    /// takes no memory. After `Failed` the store is spent.
-    pub fn put_end<D: Disk>(&mut self, disk: &mut D, put: Put) -> Result<Reply, Failed>
+    /// Ends the put that is under way, whose bytes are all there: they are synced, and then the change that stores
+    /// them is written. It takes no memory. After `Failed` the store is spent.
+    pub fn put_end<D: Disk>(&mut self, disk: &mut D) -> Result<Reply, Failed>
         requires unspent { IsFalse self.old.spent }
         requires device { size_of self.old.kept ≤ (D.device disk.old).size }
-        requires of_store { IsPutOf self.old.kept put }
-        requires filled { put.handed ≡ put.size }
+        requires filled { AllCame self.old.put }
         ensures makes { (D.device disk.old).honest ≡ true → (D.device disk.old).shows ≡ true
-            → (D.device disk.old).tells ≡ true → (held : List (List ℕ)) → (change : Change)
-            → AgreesWith (D.device disk.old) self.old.kept held
-            → StoresAs self.old.kept change put.plan
-            → EndsPut (is_ok result) put.plan change self.old.kept held
+            → (held : List (List ℕ)) → AgreesWith (D.device disk.old) self.old.kept held
+            → EndsIf (is_ok result) self.old.put self.old.kept held
             (D.device disk.old) (D.device disk.new) }
-        ensures reply { IfOk result (λ reply. reply ≡ put_reply put put.plan) }
-        ensures kept { IfOk result (λ _. self.new.kept ≡ kept_after_put self.old.kept put.plan) }
+        ensures stands { (D.device disk.old).honest ≡ true → (D.device disk.old).shows ≡ true
+            → FileStands (D.device disk.old) self.old.kept
+            → OnOk result (FileStands (D.device disk.new) self.new.kept) }
+
+        // A put that writes no change asks nothing of the disk: one that is refused, or that was compared.
+        ensures unchanged { writes_if self.old.put ≡ false
+            → (disk.new ≡ disk.old) × IsTrue (is_ok result) }
+
+        ensures reply { IfOk result (λ reply. Some reply ≡ reply_if self.old.put) }
+        ensures kept { OnOk result (self.new.kept ≡ kept_behind self.old.kept self.old.put) }
+        ensures idle { self.new.put ≡ None }
         ensures spent { self.new.spent ≡ is_err result }
-        ensures handed { (D.device disk.old).tells ≡ true → IfOk result (λ _. (D.device disk.new).handed
-            ≡ (D.device disk.old).handed + handed_at_end put.plan) }
+        ensures handed { (D.device disk.old).tells ≡ true → OnOk result ((D.device disk.new).handed
+            ≡ (D.device disk.old).handed + end_handed self.old.put) }
         ensures handed_at_most { (D.device disk.old).tells ≡ true
-            → (D.device disk.new).handed ≤ (D.device disk.old).handed + handed_at_end put.plan }
+            → (D.device disk.new).handed ≤ (D.device disk.old).handed + end_handed self.old.put }
         ensures calls { DiskCalls (is_ok result) (D.device disk.old) (D.device disk.new) }
     {
+        let Some(put) = self.put.take() else {
+            unreachable!()
+        };
         let Put { plan, same, .. } = put;
         match plan {
             PutPlan::Refused(why) => Ok(Reply::Refused(why)),
@@ -182,10 +216,19 @@ impl Store {
             PutPlan::Write(extent, planned) => self.store(disk, extent, planned),
         }
     }
+
+    /// Ends the put that is under way, if there is one, and leaves the library as it is.
+    pub fn put_drop(&mut self)
+        ensures idle { self.new.put ≡ None }
+        ensures kept { self.new.kept ≡ self.old.kept }
+        ensures spent { self.new.spent ≡ self.old.spent }
+    {
+        self.put = None;
+    }
 }
 
 impl Store {
-    /// Writes the change that stores an object whose bytes were written, and becomes what it makes.
+    /// Syncs the bytes of an object that were written at its extent, and then writes the change that stores them.
     fn store<D: Disk>(
         &mut self,
         disk: &mut D,
@@ -193,40 +236,31 @@ impl Store {
         planned: Planned,
     ) -> Result<Reply, Failed>
         requires unspent { IsFalse self.old.spent }
+        requires idle { self.old.put ≡ None }
         requires device { size_of self.old.kept ≤ (D.device disk.old).size }
-        requires within { extent.start + blocks_of extent.length ≤ self.old.kept.library.blocks }
-        requires ready { CanCommit self.old.kept planned }
+        requires place { IsOnDevice (media_start self.old.kept.journal.half) extent (D.device disk.old).size }
+        requires fits { PlanFits self.old.kept.journal planned }
+        requires blocks { planned.next.blocks ≡ self.old.kept.library.blocks }
         ensures makes { (D.device disk.old).honest ≡ true → (D.device disk.old).shows ≡ true
-            → (D.device disk.old).tells ≡ true → (held : List (List ℕ)) → (change : Change)
+            → (held : List (List ℕ)) → (change : Change)
             → AgreesWith (D.device disk.old) self.old.kept held
-            → MakesChange (journal_of self.old.kept) change planned → IsTrue (stores_at change extent)
+            → MakesChange (journal_of self.old.kept) change planned → StoresAt extent change
             → ChangesStore (is_ok result) change (bytes_at_extent self.old.kept extent (D.device disk.old).seen)
             self.old.kept (kept_by self.old.kept planned) held
             (D.device disk.old) (D.device disk.new) }
         ensures reply { IfOk result (λ reply. reply ≡ planned.reply) }
-        ensures kept { IfOk result (λ _. self.new.kept ≡ kept_by self.old.kept planned) }
+        ensures kept { OnOk result (self.new.kept ≡ kept_by self.old.kept planned) }
+        ensures idle { self.new.put ≡ None }
         ensures spent { self.new.spent ≡ is_err result }
-        ensures handed { (D.device disk.old).tells ≡ true → IfOk result (λ _. (D.device disk.new).handed
+        ensures handed { (D.device disk.old).tells ≡ true → OnOk result ((D.device disk.new).handed
             ≡ (D.device disk.old).handed + bytes_by planned) }
         ensures handed_at_most { (D.device disk.old).tells ≡ true
             → (D.device disk.new).handed ≤ (D.device disk.old).handed + bytes_by planned }
         ensures calls { DiskCalls (is_ok result) (D.device disk.old) (D.device disk.new) }
     {
-        images_have_the_bytes();
-        let Planned {
-            next,
-            frame,
-            rows,
-            reply,
-        } = planned;
-        let Some(frame) = frame else {
-            return Ok(reply);
-        };
-        match store_change(disk, &mut self.journal, rows.as_ref(), &frame) {
-            Ok(()) => {
-                self.library = next;
-                Ok(reply)
-            }
+        // A record that names bytes must not be on the disk before they are.
+        match disk.sync() {
+            Ok(()) => self.write(disk, planned),
             Err(fault) => {
                 self.spent = true;
                 Err(fault)
@@ -251,6 +285,8 @@ impl Put {
             (D.device disk.old).seen (D.device disk.new).seen) }
         ensures put { OnOk result (PutMovesOn self.old self.new piece.now) }
         ensures same { self.new.same ≡ true → self.old.same ≡ true }
+        ensures unchanged { asks_disk self.old.same self.old.plan ≡ false
+            → (disk.new ≡ disk.old) × IsTrue (is_ok result) }
         ensures handed { (D.device disk.old).tells ≡ true → OnOk result ((D.device disk.new).handed
             ≡ (D.device disk.old).handed + handed_of_piece self.old.plan piece.now) }
         ensures handed_at_most { (D.device disk.old).tells ≡ true → (D.device disk.new).handed
@@ -287,6 +323,7 @@ fn take_piece<D: Disk>(
         TakesAt area plan.now piece.now at same still
         (D.device disk.old).seen (D.device disk.new).seen) }
     ensures same { IfOk result (λ still. still ≡ true → same ≡ true) }
+    ensures unchanged { asks_disk same plan.now ≡ false → (disk.new ≡ disk.old) × IsTrue (is_ok result) }
     ensures room { length room.new ≡ length room.old }
     ensures handed { (D.device disk.old).tells ≡ true → IfOk result (λ _. (D.device disk.new).handed
         ≡ (D.device disk.old).handed + handed_of_piece plan.now piece.now) }

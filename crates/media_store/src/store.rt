@@ -1,11 +1,12 @@
 //! The store and its looks.
-ghost use Rattle.std.specs.Prelude.{◌≡◌};
+ghost use Rattle.std.specs.Prelude.{◌≡◌, is_some};
 ghost use Rattle.media_rows.specs.Good.{Good};
 ghost use Rattle.media_rows.specs.Objects.{object_of};
 ghost use Rattle.store_core.specs.Prepared.{counts_of};
 ghost use Rattle.store_states.specs.States.{media_start};
 ghost use Rattle.media_store.specs.Stores.{extent_of};
 
+use crate::Put;
 use disk_trait::Text;
 use media_journal::{BLOCK, Journal};
 use media_rows::{Extent, ObjectState};
@@ -13,27 +14,30 @@ use std::marker::Model;
 use store_core::{Core, Counts};
 
 /// A store that was opened. The bytes of its objects stay on the disk, which is handed to each call that needs
-/// it.
+/// it. While a put is under way it takes no change but the put's.
 #[derive(Drop)]
 pub struct Store {
     pub(crate) library: Core,
     pub(crate) journal: Journal,
     pub(crate) spent: bool,
+    pub(crate) put: Option<Put>,
 }
 
 impl Model for Store {
     ghost use Rattle.std.specs.Prelude.{◌≡◌, false};
-    ghost use Rattle.media_store.specs.Stores.{IsSoundStore, StoreSeen};
+    ghost use Rattle.media_store.specs.Puts.{IsStore};
+    ghost use Rattle.media_store.specs.Stores.{StoreSeen};
 
     ghost Value = { StoreSeen };
 
     ghost view = { λ s. record {
       kept = record { library = s.library; journal = s.journal };
       spent = s.spent;
+      put = s.put;
     } };
 
     ghost invariant = { λ s. s.spent ≡ false
-        → IsSoundStore (record { library = s.library; journal = s.journal }) };
+        → IsStore (record { library = s.library; journal = s.journal }) s.put };
 }
 
 impl Store {
@@ -42,6 +46,13 @@ impl Store {
         ensures { result ≡ self.now.spent }
     {
         self.spent
+    }
+
+    /// Whether a put is under way.
+    pub fn has_put(&self) -> bool
+        ensures { result ≡ is_some self.now.put }
+    {
+        self.put.is_some()
     }
 
     /// A store's library is a good one, which is told to callers here. It does nothing.

@@ -1,5 +1,5 @@
--- The invariant of a run that goes on. The proofs keep it, call by call; whoever reads the claim may
--- pass over it.
+-- The invariant of a run that goes on. The proofs keep it, call by call; whoever reads the claim
+-- may pass over it.
 use Rattle.std.specs.Prelude.{◌≡◌, ◌-◌, ℕ, Bool, true, false, List, ◌++◌, length, map}
 use Rattle.disk_trait.specs.Device.{Device, Left, may_leave}
 use Rattle.site_edge.specs.Saying.{ArePrefixes, IsToldToLast}

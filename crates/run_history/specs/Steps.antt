@@ -112,7 +112,8 @@ effect m at (Answered ask Skipped) = record (answered m at ask false) { skipped 
 effect m at (Refused text refusal) =
     telling (told_pieces refusal.interim refusal.response at.made) []
 effect m at (Starved ask) =
-    telling (told_pieces (m.interim ask.request) (m.no_memory ask.request) at.made) (ask.moment ∷ [])
+    telling (told_pieces (m.interim ask.request) (m.no_memory ask.request) at.made)
+    (ask.moment ∷ [])
 effect m at (Stopped ask (BeforeAnswer writing)) =
     record (telling (told_pieces (m.interim ask.request) (m.disk_fault ask.request) at.made)
     (ask.moment ∷ []))

@@ -31,7 +31,7 @@ use Rattle.tams_answers.specs.Within.{PlansAsked, reply_at}
 
 -- ---- commands
 
-sent_brings_none : (command : Command) → is_sent (Run command) ≡ true → brings_bytes command ≡ false
+pub sent_brings_none : (command : Command) → is_sent (Run command) ≡ true → brings_bytes command ≡ false
 sent_brings_none (commands.Keep object start size) e = absurd (true≢false (sym e))
 sent_brings_none other e = refl
 

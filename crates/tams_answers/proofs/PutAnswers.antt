@@ -11,8 +11,9 @@ use Rattle.media_rows.specs.Media.{Archive, answer_to, puts}
 use Rattle.store_plans.specs.declared.puts.PutPlan.{PutPlan}
 use Rattle.store_plans.specs.declared.puts.PutPlan.TheVariants.{Refused, Kept, Write}
 use Rattle.store_plans.specs.Plans.{IsPutPlan}
-use Rattle.media_store.specs.Puts.{IsBegun, PutSeen, put_reply}
-use Rattle.media_store.specs.Stores.{journal_of}
+use Rattle.media_store.specs.Puts.{IsPlannedPut, put_reply}
+use Rattle.media_store.specs.Stores.{PutSeen, journal_of}
+use Rattle.media_store.proofs.PutFacts.{fresh_plan}
 use Rattle.reply_laws.specs.Replies.{FittedHaveTexts, MediaAnswersHaveTexts}
 use Rattle.tams_http.specs.Answered.{Context, response_to}
 use Rattle.tams_answers.specs.Media.{response_by}
@@ -58,7 +59,9 @@ texts_by have fits journal object size moment put (Write extent planned) is =
     let outcome = answer_to archive (puts object bytes) moment in
     ap has_reply_texts (is archive bytes refl (length-replicate size 0)).reply ∙ fits journal outcome (have.put archive object bytes moment)
 
--- what a put that has begun is answered has its texts
-pub put_texts : MediaAnswersHaveTexts → FittedHaveTexts → (put : PutSeen) → IsBegun put
+-- what a put that was planned is answered has its texts
+pub put_texts : MediaAnswersHaveTexts → FittedHaveTexts → (put : PutSeen) → IsPlannedPut put
     → has_reply_texts (put_reply (record put { same = true }) put.plan) ≡ true
-put_texts have fits put is = texts_by have fits (journal_of is.kept) is.object put.size is.moment put put.plan is.begun.plan
+put_texts have fits put is =
+    texts_by have fits (journal_of is.kept) is.object put.size is.moment put put.plan
+    (fresh_plan is.kept is.object put.size is.moment put is.fresh)

@@ -12,7 +12,8 @@ use Rattle.media_rows.specs.declared.refusal.Refusal.{Refusal}
 use Rattle.media_rows.specs.declared.refusal.Refusal.TheVariants.{NoMethod}
 use Rattle.media_rows.specs.declared.reply.Reply.TheVariants as replies
 use Rattle.store_states.specs.Kept.{StoreView}
-use Rattle.media_store.specs.Puts.{HasBegun, PutSeen, put_reply}
+use Rattle.media_store.specs.Puts.{IsFreshPut, put_reply}
+use Rattle.media_store.specs.Stores.{PutSeen}
 use Rattle.reply_laws.specs.MediaPuts.{IsPutOrRefusal, MediaPutsAsk}
 use Rattle.tams_http.specs.Answered.{Context, response_to}
 use Rattle.tams_http.specs.Asked.{ask_of}
@@ -20,7 +21,7 @@ use Rattle.tams_http.specs.declared.ask.Ask.{Ask}
 use Rattle.tams_http.specs.declared.ask.Ask.TheVariants.{GetMedia, PutMedia, Run}
 use Rattle.tams_machine.specs.Requests.{TamsRequest, context_of}
 use Rattle.tams_answers.specs.Media.{IsMediaSent, MediaAnswers, MediaSent}
-use Rattle.tams_answers.specs.Within.{HasBegunWith, IsRefusedPlan, object_asked, put_context}
+use Rattle.tams_answers.specs.Within.{IsPlannedWith, IsRefusedPlan, object_asked, put_context}
 use Rattle.tams_answers.specs.declared.media.MediaPlan.{MediaPlan}
 use Rattle.tams_answers.specs.declared.media.Responses.{Responses}
 
@@ -58,16 +59,16 @@ refused_is law base kept moment sent why put responses asked plan r is =
       response_is = plan.response_is ∙ ap (λ (c : Context). response_to c (replies.Refused why)) (sym (same_context law store base sent r is));
     })
 
-pub begun_is : MediaPutsAsk → (base : List ℕ) (kept : StoreView) (moment : ℕ) (sent : MediaSent) (object : List ℕ) (put : Option PutSeen)
+pub planned_is : MediaPutsAsk → (base : List ℕ) (kept : StoreView) (moment : ℕ) (sent : MediaSent) (object : List ℕ) (put : Option PutSeen)
     (responses : Responses) → ask_of kept.library.id Put sent.target [] ≡ Ok (PutMedia object)
-    → HasBegunWith (put_context kept.library.id base sent.target sent.ends) kept object sent.size moment put responses
+    → IsPlannedWith (put_context kept.library.id base sent.target sent.ends) kept object sent.size moment put responses
     → (r : TamsRequest) → IsMediaSent sent r → MediaAnswers base r moment kept put responses
-begun_is law base kept moment sent object put responses asked plan r is =
+planned_is law base kept moment sent object put responses asked plan r is =
     let store = kept.library.id in
     subst (λ (p : Option PutSeen). MediaAnswers base r moment kept p responses) (sym plan.some) (record {
       object = object;
       asked = λ held. same_asked law store sent r is ∙ asked;
-      begun = subst (λ (n : ℕ). HasBegun kept object n moment plan.seen) (sym is.size) plan.begun;
+      fresh = subst (λ (n : ℕ). IsFreshPut kept object n moment plan.seen) (sym is.size) plan.fresh;
       response_is = λ same. plan.has same
           ∙ ap (λ (c : Context). response_to c (put_reply (record plan.seen { same = same }) plan.seen.plan)) (sym (same_context law store base sent r is));
     })
@@ -101,14 +102,14 @@ refusal_texts found (Err bodies.Memory) why texts is e = absurd cc
 
 -- ---- by what was planned
 
-pub as_begun : {E : Type 0} → MediaPutsAsk → (base : List ℕ) (kept : StoreView) (moment : ℕ) (sent : MediaSent) (object : List ℕ) (store : ℕ)
+pub as_planned : {E : Type 0} → MediaPutsAsk → (base : List ℕ) (kept : StoreView) (moment : ℕ) (sent : MediaSent) (object : List ℕ) (store : ℕ)
     → store ≡ kept.library.id → (result : Result MediaPlan E) → ask_of store Put sent.target [] ≡ Ok (PutMedia object)
-    → IfOk result (λ plan. HasBegunWith (put_context store base sent.target sent.ends) kept object sent.size moment plan.put plan.responses)
+    → IfOk result (λ plan. IsPlannedWith (put_context store base sent.target sent.ends) kept object sent.size moment plan.put plan.responses)
     → IfOk result (λ plan. (r : TamsRequest) → IsMediaSent sent r → MediaAnswers base r moment kept plan.put plan.responses)
-as_begun law base kept moment sent object store same (Ok plan) asked begun =
-    begun_is law base kept moment sent object plan.put plan.responses (subst (λ (s : ℕ). ask_of s Put sent.target [] ≡ Ok (PutMedia object)) same asked)
-    (subst (λ (s : ℕ). HasBegunWith (put_context s base sent.target sent.ends) kept object sent.size moment plan.put plan.responses) same begun)
-as_begun law base kept moment sent object store same (Err e) asked begun = tt
+as_planned law base kept moment sent object store same (Ok plan) asked planned =
+    planned_is law base kept moment sent object plan.put plan.responses (subst (λ (s : ℕ). ask_of s Put sent.target [] ≡ Ok (PutMedia object)) same asked)
+    (subst (λ (s : ℕ). IsPlannedWith (put_context s base sent.target sent.ends) kept object sent.size moment plan.put plan.responses) same planned)
+as_planned law base kept moment sent object store same (Err e) asked planned = tt
 
 pub as_refused : {E : Type 0} → MediaPutsAsk → (base : List ℕ) (kept : StoreView) (moment : ℕ) (sent : MediaSent) (why : Refusal) (store : ℕ)
     → store ≡ kept.library.id → (result : Result MediaPlan E)

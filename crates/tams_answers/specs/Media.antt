@@ -6,7 +6,8 @@ use Rattle.media_rows.specs.declared.refusal.Refusal.{Refusal}
 use Rattle.media_rows.specs.declared.refusal.Refusal.TheVariants.{OtherBytes}
 use Rattle.media_rows.specs.declared.reply.Reply.{Reply}
 use Rattle.media_rows.specs.declared.reply.Reply.TheVariants.{Refused}
-use Rattle.media_store.specs.Puts.{HasBegun, PutSeen, put_reply}
+use Rattle.media_store.specs.Puts.{IsFreshPut, put_reply}
+use Rattle.media_store.specs.Stores.{PutSeen}
 use Rattle.store_states.specs.Kept.{StoreView, kept_state}
 use Rattle.tams_http.specs.Answered.{response_to}
 use Rattle.tams_http.specs.declared.ask.Ask.TheVariants.{PutMedia}
@@ -40,13 +41,13 @@ pub record IsMediaRefused (base : List ℕ) (store : ℕ) (r : TamsRequest) (kep
   pub asked : (held : List (List ℕ)) → asked_in (kept_state kept held) r ≡ Err why
   pub response_is : response ≡ response_to (context_of store base r) (Refused why)
 
--- It asks for a put of an object's bytes, which has begun, and there is the response to each reply
--- that it may have, be the bytes the same as those that are kept or not.
-pub record IsMediaBegun (base : List ℕ) (store : ℕ) (r : TamsRequest) (moment : ℕ)
+-- It asks for a put of an object's bytes, which was planned, and there is the response to each
+-- reply that it may have, be the bytes the same as those that are kept or not.
+pub record IsMediaPlanned (base : List ℕ) (store : ℕ) (r : TamsRequest) (moment : ℕ)
     (kept : StoreView) (put : PutSeen) (responses : Responses) : Type 0 where
   pub object : List ℕ
   pub asked : (held : List (List ℕ)) → asked_in (kept_state kept held) r ≡ Ok (PutMedia object)
-  pub begun : HasBegun kept object (length r.body) moment put
+  pub fresh : IsFreshPut kept object (length r.body) moment put
   pub response_is : (same : Bool)
       → response_by responses (put_reply (record put { same = same }) put.plan)
       ≡ response_to (context_of store base r) (put_reply (record put { same = same }) put.plan)
@@ -57,4 +58,4 @@ abbrev pub MediaAnswers : List ℕ → TamsRequest → ℕ → StoreView → Opt
 MediaAnswers base r moment kept None responses =
     IsMediaRefused base kept.library.id r kept responses.reply
 MediaAnswers base r moment kept (Some put) responses =
-    IsMediaBegun base kept.library.id r moment kept put responses
+    IsMediaPlanned base kept.library.id r moment kept put responses

@@ -13,8 +13,8 @@ use Rattle.store_plans.specs.declared.outcome.Planned.{Planned}
 use Rattle.store_plans.specs.Plans.{IsPlanned}
 use Rattle.media_store.specs.Changes.{CanCommit, stores}
 use Rattle.media_store.specs.Pieces.{IsExtent}
-use Rattle.media_store.specs.Puts.{HasBegun, PutSeen, put_reply}
-use Rattle.media_store.specs.Stores.{journal_of}
+use Rattle.media_store.specs.Puts.{IsFreshPut, put_reply}
+use Rattle.media_store.specs.Stores.{PutSeen, journal_of}
 use Rattle.tams_http.specs.Answered.{Context, response_to}
 use Rattle.tams_http.specs.declared.ask.Ask.{Ask}
 use Rattle.tams_http.specs.declared.ask.Ask.TheVariants.{GetMedia, PutMedia, Run}
@@ -74,12 +74,12 @@ HasResponses context put responses =
     → response_by responses (put_reply (record put { same = same }) put.plan)
     ≡ response_to context (put_reply (record put { same = same }) put.plan)
 
--- a put of so many bytes as those of an object has begun, with its responses
-pub record HasBegunWith (context : Context) (kept : StoreView) (object : List ℕ) (size moment : ℕ)
+-- a put of so many bytes as those of an object was planned, with its responses
+pub record IsPlannedWith (context : Context) (kept : StoreView) (object : List ℕ) (size moment : ℕ)
     (put : Option PutSeen) (responses : Responses) : Type 0 where
   pub seen : PutSeen
   pub some : put ≡ Some seen
-  pub begun : HasBegun kept object size moment seen
+  pub fresh : IsFreshPut kept object size moment seen
   pub has : HasResponses context seen responses
 
 -- ---- refusals of the wire

@@ -3,11 +3,11 @@ ghost use Rattle.std.specs.Prelude.{◌≡◌, IfOk, IsFalse, IsTrue};
 ghost use Rattle.std.specs.Str.{is_utf8};
 ghost use Rattle.json_replies.specs.Texts.{has_refusal_texts, has_reply_texts};
 ghost use Rattle.media_rows.specs.Moments.{is_moment};
-ghost use Rattle.media_store.specs.Puts.{IsBegun};
+ghost use Rattle.media_store.specs.Puts.{IsPlannedPut};
 ghost use Rattle.tams_http.specs.Answered.{response_to};
 ghost use Rattle.tams_machine.specs.Requests.{TamsRequest};
 ghost use Rattle.tams_answers.specs.Media.{IsMediaSent, MediaAnswers, response_by};
-ghost use Rattle.tams_answers.specs.Within.{HasBegunWith, HasResponses, IsRefusedPlan, object_asked, put_context};
+ghost use Rattle.tams_answers.specs.Within.{HasResponses, IsPlannedWith, IsRefusedPlan, object_asked, put_context};
 
 use disk_trait::{Memory, Text};
 use http_wire::MethodKind;
@@ -81,7 +81,7 @@ pub fn plan_media(
     ask_refusals_have_texts();
     media_puts_agree();
     match object_asked(routes.command_of(alloc, MethodKind::Put, head.target, b"")) {
-        Ok(object) => begin(alloc, routes, base, store, &object, head, now),
+        Ok(object) => plan_put(alloc, routes, base, store, &object, head, now),
         Err(AskFault::Refused(why)) => refuse(alloc, routes, base, why, head),
         Err(AskFault::Memory) => Err(Memory),
     }
@@ -100,7 +100,7 @@ fn object_asked(asked: Result<Ask, AskFault>) -> Result<Text, AskFault>
 }
 
 /// The plan of a put of an object's bytes.
-fn begin(
+fn plan_put(
     alloc: Global,
     routes: &Routes,
     base: &Text,
@@ -112,11 +112,11 @@ fn begin(
     requires unspent { IsFalse store.now.spent }
     requires base { IsTrue (is_utf8 base.now) }
     requires moment { IsTrue (is_moment now) }
-    ensures { IfOk result (λ plan. HasBegunWith
+    ensures { IfOk result (λ plan. IsPlannedWith
         (put_context routes.now base.now head.now.target.now head.now.ends)
         store.now.kept object.now head.now.length now plan.put plan.responses) }
 {
-    let put = store.put_begin(alloc, object, head.length, now)?;
+    let put = store.plan_put(alloc, object, head.length, now)?;
     let responses = responses_to(alloc, routes, base, &put, head)?;
     Ok(MediaPlan {
         put: Some(put),
@@ -133,7 +133,7 @@ fn responses_to(
     head: &MediaHead<'_>,
 ) -> Result<Responses, Memory>
     requires base { IsTrue (is_utf8 base.now) }
-    requires begun { IsBegun put.now }
+    requires planned { IsPlannedPut put.now }
     ensures { IfOk result
         (HasResponses (put_context routes.now base.now head.now.target.now head.now.ends) put.now) }
 {

@@ -9,8 +9,7 @@ use Rattle.http_wire.specs.Requests.{IsNext, opened}
 use Rattle.http_wire.specs.declared.stage.Head.{Head}
 use Rattle.http_wire.proofs.Alone.{opened_head}
 use Rattle.httparse.specs.Grammar.{RequestHead}
-use Rattle.media_store.specs.Puts.{PutSeen}
-use Rattle.media_store.specs.Stores.{StoreSeen}
+use Rattle.media_store.specs.Stores.{PutSeen, StoreSeen}
 use Rattle.store_states.specs.Kept.{AgreesWith, StoreView, kept_state}
 use Rattle.store_writes.specs.Writes.{Keeps}
 use Rattle.run_history.specs.Runs.{HasHanded}
@@ -39,7 +38,8 @@ use Rattle.tams_service.specs.Answering.{AnswersEach, AsksAt, EndsThere, IsPutti
 use Rattle.tams_service.specs.Keeping.{KeepsState}
 use Rattle.tams_service.specs.Serving.{ServiceSeen}
 use Rattle.tams_service.specs.Sites.{SiteCounts}
-use Rattle.tams_service.specs.Taking.{HandedMost, HearsWithin, HoldsIf, IsFilled, TakesBody, TakesOfBody, body_handed, plan_of}
+use Rattle.tams_service.specs.Taking.{HandedMost, HearsWithin, HoldsIf, IsFilled, TakesBody, TakesOfBody}
+use Rattle.media_store.specs.Puts.{body_handed, plan_of}
 use Rattle.tams_service.specs.declared.body.BodyTaken.TheVariants as taken
 use Rattle.tams_service.proofs.Giving.{nothing_changed}
 use Rattle.tams_service.proofs.Handed.{handed_step, handed_then}

@@ -12,11 +12,10 @@ use Rattle.media_rows.specs.declared.change.Change.{Change}
 use Rattle.media_rows.specs.declared.object.Extent.{Extent}
 use Rattle.media_rows.specs.declared.reply.Reply.{Reply}
 use Rattle.media_rows.specs.Apply.{applied}
-use Rattle.media_rows.specs.Media.{fits_bytes}
-use Rattle.media_store.specs.Changes.{CameThere, IsAfterChange, ChangesStore, archive_next, bytes_by, bytes_if, kept_by, kept_with, stores}
+use Rattle.media_store.specs.Changes.{IsAfterChange, ChangesStore, MakesIf, bytes_by, bytes_if, kept_by, kept_with, stores}
 use Rattle.media_store.specs.Stores.{StoreSeen}
 use Rattle.media_store.specs.Stores as media
-use Rattle.media_store.proofs.Commands.{none_came, none_stand}
+use Rattle.media_store.proofs.Commands.{none_came}
 use Rattle.media_store.proofs.Planning.{planned_next}
 use Rattle.store_plans.specs.declared.outcome.Planned.{Planned}
 use Rattle.store_plans.specs.Plans.{MakesChange, MakesStep}
@@ -116,20 +115,19 @@ module _ (p : RunPlace) (old mid new : Device) (n now : RunCounts) (text rest : 
 
   -- ---- the disk failed
 
-  module _ (makes : (c : Change) (came : List ℕ) → MakesChange (media.journal_of store.kept) c answer.planned → fits_bytes c came ≡ true
-      → CameThere old store.kept c came → ChangesStore false c came store.kept (kept_by store.kept answer.planned) p.state.archive.held old mid)
-      (some : answer.planned.frame ≢ None) (stops : StopLeads mid new n now (changes_in answer.planned.frame)) (last : StoreSeen)
+  module _ (next : StoreView) (makes : (c : Option Change) → MakesStep (media.journal_of store.kept) c answer.planned
+      → MakesIf false c store.kept next p.state.archive.held old mid) (some : answer.planned.frame ≢ None) (stops : StopLeads mid new n now (changes_in answer.planned.frame)) (last : StoreSeen)
       (ends : Bool) (request : IsRequest p text ends r) where
     failed_with : (c : Option Change) → change ≡ c → stores c ≡ false → MakesStep (media.journal_of store.kept) c answer.planned
         → EndsThere p new last (moment ∷ []) now endings.Stopped
     failed_with None is bare step = absurd (some step.frame)
     failed_with (Some c) is bare step =
         let fits = none_came c bare in
-        let torn = makes c [] step fits (λ left could. none_stand left.image (media_start store.kept.journal.half) c bare) in
+        let torn = makes (Some c) step in
         let same = bare_state p.state c r.body bare in
         let good = made_good p.state.archive c [] answer.planned.next (good_now asks.asking.begun)
         (applied_here store old p.state keeps c answer.planned step) fits in
-        let changed = torn_at p old mid n (text ++ rest) store c [] (kept_by store.kept answer.planned) asks keeps link good torn in
+        let changed = torn_at p old mid n (text ++ rest) store c [] next asks keeps link good torn in
         stops p text rest r moment last (state_with_change p.state c [] ∷ []) changed
         (request.spells, refl, ap (option_map (λ x. state_with_change p.state x r.body)) is ∙ ap Some same) request.interim
         (sym (ap changes_in step.frame))
@@ -139,10 +137,9 @@ module _ (p : RunPlace) (old mid new : Device) (n now : RunCounts) (text rest : 
 
   -- ---- it was written
 
-  module _ (follows : MediaFollows) (makes : (c : Change) (came : List ℕ) → MakesChange (media.journal_of store.kept) c answer.planned → fits_bytes c came
-      ≡ true
-      → CameThere old store.kept c came → ChangesStore true c came store.kept (kept_by store.kept answer.planned) p.state.archive.held old mid)
-      (none : answer.planned.frame ≡ None → mid ≡ old) (handed_on : mid.handed ≡ old.handed + bytes_by answer.planned) (next : StoreSeen)
+  module _ (follows : MediaFollows) (next : StoreSeen) (makes : (c : Option Change) → MakesStep (media.journal_of store.kept) c answer.planned
+      → MakesIf true c store.kept next.kept p.state.archive.held old mid)
+      (none : answer.planned.frame ≡ None → mid ≡ old) (handed_on : mid.handed ≡ old.handed + bytes_by answer.planned)
       (kept : next.kept ≡ kept_by store.kept answer.planned)
       (unspent : next.spent ≡ false)
       (seen_old : held_in old.seen (media_start store.kept.journal.half) p.state.archive.library.objects ≡ p.state.archive.held)
@@ -188,15 +185,15 @@ module _ (p : RunPlace) (old mid new : Device) (n now : RunCounts) (text rest : 
         (sym (ap changes_in step.frame)) few
     made_with (Some c) is bare step =
         let fits = none_came c bare in
-        let made = makes c [] step fits (λ left could. none_stand left.image (media_start store.kept.journal.half) c bare) in
+        let made = makes (Some c) step in
         let same = bare_state p.state c r.body bare in
         let good = made_good p.state.archive c [] answer.planned.next (good_now asks.asking.begun)
         (applied_here store old p.state keeps c answer.planned step) fits in
         finishes p text rest r (state_with_change p.state c [] ∷ [])
-        (changed_at p old mid n (text ++ rest) store c [] (kept_by store.kept answer.planned) asks keeps link good made)
+        (changed_at p old mid n (text ++ rest) store c [] next.kept asks keeps link good made)
         (keeps_next store next old mid p.state c [] keeps unspent
         (subst (IsAfterChange store.kept c) (sym kept) (planned_next store.kept c answer.planned step))
-        (subst (λ k. AgreesWith mid k (archive_next store.kept p.state.archive.held c []).held) (sym kept) (made.agrees refl)))
+        (made.agrees refl))
         request
         (record {
           bytes_are = bytes_are;

@@ -9,7 +9,7 @@ use Rattle.media_rows.specs.Apply.{turn}
 use Rattle.media_rows.specs.Library.{Library}
 use Rattle.media_rows.specs.Objects.{swept_objects}
 use Rattle.media_rows.specs.Requests.{first_unfinished}
-use Rattle.media_store.specs.Puts.{handed_of_piece}
+use Rattle.media_store.specs.Puts.{body_handed, handed_of_piece}
 use Rattle.media_store.specs.Stores.{StoreSeen}
 use Rattle.media_store.specs.Stores as media
 use Rattle.media_store.specs.Turns.{turn_change}
@@ -34,7 +34,6 @@ use Rattle.tams_machine.specs.Machine.{tams_machine}
 use Rattle.tams_machine.specs.Requests.{TamsRequest}
 use Rattle.tams_service.specs.Answering.{AsksAt, HandedAt, RunPlace}
 use Rattle.tams_service.specs.Keeping.{KeepsState}
-use Rattle.tams_service.specs.Taking.{body_handed}
 
 -- what calls hand on is that of the request
 pub handed_then : (p : RunPlace) (old new : Device) (later : ℕ) → HandedAt p old 0 → new.handed ≡ old.handed + later → HandedAt p new later

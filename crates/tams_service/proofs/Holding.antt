@@ -10,8 +10,11 @@ use Rattle.store_states.specs.Kept.{AgreesWith, StoreView}
 use Rattle.store_states.specs.States.{held_in, media_start, state_bytes}
 use Rattle.store_plans.specs.declared.puts.PutPlan.{PutPlan}
 use Rattle.store_plans.specs.declared.puts.PutPlan.TheVariants.{Kept, Refused, Write}
+use Rattle.store_plans.specs.Plans.{HasExtent}
 use Rattle.media_store.specs.Pieces.{IsExtent}
-use Rattle.media_store.specs.Puts.{PutMovesOn, IsPlanFor, PutSeen, TakesPiece, bytes_at_extent, may_be_same}
+use Rattle.media_store.specs.Puts.{PutMovesOn, TakesPiece, bytes_at_extent, may_be_same}
+use Rattle.media_store.specs.Stores.{PutSeen, journal_of}
+use Rattle.media_store.proofs.PutFacts.{stored_extent}
 use Rattle.tams_service.specs.Taking.{HoldsPart}
 use Rattle.tams_service.proofs.Fronts.{same_more}
 
@@ -57,20 +60,20 @@ holds_none kept put (Kept extent) seen same = same ∙ sym (and_true (extent.len
 holds_none kept put (Write extent planned) seen same = refl
 
 -- a piece more
-pub holds_more : (kept : StoreView) (put later : PutSeen) (plan : PutPlan) (part piece : List ℕ) (size : ℕ) (old new : Device)
-    → put.handed ≡ length part → PutMovesOn put later piece → IsPlanFor kept size put.same plan
+pub holds_more : (kept : StoreView) (put later : PutSeen) (plan : PutPlan) (part piece object : List ℕ) (size moment : ℕ) (old new : Device)
+    → put.handed ≡ length part → PutMovesOn put later piece → HasExtent (journal_of kept) object size moment plan
     → ((extent : Extent) → IsExtent kept.library extent → bytes_at_extent kept extent new.seen ≡ bytes_at_extent kept extent old.seen)
     → HoldsPart kept put plan part old.seen → TakesPiece kept plan piece put later old new → HoldsPart kept later plan (part ++ piece) new.seen
-holds_more kept put later (Refused why) part piece size old new handed goes is stays holds takes = tt
-holds_more kept put later (Kept extent) part piece size old new handed goes is stays holds takes =
+holds_more kept put later (Refused why) part piece object size moment old new handed goes is stays holds takes = tt
+holds_more kept put later (Kept extent) part piece object size moment old new handed goes is stays holds takes =
     let bytes = bytes_at_extent kept extent old.seen in
     takes
     ∙ ap (λ h. put.same && bytes_eq (take (length piece) (drop h bytes)) piece) handed
     ∙ ap (λ s. s && bytes_eq (take (length piece) (drop (length part) bytes)) piece) holds
     ∙ same_more (extent.length == put.size) bytes part piece
     ∙ ap (λ k. (extent.length == k) && bytes_eq (take (length (part ++ piece)) bytes) (part ++ piece)) (sym goes.sized)
-    ∙ ap (λ b. (extent.length == later.size) && bytes_eq (take (length (part ++ piece)) b) (part ++ piece)) (sym (stays extent is.stored))
-holds_more kept put later (Write extent planned) part piece size old new handed goes is stays holds takes =
+    ∙ ap (λ b. (extent.length == later.size) && bytes_eq (take (length (part ++ piece)) b) (part ++ piece)) (sym (stays extent (stored_extent kept.library object extent is)))
+holds_more kept put later (Write extent planned) part piece object size moment old new handed goes is stays holds takes =
     let count : length (part ++ piece) ≡ later.handed = omega (arith, length-append part piece, goes.handed, handed) in
     ap (λ k. take k (bytes_at_extent kept extent new.seen)) count
     ∙ takes

@@ -6,7 +6,8 @@ use Rattle.media_rows.specs.declared.change.Change.{Change}
 use Rattle.media_rows.specs.declared.change.Change.TheVariants as changes
 use Rattle.change_codec.specs.Fitting.{State}
 use Rattle.media_store.specs.Changes.{IsNextIf, kept_by, kept_with}
-use Rattle.media_store.specs.Puts.{PutSeen, kept_after_put}
+use Rattle.media_store.specs.Puts.{kept_after_put, plan_of}
+use Rattle.media_store.specs.Stores.{PutSeen}
 use Rattle.media_store.specs.Stores as media
 use Rattle.media_store.proofs.Planning.{planned_next}
 use Rattle.store_plans.specs.declared.outcome.Planned.{Planned}
@@ -15,7 +16,6 @@ use Rattle.store_plans.specs.declared.puts.PutPlan.TheVariants.{Refused, Kept, W
 use Rattle.store_plans.specs.Plans.{HasExtent, MakesStep}
 use Rattle.store_states.specs.Kept.{StoreView}
 use Rattle.tams_service.specs.Answering.{EndKeepsId, PlanKeepsId}
-use Rattle.tams_service.specs.Taking.{plan_of}
 
 -- over a turn
 pub next_id : (kept : StoreView) (change : Option Change) (next : StoreView) → IsNextIf kept change next → next.library.id ≡ kept.library.id

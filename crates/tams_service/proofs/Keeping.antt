@@ -1,5 +1,5 @@
 -- What a store keeps stays over calls that leave each image.
-use Rattle.std.proofs.Common.{◌≡◌, Bool, true, false, List, ℕ, sym, ap, ◌∙◌, subst}
+use Rattle.std.proofs.Common.{◌≡◌, Bool, true, false, List, None, ℕ, refl, sym, ap, ◌∙◌, subst}
 use Rattle.disk_trait.specs.Calls.{Elapses, Unchanged}
 use Rattle.disk_trait.specs.Device.{Device, IsDevice, Left}
 use Rattle.site_edge.specs.Links.{Tells}
@@ -20,6 +20,13 @@ same_unchanged old new time = record { images = λ p could. let from = time.now 
 pub keeps_told : (store : StoreSeen) (s : StoreState) (ok : Bool) (bytes : List ℕ) (old new : Device) → KeepsState store old s
     → Elapses (Tells false bytes) (Tells ok bytes) old new → KeepsState store new s
 keeps_told store s ok bytes old new keeps time = keeps_images store old new s keeps (same_told ok bytes old new time)
+
+-- so is what is kept
+pub agrees_told : (kept : StoreView) (held : List (List ℕ)) (ok : Bool) (bytes : List ℕ) (old new : Device) → AgreesWith old kept held
+    → Elapses (Tells false bytes) (Tells ok bytes) old new → AgreesWith new kept held
+agrees_told kept held ok bytes old new agrees time =
+    (keeps_told (record { kept = kept; spent = false; put = None }) (kept_state kept held) ok bytes old new
+    (record { unspent = refl; agrees = agrees; state = refl }) time).agrees
 
 -- a store that keeps the same, and agrees with a device, keeps the state
 pub keeps_so : (store next : StoreSeen) (old new : Device) (s : StoreState) → KeepsState store old s → next.kept ≡ store.kept → next.spent ≡ false

@@ -1,5 +1,5 @@
 -- The bytes of an object, said piece by piece.
-use Rattle.std.proofs.Common.{◌≡◌, ◌≤◌, ◌+◌, ◌∙◌, ℕ, Bool, true, false, List, ◌++◌, take, drop, refl, sym, ap, subst, arith}
+use Rattle.std.proofs.Common.{◌≡◌, ◌≤◌, ◌+◌, ◌∙◌, ℕ, Bool, true, false, List, ◌++◌, Option, take, drop, refl, sym, ap, subst, arith}
 use Rattle.std.proofs.lemmas.List.{take-append-drop}
 use Rattle.media_rows.specs.declared.object.Extent.{Extent}
 use Rattle.disk_trait.specs.Device.{Device}
@@ -7,7 +7,7 @@ use Rattle.disk_trait.specs.Calls.{bytes_at}
 use Rattle.object_blobs.specs.Extents.{extent_bytes}
 use Rattle.store_states.specs.Kept.{AgreesWith, StoreView}
 use Rattle.store_states.specs.States.{media_start}
-use Rattle.media_store.specs.Stores.{StoreSeen}
+use Rattle.media_store.specs.Stores.{PutSeen, StoreSeen}
 use Rattle.tams_service.specs.Saying.{Says}
 use Rattle.tams_service.specs.Sites.{SiteCounts}
 use Rattle.tams_service.proofs.Counting.{counts_none, counts_twice}
@@ -19,9 +19,10 @@ abbrev pub object_in : StoreView → Extent → Device → List ℕ
 object_in kept extent d = extent_bytes (media_start kept.journal.half) extent d.seen
 
 -- Pieces so far: so many bytes were said, and no call failed.
-pub record HasSaid (kept : StoreView) (store : StoreSeen) (extent : Extent) (first now : Device) (at : ℕ) : Type 0 where
+pub record HasSaid (kept : StoreView) (put : Option PutSeen) (store : StoreSeen) (extent : Extent) (first now : Device) (at : ℕ) : Type 0 where
   pub unspent : store.spent ≡ false
   pub kept_is : store.kept ≡ kept
+  pub put_is : store.put ≡ put
   pub within : at ≤ extent.length
   pub counts : SiteCounts true true first now
   pub seen : now.seen ≡ first.seen
@@ -29,10 +30,11 @@ pub record HasSaid (kept : StoreView) (store : StoreSeen) (extent : Extent) (fir
   pub keeps : (held : List (List ℕ)) → AgreesWith first kept held → AgreesWith now kept held
 
 -- none at first
-pub said_first : (store : StoreSeen) (extent : Extent) (d : Device) → store.spent ≡ false → HasSaid store.kept store extent d d 0
+pub said_first : (store : StoreSeen) (extent : Extent) (d : Device) → store.spent ≡ false → HasSaid store.kept store.put store extent d d 0
 said_first store extent d unspent = record {
   unspent = unspent;
   kept_is = refl;
+  put_is = refl;
   within = omega arith;
   counts = counts_none d;
   seen = refl;
@@ -41,14 +43,15 @@ said_first store extent d unspent = record {
 }
 
 -- what is kept stays behind it
-pub keeps_part : (kept : StoreView) (store : StoreSeen) (extent : Extent) (first now next : Device) (at : ℕ) → HasSaid kept store extent first now at
+pub keeps_part : (kept : StoreView) (put : Option PutSeen) (store : StoreSeen) (extent : Extent) (first now next : Device) (at : ℕ)
+    → HasSaid kept put store extent first now at
     → ((held : List (List ℕ)) → AgreesWith now store.kept held → AgreesWith next store.kept held) → (held : List (List ℕ))
     → AgreesWith first kept held → AgreesWith next kept held
-keeps_part kept store extent first now next at so_far keeps held agrees =
+keeps_part kept put store extent first now next at so_far keeps held agrees =
     subst (λ k. AgreesWith next k held) so_far.kept_is (keeps held (subst (λ k. AgreesWith now k held) (sym so_far.kept_is) (so_far.keeps held agrees)))
 
-module _ (kept : StoreView) (store : StoreSeen) (extent : Extent) (first now next : Device) (at count : ℕ)
-    (so_far : HasSaid kept store extent first now at) where
+module _ (kept : StoreView) (put : Option PutSeen) (store : StoreSeen) (extent : Extent) (first now next : Device) (at count : ℕ)
+    (so_far : HasSaid kept put store extent first now at) where
   -- the bytes that are said next, with those so far
   front : (bytes : List ℕ) → bytes ≡ bytes_at (object_in store.kept extent now) at count
       → take (at + count) (object_in kept extent first) ≡ take at (object_in kept extent first) ++ bytes
@@ -60,20 +63,21 @@ module _ (kept : StoreView) (store : StoreSeen) (extent : Extent) (first now nex
   shows_now shows = so_far.counts.same.shows ∙ shows
 
   -- A piece more was said.
-  pub said_more : (later : StoreSeen) (to : ℕ) → to ≡ at + count → to ≤ extent.length → later.spent ≡ false → later.kept ≡ store.kept
+  pub said_more : (later : StoreSeen) (to : ℕ) → to ≡ at + count → to ≤ extent.length → later.spent ≡ false → later.kept ≡ store.kept → later.put ≡ store.put
       → SiteCounts true true now next → next.seen ≡ now.seen
       → (now.shows ≡ true → Says true true (bytes_at (object_in store.kept extent now) at count) now next)
-      → ((held : List (List ℕ)) → AgreesWith now store.kept held → AgreesWith next store.kept held) → HasSaid kept later extent first next to
-  said_more later to behind within unspent same counts seen says keeps = record {
+      → ((held : List (List ℕ)) → AgreesWith now store.kept held → AgreesWith next store.kept held) → HasSaid kept put later extent first next to
+  said_more later to behind within unspent same same_put counts seen says keeps = record {
     unspent = unspent;
     kept_is = same ∙ so_far.kept_is;
+    put_is = same_put ∙ so_far.put_is;
     within = within;
     counts = counts_twice true true first now next so_far.counts counts;
     seen = seen ∙ so_far.seen;
     says = λ shows.
         subst (λ bytes. Says true true bytes first next) (sym (ap (λ n. take n (object_in kept extent first)) behind ∙ front _ refl))
         (says_twice true true _ _ first now next so_far.counts.same (so_far.says shows) (says (shows_now shows)));
-    keeps = keeps_part kept store extent first now next at so_far keeps;
+    keeps = keeps_part kept put store extent first now next at so_far keeps;
   }
 
   -- A piece wasn't said whole, behind which no more is said.

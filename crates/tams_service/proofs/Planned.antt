@@ -8,7 +8,9 @@ use Rattle.http_wire.specs.Agreeing.{MayTurn}
 use Rattle.http_wire.specs.Feeds.{Fed, less_by}
 use Rattle.http_wire.specs.declared.stage.Head.{Head}
 use Rattle.http_wire.specs.declared.stage.FeedStage.TheVariants as stages
-use Rattle.media_store.specs.Puts.{PutSeen, may_be_same}
+use Rattle.media_store.specs.Puts.{may_be_same}
+use Rattle.media_store.specs.Stores.{PutSeen}
+use Rattle.media_store.proofs.PutFacts.{fresh_extent}
 use Rattle.store_states.specs.Kept.{StoreView}
 use Rattle.connection_loop.specs.declared.ending.ConnectionEnd.{ConnectionEnd}
 use Rattle.tams_machine.specs.Requests.{TamsRequest}
@@ -47,12 +49,12 @@ module _ {so_far : ℕ} {all : List ℕ} {said : Bool} {fed : Fed} {shown : Head
   pub put_begun : (put : Option PutSeen) → AnswersAll put → IfSome put (IsPutBegun kept shown.length)
   put_begun None answers = tt
   put_begun (Some put) answers =
-      let begun = (answers_blank (Some put) answers).begun in
+      let fresh = (answers_blank (Some put) answers).fresh in
       record {
-        of_store = begun.of_store;
-        sized = begun.sized ∙ blank_long;
-        none = begun.none;
-        same = begun.same ∙ ap (λ n. may_be_same n put.plan) blank_long;
+        of_store = fresh.of_store;
+        sized = fresh.sized ∙ blank_long;
+        none = fresh.none;
+        same = fresh.same ∙ ap (λ n. may_be_same n put.plan) blank_long;
       }
 
   -- its end keeps the id of the store
@@ -60,7 +62,7 @@ module _ {so_far : ℕ} {all : List ℕ} {said : Bool} {fed : Fed} {shown : Head
   begun_id None answers = tt
   begun_id (Some put) answers =
       let is = answers_blank (Some put) answers in
-      keeps_id kept is.object (length blank) moment put.plan is.begun.extent
+      keeps_id kept is.object (length blank) moment put.plan (fresh_extent kept is.object (length blank) moment put is.fresh)
 
 -- ---- behind all bytes
 

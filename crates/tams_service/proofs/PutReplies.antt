@@ -1,6 +1,6 @@
 -- The machine's reply to a media PUT of which all bytes came, by what is known of it.
 use Rattle.std.proofs.Common.{◌≡◌, ◌≢◌, ◌++◌, ◌==◌, ◌&&◌, ◌+◌, ℕ, Bool, true, false, List, [], ◌∷◌, length, take, drop, Option, Some, None, Result, Ok, Err, refl, sym, ap, ◌∙◌, subst, arith}
-use Rattle.std.specs.Prelude.{IsTrue, bytes_eq, option_map, option_to_list}
+use Rattle.std.specs.Prelude.{bytes_eq, option_map, option_to_list}
 use Rattle.std.proofs.lemmas.Bool.{eq-eqb}
 use Rattle.std.proofs.lemmas.List.{take_all}
 use Rattle.disk_trait.specs.Device.{Device}
@@ -18,10 +18,11 @@ use Rattle.media_rows.specs.Media.{answer_to, fits_bytes, puts}
 use Rattle.media_rows.specs.Objects.{blocks_of, free_place, object_of}
 use Rattle.change_codec.specs.Fitting.{State}
 use Rattle.media_store.specs.Changes.{bytes_by, bytes_of_change}
-use Rattle.media_store.specs.Puts.{PutSeen, StoresAs, bytes_at_extent, put_reply}
-use Rattle.media_store.specs.Stores.{StoreSeen}
+use Rattle.media_store.specs.Puts.{bytes_at_extent, plan_of, put_reply}
+use Rattle.media_store.specs.Stores.{PutSeen, StoreSeen}
 use Rattle.media_store.specs.Stores as media
 use Rattle.media_store.proofs.Planning.{planned_bytes}
+use Rattle.media_store.proofs.PutFacts.{fresh_extent, fresh_plan}
 use Rattle.object_blobs.specs.Extents.{extent_start}
 use Rattle.store_plans.specs.declared.outcome.Planned.{Planned}
 use Rattle.store_plans.specs.declared.puts.PutPlan.{PutPlan}
@@ -35,11 +36,11 @@ use Rattle.tams_http.specs.declared.ask.Ask.{Ask}
 use Rattle.tams_http.specs.declared.ask.Ask.TheVariants.{PutMedia}
 use Rattle.tams_machine.specs.Answers.{answer_handed, answer_in, asked_in, change_handed, handed_if, object_bytes, outcome_by, outcome_of, state_with_change}
 use Rattle.tams_machine.specs.Requests.{TamsRequest, context_of}
-use Rattle.tams_answers.specs.Media.{IsMediaBegun, IsMediaRefused, MediaAnswers, response_by}
+use Rattle.tams_answers.specs.Media.{IsMediaPlanned, IsMediaRefused, MediaAnswers, response_by}
 use Rattle.tams_answers.specs.declared.media.Responses.{Responses}
 use Rattle.tams_service.specs.Answering.{IsPutting, IsMachineReply, RunPlace}
 use Rattle.tams_service.specs.Keeping.{KeepsState}
-use Rattle.tams_service.specs.Taking.{HoldsPart, plan_of}
+use Rattle.tams_service.specs.Taking.{HoldsPart}
 use Rattle.tams_service.proofs.Giving.{applied_here, journal_is}
 use Rattle.tams_service.proofs.Good.{is_good, made_good}
 use Rattle.tams_service.proofs.PutOutcomes.{compared, put_change, reply_is, step_there, stored_bytes, stored_length}
@@ -65,7 +66,7 @@ same_reply put begun (Write extent planned) same = refl
 
 module _ (p : RunPlace) (r : TamsRequest) (moment : ℕ) (kept : StoreView) (put : PutSeen) (responses : Responses) (seen : List ℕ)
     (size : put.size ≡ length r.body) (holds : HoldsPart kept put put.plan r.body seen) where
-  full_of : (begun : PutSeen) → IsMediaBegun p.base kept.library.id r moment kept begun responses → put.plan ≡ begun.plan
+  full_of : (begun : PutSeen) → IsMediaPlanned p.base kept.library.id r moment kept begun responses → put.plan ≡ begun.plan
       → IsFull p r moment kept put responses seen
   full_of begun is same =
       let with_same : PutSeen = record begun { same = put.same } in
@@ -73,8 +74,8 @@ module _ (p : RunPlace) (r : TamsRequest) (moment : ℕ) (kept : StoreView) (put
       record {
         object = is.object;
         asked = is.asked;
-        plan = subst (IsPutPlan (media.journal_of kept) is.object (length r.body) moment) (sym same) is.begun.plan;
-        extent = subst (HasExtent (media.journal_of kept) is.object (length r.body) moment) (sym same) is.begun.extent;
+        plan = subst (IsPutPlan (media.journal_of kept) is.object (length r.body) moment) (sym same) (fresh_plan kept is.object (length r.body) moment begun is.fresh);
+        extent = subst (HasExtent (media.journal_of kept) is.object (length r.body) moment) (sym same) (fresh_extent kept is.object (length r.body) moment begun is.fresh);
         response =
             subst (λ (x : Reply). response_by responses x ≡ response_to (context_of kept.library.id p.base r) x) (sym reply) (is.response_is put.same);
         size = size;
@@ -257,10 +258,3 @@ module _ (p : RunPlace) (r : TamsRequest) (moment : ℕ) (store : StoreSeen) (d 
       pub write_good : is_good p.state → is_good (state_with_change p.state change r.body)
       write_good good =
           made_good p.state.archive change r.body planned.next good (applied_here store d p.state keeps change planned takes.makes) fits_here
-
-      -- the change is that of the put's plan
-      pub stores_as : StoresAs store.kept change put.plan
-      stores_as = subst (StoresAs store.kept change) (sym is) (takes.makes, here)
-        where
-          here : IsTrue ((extent.start == extent.start) && (extent.length == extent.length))
-          here = rw (eq-eqb extent.start extent.start refl, eq-eqb extent.length extent.length refl) refl

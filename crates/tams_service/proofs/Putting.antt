@@ -1,14 +1,15 @@
 -- A put whose bytes all came is ended, and answered: what that leads to.
-use Rattle.std.proofs.Common.{◌≡◌, ◌<◌, ◌+◌, ◌++◌, ℕ, Bool, true, false, List, [], ◌∷◌, Option, None, Some, inl, refl, sym, ap, ◌∙◌, subst, arith}
+use Rattle.std.proofs.Common.{◌≡◌, ◌<◌, ◌≤◌, ◌+◌, ◌++◌, ℕ, Bool, true, false, if◌then◌else◌, List, [], ◌∷◌, Option, None, Some, inl, refl, sym, ap, ◌∙◌, subst, arith}
+use Rattle.std.specs.Prelude.{IfSome}
 use Rattle.disk_trait.specs.Calls.{SameDevice}
 use Rattle.disk_trait.specs.Device.{Device, IsDevice}
-use Rattle.media_rows.specs.declared.change.Change.{Change}
-use Rattle.media_rows.specs.declared.change.Change.TheVariants as changes
 use Rattle.media_rows.specs.declared.object.Extent.{Extent}
 use Rattle.media_store.specs.Changes.{IsAfterChange, ChangesStore, archive_next, kept_by, kept_with}
-use Rattle.media_store.specs.Puts.{EndsPut, PutSeen, StoresAs, handed_at_end, kept_after_put, handed_of_piece, put_reply}
-use Rattle.media_store.specs.Stores.{StoreSeen, size_of}
+use Rattle.media_store.specs.Puts.{EndsIf, EndsPut, IsPutOf, bytes_at_extent, end_handed, handed_at_end, handed_of_piece, kept_after_put, kept_behind, plan_of, put_change, put_reply, reply_if, writes_by}
+use Rattle.media_store.specs.Stores.{PutSeen, StoreSeen, journal_of, size_of}
+use Rattle.media_store.proofs.Outcomes.{one_made}
 use Rattle.media_store.proofs.Planning.{planned_next}
+use Rattle.media_store.proofs.PutFacts.{takes_extent}
 use Rattle.store_plans.specs.declared.outcome.Planned.{Planned}
 use Rattle.store_plans.specs.declared.puts.PutPlan.{PutPlan}
 use Rattle.store_plans.specs.declared.puts.PutPlan.TheVariants.{Refused, Kept, Write}
@@ -18,39 +19,42 @@ use Rattle.store_writes.specs.Writes.{Keeps}
 use Rattle.run_history.specs.Serving.{RunCounts}
 use Rattle.connection_loop.specs.declared.ending.ConnectionEnd.{ConnectionEnd}
 use Rattle.connection_loop.specs.declared.ending.ConnectionEnd.TheVariants as endings
+use Rattle.media_rows.specs.declared.reply.Reply.{Reply}
 use Rattle.tams_machine.specs.Answers.{answer_handed, state_with_change}
 use Rattle.tams_machine.specs.Requests.{TamsRequest}
 use Rattle.request_hearing.proofs.Asking.{asking_kept}
 use Rattle.tams_answers.specs.Answers.{following_bytes}
 use Rattle.tams_answers.specs.Media.{MediaAnswers, response_by}
 use Rattle.tams_answers.specs.declared.media.Responses.{Responses}
-use Rattle.tams_service.specs.Answering.{AsksWith, ChangedAt, EndsThere, FinishLeads, HandedAt, IsMachineReply, IsRequest, LeadsTo, RunPlace, PutLeads, StopLeads, TellsAllOf, written_by}
+use Rattle.tams_service.specs.Answering.{AsksWith, ChangedAt, EndsThere, FinishLeads, HandedAt, IsMachineReply, IsRequest, LeadsTo, RunPlace, EndsPutIf, IsWholePut, PutLeads, StopLeads, TellsAllOf, response_if, written_by, written_if}
 use Rattle.tams_service.specs.declared.answering.DueReply.{DueReply}
 use Rattle.tams_service.specs.Keeping.{KeepsState}
 use Rattle.tams_service.specs.Serving.{needs_by, needs_in}
-use Rattle.tams_service.specs.Taking.{plan_of}
 use Rattle.tams_service.proofs.Giving.{changed_at, nothing_changed, torn_at, unchanged_at}
 use Rattle.tams_service.proofs.Good.{good_now, is_good}
 use Rattle.tams_service.proofs.Keeping.{bytes_seen, keeps_so}
 use Rattle.tams_service.proofs.Moments.{over_keeps}
-use Rattle.tams_service.proofs.PutReplies.{IsFull, came_is, change, changes_so, full_put, kept_handed, kept_reply, no_put_handed, no_put_reply, refused_handed, refused_reply, stores_as, takes, write_good, write_handed, write_reply}
+use Rattle.tams_service.proofs.PutReplies.{IsFull, came_is, change, changes_so, full_put, kept_handed, kept_reply, no_put_handed, no_put_reply, refused_handed, refused_reply, takes, write_good, write_handed, write_reply}
 use Rattle.tams_service.proofs.States.{keeps_next}
 
 -- There is no put.
-pub none_leads : (old new : Device) (n now : RunCounts) (store next : StoreSeen) (responses : Responses) (moment : ℕ) (ends : Bool)
-    (result : Option ConnectionEnd) → FinishLeads old new store next n now (responses.reply ++ []) 0 moment ends result
+pub none_leads : (old new : Device) (n now : RunCounts) (store still next : StoreSeen) (responses : Responses) (moment : ℕ) (ends : Bool)
+    (result : Option ConnectionEnd) → still.kept ≡ store.kept → still.spent ≡ false
+    → FinishLeads old new still next n now (responses.reply ++ []) 0 moment ends result
     → PutLeads old new store next n now None responses moment ends result
-none_leads old new n now store next responses moment ends result finishes p text rest r asks keeps request is few = by_begun is.begun is.answers is.plan
+none_leads old new n now store still next responses moment ends result same unspent finishes p text rest r asks keeps request is few =
+    by_begun is.begun is.answers is.plan
   where
     by_begun : (begun : Option PutSeen) → MediaAnswers p.base r moment store.kept begun responses
         → plan_of None ≡ plan_of begun → LeadsTo p new next moment rest now result
-    by_begun None refused same =
-        finishes p text rest r [] (unchanged_at p old (text ++ rest) n asks) keeps request (no_put_reply p r moment store old keeps responses.reply refused)
+    by_begun None refused none =
+        finishes p text rest r [] (unchanged_at p old (text ++ rest) n asks)
+        (keeps_so store still old old p.state keeps same unspent keeps.agrees) request (no_put_reply p r moment store old keeps responses.reply refused)
         (subst (HandedAt p old) (sym (no_put_handed p r moment store old keeps responses.reply refused)) asks.handed) refl few
-    by_begun (Some begun) answers same = let no : None ≡ Some begun.plan = same in absurd cc
+    by_begun (Some begun) answers some = let no : None ≡ Some begun.plan = some in absurd cc
 
 module _ (p : RunPlace) (old mid : Device) (n : RunCounts) (text rest : List ℕ) (store : StoreSeen) (r : TamsRequest) (moment : ℕ) (put : PutSeen)
-    (responses : Responses) (sound : IsDevice old) (all : TellsAllOf old) {more : ℕ} (asks : AsksWith p old (text ++ rest) n more)
+    (responses : Responses) (is_put : IsPutOf store.kept put) (sound : IsDevice old) (all : TellsAllOf old) {more : ℕ} (asks : AsksWith p old (text ++ rest) n more)
     (keeps : KeepsState store old p.state)
     (full : IsFull p r moment store.kept put responses old.seen) (link : mid.link ≡ old.link) where
   has : held_in old.seen (media_start store.kept.journal.half) p.state.archive.library.objects ≡ p.state.archive.held
@@ -65,34 +69,34 @@ module _ (p : RunPlace) (old mid : Device) (n : RunCounts) (text rest : List ℕ
 
   -- the change that is made, with the bytes of the request
   makes_so : (ok : Bool) (extent : Extent) (planned : Planned) (is : put.plan ≡ Write extent planned)
-      → ((c : Change) → StoresAs store.kept c put.plan → EndsPut ok put.plan c store.kept p.state.archive.held old mid)
+      → EndsPut ok put put.plan store.kept p.state.archive.held old mid
       → ChangesStore ok (change p r moment store old keeps put responses full extent planned is) r.body store.kept (kept_by store.kept planned)
       p.state.archive.held old mid
   makes_so ok extent planned is makes =
       let c = change p r moment store old keeps put responses full extent planned is in
+      let same : put_change put extent ≡ c =
+      one_made (journal_of store.kept) (put_change put extent) c planned (takes_extent store.kept put extent planned is_put is).makes
+      (takes p r moment store old keeps put responses full extent planned is).makes in
       subst (λ came. ChangesStore ok c came store.kept (kept_by store.kept planned) p.state.archive.held old mid)
       (came_is p r moment store old keeps put responses full extent planned is)
-      (subst (λ plan. EndsPut ok plan c store.kept p.state.archive.held old mid) is
-      (makes c (stores_as p r moment store old keeps put responses full extent planned is)))
+      (subst (λ x. ChangesStore ok x (bytes_at_extent store.kept extent old.seen) store.kept (kept_by store.kept planned) p.state.archive.held old mid) same
+      (subst (λ plan. EndsPut ok put plan store.kept p.state.archive.held old mid) is makes))
 
   -- ---- the disk failed
 
-  module _ (makes : (c : Change) → StoresAs store.kept c put.plan → EndsPut false put.plan c store.kept p.state.archive.held old mid) (new : Device)
-      (now : RunCounts) (last : StoreSeen) (ends : Bool) (request : IsRequest p text ends r) (count : ℕ) (stops : StopLeads mid new n now count)
+  module _ (makes : EndsPut false put put.plan store.kept p.state.archive.held old mid) (new : Device) (now : RunCounts) (last : StoreSeen) (ends : Bool) (request : IsRequest p text ends r) (count : ℕ) (stops : StopLeads mid new n now count)
       (count_is : count ≡ written_by put.plan) where
     stopped_quiet : Keeps store.kept p.state.archive.held old mid → count ≡ 0 → EndsThere p new last (moment ∷ []) now endings.Stopped
     stopped_quiet kept none = stops p text rest r moment last [] (unchanged_over kept) (inl request.spells) request.interim (sym none)
 
     stopped_by : (plan : PutPlan) → put.plan ≡ plan → EndsThere p new last (moment ∷ []) now endings.Stopped
     stopped_by (Refused why) is =
-        let any = changes.DeleteStep moment in
         stopped_quiet
-        (subst (λ plan. EndsPut false plan any store.kept p.state.archive.held old mid) is (makes any (subst (StoresAs store.kept any) (sym is) tt)))
+        (subst (λ plan. EndsPut false put plan store.kept p.state.archive.held old mid) is makes)
         (count_is ∙ ap written_by is)
     stopped_by (Kept extent) is =
-        let any = changes.DeleteStep moment in
         stopped_quiet
-        (subst (λ plan. EndsPut false plan any store.kept p.state.archive.held old mid) is (makes any (subst (StoresAs store.kept any) (sym is) tt)))
+        (subst (λ plan. EndsPut false put plan store.kept p.state.archive.held old mid) is makes)
         (count_is ∙ ap written_by is)
     stopped_by (Write extent planned) is =
         let c = change p r moment store old keeps put responses full extent planned is in
@@ -104,8 +108,7 @@ module _ (p : RunPlace) (old mid : Device) (n : RunCounts) (text rest : List ℕ
 
   -- ---- it was ended
 
-  module _ (makes : (c : Change) → StoresAs store.kept c put.plan → EndsPut true put.plan c store.kept p.state.archive.held old mid) (new : Device)
-      (now : RunCounts) (next last : StoreSeen) (kept_is : next.kept ≡ kept_after_put store.kept put.plan) (unspent : next.spent ≡ false) (ends : Bool)
+  module _ (makes : EndsPut true put put.plan store.kept p.state.archive.held old mid) (new : Device) (now : RunCounts) (next last : StoreSeen) (kept_is : next.kept ≡ kept_after_put store.kept put.plan) (unspent : next.spent ≡ false) (ends : Bool)
       (request : IsRequest p text ends r) (count : ℕ) (count_is : count ≡ written_by put.plan) (few : p.taken < 1000000) (result : Option ConnectionEnd)
       (finishes : FinishLeads mid new next last n now (response_by responses (put_reply put put.plan) ++ []) count moment ends result)
       (before : more ≡ handed_of_piece put.plan r.body) (handed_on : mid.handed ≡ old.handed + handed_at_end put.plan) where
@@ -130,15 +133,13 @@ module _ (p : RunPlace) (old mid : Device) (n : RunCounts) (text rest : List ℕ
 
     ended_by : (plan : PutPlan) → put.plan ≡ plan → LeadsTo p new last moment rest now result
     ended_by (Refused why) is =
-        let any = changes.DeleteStep moment in
         ended_quiet
-        (subst (λ plan. EndsPut true plan any store.kept p.state.archive.held old mid) is (makes any (subst (StoresAs store.kept any) (sym is) tt)))
+        (subst (λ plan. EndsPut true put plan store.kept p.state.archive.held old mid) is makes)
         (kept_is ∙ ap (kept_after_put store.kept) is) (refused_reply p r moment store old keeps put responses full why is)
         (handed_here (Refused why) is (refused_handed p r moment store old keeps put responses full why is)) (count_is ∙ ap written_by is)
     ended_by (Kept extent) is =
-        let any = changes.DeleteStep moment in
         ended_quiet
-        (subst (λ plan. EndsPut true plan any store.kept p.state.archive.held old mid) is (makes any (subst (StoresAs store.kept any) (sym is) tt)))
+        (subst (λ plan. EndsPut true put plan store.kept p.state.archive.held old mid) is makes)
         (kept_is ∙ ap (kept_after_put store.kept) is) (kept_reply p r moment store old keeps put responses full extent is has good)
         (handed_here (Kept extent) is (kept_handed p r moment store old keeps put responses full extent is has good))
         (count_is ∙ ap written_by is)
@@ -160,17 +161,17 @@ module _ (p : RunPlace) (old mid : Device) (n : RunCounts) (text rest : List ℕ
 -- ---- what the end of a put leads to
 
 module _ (old mid new : Device) (n now : RunCounts) (store last : StoreSeen) (put : PutSeen) (responses : Responses) (moment : ℕ) (ends ok : Bool)
-    (sound : IsDevice old) (all : TellsAllOf old) (link : mid.link ≡ old.link) (count : ℕ) (count_is : count ≡ written_by put.plan)
-    (makes : (held : List (List ℕ)) (c : Change) → AgreesWith old store.kept held → StoresAs store.kept c put.plan
-    → EndsPut ok put.plan c store.kept held old mid) where
+    (is_put : IsPutOf store.kept put) (sound : IsDevice old) (all : TellsAllOf old) (link : mid.link ≡ old.link) (count : ℕ)
+    (count_is : count ≡ written_by put.plan)
+    (makes : (held : List (List ℕ)) → AgreesWith old store.kept held → EndsPut ok put put.plan store.kept held old mid) where
   -- The disk failed in it.
   pub failed_leads : ok ≡ false → StopLeads mid new n now count
       → PutLeads old new store last n now (Some put) responses moment ends (Some endings.Stopped)
   failed_leads failed stops p text rest r asks keeps request is few =
       let held = p.state.archive.held in
       let full = full_put p r moment store.kept put responses old.seen is in
-      stopped_by p old mid n text rest store r moment put responses sound all asks keeps full link
-      (λ c stores. subst (λ b. EndsPut b put.plan c store.kept held old mid) failed (makes held c keeps.agrees stores)) new now last ends request count
+      stopped_by p old mid n text rest store r moment put responses is_put sound all asks keeps full link
+      (subst (λ b. EndsPut b put put.plan store.kept held old mid) failed (makes held keeps.agrees)) new now last ends request count
       stops count_is put.plan refl
 
   -- It was ended, and the reply was said.
@@ -181,9 +182,64 @@ module _ (old mid new : Device) (n now : RunCounts) (store last : StoreSeen) (pu
   made_leads made next kept_is unspent handed result finishes p text rest r asks keeps request is few =
       let held = p.state.archive.held in
       let full = full_put p r moment store.kept put responses old.seen is in
-      ended_by p old mid n text rest store r moment put responses sound all asks keeps full link
-      (λ c stores. subst (λ b. EndsPut b put.plan c store.kept held old mid) made (makes held c keeps.agrees stores)) new now next last kept_is unspent
+      ended_by p old mid n text rest store r moment put responses is_put sound all asks keeps full link
+      (subst (λ b. EndsPut b put put.plan store.kept held old mid) made (makes held keeps.agrees)) new now next last kept_is unspent
       ends request count count_is few result finishes refl handed put.plan refl
+
+-- ---- the same, where there is a put
+
+-- and is one at most
+pub written_few : (count : ℕ) (put : Option PutSeen) → count ≡ written_if put → count ≤ 1
+written_few count put is = omega (arith, is, few put)
+  where
+    few : (p : Option PutSeen) → written_if p ≤ 1
+    few None = omega arith
+    few (Some p) = by_writes (writes_by p.plan)
+      where
+        by_writes : (b : Bool) → (if b then 1 else 0) ≤ 1
+        by_writes true = omega arith
+        by_writes false = omega arith
+
+pub ends_if : (ok : Bool) (put : Option PutSeen) (kept : StoreView) (held : List (List ℕ)) (old new : Device) → EndsIf ok put kept held old new
+    → EndsPutIf ok put kept held old new
+ends_if ok None kept held old new ends = tt
+ends_if ok (Some put) kept held old new ends = ends
+
+-- how many changes its end writes hangs on its plan
+pub written_same : (put begun : Option PutSeen) → plan_of put ≡ plan_of begun → written_if put ≡ written_if begun
+written_same None None same = refl
+written_same None (Some begun) same = let no : None ≡ Some begun.plan = same in absurd cc
+written_same (Some put) None same = let no : Some put.plan ≡ None = same in absurd cc
+written_same (Some put) (Some begun) same =
+    let plans : Some put.plan ≡ Some begun.plan = same in
+    let plan : put.plan ≡ begun.plan = cc in
+    ap written_by plan
+
+module _ (old mid new : Device) (n now : RunCounts) (store next last : StoreSeen) (responses : Responses) (moment : ℕ) (ends : Bool)
+    (sound : IsDevice old) (all : TellsAllOf old) (link : mid.link ≡ old.link) (count : ℕ) where
+  -- The disk failed in it, so there is one.
+  pub end_failed : (put : Option PutSeen) → IfSome put (IsWholePut store.kept) → count ≡ written_if put → (put ≡ None → ⊥)
+      → ((held : List (List ℕ)) → AgreesWith old store.kept held → EndsPutIf false put store.kept held old mid) → StopLeads mid new n now count
+      → PutLeads old new store last n now put responses moment ends (Some endings.Stopped)
+  end_failed None is count_is some makes stops = absurd (some refl)
+  end_failed (Some put) is count_is some makes stops =
+      failed_leads old mid new n now store last put responses moment ends false is.of_store sound all link count count_is makes refl stops
+
+  -- It was ended, and the reply was said.
+  pub end_made : (put : Option PutSeen) (reply : Option Reply) (result : Option ConnectionEnd) → IfSome put (IsWholePut store.kept)
+      → count ≡ written_if put → (put ≡ None → mid ≡ old)
+      → ((held : List (List ℕ)) → AgreesWith old store.kept held → EndsPutIf true put store.kept held old mid)
+      → next.kept ≡ kept_behind store.kept put → next.spent ≡ false → mid.handed ≡ old.handed + end_handed put → reply ≡ reply_if put
+      → FinishLeads mid new next last n now (response_if responses reply ++ []) count moment ends result
+      → PutLeads old new store last n now put responses moment ends result
+  end_made None reply result is count_is none makes kept unspent handed replied finishes =
+      none_leads old new n now store next last responses moment ends result kept unspent
+      (subst (λ d. FinishLeads d new next last n now (responses.reply ++ []) 0 moment ends result) (none refl)
+      (subst (λ k. FinishLeads mid new next last n now (responses.reply ++ []) k moment ends result) count_is
+      (subst (λ x. FinishLeads mid new next last n now (response_if responses x ++ []) count moment ends result) replied finishes)))
+  end_made (Some put) reply result is count_is none makes kept unspent handed replied finishes =
+      made_leads old mid new n now store last put responses moment ends true is.of_store sound all link count count_is makes refl next kept unspent
+      handed result (subst (λ x. FinishLeads mid new next last n now (response_if responses x ++ []) count moment ends result) replied finishes)
 
 -- ---- by the calls
 
@@ -217,8 +273,12 @@ size_behind kept (Write extent planned) = by_frame planned.frame planned.rows
     by_frame (Some payload) None = refl
     by_frame (Some payload) (Some text) = refl
 
+size_if : (kept : StoreView) (put : Option PutSeen) → size_of (kept_behind kept put) ≡ size_of kept
+size_if kept None = refl
+size_if kept (Some put) = size_behind kept put.plan
+
 -- a store needs as much behind it
-pub needs_behind : (store next : StoreSeen) (plan : PutPlan) → store.spent ≡ false → next.spent ≡ false → next.kept ≡ kept_after_put store.kept plan
-    → needs_in next ≡ needs_in store
-needs_behind store next plan before behind kept =
-    ap (λ b. needs_by b (size_of next.kept)) behind ∙ ap size_of kept ∙ size_behind store.kept plan ∙ ap (λ b. needs_by b (size_of store.kept)) (sym before)
+pub needs_behind : (store next : StoreSeen) (put : Option PutSeen) → store.spent ≡ false → next.spent ≡ false
+    → next.kept ≡ kept_behind store.kept put → needs_in next ≡ needs_in store
+needs_behind store next put before behind kept =
+    ap (λ b. needs_by b (size_of next.kept)) behind ∙ ap size_of kept ∙ size_if store.kept put ∙ ap (λ b. needs_by b (size_of store.kept)) (sym before)

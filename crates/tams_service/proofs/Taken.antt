@@ -1,6 +1,6 @@
 -- A body, taken piece by piece.
 use Rattle.std.proofs.Common.{◌≡◌, ◌<◌, ◌≤◌, ◌+◌, ◌-◌, ◌∙◌, ℕ, true, false, List, [], ◌∷◌, ◌++◌, length, take, Option, None, Some, refl, sym, ap, subst, arith}
-use Rattle.std.specs.Prelude.{IfSome}
+use Rattle.std.specs.Prelude.{IfSome, is_some}
 use Rattle.std.proofs.lemmas.Bool.{false≢true}
 use Rattle.std.proofs.lemmas.List.{length-append, length-take-le}
 use Rattle.disk_trait.specs.Device.{Device, IsDevice}
@@ -8,12 +8,12 @@ use Rattle.http_wire.specs.Feeds.{Fed, left_of}
 use Rattle.http_wire.specs.declared.stage.FeedStage.TheVariants.{Media}
 use Rattle.store_states.specs.Kept.{AgreesWith, StoreView}
 use Rattle.store_writes.specs.Writes.{Keeps}
-use Rattle.media_store.specs.Puts.{IsPutOf, PutSeen}
-use Rattle.media_store.specs.Stores.{StoreSeen}
+use Rattle.media_store.specs.Puts.{HandsOn, IsPutOf, MayTake, body_handed, plan_of}
+use Rattle.media_store.specs.Stores.{PutSeen, StoreSeen}
 use Rattle.request_hearing.specs.Hearing.{HearsBody}
 use Rattle.request_hearing.specs.declared.heard.Body.TheVariants as bodies
 use Rattle.tams_service.specs.Sites.{SiteCounts}
-use Rattle.tams_service.specs.Taking.{HandedMost, HandsOn, HoldsIf, HoldsPart, IsPutBegun, IsFilled, TakesBody, TakesNext, TakesOfBody, body_handed, plan_of}
+use Rattle.tams_service.specs.Taking.{HandedMost, HoldsIf, HoldsPart, IsPutBegun, IsFilled, TakesBody, TakesNext, TakesOfBody}
 use Rattle.tams_service.specs.declared.body.PieceTaken.TheVariants as pieces
 use Rattle.tams_service.specs.declared.body.BodyTaken.TheVariants as taken
 use Rattle.tams_service.proofs.Counting.{counts_none, counts_twice}
@@ -44,6 +44,20 @@ pub record HasTaken (kept : StoreView) (store : StoreSeen) (size left : ℕ) (fr
   pub handed : first.tells ≡ true → last.handed ≡ first.handed + body_handed (plan_of next) part
 
 -- ---- a piece
+
+-- where a put is under way, it may take as many bytes as are inside it
+pub may_take : (put : Option PutSeen) (n : ℕ) → IfSome put (λ p. p.handed + n ≤ p.size) → is_some put ≡ true → MayTake put n
+may_take None n inside some = absurd (false≢true some)
+may_take (Some put) n inside some = inside
+
+-- where none is, nothing is handed on
+pub hands_none : (kept : StoreView) (piece : List ℕ) (put : Option PutSeen) (d : Device) → is_some put ≡ false → HandsOn kept piece put put d d
+hands_none kept piece None d none = refl
+hands_none kept piece (Some put) d none = absurd (false≢true (sym none))
+
+pub none_handed : (put : Option PutSeen) (piece : List ℕ) (handed : ℕ) → is_some put ≡ false → handed ≡ handed + body_handed (plan_of put) piece
+none_handed None piece handed none = omega arith
+none_handed (Some put) piece handed none = absurd (false≢true (sym none))
 
 hands_from : (kept : StoreView) (piece : List ℕ) (put next : Option PutSeen) (before mid now : Device) → mid.seen ≡ before.seen → mid.shows ≡ before.shows
     → HandsOn kept piece put next mid now → HandsOn kept piece put next before now
@@ -111,23 +125,27 @@ has_none : (kept : StoreView) (size : ℕ) (put : Option PutSeen) → IfSome put
 has_none kept size None begun = tt
 has_none kept size (Some put) begun = record { of_store = begun.of_store; sized = begun.sized; handed = begun.none }
 
+pub begun_of : (kept : StoreView) (size : ℕ) (put : Option PutSeen) → IfSome put (IsPutBegun kept size) → IfSome put (IsPutOf kept)
+begun_of kept size None begun = tt
+begun_of kept size (Some put) begun = begun.of_store
+
 holds_first : (kept : StoreView) (size : ℕ) (put : Option PutSeen) (seen : List ℕ) → IfSome put (IsPutBegun kept size) → HoldsIf kept put [] seen
 holds_first kept size None seen begun = tt
 holds_first kept size (Some put) seen begun = holds_none kept put put.plan seen (rw begun.sized begun.same)
 
-pub taken_first : (store : StoreSeen) (size : ℕ) (fed : Fed) (put : Option PutSeen) (d : Device) → store.spent ≡ false
-    → IfSome put (IsPutBegun store.kept size) → HasTaken store.kept store size size fed fed put put d d
-taken_first store size fed put d unspent begun = record {
+pub taken_first : (kept : StoreView) (store : StoreSeen) (size : ℕ) (fed : Fed) (put : Option PutSeen) (d : Device) → store.put ≡ put
+    → store.kept ≡ kept → store.spent ≡ false → IfSome put (IsPutBegun kept size) → HasTaken kept store size size fed fed put store.put d d
+taken_first kept store size fed put d put_is kept_is unspent begun = rw put_is record {
   unspent = unspent;
-  kept_is = refl;
+  kept_is = kept_is;
   part = [];
   takes = takes_none fed d;
   sum = omega arith;
   counts = counts_none d;
-  keeps = λ held agrees. keeps_none store.kept held d agrees;
+  keeps = λ held agrees. keeps_none kept held d agrees;
   plan = refl;
-  has = has_none store.kept size put begun;
-  holds = λ honest shows tells held agrees. holds_first store.kept size put d.seen begun;
+  has = has_none kept size put begun;
+  holds = λ honest shows tells held agrees. holds_first kept size put d.seen begun;
   handed = λ tells. omega (arith, body_none (plan_of put));
 }
 
@@ -142,10 +160,6 @@ left_now kept store size left from now put next first last so_far stage =
     omega (arith, less, ap left_of stage, so_far.sum)
 
 -- a put takes what is left, and no more
-pub put_of : (kept : StoreView) (size : ℕ) (part : List ℕ) (put : Option PutSeen) → IfSome put (HasPart kept size part) → IfSome put (IsPutOf kept)
-put_of kept size part None has = tt
-put_of kept size part (Some put) has = has.of_store
-
 pub put_inside : (kept : StoreView) (size left : ℕ) (part : List ℕ) (put : Option PutSeen) → IfSome put (HasPart kept size part)
     → length part + left ≡ size → IfSome put (λ p. p.handed + left ≤ p.size)
 put_inside kept size left part None has sum = tt
@@ -177,7 +191,8 @@ module _ (kept : StoreView) (size : ℕ) (part piece : List ℕ) (old new : Devi
       let stays = stored_same old new kept held old_sound new_sound counts.same.honest counts.same.shows counts.same.tells honest shows tells before after in
       rw on.is
       (subst (λ plan. HoldsPart kept on.later plan (part ++ piece) new.seen) (sym on.goes.plan)
-      (holds_more kept put on.later put.plan part piece put.size old new has.handed on.goes has.of_store.plan stays holds (on.takes shows)))
+      (holds_more kept put on.later put.plan part piece put.object put.size put.moment old new has.handed on.goes has.of_store.extent stays holds
+      (on.takes shows)))
 
 module _ (kept : StoreView) (store : StoreSeen) (size left : ℕ) (from now : Fed) (put next : Option PutSeen) (first last new : Device)
     (so_far : HasTaken kept store size left from now put next first last) where

@@ -10,7 +10,8 @@ use Rattle.http_wire.specs.Steps.{wire_refusal}
 use Rattle.http_wire.specs.declared.framing.WireFault.{WireFault}
 use Rattle.library_laws.specs.MediaLaws.{IsGoodArchive}
 use Rattle.media_rows.specs.declared.refusal.Refusal.{Refusal}
-use Rattle.media_store.specs.Stores.{StoreSeen}
+use Rattle.media_rows.specs.declared.reply.Reply.{Reply}
+use Rattle.media_store.specs.Stores.{PutSeen, StoreSeen}
 use Rattle.media_store.specs.declared.turns.TurnMade.{TurnMade}
 use Rattle.media_store.specs.declared.turns.TurnMade.TheVariants.{Deleted, NoRoom, Nothing, Swept}
 use Rattle.store_states.specs.States.{StoreState}
@@ -31,14 +32,14 @@ use Rattle.request_hearing.specs.Hearing.{GivesRequest, OpensMedia, IsRefusedByW
 use Rattle.request_hearing.specs.Laws.{media_request}
 use Rattle.http_wire.specs.declared.stage.Head.{Head}
 use Rattle.media_store.specs.Changes.{kept_by}
-use Rattle.media_store.specs.Puts.{IsPutOf, PutSeen, kept_after_put, writes_by}
+use Rattle.media_store.specs.Puts.{EndsPut, IsPutOf, body_handed, kept_after_put, plan_of, writes_by}
 use Rattle.store_plans.specs.declared.puts.PutPlan.{PutPlan}
 use Rattle.store_plans.specs.declared.outcome.Planned.{Planned}
 use Rattle.store_states.specs.Kept.{StoreView}
 use Rattle.tams_answers.specs.Answers.{AnswersRequest}
-use Rattle.tams_answers.specs.Media.{MediaAnswers}
+use Rattle.tams_answers.specs.Media.{MediaAnswers, response_by}
 use Rattle.tams_answers.specs.declared.media.Responses.{Responses}
-use Rattle.tams_service.specs.Taking.{HoldsIf, body_handed, plan_of}
+use Rattle.tams_service.specs.Taking.{HoldsIf}
 use Rattle.tams_answers.specs.declared.answers.Answer.{Answer}
 use Rattle.tams_service.specs.Serving.{ServiceSeen}
 use Rattle.tams_service.specs.declared.saying.AnswerTold.{AnswerTold}
@@ -186,6 +187,21 @@ pub record IsWholePut (kept : StoreView) (put : PutSeen) : Type 0 where
 -- how many changes the end of a put writes
 abbrev pub written_by : PutPlan → ℕ
 written_by plan = if writes_by plan then 1 else 0
+
+-- the same, where there is a put
+abbrev pub written_if : Option PutSeen → ℕ
+written_if None = 0
+written_if (Some put) = written_by put.plan
+
+-- the response to a put, by its reply; where there was no put, that to its refusal
+abbrev pub response_if : Responses → Option Reply → List ℕ
+response_if responses None = responses.reply
+response_if responses (Some reply) = response_by responses reply
+
+-- what the end of a put makes of a store, where there is a put
+abbrev pub EndsPutIf : Bool → Option PutSeen → StoreView → List (List ℕ) → Device → Device → Type 0
+EndsPutIf ok None kept held old new = Unit {0}
+EndsPutIf ok (Some put) kept held old new = EndsPut ok put put.plan kept held old new
 
 -- what is kept behind a put has the store's id
 abbrev pub EndKeepsId : StoreView → PutSeen → Type 0

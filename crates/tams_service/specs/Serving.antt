@@ -1,5 +1,5 @@
 -- What a service holds, and what opening one answers.
-use Rattle.std.specs.Prelude.{◌≡◌, ℕ, Bool, false, List, IsTrue, Result, Ok, Err, if◌then◌else◌}
+use Rattle.std.specs.Prelude.{◌≡◌, ℕ, Bool, false, List, IsTrue, None, Result, Ok, Err, if◌then◌else◌}
 use Rattle.std.specs.Str.{is_utf8}
 use Rattle.http_wire.specs.Feeds.{Fed}
 use Rattle.media_journal.specs.declared.fault.JournalFault.{JournalFault}
@@ -15,13 +15,15 @@ pub record ServiceSeen : Type 0 where
   pub fed : Fed
   pub base : List ℕ
 
--- Its routes are those of its store, and its responses and its room for pieces were made.
+-- Its routes are those of its store, its responses and its room for pieces were made, and between
+-- requests no put is under way.
 pub record IsService (store : StoreSeen) (routes : ℕ) (base : List ℕ) (refusals : WireResponses)
     (room : ℕ) : Type 0 where
   pub routes_are : store.spent ≡ false → routes ≡ store.kept.library.id
   pub base_is : IsTrue (is_utf8 base)
   pub refusals_are : AreResponses base refusals
   pub room_is : room ≡ PIECE
+  pub idle : store.put ≡ None
 
 -- the least device that a store works on, in bytes; one that is spent asks for nothing
 abbrev pub needs_by : Bool → ℕ → ℕ

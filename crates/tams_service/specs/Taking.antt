@@ -1,6 +1,6 @@
 -- What taking the body of a media PUT comes to: the bytes that were heard, the part of the body
 -- that was taken of them and of the unread ones, and what the put has of it.
-use Rattle.std.specs.Prelude.{◌≡◌, ◌≢◌, ◌<◌, ◌≤◌, ◌+◌, ◌==◌, ◌&&◌, ℕ, Bool, true, false, not, List, [], ◌++◌, length, take, bytes_eq, Option, Some, None, option_map, IfSome}
+use Rattle.std.specs.Prelude.{◌≡◌, ◌≢◌, ◌<◌, ◌≤◌, ◌+◌, ◌==◌, ◌&&◌, ℕ, Bool, true, false, not, List, [], ◌++◌, length, take, bytes_eq, Option, IfSome}
 use Rattle.std.specs.List.{AllByRecursion}
 use Rattle.disk_trait.specs.Device.{Device}
 use Rattle.site_edge.specs.Links.{change_last}
@@ -8,7 +8,8 @@ use Rattle.http_wire.specs.Feeds.{Fed, left_of, less_by}
 use Rattle.store_states.specs.Kept.{AgreesWith, StoreView}
 use Rattle.store_plans.specs.declared.puts.PutPlan.{PutPlan}
 use Rattle.store_plans.specs.declared.puts.PutPlan.TheVariants.{Kept, Refused, Write}
-use Rattle.media_store.specs.Puts.{PutMovesOn, IsPutOf, PutSeen, TakesPiece, bytes_at_extent, may_be_same, handed_of_piece}
+use Rattle.media_store.specs.Puts.{HandsOn, IsPutOf, body_handed, bytes_at_extent, may_be_same, plan_of}
+use Rattle.media_store.specs.Stores.{PutSeen}
 use Rattle.request_hearing.specs.Hearing.{HearPart, IsPartOf, after_hearing}
 use Rattle.tams_service.specs.declared.body.PieceTaken.{PieceTaken}
 use Rattle.tams_service.specs.declared.body.PieceTaken.TheVariants as pieces
@@ -73,15 +74,6 @@ pub record IsFilled (kept : StoreView) (size : ℕ) (put : PutSeen) : Type 0 whe
   pub of_store : IsPutOf kept put
   pub sized : put.size ≡ size
   pub filled : put.handed ≡ put.size
-
--- what is planned, where there is a put
-abbrev pub plan_of : Option PutSeen → Option PutPlan
-plan_of put = option_map (λ p. p.plan) put
-
--- how many bytes of a part of its body are handed to the device
-abbrev pub body_handed : Option PutPlan → List ℕ → ℕ
-body_handed None part = 0
-body_handed (Some plan) part = handed_of_piece plan part
 
 -- at most so many bytes more were handed to a device
 pub record HandedMost (most : ℕ) (before now : Device) : Type 0 where
@@ -148,20 +140,6 @@ piece_end (pieces.Of count) = false
 piece_end pieces.Ended = true
 piece_end pieces.Unheard = false
 piece_end pieces.Failed = false
-
--- a put goes on behind a piece
-pub record PutGoesOn (kept : StoreView) (piece : List ℕ) (put : PutSeen) (next : Option PutSeen)
-    (before now : Device) : Type 0 where
-  pub later : PutSeen
-  pub is : next ≡ Some later
-  pub goes : PutMovesOn put later piece
-  pub of_store : IsPutOf kept later
-  pub takes : before.shows ≡ true → TakesPiece kept put.plan piece put later before now
-
--- a piece was handed to a put, where there is one
-abbrev pub HandsOn : StoreView → List ℕ → Option PutSeen → Option PutSeen → Device → Device → Type 0
-HandsOn kept piece None next before now = next ≡ None
-HandsOn kept piece (Some put) next before now = PutGoesOn kept piece put next before now
 
 -- what came of taking a piece
 abbrev pub PieceIs : PieceTaken → StoreView → List ℕ → List ℕ → Option PutSeen → Option PutSeen

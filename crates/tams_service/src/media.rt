@@ -1,12 +1,16 @@
 //! PUTs of objects' bytes.
-ghost use Rattle.std.specs.Prelude.{◌≡◌, ◌≤◌, ◌<◌, ◌+◌, ◌^◌, ℕ, List, Bool, true, None, IfSome, IsFalse, IsNone, IsSome, IsTrue};
+ghost use Rattle.std.specs.Prelude.{◌≡◌, ◌≤◌, ◌<◌, ◌+◌, ◌^◌, ℕ, List, Bool, true, false, None, IfOk, IfSome, IsFalse, IsNone, IsSome, IsTrue, OnOk, is_ok};
+ghost use Rattle.std.specs.Result.{is_err};
+ghost use Rattle.disk_trait.specs.Calls.{DiskCalls};
 ghost use Rattle.http_wire.specs.Agreeing.{MayTurn};
 ghost use Rattle.http_wire.specs.declared.stage.FeedStage.TheVariants as stages;
 ghost use Rattle.media_rows.specs.Moments.{is_moment};
+ghost use Rattle.media_store.specs.Puts.{end_handed, kept_behind, reply_if};
 ghost use Rattle.media_store.specs.Stores.{size_of};
+ghost use Rattle.store_states.specs.Kept.{AgreesWith};
 ghost use Rattle.connection_loop.specs.Turns.{ClockCalls, SiteCalls};
 ghost use Rattle.request_hearing.specs.Hearing.{OpensMedia};
-ghost use Rattle.tams_service.specs.Answering.{EndKeepsId, IsWholePut, MediaLeads, PutLeads, TakeLeads, TellsAllOf, written_by};
+ghost use Rattle.tams_service.specs.Answering.{EndKeepsId, EndsPutIf, IsWholePut, MediaLeads, TakeLeads, TellsAllOf, response_if, written_if};
 ghost use Rattle.tams_service.specs.Serving.{needs_in};
 ghost use Rattle.tams_service.specs.Taking.{IsPutBegun};
 
@@ -15,11 +19,13 @@ use crate::answering::{DueReply, TimedHead};
 use crate::body::{BodyTaken, take_body};
 use crate::ending::{starve, stop};
 use connection_loop::{ConnectionEnd, RunTally};
+use disk_trait::Failed;
 use http_wire::Head;
-use media_store::Put;
+use media_rows::Reply;
+use media_store::{Put, Store};
 use site_edge::{Clock, Site};
 use std::alloc::Global;
-use tams_answers::{MediaHead, MediaPlan, plan_media};
+use tams_answers::{MediaHead, MediaPlan, Responses, plan_media};
 
 impl TamsService {
     /// Answers a media PUT whose head came: its body is heard to its end, also where it is refused. It takes its
@@ -67,7 +73,7 @@ impl TamsService {
         }
     }
 
-    /// Hears the body of a media PUT that was planned, and answers it.
+    /// Hears the body of a media PUT that was planned, ends its put, where there is one, and says its answer.
     fn take_put<X: Site>(
         &mut self,
         alloc: Global,
@@ -97,86 +103,78 @@ impl TamsService {
             self.old.fed self.new.fed request.head plan.put plan.responses (X.device site.old)
             (X.device site.new) request.moment tally.old tally.new result }
     {
-        let MediaPlan { mut put, responses } = plan;
+        let MediaPlan { put, responses } = plan;
+        let changes = changes_of(&put);
         let room = self.room.as_mut_slice();
         let size = request.head.length;
-        match take_body(
-            &mut self.store,
-            &mut self.hearing,
-            site,
-            &mut put,
-            size,
-            room,
-        ) {
-            BodyTaken::Whole => {
-                let plan = MediaPlan { put, responses };
-                self.give_put(alloc, site, tally, plan, request)
-            }
+        match take_body(&mut self.store, &mut self.hearing, site, put, size, room) {
+            BodyTaken::Whole => match end_put(&mut self.store, site) {
+                Err(_) => Some(stop(site, tally, changes)),
+                Ok(reply) => {
+                    let reply = reply_with(response_of(&responses, &reply), changes, request);
+                    self.finish(alloc, site, tally, &reply)
+                }
+            },
             BodyTaken::Ended => {
-                let_go(put);
+                self.store.put_drop();
                 Some(ConnectionEnd::Cut)
             }
             BodyTaken::Unheard => {
-                let_go(put);
+                self.store.put_drop();
                 Some(ConnectionEnd::Unlinked)
             }
             BodyTaken::Failed => {
-                let_go(put);
+                self.store.put_drop();
                 Some(stop(site, tally, 0))
-            }
-        }
-    }
-
-    /// Ends a put whose bytes are all there, where there is one, and says its answer.
-    fn give_put<X: Site>(
-        &mut self,
-        alloc: Global,
-        site: &mut X,
-        tally: &mut RunTally,
-        plan: MediaPlan,
-        request: TimedHead,
-    ) -> Option<ConnectionEnd>
-        requires unspent { IsFalse self.old.store.spent }
-        requires device { size_of self.old.store.kept ≤ (X.device site.old).size }
-        requires under_way { (X.device site.old).link.under_way ≡ true }
-        requires filled { IfSome plan.put (IsWholePut self.old.store.kept) }
-        requires id { IfSome plan.put (EndKeepsId self.old.store.kept) }
-        requires moment { IsTrue (is_moment request.moment) }
-        requires counts { tally.old.answers < 2 ^ 60 }
-        ensures calls { SiteCalls result (X.device site.old) (X.device site.new) }
-        ensures counted { tally.new.answers ≡ tally.old.answers + 1 }
-        ensures ends { request.head.ends ≡ true → IsSome result }
-        ensures needs { needs_in self.new.store ≤ needs_in self.old.store }
-        ensures fed { self.new.fed ≡ self.old.fed }
-        ensures base { self.new.base ≡ self.old.base }
-        ensures leads { TellsAllOf (X.device site.old) → PutLeads (X.device site.old)
-            (X.device site.new) self.old.store self.new.store tally.old tally.new plan.put
-            plan.responses request.moment request.head.ends result }
-    {
-        let MediaPlan { put, responses } = plan;
-        let Some(put) = put else {
-            let reply = reply_with(responses.reply.bytes(), 0, request);
-            return self.finish(alloc, site, tally, &reply);
-        };
-        let changes = changes_of(&put);
-        match self.store.put_end(site, put) {
-            Err(_) => Some(stop(site, tally, changes)),
-            Ok(reply) => {
-                let reply = reply_with(responses.of(&reply), changes, request);
-                self.finish(alloc, site, tally, &reply)
             }
         }
     }
 }
 
-/// Lets a put go whose bytes didn't come.
-fn let_go(put: Option<Put>) {}
-
-/// How many changes the end of a put writes.
-fn changes_of(put: &Put) -> u64
-    ensures { result ≡ written_by put.now.plan }
+/// Ends the put that is under way, whose bytes are all there, where there is one; its reply.
+fn end_put<X: Site>(store: &mut Store, site: &mut X) -> Result<Option<Reply>, Failed>
+    requires unspent { IsFalse store.old.spent }
+    requires device { size_of store.old.kept ≤ (X.device site.old).size }
+    requires filled { IfSome store.old.put (IsWholePut store.old.kept) }
+    ensures makes { (X.device site.old).honest ≡ true → (X.device site.old).shows ≡ true
+        → (held : List (List ℕ)) → AgreesWith (X.device site.old) store.old.kept held
+        → EndsPutIf (is_ok result) store.old.put store.old.kept held (X.device site.old) (X.device site.new) }
+    ensures none { store.old.put ≡ None → (site.new ≡ site.old) × IsTrue (is_ok result) }
+    ensures reply { IfOk result (λ reply. reply ≡ reply_if store.old.put) }
+    ensures kept { OnOk result (store.new.kept ≡ kept_behind store.old.kept store.old.put) }
+    ensures idle { store.new.put ≡ None }
+    ensures spent { store.new.spent ≡ is_err result }
+    ensures handed { (X.device site.old).tells ≡ true → OnOk result ((X.device site.new).handed
+        ≡ (X.device site.old).handed + end_handed store.old.put) }
+    ensures calls { DiskCalls (is_ok result) (X.device site.old) (X.device site.new) }
 {
-    if put.writes() { 1 } else { 0 }
+    if !store.has_put() {
+        return Ok(None);
+    }
+    match store.put_end(site) {
+        Ok(reply) => Ok(Some(reply)),
+        Err(fault) => Err(fault),
+    }
+}
+
+/// How many changes the end of a put writes, where there is one.
+fn changes_of(put: &Option<Put>) -> u64
+    ensures { result ≡ written_if put.now }
+{
+    match put {
+        Some(put) if put.writes() => 1,
+        _ => 0,
+    }
+}
+
+/// The bytes of the response to a put, by its reply; where there was no put, to its refusal.
+fn response_of<'a>(responses: &'a Responses, reply: &Option<Reply>) -> &'a [u8]
+    ensures { result.now ≡ response_if responses.now reply.now }
+{
+    match reply {
+        None => responses.reply.bytes(),
+        Some(reply) => responses.of(reply),
+    }
 }
 
 /// A reply to a request, behind which no bytes of an object follow.

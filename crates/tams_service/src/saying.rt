@@ -57,6 +57,7 @@ pub(crate) fn say_answer<X: Site>(
     ensures keeps { (held : List (List ℕ)) → AgreesWith (X.device site.old) store.old.kept held
         → AgreesWith (X.device site.new) store.old.kept held }
     ensures kept { store.new.kept ≡ store.old.kept }
+    ensures put { store.new.put ≡ store.old.put }
     ensures spent { store.new.spent ≡ not (is_told_unfailed result) }
     ensures room { length room.new ≡ length room.old }
 {
@@ -88,6 +89,7 @@ fn say_object<X: Site>(
     ensures keeps { (held : List (List ℕ)) → AgreesWith (X.device site.old) store.old.kept held
         → AgreesWith (X.device site.new) store.old.kept held }
     ensures kept { store.new.kept ≡ store.old.kept }
+    ensures put { store.new.put ≡ store.old.put }
     ensures spent { store.new.spent ≡ not (is_told_unfailed result) }
     ensures room { length room.new ≡ length room.old }
 {
@@ -124,6 +126,7 @@ fn say_piece<X: Site>(
         → AgreesWith (X.device site.new) store.old.kept held }
     ensures seen { (X.device site.new).seen ≡ (X.device site.old).seen }
     ensures kept { store.new.kept ≡ store.old.kept }
+    ensures put { store.new.put ≡ store.old.put }
     ensures spent { store.new.spent ≡ not (is_told_unfailed result) }
     ensures room { length out.new ≡ length out.old }
 {

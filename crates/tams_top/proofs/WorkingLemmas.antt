@@ -255,10 +255,11 @@ works_to_last b d given store turns most many =
 
 -- ---- turns one after another
 
-pub works_first : (d : Device) (told : Bool) (begun : List ℕ) (store : StoreSeen) → store.spent ≡ false → size_of store.kept ≤ d.size
-    → WorksOn d d told told begun begun store store 0 0
-works_first d told begun store unspent size = record {
+pub works_first : (d : Device) (told : Bool) (begun : List ℕ) (store : StoreSeen) → store.spent ≡ false → store.put ≡ None
+    → size_of store.kept ≤ d.size → WorksOn d d told told begun begun store store 0 0
+works_first d told begun store unspent idle size = record {
   unspent = unspent;
+  idle = idle;
   size_is = size;
   counted = refl;
   calls = no_calls d;
@@ -292,17 +293,18 @@ module _ (old now new : Device) (told tells later : Bool) (begun given given_now
       ))
 
   -- The turn changed something.
-  pub works_more : (change : Change) → change_due ≡ Some change → next.spent ≡ false
+  pub works_more : (change : Change) → change_due ≡ Some change → next.spent ≡ false → next.put ≡ None
       → (now.honest ≡ true → now.shows ≡ true → (held : List (List ℕ)) → AgreesWith now store.kept held
       → MakesIf true change_due store.kept next.kept held now new)
       → IsNextIf store.kept change_due next.kept → DiskCalls true now new
       → (now.tells ≡ true → new.handed ≡ now.handed + bytes_if (journal_of store.kept) change_due)
       → WorksOn old new told later begun given_now first next (turns + 1) (counter + 1)
-  works_more change is unspent makes is_next calls handed =
+  works_more change is unspent idle makes is_next calls handed =
       let made = rw is at makes in
       let behind = rw is at is_next in
       record {
         unspent = unspent;
+        idle = idle;
         size_is = omega (arith, ap (λ (n : ℕ). 4096 * n) behind.blocks, calls.same.size, so_far.size_is);
         counted = omega (arith, so_far.counted);
         calls = calls_twice true old now new so_far.calls calls;

@@ -1,5 +1,5 @@
 //! The command that works: it makes turns, each at a moment of its own, until one changes nothing.
-ghost use Rattle.std.specs.Prelude.{◌≡◌, ◌≤◌, [], true, length, IsFalse};
+ghost use Rattle.std.specs.Prelude.{◌≡◌, ◌≤◌, [], true, length, None, IsFalse};
 ghost use Rattle.connection_loop.specs.Endings.{TellsAll};
 ghost use Rattle.disk_trait.specs.Calls.{DiskCalls, IsCounted};
 ghost use Rattle.media_store.specs.Faults.{not_disk_fault};
@@ -48,6 +48,7 @@ fn make_turns<D: Disk, C: Clock>(
     clock: &mut C,
 ) -> Result<u64, StoreFault>
     requires unspent { IsFalse store.old.spent }
+    requires idle { store.old.put ≡ None }
     requires device { size_of store.old.kept ≤ (D.device disk.old).size }
     ensures calls { DiskCalls (not_disk_fault result) (D.device disk.old) (D.device disk.new) }
     ensures worked { TellsAll (D.device disk.old) (C.tells clock.old)

@@ -1,5 +1,5 @@
 -- Turns under way, which proofs alone need.
-use Rattle.std.specs.Prelude.{◌≡◌, ◌≤◌, ◌+◌, ℕ, Bool, true, false, List, [], ◌∷◌, ◌++◌, length, All}
+use Rattle.std.specs.Prelude.{◌≡◌, ◌≤◌, ◌+◌, ℕ, Bool, true, false, List, [], ◌∷◌, ◌++◌, length, All, None}
 use Rattle.disk_trait.specs.Calls.{DiskCalls}
 use Rattle.disk_trait.specs.Device.{Device}
 use Rattle.site_edge.specs.Clocks.{IsMoment}
@@ -39,6 +39,7 @@ pub record SoMany (b : Beginning StoreState) (d : Device) (given : List ℕ) (st
 pub record WorksOn (old now : Device) (told tells : Bool) (begun given : List ℕ)
     (first store : StoreSeen) (turns counter : ℕ) : Type 0 where
   pub unspent : store.spent ≡ false
+  pub idle : store.put ≡ None
   pub size_is : size_of store.kept ≤ now.size
   pub counted : turns ≡ counter
   pub calls : DiskCalls true old now

@@ -10,7 +10,7 @@ use Rattle.tams_answers.proofs.media.responses_to.Goals as goal
 pub response_of-requires-clause-texts : goal.response_of-requires-clause-texts
 response_of-requires-clause-texts c =
     ap has_reply_texts c.reply_if_same.ensures
-    ∙ put_texts c.media_answers_have_texts.ensures c.answers_have_texts.ensures.fitted c.args.put.now c.requires.begun
+    ∙ put_texts c.media_answers_have_texts.ensures c.answers_have_texts.ensures.fitted c.args.put.now c.requires.planned
 
 pub returns : goal.returns
 returns c =

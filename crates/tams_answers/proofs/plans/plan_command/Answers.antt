@@ -1,5 +1,8 @@
-use Rattle.tams_answers.proofs.Planning.{command_planned}
+use Rattle.tams_answers.proofs.Planning.{command_planned, sent_brings_none}
 use Rattle.tams_answers.proofs.plans.plan_command.Goals as goal
+
+pub plan-requires-clause-sent : goal.plan-requires-clause-sent
+plan-requires-clause-sent c = sent_brings_none c.args.command.now c.requires.sent
 
 pub returns : goal.returns
 returns c = λ head_only.

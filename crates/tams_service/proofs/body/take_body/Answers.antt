@@ -1,17 +1,17 @@
 use Rattle.std.proofs.Common.{arith}
-use Rattle.tams_service.proofs.Taken.{keeps_so, left_now, put_inside, put_of, taken_ended, taken_failed, taken_filled, taken_first, taken_more, taken_unheard, taken_whole}
+use Rattle.tams_service.proofs.Taken.{begun_of, keeps_so, left_now, put_inside, taken_ended, taken_failed, taken_filled, taken_first, taken_more, taken_unheard, taken_whole}
 use Rattle.tams_service.proofs.body.take_body.Goals as goal
 
 pub pieces-init : goal.pieces-init
-pieces-init g c = taken_first _ _ _ _ _ c.requires.unspent c.requires.put
+pieces-init g c = taken_first _ _ _ _ _ _ c.begin.ensures.put c.begin.ensures.kept c.begin.ensures.spent c.requires.put
+
+pub begin-requires-clause-of_store : goal.begin-requires-clause-of_store
+begin-requires-clause-of_store g c = begun_of _ _ _ c.requires.put
 
 pub take_piece-requires-clause-left : goal.take_piece-requires-clause-left
 take_piece-requires-clause-left g c =
     let left = left_now _ _ _ _ _ _ _ _ _ _ c.pieces.invariant c.requires.stage in
     omega (arith, left, c.pieces-test.true)
-
-pub take_piece-requires-clause-of_store : goal.take_piece-requires-clause-of_store
-take_piece-requires-clause-of_store g c = rw c.pieces.invariant.kept_is (put_of _ _ _ _ c.pieces.invariant.has)
 
 pub take_piece-requires-clause-inside : goal.take_piece-requires-clause-inside
 take_piece-requires-clause-inside g c =

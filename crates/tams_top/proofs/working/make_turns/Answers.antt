@@ -8,7 +8,7 @@ use Rattle.tams_top.proofs.WorkingLemmas.{deleted, no_room, nothing, swept, work
 use Rattle.tams_top.proofs.working.make_turns.Goals as goal
 
 pub loop-init : goal.loop-init
-loop-init g c = works_first _ _ _ _ c.requires.unspent c.requires.device
+loop-init g c = works_first _ _ _ _ c.requires.unspent c.requires.idle c.requires.device
 
 -- A turn changed something.
 pub loop-preserved : goal.loop-preserved
@@ -22,11 +22,11 @@ loop-preserved g c =
     c.now.ensures.lasts c.now.ensures.given c.turns_keep.ensures.good in
     elim c.in-Deleted.is [
       | inl is ↦
-          more (DeleteStep c.now.result) (deleted journal due c.now.result (subst (TurnIs journal due c.now.result) is made.made)) made.spent made.makes
-          made.next made.calls made.handed
+          more (DeleteStep c.now.result) (deleted journal due c.now.result (subst (TurnIs journal due c.now.result) is made.made)) made.spent made.idle
+          made.makes made.next made.calls made.handed
       | inr is ↦
-          more (SweepStep c.now.result) (swept journal due c.now.result (subst (TurnIs journal due c.now.result) is made.made)) made.spent made.makes
-          made.next made.calls made.handed
+          more (SweepStep c.now.result) (swept journal due c.now.result (subst (TurnIs journal due c.now.result) is made.made)) made.spent made.idle
+          made.makes made.next made.calls made.handed
     ]
 
 -- One changed nothing.

@@ -1,5 +1,5 @@
 use Rattle.std.proofs.Common.{subst, sym}
-use Rattle.media_store.specs.Puts.{PutSeen}
+use Rattle.media_store.specs.Stores.{PutSeen}
 use Rattle.media_store.specs.Within.{LeavesObjects}
 use Rattle.media_store.proofs.puts.Put.take.Goals as goal
 

@@ -8,7 +8,7 @@ pub read_kept-requires-clause-device : goal.read_kept-requires-clause-device
 read_kept-requires-clause-device g c =
     let good = subst (λ (s : StoreSeen). Good s.kept.library) c.self.view_is c.keeps_good.ensures in
     let store = subst (λ (s : StoreSeen). IsSoundStore s.kept) c.self.view_is
-    (c.self.invariant (ap (λ (s : StoreSeen). s.spent) c.self.view_is ∙ c.requires.unspent)) in
+    (c.self.invariant (ap (λ (s : StoreSeen). s.spent) c.self.view_is ∙ c.requires.unspent)).sound in
     rw c.area-area.ensures
     (on_device c.args.self.now.kept c.args.extent _ store c.requires.device (extent_within c.args.self.now.kept.library c.args.extent good c.requires.stored))
 

@@ -1,8 +1,9 @@
 use Rattle.std.proofs.Common.{subst}
 use Rattle.media_rows.specs.Answer.{answer}
-use Rattle.store_plans.specs.Plans.{IsPlanOf}
-use Rattle.media_store.specs.Changes.{CanCommit}
+use Rattle.store_states.specs.Fitting.{fitted}
+use Rattle.store_plans.specs.Plans.{IsPlanOf, PlanFits}
 use Rattle.media_store.specs.Stores.{StoreSeen, journal_of}
+use Rattle.media_store.proofs.Commands.{none_fitted, none_stored}
 use Rattle.media_store.proofs.Outcomes.{ready}
 use Rattle.media_store.proofs.store.Store.plan.Goals as goal
 
@@ -13,6 +14,10 @@ returns-clause-planned c =
 
 pub returns-clause-ready : goal.returns-clause-ready
 returns-clause-ready c =
-    subst (λ (s : StoreSeen). CanCommit s.kept c.in_ok-planned.planned) c.self.view_is
-    (ready (record { library = c.self.inside.library; journal = c.self.inside.journal }) (answer c.self.inside.library c.args.command.now c.args.now)
-    c.in_ok-planned.planned c.in_ok-planned.ensures.planned c.in_ok-planned.ensures.fits)
+    let kept = c.args.self.now.kept in
+    let outcome = answer kept.library c.args.command.now c.args.now in
+    let planned = subst (λ (s : StoreSeen). IsPlanOf (journal_of s.kept) (answer s.kept.library c.args.command.now c.args.now) c.in_ok-planned.planned)
+    c.self.view_is c.in_ok-planned.ensures.planned in
+    let fits = subst (λ (s : StoreSeen). PlanFits s.kept.journal c.in_ok-planned.planned) c.self.view_is c.in_ok-planned.ensures.fits in
+    ready kept (fitted (journal_of kept) outcome) c.in_ok-planned.planned planned fits
+    (none_fitted (journal_of kept) outcome (none_stored kept.library c.args.command.now c.args.now c.requires.sent))

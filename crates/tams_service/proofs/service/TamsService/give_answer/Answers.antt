@@ -17,8 +17,8 @@ returns-in-Err-clause-leads g c = λ all.
     rw (← c.self.view_is, c.stop.ensures.stopped)
     (λ p text rest r asks keeps request answers few.
     give_failed p old mid (g.X.Disk.device c.stop.new.site) c.args.tally.now c.stop.new.tally text rest c.self.inside.store r c.args.request.moment
-    c.args.answer asks keeps answers failed.calls.link
-    (λ change came makes fits there. failed.makes all.honest all.shows p.state.archive.held change came keeps.agrees makes fits there)
+    c.args.answer asks keeps answers failed.calls.link c.commit.new.self.kept
+    (λ change step. failed.makes all.honest all.shows p.state.archive.held keeps.agrees change step)
     (λ none. false≢true (failed.unchanged none).1)
     (rw c.changes_of-changes.ensures at c.stop.ensures.leads behind) c.commit.new.self c.args.request.head.ends request)
 
@@ -34,10 +34,10 @@ returns-clause-leads g c = λ all.
     rw (← c.self.view_is)
     (λ p text rest r asks keeps request answers few.
     give_made p old mid (g.X.Disk.device c.finish.new.site) c.args.tally.now c.finish.new.tally text rest store r c.args.request.moment
-    c.args.answer asks keeps answers made.calls.link c.media_follows.ensures
-    (λ change came makes fits there. made.makes all.honest all.shows p.state.archive.held change came keeps.agrees makes fits there)
+    c.args.answer asks keeps answers made.calls.link c.media_follows.ensures c.commit.new.self
+    (λ change step. made.makes all.honest all.shows p.state.archive.held keeps.agrees change step)
     (λ none. ap (λ d. g.X.Disk.device d) (made.unchanged none).0)
-    (made.handed all.tells) c.commit.new.self made.kept made.spent
+    (made.handed all.tells) made.kept made.spent
     (bytes_seen store old p.state (g.met.X.Disk.sound c.args.site.now) all.honest all.shows all.tells keeps)
     (media_or_none (IsExtent store.kept.library) (c.args.answer.planned.frame ≡ None) c.args.answer.media (rw (← c.self.view_is) at c.requires.media))
     c.finish.new.self.store c.args.request.head.ends request few c.finish.result

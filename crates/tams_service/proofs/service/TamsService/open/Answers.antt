@@ -28,4 +28,5 @@ invariant_of-result g c = record {
   base_is = c.requires.base;
   refusals_are = c.in_ok-refusals.ensures;
   room_is = c.in_ok-room.ensures.len;
+  idle = c.in_ok-store.ensures.idle;
 }

@@ -1,54 +1,117 @@
-use Rattle.std.proofs.Common.{refl}
+use Rattle.std.proofs.Common.{◌∙◌, None, Some, ap, arith, refl, sym}
+use Rattle.std.proofs.lemmas.Bool.{false≢true}
 use Rattle.connection_loop.proofs.Turning.{calls_more}
+use Rattle.connection_loop.specs.declared.ending.ConnectionEnd.TheVariants.{Stopped}
 use Rattle.tams_service.proofs.Bodies.{cut_calls, take_ended, take_failed, take_unheard, take_whole}
-use Rattle.tams_service.proofs.Calls.{calls_held, unlinked_calls}
-use Rattle.tams_service.proofs.Ids.{id_with}
+use Rattle.tams_service.proofs.Calls.{calls_held, disk_held, disk_stopped, stopped_more, unlinked_calls}
+use Rattle.tams_service.proofs.Giving.{none_follows}
 use Rattle.tams_service.proofs.Planned.{may_go_on, put_whole}
-use Rattle.tams_service.proofs.Putting.{tells_on}
+use Rattle.tams_service.proofs.Putting.{end_failed, end_made, finishes_with, needs_behind, tells_on, written_few, written_same}
 use Rattle.tams_service.proofs.service.TamsService.take_put.Goals as goal
 
-pub give_put-requires-clause-filled : goal.give_put-requires-clause-filled
-give_put-requires-clause-filled g c = put_whole _ _ c.args.request.head.length _ (c.in-Whole.ensures.filled refl) c.in-Whole.ensures.kept
+pub end_put-requires-clause-filled : goal.end_put-requires-clause-filled
+end_put-requires-clause-filled g c = put_whole _ _ c.args.request.head.length _ (c.in-Whole.ensures.filled refl) c.in-Whole.ensures.kept
 
-pub give_put-requires-clause-id : goal.give_put-requires-clause-id
-give_put-requires-clause-id g c =
-    rw c.in-Whole.ensures.kept
-    (id_with c.self.inside.store.kept c.take_body.new.put c.args.plan.put (c.in-Whole.ensures.plan refl) (rw (← c.self.view_is) at c.requires.id))
+-- its end writes one change at most
+pub finish-requires-clause-few : goal.finish-requires-clause-few
+finish-requires-clause-few g c = rw c.reply_with-reply.ensures.rest.1 (written_few _ _ c.changes_of-changes.ensures)
 
+-- It was ended, and its reply said.
 pub returns-in-Whole-clause-calls : goal.returns-in-Whole-clause-calls
 returns-in-Whole-clause-calls g c =
-    calls_more c.give_put.result (g.X.Disk.device c.args.site.now) (g.X.Disk.device c.take_body.new.site) (g.X.Disk.device c.give_put.new.site)
-    (calls_held _ _ c.in-Whole.ensures.calls) c.give_put.ensures.calls
+    let old = g.X.Disk.device c.args.site.now in
+    let mid = g.X.Disk.device c.take_body.new.site in
+    let end = g.X.Disk.device c.end_put.new.site in
+    let new = g.X.Disk.device c.finish.new.site in
+    calls_more c.finish.result old mid new (calls_held old mid c.in-Whole.ensures.calls)
+    (calls_more c.finish.result mid end new (disk_held mid end c.in-Ok.ensures.calls) c.finish.ensures.calls)
 
 pub returns-in-Whole-clause-leads : goal.returns-in-Whole-clause-leads
 returns-in-Whole-clause-leads g c = λ all.
     let old = g.X.Disk.device c.args.site.now in
     let mid = g.X.Disk.device c.take_body.new.site in
+    let end = g.X.Disk.device c.end_put.new.site in
+    let new = g.X.Disk.device c.finish.new.site in
     let body = c.in-Whole.ensures in
-    rw (← c.self.view_is, c.give_put.ensures.fed)
-    (take_whole old mid c.self.inside.store c.take_body.new.store c.self.inside.hearing c.take_body.new.hearing c.args.request.head c.take_body.new.put
-    c.args.plan.put c.args.plan.responses c.args.request.moment c.args.tally.now all body.kept body.keeps (g.X.Disk.device c.give_put.new.site)
-    c.give_put.new.tally c.give_put.new.self.store c.give_put.result body.takes body.spent (body.plan refl) (body.filled refl)
-    (c.give_put.ensures.leads (tells_on old mid body.calls.same all)))
+    let ended = c.in-Ok.ensures in
+    let request = c.args.request in
+    let reply = c.reply_with-reply.ensures in
+    let behind = tells_on old mid body.calls.same all in
+    let whole = put_whole _ _ request.head.length _ (body.filled refl) body.kept in
+    rw (← c.self.view_is, c.finish.ensures.fed)
+    (take_whole old mid c.self.inside.store c.take_body.new.store c.self.inside.hearing c.take_body.new.hearing request.head c.take_body.new.store.put
+    c.args.plan.put c.args.plan.responses request.moment c.args.tally.now all body.kept body.keeps new c.finish.new.tally c.finish.new.self.store
+    c.finish.result body.takes body.spent (body.plan refl) (body.filled refl)
+    (end_made mid end new c.args.tally.now c.finish.new.tally c.take_body.new.store c.end_put.new.store c.finish.new.self.store c.args.plan.responses
+    request.moment request.head.ends (g.met.X.Disk.sound c.take_body.new.site) behind ended.calls.link c.changes_of-changes.result
+    c.take_body.new.store.put c.in-Ok.reply c.finish.result whole
+    (c.changes_of-changes.ensures ∙ sym (written_same _ _ (body.plan refl))) (λ none. ap (λ d. g.X.Disk.device d) (ended.none none).0)
+    (ended.makes behind.honest behind.shows) ended.kept ended.spent (ended.handed behind.tells) ended.reply
+    (finishes_with end new c.end_put.new.store c.finish.new.self.store c.args.tally.now c.finish.new.tally request.moment c.finish.result
+    c.reply_with-reply.result _ _ c.changes_of-changes.result request.head.ends
+    (c.finish.ensures.leads (tells_on mid end ended.calls.same behind) (none_follows c.reply_with-reply.result.media _ reply.rest.0)) (reply.response ∙ c.response_of.ensures) reply.rest)))
+
+pub returns-in-Whole-clause-needs : goal.returns-in-Whole-clause-needs
+returns-in-Whole-clause-needs g c =
+    let body = c.in-Whole.ensures in
+    let ended = c.in-Ok.ensures in
+    let first = needs_behind c.self.inside.store c.take_body.new.store None (rw (← c.self.view_is) at c.requires.unspent) body.spent body.kept in
+    let then = needs_behind c.take_body.new.store c.end_put.new.store c.take_body.new.store.put body.spent ended.spent ended.kept in
+    rw (← c.self.view_is) (omega (arith, first, then, c.finish.ensures.needs))
 
 pub returns-in-Whole-clause-ready : goal.returns-in-Whole-clause-ready
 returns-in-Whole-clause-ready g c =
     let head = c.args.request.head in
-    rw c.give_put.ensures.fed
-    (may_go_on c.self.inside.hearing c.take_body.new.hearing head.length head.ends c.take_body.new.put (g.X.Disk.device c.args.site.now)
-    (g.X.Disk.device c.take_body.new.site) c.self.inside.store.kept c.give_put.result (rw (← c.self.view_is) at c.requires.stage)
-    (rw (← c.self.view_is) at c.requires.ended) c.in-Whole.ensures.takes c.give_put.ensures.ends)
+    rw c.finish.ensures.fed
+    (may_go_on c.self.inside.hearing c.take_body.new.hearing head.length head.ends c.take_body.new.store.put (g.X.Disk.device c.args.site.now)
+    (g.X.Disk.device c.take_body.new.site) c.self.inside.store.kept c.finish.result (rw (← c.self.view_is) at c.requires.stage)
+    (rw (← c.self.view_is) at c.requires.ended) c.in-Whole.ensures.takes
+    (λ last. c.finish.ensures.ends (c.reply_with-reply.ensures.rest.3 ∙ last)))
 
+-- The disk failed in its end.
+pub returns-in-Err-clause-calls : goal.returns-in-Err-clause-calls
+returns-in-Err-clause-calls g c =
+    let old = g.X.Disk.device c.args.site.now in
+    let mid = g.X.Disk.device c.take_body.new.site in
+    let end = g.X.Disk.device c.end_put.new.site in
+    let new = g.X.Disk.device c.stop.new.site in
+    rw c.stop.ensures.stopped
+    (calls_more (Some Stopped) old mid new (calls_held old mid c.in-Whole.ensures.calls)
+    (stopped_more mid end new (disk_stopped mid end c.in-Err.ensures.calls) c.stop.ensures.calls))
+
+pub returns-in-Err-clause-leads : goal.returns-in-Err-clause-leads
+returns-in-Err-clause-leads g c = λ all.
+    let old = g.X.Disk.device c.args.site.now in
+    let mid = g.X.Disk.device c.take_body.new.site in
+    let end = g.X.Disk.device c.end_put.new.site in
+    let new = g.X.Disk.device c.stop.new.site in
+    let body = c.in-Whole.ensures in
+    let failed = c.in-Err.ensures in
+    let request = c.args.request in
+    let behind = tells_on old mid body.calls.same all in
+    let whole = put_whole _ _ request.head.length _ (body.filled refl) body.kept in
+    rw (← c.self.view_is, c.stop.ensures.stopped)
+    (take_whole old mid c.self.inside.store c.take_body.new.store c.self.inside.hearing c.take_body.new.hearing request.head c.take_body.new.store.put
+    c.args.plan.put c.args.plan.responses request.moment c.args.tally.now all body.kept body.keeps new c.stop.new.tally c.end_put.new.store
+    (Some Stopped) body.takes body.spent (body.plan refl) (body.filled refl)
+    (end_failed mid end new c.args.tally.now c.stop.new.tally c.take_body.new.store c.end_put.new.store c.end_put.new.store c.args.plan.responses
+    request.moment request.head.ends (g.met.X.Disk.sound c.take_body.new.site) behind failed.calls.link c.changes_of-changes.result
+    c.take_body.new.store.put whole (c.changes_of-changes.ensures ∙ sym (written_same _ _ (body.plan refl)))
+    (λ none. false≢true (failed.none none).1) (failed.makes behind.honest behind.shows)
+    (c.stop.ensures.leads (tells_on mid end failed.calls.same behind))))
+
+-- Not all of it came.
 pub returns-in-Ended-clause-calls : goal.returns-in-Ended-clause-calls
 returns-in-Ended-clause-calls g c = cut_calls _ _ c.in-Ended.ensures.calls
 
 pub returns-in-Ended-clause-leads : goal.returns-in-Ended-clause-leads
 returns-in-Ended-clause-leads g c = λ all.
     let body = c.in-Ended.ensures in
+    let dropped = c.put_drop.ensures in
     rw (← c.self.view_is)
-    (take_ended (g.X.Disk.device c.args.site.now) (g.X.Disk.device c.take_body.new.site) c.self.inside.store c.take_body.new.store c.self.inside.hearing
-    c.take_body.new.hearing c.args.request.head c.take_body.new.put c.args.plan.put c.args.plan.responses c.args.request.moment c.args.tally.now all
-    body.kept body.keeps body.takes body.spent)
+    (take_ended (g.X.Disk.device c.args.site.now) (g.X.Disk.device c.take_body.new.site) c.self.inside.store c.put_drop.new.self c.self.inside.hearing
+    c.take_body.new.hearing c.args.request.head c.take_body.new.store.put c.args.plan.put c.args.plan.responses c.args.request.moment c.args.tally.now
+    all (dropped.kept ∙ body.kept) body.keeps body.takes (dropped.spent ∙ body.spent))
 
 pub returns-in-Unheard-clause-calls : goal.returns-in-Unheard-clause-calls
 returns-in-Unheard-clause-calls g c = unlinked_calls _ _ c.in-Unheard.ensures.calls
@@ -56,17 +119,19 @@ returns-in-Unheard-clause-calls g c = unlinked_calls _ _ c.in-Unheard.ensures.ca
 pub returns-in-Unheard-clause-leads : goal.returns-in-Unheard-clause-leads
 returns-in-Unheard-clause-leads g c = λ all.
     let body = c.in-Unheard.ensures in
+    let dropped = c.put_drop-in-Unheard.ensures in
     rw (← c.self.view_is)
-    (take_unheard (g.X.Disk.device c.args.site.now) (g.X.Disk.device c.take_body.new.site) c.self.inside.store c.take_body.new.store c.self.inside.hearing
-    c.take_body.new.hearing c.args.request.head c.take_body.new.put c.args.plan.put c.args.plan.responses c.args.request.moment c.args.tally.now all
-    body.kept body.keeps body.takes body.spent)
+    (take_unheard (g.X.Disk.device c.args.site.now) (g.X.Disk.device c.take_body.new.site) c.self.inside.store c.put_drop-in-Unheard.new.self
+    c.self.inside.hearing c.take_body.new.hearing c.args.request.head c.take_body.new.store.put c.args.plan.put c.args.plan.responses
+    c.args.request.moment c.args.tally.now all (dropped.kept ∙ body.kept) body.keeps body.takes (dropped.spent ∙ body.spent))
 
-pub returns-in-Failed-clause-leads : goal.returns-in-Failed-clause-leads
-returns-in-Failed-clause-leads g c = λ all.
+pub returns-clause-leads : goal.returns-clause-leads
+returns-clause-leads g c = λ all.
     let old = g.X.Disk.device c.args.site.now in
     let mid = g.X.Disk.device c.take_body.new.site in
     let body = c.in-Failed.ensures in
-    rw (← c.self.view_is, c.stop.ensures.stopped)
-    (take_failed old mid c.self.inside.store c.take_body.new.store c.self.inside.hearing c.take_body.new.hearing c.args.request.head c.take_body.new.put
-    c.args.plan.put c.args.plan.responses c.args.request.moment c.args.tally.now all body.kept body.keeps (g.X.Disk.device c.stop.new.site)
-    c.stop.new.tally body.takes (c.stop.ensures.leads (tells_on old mid body.calls.same all)))
+    rw (← c.self.view_is, c.stop-in-Failed.ensures.stopped)
+    (take_failed old mid c.self.inside.store c.put_drop-in-Failed.new.self c.self.inside.hearing c.take_body.new.hearing c.args.request.head
+    c.take_body.new.store.put c.args.plan.put c.args.plan.responses c.args.request.moment c.args.tally.now all
+    (c.put_drop-in-Failed.ensures.kept ∙ body.kept) body.keeps (g.X.Disk.device c.stop-in-Failed.new.site) c.stop-in-Failed.new.tally body.takes
+    (c.stop-in-Failed.ensures.leads (tells_on old mid body.calls.same all)))
