@@ -9,7 +9,7 @@ store, whose record has a gate that is synced apart. `replay` reads its requests
 to one, which counts.
 
 Each round runs all in turn over fresh files in one folder; the best of the rounds of each count. The
-program has to be built: `cd crates/tams && rt run`.
+program has to be built: `cd crates/tams && rt run`; `TAMS` names another one.
 """
 import json
 import os
@@ -21,7 +21,7 @@ import time
 # as ./tams runs the store: memory in large pages
 os.environ.setdefault("GLIBC_TUNABLES", "glibc.malloc.hugetlb=1:glibc.malloc.tcache_count=127")
 HERE = os.path.dirname(os.path.abspath(__file__))
-TAMS = os.path.join(HERE, "..", "crates", "tams", "out", "tams")
+TAMS = os.environ.get("TAMS") or os.path.join(HERE, "..", "crates", "tams", "out", "tams")
 STORE_ID = "00000000-0000-4000-8000-000000000001"
 BODY = b'{"source_id":"00000000-0000-4000-8000-0000000000a1","format":"urn:x-nmos:format:video"}'
 FLOW = b"/flows/00000000-0000-4000-8000-0000000000f1"

@@ -15,7 +15,7 @@ import tempfile
 import time
 
 HERE = os.path.dirname(os.path.abspath(__file__))
-TAMS = os.path.join(HERE, "..", "crates", "tams", "out", "tams")
+TAMS = os.environ.get("TAMS") or os.path.join(HERE, "..", "crates", "tams", "out", "tams")
 STORE_ID = "00000000-0000-4000-8000-000000000001"
 BODY = b'{"source_id":"00000000-0000-4000-8000-0000000000a1","format":"urn:x-nmos:format:video"}'
 # What the record of such a put takes of the journal, and a row with some room for records behind the rows, in bytes.

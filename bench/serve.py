@@ -18,7 +18,8 @@ copy, and once (`sendfile off`) it copies too. The time from the first byte of a
 counts.
 
 Each round runs all in turn over fresh files in one folder; the best of the rounds of each count. BENCH_FOLDER says
-in which folder the files lie. The program has to be built: `cd crates/tams && rt run`.
+in which folder the files lie. The program has to be built:
+`cd crates/tams && rt run`; `TAMS` names another one.
 """
 import contextlib
 import http.server
@@ -36,7 +37,7 @@ import threading
 import time
 
 HERE = os.path.dirname(os.path.abspath(__file__))
-TAMS = os.path.join(HERE, "..", "crates", "tams", "out", "tams")
+TAMS = os.environ.get("TAMS") or os.path.join(HERE, "..", "crates", "tams", "out", "tams")
 STORE_ID = "00000000-0000-4000-8000-000000000001"
 FLOW = b"/flows/00000000-0000-4000-8000-0000000000f1"
 BODY = b'{"source_id":"00000000-0000-4000-8000-0000000000a1","format":"urn:x-nmos:format:video"}'

@@ -3,12 +3,6 @@
 #![tactic(auto)]
 
 #[cfg(test)]
-mod ids;
-#[cfg(test)]
-mod objects;
-#[cfg(test)]
 mod outboxes;
 #[cfg(test)]
 mod requests;
-#[cfg(test)]
-mod trees;

@@ -22,6 +22,5 @@ pub use crate::laws::{
 };
 pub use crate::whole::{
     decode_change, decode_row, encode_change, encode_row, encode_row_if_spelled, has_spelling,
-    spell_change,
 };
 pub use field_codec::{CodecFault, Fields};

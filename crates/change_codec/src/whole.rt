@@ -22,18 +22,8 @@ pub fn has_spelling(change: &Change) -> bool
     change.can_write()
 }
 
-/// The one spelling of a change. A change that has none is want of memory.
-pub fn encode_change(alloc: Global, change: &Change) -> Result<Text, Memory>
-    ensures { IfOk result (λ text. SpellsChange text change.now) }
-{
-    if !has_spelling(change) {
-        return Err(Memory);
-    }
-    spell_change(alloc, change)
-}
-
 /// The one spelling of a change that has one.
-pub fn spell_change(alloc: Global, change: &Change) -> Result<Text, Memory>
+pub fn encode_change(alloc: Global, change: &Change) -> Result<Text, Memory>
     requires { CanWriteChange change.now }
     ensures { IfOk result (λ text. SpellsChange text change.now) }
 {

@@ -1,10 +1,9 @@
-//! Changing commands, each as a core prepares it.
-ghost use Rattle.std.specs.Prelude.{◌≡◌, IsTrue, None};
+//! Commands that change something, each as a core prepares it.
+ghost use Rattle.std.specs.Prelude.{◌≡◌, IsTrue};
 ghost use Rattle.media_rows.specs.Good.{is_body_text};
 ghost use Rattle.media_rows.specs.Moments.{is_moment};
 ghost use Rattle.media_rows.specs.Objects.{is_stored_row, object_of};
 ghost use Rattle.media_rows.specs.Sound.{are_posts_good, is_good_command, is_new_hook_good, is_part_good};
-ghost use Rattle.media_rows.specs.Views.{asked};
 
 use crate::let_go;
 use crate::stop::{Stop, stop_of};
@@ -32,7 +31,6 @@ fn taken(made: Result<Prepared, BookFault>) -> Result<Prepared, Stop> {
 
 /// What a command makes of a library.
 fn prepared(alloc: Global, core: &Core, command: Command, now: u64) -> Result<Prepared, Stop>
-    requires changing { asked core.now command ≡ None }
     requires good { IsTrue (is_good_command core.now command) }
     requires moment { IsTrue (is_moment now) }
 {

@@ -1,3 +1,2 @@
 pub mod Replies
-pub mod Within
 pub use Rattle.media_rows.specs.Views

@@ -1,5 +1,5 @@
--- The reply to an asking command. Our own profile of the Time-addressable Media Store.
-use Rattle.std.specs.Prelude.{◌≡◌, Option, Some, Result, Ok, Err, option_map}
+-- The reply to a question. Our own profile of the Time-addressable Media Store.
+use Rattle.std.specs.Prelude.{◌≡◌, Result, Ok, Err}
 use Rattle.media_rows.specs.declared.refusal.BookFault.{BookFault}
 use Rattle.media_rows.specs.declared.refusal.BookFault.TheVariants as books
 use Rattle.media_rows.specs.declared.refusal.Refusal.{Refusal}
@@ -14,7 +14,7 @@ replied (Err refusal) = Err refusal
 
 -- A question is answered by what it shows, and a refusal as it is. Want of memory may stand at any
 -- place.
-abbrev pub IsReply : Option (Result View Refusal) → Result Reply BookFault → Type 0
-IsReply shown (Ok reply) = option_map replied shown ≡ Some (Ok reply)
-IsReply shown (Err (books.Refused why)) = option_map replied shown ≡ Some (Err why)
+abbrev pub IsReply : Result View Refusal → Result Reply BookFault → Type 0
+IsReply shown (Ok reply) = replied shown ≡ Ok reply
+IsReply shown (Err (books.Refused why)) = replied shown ≡ Err why
 IsReply shown (Err books.Memory) = Unit {0}

@@ -1,8 +1,8 @@
-//! What is answered to the commands that ask a library, and change nothing.
+//! What is answered to the questions that a library is asked.
 #![tactic(auto)]
 
-mod commands;
 mod flows;
 mod media;
+mod questions;
 
-pub use crate::commands::query;
+pub use crate::questions::query;

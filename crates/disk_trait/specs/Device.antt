@@ -78,17 +78,18 @@ may_leave d = d.left_since d.moment
 abbrev pub told_by : Device → List (List ℕ)
 told_by d = map (λ c. c.told) d.link.connections
 
--- the device as it reads, with what it told
-abbrev pub as_read : Device → Left
-as_read d = record { image = d.seen; told = told_by d }
+-- the bytes that a read gives, where this was told
+abbrev pub read_with : Device → List (List ℕ) → Left
+read_with d told = record { image = d.seen; told = told }
 
 -- What holds of every device at every moment: each image that a crash may leave of an honest one
 -- has its length, and so has what it shows; what a crash since one moment may leave it may leave
--- since any earlier one; an honest device as it reads may be left; and a crash now leaves told just
--- what was told.
+-- since any earlier one; a crash now may leave the bytes that a read gives, so that what holds of
+-- each image that a crash may leave holds of what is shown; and a crash now leaves told just what
+-- was told.
 pub record IsDevice (d : Device) : Type 0 where
   pub images : d.honest ≡ true → (t : ℕ) (p : Left) → d.left_since t p → length p.image ≡ d.size
   pub length : d.shows ≡ true → length d.seen ≡ d.size
   pub earlier : (t u : ℕ) (p : Left) → t ≤ u → u ≤ d.moment → d.left_since u p → d.left_since t p
-  pub itself : d.honest ≡ true → d.shows ≡ true → d.tells ≡ true → may_leave d (as_read d)
+  pub itself : d.shows ≡ true → (told : List (List ℕ)) × may_leave d (read_with d told)
   pub told : d.honest ≡ true → d.tells ≡ true → (p : Left) → may_leave d p → p.told ≡ told_by d

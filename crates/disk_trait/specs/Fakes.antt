@@ -1,5 +1,5 @@
 -- What a device in memory means that keeps no calls: it shows its bytes and tells nothing else.
-use Rattle.std.specs.Prelude.{ℕ, Bool, true, false, List, [], length, refl}
+use Rattle.std.specs.Prelude.{◌≡◌, ℕ, Bool, true, false, List, [], length, refl}
 use Rattle.disk_trait.specs.Device.{Device, Dials, IsDevice, Link}
 
 -- no call of `dial`, of whose ports nothing is told
@@ -21,7 +21,8 @@ untold_link faults peer_faults under_way = record {
 abbrev pub no_link : Link
 no_link = untold_link 0 0 false
 
--- A device of these bytes that never fails and isn't honest: of crashes it tells nothing.
+-- A device of these bytes that never fails and isn't honest: a crash may leave any bytes of its
+-- length.
 abbrev pub plain_device : List ℕ → Device
 plain_device bytes = record {
   size = length bytes;
@@ -33,15 +34,15 @@ plain_device bytes = record {
   handed = 0;
   link = no_link;
   moment = 0;
-  left_since = λ _ _. ⊥;
+  left_since = λ _ left. length left.image ≡ length bytes;
 }
 
--- it is a device, of which no crash leaves anything
+-- it is a device
 pub plain_device_is_sound : (bytes : List ℕ) → IsDevice (plain_device bytes)
 plain_device_is_sound bytes = record {
   length = λ _. refl;
   images = λ honest _ _ _. cc;
   earlier = λ t u p _ _ left. left;
-  itself = λ honest _ _. cc;
+  itself = λ _. ([], refl);
   told = λ honest _ _ _. cc;
 }

@@ -124,12 +124,15 @@ memory_device_is_sound disk = record {
         image = left.image;
         told = left.told;
       };
-  itself = λ _ _ _. record {
-    moment = length disk.past.calls;
-    later = omega arith;
-    within = omega arith;
-    image = itself_at_last disk.past;
-    told = refl;
-  };
+  itself = λ _. (
+    [],
+    record {
+      moment = length disk.past.calls;
+      later = omega arith;
+      within = omega arith;
+      image = itself_at_last disk.past;
+      told = refl;
+    },
+  );
   told = λ _ _ p left. left.told;
 }

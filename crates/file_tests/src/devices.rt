@@ -5,9 +5,6 @@ use std::test::Fail;
 
 pub(crate) const ID: u128 = 0x00000000_0000_4000_8000_000000000001;
 
-/// A payload.
-pub(crate) const PAYLOAD: [u8; 58] = [7; 58];
-
 /// A device of so many bytes, none of them 0 or 1.
 pub(crate) fn device(alloc: Global, length: usize) -> Result<MemoryDisk, Memory> {
     let bytes = Text::from_vec(vec![in alloc; 255u8; length]?);

@@ -1,10 +1,8 @@
-//! Tests of the journal and of the edge, of what no case of a program shows: files, streams and sockets of this machine, stops
-//! within a checkpoint, and whole changes of a store. A test build proves all functions of its crate, so tests stand in a crate
-//! of their own.
+//! Tests of the edge and of the journal, of what no case of a program shows: files, streams and sockets of this machine, and
+//! the pieces in which a long half is read. A test build proves all functions of its crate, so tests stand in a crate of their
+//! own.
 #![tactic(auto)]
 
-#[cfg(test)]
-mod checkpoints;
 #[cfg(test)]
 mod devices;
 #[cfg(test)]
@@ -19,7 +17,5 @@ mod host_sinks;
 mod net_sites;
 #[cfg(test)]
 mod openings;
-#[cfg(test)]
-mod store_calls;
 #[cfg(test)]
 mod store_files;

@@ -9,7 +9,6 @@ use Rattle.std.specs.List.{flat_map, repeat}
 use Rattle.form_urlencoded.specs.Form.{append_pair}
 use Rattle.http_wire.specs.Response.{crlf}
 use Rattle.media_rows.specs.Lists.{numbers_below}
-use Rattle.generated_workload.specs.declared.workload.TheConstants.{MOST_COUNT}
 
 -- ---- requests, with no field but the length of a body
 
@@ -129,7 +128,7 @@ half_query count = append_pair [] (codes "timerange") (seconds_range 0 (half_end
 abbrev pub HalfQueryIsSpelled : Type 0
 HalfQueryIsSpelled =
     (count : ℕ)
-    → count ≤ MOST_COUNT
+    → count ≤ 1000
     → half_query count
     ≡ codes "timerange=%5B0%3A0_" ++ decimal (half_end count) ++ codes "%3A0%29"
 

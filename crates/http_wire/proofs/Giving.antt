@@ -15,8 +15,6 @@ use Rattle.http_wire.specs.declared.stage.Head.{Head}
 use Rattle.http_wire.specs.declared.stage.FeedStage.{FeedStage}
 use Rattle.http_wire.specs.declared.stage.FeedStage.TheVariants.{Failed, Media, Open}
 use Rattle.http_wire.specs.declared.stage.FeedStep.TheVariants as steps
-use Rattle.http_wire.specs.Steps.{wire_refusal}
-use Rattle.media_rows.specs.declared.refusal.Refusal.{Refusal}
 use Rattle.http_wire.proofs.Seeking.{text_at-take}
 
 -- ---- places in the bytes that are given
@@ -100,16 +98,12 @@ leaves_by kept parts content body was stage other requests number n had ended is
 }
 
 module _ (kept parts : GivenParts) (bytes content body : List ℕ) (was : FeedStage) (requests : ℕ) (had : Bool) (there : bytes ≡ kept.unread) where
-  pub turn_refused : (fault : WireFault) (refusal : Refusal) → parts ≡ held 0 kept → refusal ≡ wire_refusal fault → IsNext bytes (refused fault)
-      → Turns (fed_of kept content was requests had) (steps.Refused refusal) (fed_of parts body (Failed fault) requests had)
-  turn_refused fault refusal is name next = (
-    fault,
-    name,
-    record {
-      next = rw (← there) next;
-      leaves = leaves_by kept parts content body was (Failed fault) (Failed fault) requests requests 0 had had is refl;
-    },
-  )
+  pub turn_refused : (fault : WireFault) → parts ≡ held 0 kept → IsNext bytes (refused fault)
+      → Turns (fed_of kept content was requests had) (steps.Refused fault) (fed_of parts body (Failed fault) requests had)
+  turn_refused fault is next = record {
+    next = rw (← there) next;
+    leaves = leaves_by kept parts content body was (Failed fault) (Failed fault) requests requests 0 had had is refl;
+  }
 
   pub turn_opened : (found : FoundHead) (size : ℕ) (place : FeedSpan) (shown : Head) → parts ≡ held found.length kept → IsMediaOpened bytes found size
       → place ≡ no_place → ShowsHead found place size (requests + 1) shown

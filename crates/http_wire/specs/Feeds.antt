@@ -4,7 +4,6 @@ use Rattle.httparse.specs.Grammar.{RequestHead}
 use Rattle.http_wire.specs.Framing.{ends_connection, method_kind, wants_interim}
 use Rattle.http_wire.specs.Heads.{IsHead, more, refused, span_text, whole}
 use Rattle.http_wire.specs.Requests.{IsNext, given, opened}
-use Rattle.http_wire.specs.Steps.{wire_refusal}
 use Rattle.http_wire.specs.declared.framing.WireFault.{WireFault}
 use Rattle.http_wire.specs.declared.head.FeedSpan.{FeedSpan}
 use Rattle.http_wire.specs.declared.stage.Head.{Head}
@@ -169,12 +168,11 @@ abbrev pub Turns : Fed → FeedStep → Fed → Type 0
 Turns old steps.More new = Waits old new
 Turns old (steps.Head shown) new = GivesHead old new shown
 Turns old (steps.Whole shown) new = GivesWhole old new shown
-Turns old (steps.Refused refusal) new =
-    (fault : WireFault) × (refusal ≡ wire_refusal fault) × Refuses old new fault
+Turns old (steps.Refused fault) new = Refuses old new fault
 
 -- what was refused stays so, and nothing changes
 abbrev pub Stays : Fed → WireFault → FeedStep → Fed → Type 0
-Stays old fault step new = (step ≡ steps.Refused (wire_refusal fault)) × (new ≡ old)
+Stays old fault step new = (step ≡ steps.Refused fault) × (new ≡ old)
 
 -- the answer by the stage
 abbrev pub AnswersBy : FeedStage → Fed → FeedStep → Fed → Type 0

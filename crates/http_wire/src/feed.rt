@@ -127,7 +127,7 @@ impl Feed {
         ensures { StepsTo self.old result self.new }
     {
         if let FeedStage::Failed(fault) = self.stage {
-            return FeedStep::Refused(fault.refusal());
+            return FeedStep::Refused(fault);
         }
         if self.lacks_bytes() {
             self.kept.hold(0);
@@ -164,7 +164,7 @@ impl Feed {
             NextFound::Refused(fault) => {
                 self.kept.hold(0);
                 self.stage = FeedStage::Failed(fault);
-                FeedStep::Refused(fault.refusal())
+                FeedStep::Refused(fault)
             }
             NextFound::Opened(found, size) => {
                 self.kept.hold(found.length);

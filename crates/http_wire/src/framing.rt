@@ -15,9 +15,9 @@ pub(crate) enum Framing {
     Chunked,
 }
 
-/// The five refusals of the wire.
-#[derive(Clone, Copy)]
-pub(crate) enum WireFault {
+/// The five refusals of the wire, each of which ends the connection.
+#[derive(Clone, Copy, Debug, PartialEq, Eq)]
+pub enum WireFault {
     BadHead,
     BadFraming,
     LengthRequired,

@@ -43,12 +43,12 @@ pub enum FeedStep {
     /// Another request, with its whole body.
     Whole(Head),
     /// The connection ends.
-    Refused(Refusal),
+    Refused(WireFault),
 }
 
 impl WireFault {
     /// The refusal that is answered.
-    pub(crate) fn refusal(self) -> Refusal
+    pub fn refusal(self) -> Refusal
         ensures { result ≡ wire_refusal self }
     {
         match self {

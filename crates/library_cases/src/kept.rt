@@ -1,13 +1,11 @@
 //! A library, and the one that is made by its changes alone.
-ghost use Rattle.std.specs.Prelude.{◌≡◌, IfOk, IsTrue, None, Some, option_map};
-ghost use Rattle.media_rows.specs.Answer.{answer, shown_reply};
+ghost use Rattle.std.specs.Prelude.{◌≡◌, IfOk, IsTrue};
+ghost use Rattle.media_rows.specs.Answer.{answer};
 ghost use Rattle.media_rows.specs.Moments.{is_moment};
 ghost use Rattle.media_rows.specs.Sound.{is_good_command};
-ghost use Rattle.media_rows.specs.Views.{asked, is_asking};
 
 use disk_trait::{Memory, same_bytes};
-use library_laws::asking_is_answered;
-use media_rows::{ApplyFault, BookFault, Change, Command, Refusal, Reply};
+use media_rows::{ApplyFault, BookFault, Change, Command, Reply};
 use snapshot_rows::{RowsFault, read_rows};
 use std::alloc::Global;
 use store_core::{Core, Prepared};
@@ -42,34 +40,6 @@ pub(crate) fn run(
     command: &Command,
     now: u64,
 ) -> Result<Reply, Memory>
-    requires good { IsTrue (is_good_command kept.old.core command.now) }
-    requires moment { IsTrue (is_moment now) }
-    ensures { IfOk result (λ reply. reply ≡ (answer kept.old.core command.now now).reply) }
-{
-    asking_is_answered();
-    if is_asking(command) {
-        ask(alloc, kept, command)
-    } else {
-        change(alloc, kept, command, now)
-    }
-}
-
-/// What is shown to a command that asks, or its refusal, as a reply.
-fn ask(alloc: Global, kept: &Followed, command: &Command) -> Result<Reply, Memory>
-    requires asking { IsTrue (is_asking command.now) }
-    ensures { IfOk result
-        (λ reply. option_map shown_reply (asked kept.now.core command.now) ≡ Some reply) }
-{
-    match kept.core.query(alloc, command) {
-        Ok(reply) => Ok(reply),
-        Err(BookFault::Refused(why)) => Ok(Reply::Refused(why)),
-        Err(BookFault::Memory) => Err(Memory),
-    }
-}
-
-/// Runs a command that changes something, and gives its reply.
-fn change(alloc: Global, kept: &mut Followed, command: &Command, now: u64) -> Result<Reply, Memory>
-    requires changing { asked kept.old.core command.now ≡ None }
     requires good { IsTrue (is_good_command kept.old.core command.now) }
     requires moment { IsTrue (is_moment now) }
     ensures { IfOk result (λ reply. reply ≡ (answer kept.old.core command.now now).reply) }
@@ -146,23 +116,4 @@ fn from_text(alloc: Global, text: &[u8]) -> Result<Option<Core>, Memory> {
         Err(ApplyFault::Refused) => Ok(None),
         Err(ApplyFault::Memory) => Err(Memory),
     }
-}
-
-/// Whether the command asks, and changes nothing.
-fn is_asking(command: &Command) -> bool
-    ensures { result ≡ is_asking command.now }
-{
-    !matches!(
-        command,
-        Command::PutFlow(_)
-            | Command::SetFlow(_, _)
-            | Command::SetSource(_, _)
-            | Command::DropFlow(_)
-            | Command::Allocate(_, _)
-            | Command::Keep { .. }
-            | Command::AddSegments(_, _)
-            | Command::CutSegments(_, _)
-            | Command::PutHook(_)
-            | Command::DropHook(_)
-    )
 }

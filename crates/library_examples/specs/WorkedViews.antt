@@ -1,11 +1,12 @@
--- What asking commands show of the examples: views of each kind, filters hit and missed, and pages.
+-- What questions show of the examples: views of each kind, filters hit and missed, and pages.
 use Rattle.std.specs.Prelude.{◌≡◌, ℕ, ◌^◌, ℤ, pos, ◌-ℤ◌, List, [], ◌∷◌, Bool, true, false, Option, Some, None, map, codes}
 use Rattle.time_range.specs.declared.ranges.Span.{Span}
-use Rattle.media_rows.specs.declared.command.Command.{Command}
 use Rattle.media_rows.specs.declared.command.Command.TheVariants as commands
 use Rattle.media_rows.specs.declared.command.FlowFilter.{FlowFilter}
 use Rattle.media_rows.specs.declared.command.SourceFilter.{SourceFilter}
 use Rattle.media_rows.specs.declared.command.Page.{Page}
+use Rattle.media_rows.specs.declared.command.Query.{Query}
+use Rattle.media_rows.specs.declared.command.Query.TheVariants as queries
 use Rattle.media_rows.specs.declared.command.TagTest.{TagTest}
 use Rattle.media_rows.specs.declared.command.TagTest.TheVariants.{Equals, Exists}
 use Rattle.media_rows.specs.declared.flow.FormatKind.TheVariants.{Audio, Multi, Image}
@@ -28,9 +29,9 @@ use Rattle.media_rows.specs.Views.{listed_flows, listed_sources}
 use Rattle.library_examples.specs.Examples.{first_flow, second_flow, one_source, second, seconds, piece, stored, post, with_pieces}
 use Rattle.library_examples.specs.Studio.{third_flow, other_source, place_tag, take_tag, left_source, bare_source, both_body, main_flow, sound_flow, both_flow, object_a, object_b, object_c, later_piece, early_piece, last_piece, open_request, done_request, one_hook, two_hook, studio}
 
--- the answer to an asking command on the studio
-abbrev pub reply : Command → Reply
-reply command = (answer studio command 5).reply
+-- the answer to a question on the studio
+abbrev pub reply : Query → Reply
+reply query = (answer studio (commands.Ask query) 5).reply
 
 -- a view that is shown
 abbrev pub shown : View → Reply
@@ -52,54 +53,54 @@ key_of id = pos id -ℤ pos (2 ^ 127)
 
 -- What isn't kept is refused by its kind.
 pub record UnknownIsRefused : Type 0 where
-  pub no_flow : reply (commands.Flow 99) ≡ replies.Refused refusals.NoFlow
-  pub no_flow_part : reply (commands.FlowPart 99 names.Tags) ≡ replies.Refused refusals.NoFlow
-  pub no_segments : reply (commands.Segments 99 (record { range = eternity; object = None }) nine)
+  pub no_flow : reply (queries.Flow 99) ≡ replies.Refused refusals.NoFlow
+  pub no_flow_part : reply (queries.FlowPart 99 names.Tags) ≡ replies.Refused refusals.NoFlow
+  pub no_segments : reply (queries.Segments 99 (record { range = eternity; object = None }) nine)
       ≡ replies.Refused refusals.NoFlow
-  pub no_source : reply (commands.Source 99) ≡ replies.Refused refusals.NoSource
-  pub no_source_part : reply (commands.SourcePart 99 names.Tags) ≡ replies.Refused refusals.NoSource
-  pub no_object : reply (commands.Object (codes "z")) ≡ replies.Refused refusals.UnknownObject
-  pub no_request : reply (commands.Request 7) ≡ replies.Refused refusals.NoRequest
+  pub no_source : reply (queries.Source 99) ≡ replies.Refused refusals.NoSource
+  pub no_source_part : reply (queries.SourcePart 99 names.Tags) ≡ replies.Refused refusals.NoSource
+  pub no_object : reply (queries.Object (codes "z")) ≡ replies.Refused refusals.UnknownObject
+  pub no_request : reply (queries.Request 7) ≡ replies.Refused refusals.NoRequest
 
 -- A flow is shown with the hull of its own segments, an object with the flows that name it, each
 -- once, and a hook with the number of events that wait for it.
 pub record ThingsAreShown : Type 0 where
-  pub root : reply commands.Root ≡ shown views.Root
-  pub service : reply commands.Service ≡ shown views.Service
-  pub source : reply (commands.Source other_source) ≡ shown (views.Source bare_source)
-  pub flow : reply (commands.Flow first_flow)
+  pub root : reply queries.Root ≡ shown views.Root
+  pub service : reply queries.Service ≡ shown views.Service
+  pub source : reply (queries.Source other_source) ≡ shown (views.Source bare_source)
+  pub flow : reply (queries.Flow first_flow)
       ≡ shown (views.Flow (record { row = main_flow; hull = seconds 0 30 }))
-  pub other_hull : reply (commands.Flow third_flow)
+  pub other_hull : reply (queries.Flow third_flow)
       ≡ shown (views.Flow (record { row = both_flow; hull = seconds 5 7 }))
-  pub no_hull : reply (commands.Flow second_flow)
+  pub no_hull : reply (queries.Flow second_flow)
       ≡ shown (views.Flow (record { row = sound_flow; hull = None }))
-  pub object : reply (commands.Object (codes "a"))
+  pub object : reply (queries.Object (codes "a"))
       ≡ shown (views.Object object_a (first_flow ∷ third_flow ∷ []))
-  pub other_object : reply (commands.Object (codes "b"))
+  pub other_object : reply (queries.Object (codes "b"))
       ≡ shown (views.Object object_b (first_flow ∷ []))
-  pub unnamed_object : reply (commands.Object (codes "c")) ≡ shown (views.Object object_c [])
-  pub request : reply (commands.Request 9) ≡ shown (views.Request done_request)
-  pub requests : reply commands.Requests ≡ shown (views.Requests (open_request ∷ done_request ∷ []))
-  pub hooks : reply commands.Hooks ≡ shown (views.Hooks
+  pub unnamed_object : reply (queries.Object (codes "c")) ≡ shown (views.Object object_c [])
+  pub request : reply (queries.Request 9) ≡ shown (views.Request done_request)
+  pub requests : reply queries.Requests ≡ shown (views.Requests (open_request ∷ done_request ∷ []))
+  pub hooks : reply queries.Hooks ≡ shown (views.Hooks
       (record { row = one_hook; waiting = 2 } ∷ record { row = two_hook; waiting = 1 } ∷ []))
 
 -- ---- parts
 
 -- a part of the first flow
 abbrev pub part : PartName → Reply
-part name = reply (commands.FlowPart first_flow name)
+part name = reply (queries.FlowPart first_flow name)
 
 -- a part of the flow of which nothing is said
 abbrev pub bare_part : PartName → Reply
-bare_part name = (answer stored (commands.FlowPart first_flow name) 5).reply
+bare_part name = (answer stored (commands.Ask (queries.FlowPart first_flow name)) 5).reply
 
 -- a part of the first source
 abbrev pub part_of_source : PartName → Reply
-part_of_source name = reply (commands.SourcePart one_source name)
+part_of_source name = reply (queries.SourcePart one_source name)
 
 -- a part of the source of which nothing is said
 abbrev pub bare_source_part : PartName → Reply
-bare_source_part name = reply (commands.SourcePart other_source name)
+bare_source_part name = reply (queries.SourcePart other_source name)
 
 -- a part that is set
 abbrev pub one_part : Part → Reply
@@ -118,9 +119,9 @@ pub record FlowPartsAreShown : Type 0 where
   pub description : part names.Description
       ≡ one_part (parts.Description (Some (codes "the picture")))
   pub mark : part names.ReadOnly ≡ one_part (parts.ReadOnly false)
-  pub other_mark : reply (commands.FlowPart second_flow names.ReadOnly)
+  pub other_mark : reply (queries.FlowPart second_flow names.ReadOnly)
       ≡ one_part (parts.ReadOnly true)
-  pub collection : reply (commands.FlowPart third_flow names.Collection)
+  pub collection : reply (queries.FlowPart third_flow names.Collection)
       ≡ one_part (parts.Collection both_body.members)
   pub max_rate : part names.MaxBitRate ≡ one_part (parts.MaxBitRate (Some 9000))
   pub avg_rate : part names.AvgBitRate ≡ one_part (parts.AvgBitRate (Some 8000))
@@ -177,7 +178,7 @@ pub record SourcesAreListed : Type 0 where
       ≡ one_source ∷ []
   pub without_tag : passing_sources (record any_source { tags = Exists (codes "place") false ∷ [] })
       ≡ other_source ∷ []
-  pub view : reply (commands.Sources any_source nine)
+  pub view : reply (queries.Sources any_source nine)
       ≡ shown (views.Sources (left_source ∷ bare_source ∷ []) None)
 
 -- ---- filters of flows
@@ -228,7 +229,7 @@ pub record FlowsAreListed : Type 0 where
   pub within_never : ids_within None ≡ []
   pub view :
       reply
-      (commands.Flows (record any_flow { source = Some one_source }) (Some (seconds 6 9)) nine)
+      (queries.Flows (record any_flow { source = Some one_source }) (Some (seconds 6 9)) nine)
       ≡ shown (views.Flows (record { row = main_flow; hull = seconds 0 30 }
       ∷ record { row = both_flow; hull = seconds 5 7 } ∷ []) None)
 
@@ -237,15 +238,15 @@ pub record FlowsAreListed : Type 0 where
 -- Pages come by rising id, or by falling; the next key is the last item's, and is there where more
 -- follow.
 pub record IdsInPages : Type 0 where
-  pub first : reply (commands.Flows any_flow (Some (seconds 6 9)) (page None 1 false))
+  pub first : reply (queries.Flows any_flow (Some (seconds 6 9)) (page None 1 false))
       ≡ shown (views.Flows
       (record { row = main_flow; hull = seconds 0 30 } ∷ []) (Some (key_of first_flow)))
-  pub second : reply (commands.Sources any_source (page (Some (key_of one_source)) 1 false))
+  pub second : reply (queries.Sources any_source (page (Some (key_of one_source)) 1 false))
       ≡ shown (views.Sources (bare_source ∷ []) None)
-  pub backwards : reply (commands.Sources any_source (page None 1 true))
+  pub backwards : reply (queries.Sources any_source (page None 1 true))
       ≡ shown (views.Sources (bare_source ∷ []) (Some (key_of other_source)))
   pub backwards_last :
-      reply (commands.Sources any_source (page (Some (key_of other_source)) 1 true))
+      reply (queries.Sources any_source (page (Some (key_of other_source)) 1 true))
       ≡ shown (views.Sources (left_source ∷ []) None)
 
 -- ---- pages of segments
@@ -253,7 +254,7 @@ pub record IdsInPages : Type 0 where
 -- a page of the segments of the first flow
 abbrev pub segments_reply : Option Span → Option (List ℕ) → Page → Reply
 segments_reply range object asked_page =
-    reply (commands.Segments first_flow (record { range = range; object = object }) asked_page)
+    reply (queries.Segments first_flow (record { range = range; object = object }) asked_page)
 
 -- Segments are shown by first point, those that overlap the range in part among them, and only
 -- those that name the object where one is asked for.

@@ -13,7 +13,8 @@ use Rattle.media_rows.specs.declared.segment.SegmentRow.{SegmentRow}
 use Rattle.media_rows.specs.declared.change.Change.TheVariants as changes
 use Rattle.media_rows.specs.declared.reply.Reply.TheVariants as replies
 use Rattle.media_rows.specs.Outbox.{hook_of}
-use Rattle.media_rows.specs.Answer.{Outcome, changed, unchanged, refusal_of, changing_answer, accepted_drop, accepted_cut, change_refusal, first_taken, is_taken, is_kept_object, taken_refusal, wanted_ids}
+use Rattle.media_rows.specs.Answer.{Outcome, changed, unchanged, refusal_of, answer_by, accepted_drop, accepted_cut, change_refusal, first_taken, is_taken, is_kept_object, taken_refusal, wanted_ids, shown_reply}
+use Rattle.media_rows.specs.Views.{asked}
 use Rattle.media_rows.specs.Library.{Library}
 use Rattle.media_rows.specs.Lists.{has_text, or_else}
 use Rattle.media_rows.specs.Ranges.{covers, eternity}
@@ -23,7 +24,7 @@ use Rattle.library_laws.proofs.ListLemmas.{length-in_order, length-filter_passin
 
 -- an answer has a change only where nothing is refused
 pub by_refusal : (P : Change → Type 0) (refusal : Option Refusal) (outcome : Outcome) → (refusal ≡ None → IfSome outcome.change P)
-    → IfSome (changing_answer refusal (Some outcome)).change P
+    → IfSome (answer_by refusal outcome).change P
 by_refusal P None outcome h = h refl
 by_refusal P (Some why) outcome h = tt
 
@@ -105,7 +106,7 @@ drop_hook_allowed library url moment false e = tt
 
 by_answer : (library : Library) (command : Command) (moment : ℕ) (outcome : Outcome)
     → (refusal_of library command ≡ None → IfSome outcome.change (IsAllowedAt library moment))
-    → IfSome (changing_answer (refusal_of library command) (Some outcome)).change (IsAllowedAt library moment)
+    → IfSome (answer_by (refusal_of library command) outcome).change (IsAllowedAt library moment)
 by_answer library command moment outcome h = by_refusal (IsAllowedAt library moment) (refusal_of library command) outcome h
 
 pub answers_allowed : AnswersAreAllowed
@@ -129,16 +130,5 @@ answers_allowed library (commands.CutSegments flow range) moment place = by_answ
     (cut_allowed library flow range moment)
 answers_allowed library (commands.PutHook hook) moment place = record { allowed = refl; at = refl }
 answers_allowed library (commands.DropHook url) moment place = drop_hook_allowed library url moment (is_some (hook_of url library.outbox.hooks)) refl
-answers_allowed library commands.Root moment place = tt
-answers_allowed library commands.Service moment place = tt
-answers_allowed library commands.Hooks moment place = tt
-answers_allowed library (commands.Sources wanted page) moment place = tt
-answers_allowed library (commands.Source id) moment place = tt
-answers_allowed library (commands.SourcePart id name) moment place = tt
-answers_allowed library (commands.Flows wanted range page) moment place = tt
-answers_allowed library (commands.Flow id) moment place = tt
-answers_allowed library (commands.FlowPart id name) moment place = tt
-answers_allowed library (commands.Segments id wanted page) moment place = tt
-answers_allowed library (commands.Object id) moment place = tt
-answers_allowed library commands.Requests moment place = tt
-answers_allowed library (commands.Request serial) moment place = tt
+answers_allowed library (commands.Ask query) moment place =
+    by_answer library (commands.Ask query) moment (unchanged (shown_reply (asked library query))) (λ none. tt)

@@ -26,7 +26,8 @@ use Rattle.media_rows.specs.declared.command.Want.{Want}
 use Rattle.media_rows.specs.declared.command.Want.TheVariants.{Count, Named}
 use Rattle.media_rows.specs.declared.reply.Reply.TheVariants as replies
 use Rattle.time_range.specs.declared.ranges.Span.{Span}
-use Rattle.media_rows.specs.Answer.{keep_refusal, keep_state, Outcome, changed, unchanged, answer, refusal_of, changing_answer, accepted_drop, accepted_cut, wanted_ids, made_id, made_prefix}
+use Rattle.media_rows.specs.Answer.{keep_refusal, keep_state, Outcome, changed, unchanged, answer, refusal_of, answer_by, accepted_drop, accepted_cut, wanted_ids, made_id, made_prefix, shown_reply}
+use Rattle.media_rows.specs.Views.{asked}
 use Rattle.media_rows.specs.Good.{Good}
 use Rattle.media_rows.specs.Ids.{id_text, is_id_byte, is_object_id}
 use Rattle.media_rows.specs.Library.{Library, last_serial}
@@ -158,7 +159,7 @@ cut_brings library flow range moment =
     (λ e m. refl))
 
 brings_by : (library : Library) (command : Command) (outcome : Outcome) → IfSome outcome.change (Brings library)
-    → IfSome (changing_answer (refusal_of library command) (Some outcome)).change (Brings library)
+    → IfSome (answer_by (refusal_of library command) outcome).change (Brings library)
 brings_by library command outcome h = by_refusal (Brings library) (refusal_of library command) outcome (λ none. h)
 
 hook_brings : (library : Library) (url : List ℕ) (moment : ℕ) (kept : Bool)
@@ -183,19 +184,7 @@ answers_bring library (commands.CutSegments flow range) moment good = brings_by 
     (cut_brings library flow range moment)
 answers_bring library (commands.PutHook hook) moment good = λ m. good
 answers_bring library (commands.DropHook url) moment good = hook_brings library url moment (is_some (hook_of url library.outbox.hooks))
-answers_bring library commands.Root moment good = tt
-answers_bring library commands.Service moment good = tt
-answers_bring library commands.Hooks moment good = tt
-answers_bring library (commands.Sources wanted page) moment good = tt
-answers_bring library (commands.Source id) moment good = tt
-answers_bring library (commands.SourcePart id name) moment good = tt
-answers_bring library (commands.Flows wanted range page) moment good = tt
-answers_bring library (commands.Flow id) moment good = tt
-answers_bring library (commands.FlowPart id name) moment good = tt
-answers_bring library (commands.Segments id wanted page) moment good = tt
-answers_bring library (commands.Object id) moment good = tt
-answers_bring library commands.Requests moment good = tt
-answers_bring library (commands.Request serial) moment good = tt
+answers_bring library (commands.Ask query) moment good = brings_by library (commands.Ask query) (unchanged (shown_reply (asked library query))) tt
 
 -- ---- the law
 
@@ -210,19 +199,7 @@ good_place library (commands.AddSegments flow posts) good = tt
 good_place library (commands.CutSegments flow range) good = tt
 good_place library (commands.PutHook hook) good = tt
 good_place library (commands.DropHook url) good = tt
-good_place library commands.Root good = tt
-good_place library commands.Service good = tt
-good_place library commands.Hooks good = tt
-good_place library (commands.Sources wanted page) good = tt
-good_place library (commands.Source id) good = tt
-good_place library (commands.SourcePart id name) good = tt
-good_place library (commands.Flows wanted range page) good = tt
-good_place library (commands.Flow id) good = tt
-good_place library (commands.FlowPart id name) good = tt
-good_place library (commands.Segments id wanted page) good = tt
-good_place library (commands.Object id) good = tt
-good_place library commands.Requests good = tt
-good_place library (commands.Request serial) good = tt
+good_place library (commands.Ask query) good = tt
 
 both : (library : Library) (moment : ℕ) → Good library → is_moment moment ≡ true → (o : Option Change) → IfSome o (IsAllowedAt library moment)
     → IfSome o (Brings library)

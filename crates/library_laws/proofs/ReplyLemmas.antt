@@ -14,7 +14,8 @@ use Rattle.media_rows.specs.Ranges.{eternity}
 use Rattle.media_rows.specs.declared.reply.Reply.{Reply}
 use Rattle.media_rows.specs.declared.reply.Reply.TheVariants as replies
 use Rattle.media_rows.specs.declared.reply.View.{View}
-use Rattle.media_rows.specs.Answer.{Outcome, changed, unchanged, created_unless, refusal_of, changing_answer, accepted_request, accepted_drop, accepted_cut, accepted_drop_hook, wanted_ids, shown_reply}
+use Rattle.media_rows.specs.Answer.{Outcome, changed, unchanged, created_unless, refusal_of, answer_by, accepted_request, accepted_drop, accepted_cut, accepted_drop_hook, wanted_ids, shown_reply}
+use Rattle.media_rows.specs.Views.{asked}
 use Rattle.media_rows.specs.Library.{Library}
 use Rattle.media_rows.specs.Objects.{allocated_rows}
 use Rattle.media_rows.specs.Outbox.{hook_of}
@@ -76,7 +77,7 @@ shown_plain library (Ok view) = plain library (unchanged (replies.Shown view)) r
 shown_plain library (Err refusal) = plain library (unchanged (replies.Refused refusal)) refl
 
 by_refusal : (library : Library) (refusal : Option Refusal) (outcome : Outcome) → TellsRows library outcome
-    → TellsRows library (changing_answer refusal (Some outcome))
+    → TellsRows library (answer_by refusal outcome)
 by_refusal library None outcome h = h
 by_refusal library (Some why) outcome h = plain library (unchanged (replies.Refused why)) refl
 
@@ -120,16 +121,5 @@ replies_tell library (commands.CutSegments flow range) moment = by_refusal libra
     (cut_tells library flow range moment)
 replies_tell library (commands.PutHook hook) moment = created_plain library (is_some (hook_of hook.url library.outbox.hooks)) (changes.PutHook moment hook)
 replies_tell library (commands.DropHook url) moment = drop_hook_tells library url moment
-replies_tell library commands.Root moment = plain library _ refl
-replies_tell library commands.Service moment = plain library _ refl
-replies_tell library commands.Hooks moment = plain library _ refl
-replies_tell library (commands.Sources wanted page) moment = plain library _ refl
-replies_tell library (commands.Source id) moment = shown_plain library _
-replies_tell library (commands.SourcePart id name) moment = shown_plain library _
-replies_tell library (commands.Flows wanted range page) moment = plain library _ refl
-replies_tell library (commands.Flow id) moment = shown_plain library _
-replies_tell library (commands.FlowPart id name) moment = shown_plain library _
-replies_tell library (commands.Segments id wanted page) moment = shown_plain library _
-replies_tell library (commands.Object id) moment = shown_plain library _
-replies_tell library commands.Requests moment = plain library _ refl
-replies_tell library (commands.Request serial) moment = shown_plain library _
+replies_tell library (commands.Ask query) moment =
+    by_refusal library (refusal_of library (commands.Ask query)) (unchanged (shown_reply (asked library query))) (shown_plain library (asked library query))

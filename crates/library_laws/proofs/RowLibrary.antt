@@ -4,7 +4,6 @@ use Rattle.std.specs.Prelude.{◌==◌, unsigned_abs}
 use Rattle.std.specs.List.{list_all}
 use Rattle.std.proofs.lemmas.Bool.{and_parts, cond_both, not-true}
 use Rattle.std.proofs.lemmas.Int.{ints}
-use Rattle.media_rows.specs.declared.command.Command.TheVariants as commands
 use Rattle.media_rows.specs.declared.event.EventRow.{EventRow}
 use Rattle.media_rows.specs.declared.flow.FlowRow.{FlowRow}
 use Rattle.media_rows.specs.declared.hook.HookRow.{HookRow}
@@ -17,7 +16,7 @@ use Rattle.media_rows.specs.declared.source.SourceRow.{SourceRow}
 use Rattle.media_rows.specs.Library.{Library}
 use Rattle.media_rows.specs.Lists.{rises, inserted, in_order}
 use Rattle.media_rows.specs.Snapshot.{segment_row_before, rows_of, older, with_row, library_of}
-use Rattle.library_laws.specs.RowLaws.{RowsGiveTheLibrary, EqualRowsAreOneLibrary, AskingIsAnswered, KeysGiveIds}
+use Rattle.library_laws.specs.RowLaws.{RowsGiveTheLibrary, EqualRowsAreOneLibrary, KeysGiveIds}
 use Rattle.library_laws.proofs.ListLemmas.{In, In-in_order, list_all-In}
 use Rattle.library_laws.proofs.OutboxKept.{Names-from}
 use Rattle.library_laws.proofs.RowOrder.{nested}
@@ -128,32 +127,7 @@ equal_rows_are_one a b good_a good_b ids blocks same =
     sym (rows_give_the_library a good_a) ∙ ap (λ id. library_of id a.blocks (rows_of a)) ids ∙ ap (λ n. library_of b.id n (rows_of a)) blocks
     ∙ ap (library_of b.id b.blocks) same ∙ rows_give_the_library b good_b
 
--- ---- commands and keys
-
-pub asking_is_answered : AskingIsAnswered
-asking_is_answered library (commands.PutFlow body) = refl
-asking_is_answered library (commands.SetFlow flow part) = refl
-asking_is_answered library (commands.SetSource source part) = refl
-asking_is_answered library (commands.DropFlow flow) = refl
-asking_is_answered library (commands.Allocate flow want) = refl
-asking_is_answered library (commands.Keep object start size) = refl
-asking_is_answered library (commands.AddSegments flow posts) = refl
-asking_is_answered library (commands.CutSegments flow range) = refl
-asking_is_answered library (commands.PutHook hook) = refl
-asking_is_answered library (commands.DropHook url) = refl
-asking_is_answered library commands.Root = refl
-asking_is_answered library commands.Service = refl
-asking_is_answered library commands.Hooks = refl
-asking_is_answered library (commands.Sources wanted page) = refl
-asking_is_answered library (commands.Source id) = refl
-asking_is_answered library (commands.SourcePart id name) = refl
-asking_is_answered library (commands.Flows wanted range page) = refl
-asking_is_answered library (commands.Flow id) = refl
-asking_is_answered library (commands.FlowPart id name) = refl
-asking_is_answered library (commands.Segments id wanted page) = refl
-asking_is_answered library (commands.Object id) = refl
-asking_is_answered library commands.Requests = refl
-asking_is_answered library (commands.Request serial) = refl
+-- ---- keys
 
 -- a number that is lowered and raised by another is itself
 back_again : (z : ℤ) (id m : ℕ) → z ≡ (pos id -ℤ pos m) +ℤ pos m → z ≡ pos id

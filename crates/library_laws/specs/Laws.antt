@@ -46,19 +46,7 @@ HasPlace library (commands.AddSegments flow posts) = Unit {0}
 HasPlace library (commands.CutSegments flow range) = Unit {0}
 HasPlace library (commands.PutHook hook) = Unit {0}
 HasPlace library (commands.DropHook url) = Unit {0}
-HasPlace library commands.Root = Unit {0}
-HasPlace library commands.Service = Unit {0}
-HasPlace library commands.Hooks = Unit {0}
-HasPlace library (commands.Sources wanted page) = Unit {0}
-HasPlace library (commands.Source id) = Unit {0}
-HasPlace library (commands.SourcePart id name) = Unit {0}
-HasPlace library (commands.Flows wanted range page) = Unit {0}
-HasPlace library (commands.Flow id) = Unit {0}
-HasPlace library (commands.FlowPart id name) = Unit {0}
-HasPlace library (commands.Segments id wanted page) = Unit {0}
-HasPlace library (commands.Object id) = Unit {0}
-HasPlace library commands.Requests = Unit {0}
-HasPlace library (commands.Request serial) = Unit {0}
+HasPlace library (commands.Ask query) = Unit {0}
 
 -- a change is one at this moment that the library allows
 pub record IsAllowedAt (library : Library) (moment : ℕ) (change : Change) : Type 0 where

@@ -12,7 +12,7 @@ use Rattle.media_rows.specs.Library.{Library}
 use Rattle.media_rows.specs.Lists.{rises, are_distinct_texts}
 use Rattle.media_rows.specs.RefusalTable.{refusal_number, refusal_status, refusal_name}
 use Rattle.media_rows.specs.Snapshot.{rows_of, row_before, library_of}
-use Rattle.media_rows.specs.Views.{is_asking, asked, id_key, key_id}
+use Rattle.media_rows.specs.Views.{id_key, key_id}
 use Rattle.library_laws.specs.Laws.{HaveRanges}
 
 -- ---- rows
@@ -34,12 +34,7 @@ EqualRowsAreOneLibrary =
     (a b : Library) → Good a → Good b → a.id ≡ b.id → a.blocks ≡ b.blocks
     → rows_of a ≡ rows_of b → a ≡ b
 
--- ---- commands, keys and parts
-
--- a command asks exactly where it shows something or is refused to
-abbrev pub AskingIsAnswered : Type 0
-AskingIsAnswered = (library : Library) (command : Command)
-    → is_asking command ≡ is_some (asked library command)
+-- ---- keys and parts
 
 -- a key of a page by ids gives its id back
 abbrev pub KeysGiveIds : Type 0

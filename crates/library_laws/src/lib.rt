@@ -19,6 +19,6 @@ pub use crate::laws::{
 };
 pub use crate::media::{bytes_fit, bytes_stay, puts_apply, questions_apply};
 pub use crate::rows::{
-    asking_is_answered, equal_rows_are_one_library, keys_give_ids, refusals_are_tabled,
-    rows_give_the_library, rows_rise, sources_have_their_parts,
+    equal_rows_are_one_library, keys_give_ids, refusals_are_tabled, rows_give_the_library,
+    rows_rise, sources_have_their_parts,
 };

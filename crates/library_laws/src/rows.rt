@@ -1,5 +1,5 @@
-//! Laws of a library's rows, of the table of refusals, and of a few words of commands.
-ghost use Rattle.library_laws.specs.RowLaws.{AskingIsAnswered, EqualRowsAreOneLibrary, KeysGiveIds, RefusalsAreTabled, RowsGiveTheLibrary, RowsRise, SourcesHaveTheirParts};
+//! Laws of a library's rows, of the table of refusals, and of keys.
+ghost use Rattle.library_laws.specs.RowLaws.{EqualRowsAreOneLibrary, KeysGiveIds, RefusalsAreTabled, RowsGiveTheLibrary, RowsRise, SourcesHaveTheirParts};
 
 /// A good library is the library of its rows.
 pub fn rows_give_the_library()
@@ -14,11 +14,6 @@ pub fn rows_rise()
 /// Good libraries with equal rows are one.
 pub fn equal_rows_are_one_library()
     ensures { EqualRowsAreOneLibrary }
-{}
-
-/// A command asks exactly where it is answered by what it shows.
-pub fn asking_is_answered()
-    ensures { AskingIsAnswered }
 {}
 
 /// The key of a page by ids gives its id back.

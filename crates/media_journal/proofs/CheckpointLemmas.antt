@@ -7,7 +7,7 @@ use Rattle.std.proofs.lemmas.List.{places, same_lists}
 use Rattle.std.specs.Prelude.{if◌then◌else◌}
 use Rattle.disk_trait.specs.Numbers.{u64_bytes}
 use Rattle.disk_trait.proofs.NumberLemmas.{length-u64_bytes}
-use Rattle.disk_trait.specs.Device.{Device, IsDevice, Left, as_read, may_leave}
+use Rattle.disk_trait.specs.Device.{Device, IsDevice, Left, may_leave, read_with}
 use Rattle.disk_trait.specs.Calls.{Elapses, Follows, Torn, bytes_at, overwritten}
 use Rattle.disk_trait.proofs.Theorems.{elapses_weaker}
 use Rattle.disk_trait.proofs.TornLemmas.{bytes_before, bytes_behind, torn-overwritten, torn_itself}
@@ -320,10 +320,12 @@ pub checkpoint_each : (old new : Device) (p : Position) (rows : List ℕ) (held 
 checkpoint_each old new p rows held time = record { gives = λ left could. (time.now left could).2.image }
 
 -- what is read after the call is one of the images
-pub checkpoint_left : (old new : Device) (p : Position) (rows : List ℕ) (held : Contents) → IsDevice new → new.honest ≡ true → new.shows ≡ true
-    → new.tells ≡ true → Elapses (KeepsOrSwitches p rows held) (KeepsOrSwitches p rows held) old new
-    → Follows (KeepsOrSwitches p rows held) (may_leave old) (as_read new)
-checkpoint_left old new p rows held sound honest shows tells time = time.now (as_read new) (sound.itself honest shows tells)
+pub checkpoint_left : (old new : Device) (p : Position) (rows : List ℕ) (held : Contents) → IsDevice new → new.shows ≡ true
+    → Elapses (KeepsOrSwitches p rows held) (KeepsOrSwitches p rows held) old new
+    → (told : List (List ℕ)) × Follows (KeepsOrSwitches p rows held) (may_leave old) (read_with new told)
+checkpoint_left old new p rows held sound shows time =
+    let could = sound.itself shows in
+    (could.0, time.now (read_with new could.0) could.1)
 
 -- ---- the same of the place that the code found
 

@@ -3,7 +3,7 @@ use Rattle.std.proofs.Common.{◌≡◌, ◌<◌, ◌≤◌, ◌+◌, ◌*◌, �
 use Rattle.std.proofs.lemmas.List.{drop_more}
 use Rattle.std.proofs.lemmas.Bool.{cases_eq}
 use Rattle.std.specs.Prelude.{if◌then◌else◌}
-use Rattle.disk_trait.specs.Device.{Device, Left, IsDevice, may_leave, as_read}
+use Rattle.disk_trait.specs.Device.{Device, Left, IsDevice, may_leave, read_with}
 use Rattle.disk_trait.specs.Calls.{overwritten, Follows, Torn, TornWrite, Elapses}
 use Rattle.disk_trait.proofs.Theorems.{elapses_weaker, torn_twice}
 use Rattle.disk_trait.proofs.TornLemmas.{byte_kept, bytes_kept, torn_wider}
@@ -138,10 +138,12 @@ module _ (old new : Device) (p : Position) (payload : List ℕ) (held : Contents
       (λ q l could left steps. at_end ok q l could steps)
 
 -- what is read after the call is one of the images
-pub append_left : (old new : Device) (p : Position) (payload : List ℕ) (held : Contents) → IsDevice new → new.honest ≡ true → new.shows ≡ true
-    → new.tells ≡ true → Elapses (KeepsOrAdds p payload held) (KeepsOrAdds p payload held) old new
-    → Follows (KeepsOrAdds p payload held) (may_leave old) (as_read new)
-append_left old new p payload held sound honest shows tells time = time.now (as_read new) (sound.itself honest shows tells)
+pub append_left : (old new : Device) (p : Position) (payload : List ℕ) (held : Contents) → IsDevice new → new.shows ≡ true
+    → Elapses (KeepsOrAdds p payload held) (KeepsOrAdds p payload held) old new
+    → (told : List (List ℕ)) × Follows (KeepsOrAdds p payload held) (may_leave old) (read_with new told)
+append_left old new p payload held sound shows time =
+    let could = sound.itself shows in
+    (could.0, time.now (read_with new could.0) could.1)
 
 -- each image has the payload
 pub append_each : (old new : Device) (p : Position) (payload : List ℕ) (held : Contents)

@@ -169,6 +169,10 @@ module _ (old : Device) (rest : IsAtRest old) (none : ¬ (HasOpenHeader old.seen
   reads_failed new time =
       elapses_weaker Unchanged Unchanged (NoneOrNew h rows) (NoneOrNew h rows) old new time still_none (λ q p could left same. still_none q p could same)
 
+  pub reads_refused : (new : Device) → Elapses Unchanged Unchanged old new → Elapses (NoneOrNew h rows) Unchanged old new
+  reads_refused new time =
+      elapses_weaker Unchanged Unchanged (NoneOrNew h rows) Unchanged old new time still_none (λ q p could left same. same)
+
   module _ (fits : FitsStore h (length old.seen) rows) (id : h.id < 2 ^ 128) where
     new_store : (q m p : Left) → Unchanged q m → NoneOrFormatted (header_text h) (half_text rows) old.seen m p → NoneOrNew h rows q p
     new_store q m p same steps = record {

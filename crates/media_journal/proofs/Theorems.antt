@@ -1,6 +1,6 @@
 -- Laws of what the images of a journal's device give, for those who call the journal.
 use Rattle.std.proofs.Common.{◌≡◌, ◌≤◌, ◌+◌, ◌*◌, ℕ, true, List, arith}
-use Rattle.disk_trait.specs.Device.{Device, IsDevice, Left, as_read}
+use Rattle.disk_trait.specs.Device.{Device, IsDevice, Left, read_with}
 use Rattle.disk_trait.specs.Calls.{Elapses, LeavesOnly, Torn}
 use Rattle.media_journal.specs.Journal.{Contents, Position, Gives}
 use Rattle.media_journal.specs.JournalMoments.{EachGives}
@@ -13,9 +13,10 @@ pub each_gives_settled : (d : Device) (p : Position) (held : Contents) → Leave
 each_gives_settled d p held settled given = record { gives = λ left could. rw (settled left could) given }
 
 -- what each image gives, a read gives
-pub gives_as_read : (d : Device) (p : Position) (held : Contents) → IsDevice d → d.honest ≡ true → d.shows ≡ true → d.tells ≡ true → EachGives d p held
-    → Gives d.seen p held
-gives_as_read d p held sound honest shows tells each = each.gives (as_read d) (sound.itself honest shows tells)
+pub gives_as_read : (d : Device) (p : Position) (held : Contents) → IsDevice d → d.shows ≡ true → EachGives d p held → Gives d.seen p held
+gives_as_read d p held sound shows each =
+    let could = sound.itself shows in
+    each.gives (read_with d could.0) could.1
 
 -- a call that keeps what the images give, such as a read, or a word to a peer
 pub each_gives_kept : (within ended : Left → Left → Type 0) (old new : Device) (p : Position) (held : Contents) → Elapses within ended old new

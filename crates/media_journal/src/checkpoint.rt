@@ -1,6 +1,6 @@
 //! A checkpoint: the rows of a library go to the half that isn't in use, and the selector then names it.
-ghost use Rattle.std.specs.Prelude.{◌≡◌, ◌≤◌, ◌<◌, ◌+◌, ◌*◌, ◌∷◌, ◌↔◌, ◌^◌, [], true, false, length, is_ok, OnOk, OnErr, IsErrOf};
-ghost use Rattle.disk_trait.specs.Device.{as_read, may_leave};
+ghost use Rattle.std.specs.Prelude.{◌≡◌, ◌≤◌, ◌<◌, ◌+◌, ◌*◌, ◌∷◌, ◌↔◌, ◌^◌, [], ℕ, List, true, false, length, is_ok, OnOk, OnErr, IsErrOf};
+ghost use Rattle.disk_trait.specs.Device.{may_leave, read_with};
 ghost use Rattle.disk_trait.specs.Calls.{DiskCalls, Elapses, Follows, LeavesOnly, TornWrite, overwritten};
 ghost use Rattle.media_journal.specs.Formatting.{half_text};
 ghost use Rattle.media_journal.specs.Journal.{Contents, Gives, IsPosition, IsWhole};
@@ -64,10 +64,10 @@ impl Journal {
 
         // After `Disk` a read gives what a crash might have left.
         ensures left { (D.device disk.old).honest ≡ true → (D.device disk.old).shows ≡ true
-            → (D.device disk.old).tells ≡ true → IsErrOf result AppendFault.Disk
+            → IsErrOf result AppendFault.Disk
             → (held : Contents) → EachGives (D.device disk.old) self.old held
-            → Follows (KeepsOrSwitches self.old rows.now held)
-            (may_leave (D.device disk.old)) (as_read (D.device disk.new)) }
+            → (told : List (List ℕ)) × Follows (KeepsOrSwitches self.old rows.now held)
+            (may_leave (D.device disk.old)) (read_with (D.device disk.new) told) }
 
         ensures calls { OnOk result (DiskCalls true (D.device disk.old) (D.device disk.new)) }
 

@@ -1,6 +1,6 @@
 //! The journal behind the rows of the active half, to which records are added.
-ghost use Rattle.std.specs.Prelude.{◌≡◌, ◌≤◌, ◌<◌, ◌+◌, ◌*◌, ◌∷◌, ◌↔◌, ◌^◌, [], true, false, length, is_ok, OnOk, OnErr, IsErrOf};
-ghost use Rattle.disk_trait.specs.Device.{as_read, may_leave};
+ghost use Rattle.std.specs.Prelude.{◌≡◌, ◌≤◌, ◌<◌, ◌+◌, ◌*◌, ◌∷◌, ◌↔◌, ◌^◌, [], ℕ, List, true, false, length, is_ok, OnOk, OnErr, IsErrOf};
+ghost use Rattle.disk_trait.specs.Device.{may_leave, read_with};
 ghost use Rattle.disk_trait.specs.Calls.{DiskCalls, Elapses, Follows, LeavesOnly, Torn, overwritten};
 ghost use Rattle.media_journal.specs.Journal.{Contents, Gives, IsPosition, IsWhole, after_append, with_record};
 ghost use Rattle.media_journal.specs.JournalMoments.{AppendEnds, EachGives, KeepsOrAdds, with_payload};
@@ -108,10 +108,10 @@ impl Journal {
         // and of the gate behind it may differ, with the records as they were, or with the payload. Where
         // the device isn't honest nothing is said: there a sync that fails leaves open what is read.
         ensures left { (D.device disk.old).honest ≡ true → (D.device disk.old).shows ≡ true
-            → (D.device disk.old).tells ≡ true → IsErrOf result AppendFault.Disk
+            → IsErrOf result AppendFault.Disk
             → (held : Contents) → EachGives (D.device disk.old) self.old held
-            → Follows (KeepsOrAdds self.old frame.now held)
-            (may_leave (D.device disk.old)) (as_read (D.device disk.new)) }
+            → (told : List (List ℕ)) × Follows (KeepsOrAdds self.old frame.now held)
+            (may_leave (D.device disk.old)) (read_with (D.device disk.new) told) }
 
         ensures calls { OnOk result (DiskCalls true (D.device disk.old) (D.device disk.new)) }
 

@@ -125,11 +125,15 @@ abbrev pub keep_refusal : Option ObjectRow → Option Refusal
 keep_refusal None = Some refusals.UnknownObject
 keep_refusal (Some row) = keep_state row.state
 
--- ---- the refusal of each changing command
+-- ---- the refusal of each command
 
--- The first refusal that stands of a changing command. That the flow is being deleted comes before
--- all that the catalog refuses, and what the command brings is looked at last. An asking command
--- has its refusals with what it shows, and none here.
+-- why nothing is shown, where nothing is
+abbrev pub shown_refusal : Result View Refusal → Option Refusal
+shown_refusal (Ok view) = None
+shown_refusal (Err refusal) = Some refusal
+
+-- The first refusal that stands of a command. That the flow is being deleted comes before all that
+-- the catalog refuses, and what the command brings is looked at last.
 abbrev pub refusal_of : Library → Command → Option Refusal
 refusal_of library (commands.PutFlow body) =
     or_else (deleting_refusal library body.id) (put_refusal library.catalog body)
@@ -147,7 +151,7 @@ refusal_of library (commands.AddSegments flow posts) =
 refusal_of library (commands.CutSegments flow range) = change_refusal library flow
 refusal_of library (commands.PutHook hook) = None
 refusal_of library (commands.DropHook url) = None
-refusal_of library asking = None
+refusal_of library (commands.Ask query) = shown_refusal (asked library query)
 
 -- ---- the reply and the change where nothing is refused
 
@@ -198,58 +202,48 @@ accepted_drop_hook library url moment =
     then changed replies.Done (changes.DropHook moment url)
     else unchanged replies.Done
 
--- the reply and the change of a changing command that nothing refuses; none for an asking command,
--- which is answered by what it shows
-abbrev pub accepted : Library → Command → ℕ → Option Outcome
-accepted library (commands.PutFlow body) moment =
-    Some
-    (changed (created_unless (is_some (flow_of body.id library.catalog.flows)))
-    (changes.PutFlow moment body))
-accepted library (commands.SetFlow flow part) moment =
-    Some (changed replies.Done (changes.SetFlow moment flow part))
-accepted library (commands.SetSource source part) moment =
-    Some (changed replies.Done (changes.SetSource moment source part))
-accepted library (commands.DropFlow flow) moment = Some (accepted_drop library flow moment)
-accepted library (commands.Allocate flow want) moment =
-    let ids = wanted_ids library want in Some
-    (changed (replies.CreatedObjects ids) (changes.Allocate moment flow ids))
-accepted library (commands.Keep object start size) moment =
-    Some (changed replies.Created (changes.Store moment object start size))
-accepted library (commands.AddSegments flow posts) moment =
-    Some (changed replies.Created (changes.AddSegments moment flow posts))
-accepted library (commands.CutSegments flow range) moment =
-    Some (accepted_cut library flow range moment)
-accepted library (commands.PutHook hook) moment =
-    Some
-    (changed (created_unless (is_some (hook_of hook.url library.outbox.hooks)))
-    (changes.PutHook moment hook))
-accepted library (commands.DropHook url) moment = Some (accepted_drop_hook library url moment)
-accepted library asking moment = None
-
--- ---- the answer
-
 -- what is shown, or why nothing is
 abbrev pub shown_reply : Result View Refusal → Reply
 shown_reply (Ok view) = replies.Shown view
 shown_reply (Err refusal) = replies.Refused refusal
 
--- The answer to a changing command: its refusal, which changes nothing, or what it makes. Each
--- command that shows nothing makes something, so the last line answers none.
-abbrev pub changing_answer : Option Refusal → Option Outcome → Outcome
-changing_answer (Some refusal) made = unchanged (replies.Refused refusal)
-changing_answer None (Some outcome) = outcome
-changing_answer None None = unchanged replies.Done
+-- the reply and the change of a command that nothing refuses; a question is answered by what it
+-- shows, and changes nothing
+abbrev pub accepted : Library → Command → ℕ → Outcome
+accepted library (commands.PutFlow body) moment =
+    changed (created_unless (is_some (flow_of body.id library.catalog.flows)))
+    (changes.PutFlow moment body)
+accepted library (commands.SetFlow flow part) moment =
+    changed replies.Done (changes.SetFlow moment flow part)
+accepted library (commands.SetSource source part) moment =
+    changed replies.Done (changes.SetSource moment source part)
+accepted library (commands.DropFlow flow) moment = accepted_drop library flow moment
+accepted library (commands.Allocate flow want) moment =
+    let ids = wanted_ids library want in
+    changed (replies.CreatedObjects ids) (changes.Allocate moment flow ids)
+accepted library (commands.Keep object start size) moment =
+    changed replies.Created (changes.Store moment object start size)
+accepted library (commands.AddSegments flow posts) moment =
+    changed replies.Created (changes.AddSegments moment flow posts)
+accepted library (commands.CutSegments flow range) moment =
+    accepted_cut library flow range moment
+accepted library (commands.PutHook hook) moment =
+    changed (created_unless (is_some (hook_of hook.url library.outbox.hooks)))
+    (changes.PutHook moment hook)
+accepted library (commands.DropHook url) moment = accepted_drop_hook library url moment
+accepted library (commands.Ask query) moment = unchanged (shown_reply (asked library query))
 
--- an asking command is answered by what it shows, and a changing one by its refusal or by what it
--- makes
-abbrev pub answer_by : Option (Result View Refusal) → Option Refusal → Option Outcome → Outcome
-answer_by None refusal made = changing_answer refusal made
-answer_by (Some shown) refusal made = unchanged (shown_reply shown)
+-- ---- the answer
+
+-- a refusal, which changes nothing, or this where there is none
+abbrev pub answer_by : Option Refusal → Outcome → Outcome
+answer_by (Some refusal) outcome = unchanged (replies.Refused refusal)
+answer_by None outcome = outcome
 
 -- the answer to a command at a moment
 abbrev pub answer : Library → Command → ℕ → Outcome
 answer library command moment =
-    answer_by (asked library command) (refusal_of library command) (accepted library command moment)
+    answer_by (refusal_of library command) (accepted library command moment)
 
 -- ---- media, whose bytes stand beside the library
 

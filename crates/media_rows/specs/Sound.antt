@@ -88,19 +88,7 @@ is_good_command library (commands.AddSegments flow posts) = are_posts_good posts
 is_good_command library (commands.CutSegments flow range) = true
 is_good_command library (commands.PutHook hook) = is_new_hook_good hook
 is_good_command library (commands.DropHook url) = true
-is_good_command library commands.Root = true
-is_good_command library commands.Service = true
-is_good_command library commands.Hooks = true
-is_good_command library (commands.Sources wanted page) = true
-is_good_command library (commands.Source id) = true
-is_good_command library (commands.SourcePart id name) = true
-is_good_command library (commands.Flows wanted range page) = true
-is_good_command library (commands.Flow id) = true
-is_good_command library (commands.FlowPart id name) = true
-is_good_command library (commands.Segments id wanted page) = true
-is_good_command library (commands.Object id) = true
-is_good_command library commands.Requests = true
-is_good_command library (commands.Request serial) = true
+is_good_command library (commands.Ask query) = true
 
 -- ---- a change
 

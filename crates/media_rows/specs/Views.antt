@@ -1,11 +1,11 @@
--- What an asking command shows of a library, or why it shows nothing. Our own profile of the
+-- What is shown of a library to a question, or why nothing is. Our own profile of the
 -- Time-addressable Media Store.
 use Rattle.std.specs.Prelude.{ℕ, ◌==◌, ◌^◌, ℤ, pos, ◌+ℤ◌, ◌-ℤ◌, unsigned_abs, List, Bool, true, false, ◌&&◌, Option, Some, None, is_some, option_map, Result, Ok, Err, if◌then◌else◌, filter, map, length, bytes_eq, codes}
 use Rattle.std.specs.Bool.{beq}
 use Rattle.std.specs.List.{list_any, list_all}
 use Rattle.time_range.specs.declared.ranges.Span.{Span}
-use Rattle.media_rows.specs.declared.command.Command.{Command}
-use Rattle.media_rows.specs.declared.command.Command.TheVariants as commands
+use Rattle.media_rows.specs.declared.command.Query.{Query}
+use Rattle.media_rows.specs.declared.command.Query.TheVariants as queries
 use Rattle.media_rows.specs.declared.command.FlowFilter.{FlowFilter}
 use Rattle.media_rows.specs.declared.command.SourceFilter.{SourceFilter}
 use Rattle.media_rows.specs.declared.command.Page.{Page}
@@ -184,7 +184,7 @@ source_part row names.Collection = Err (refusals.NotSet (codes "flow_collection"
 source_part row names.MaxBitRate = Err (refusals.NotSet (codes "max_bit_rate"))
 source_part row names.AvgBitRate = Err (refusals.NotSet (codes "avg_bit_rate"))
 
--- ---- each asking command
+-- ---- each question
 
 -- what is shown of something that is kept, or the refusal
 abbrev pub kept_or : {X : Type 0} → Refusal → (X → Result View Refusal) → Option X
@@ -212,56 +212,33 @@ shown_flows library page rows =
 abbrev pub shown_object : Library → ObjectRow → View
 shown_object library row = views.Object row (flows_naming library.segments row.id)
 
--- a command that asks, and changes nothing
-abbrev pub is_asking : Command → Bool
-is_asking (commands.PutFlow body) = false
-is_asking (commands.SetFlow flow part) = false
-is_asking (commands.SetSource source part) = false
-is_asking (commands.DropFlow flow) = false
-is_asking (commands.Allocate flow want) = false
-is_asking (commands.Keep object start size) = false
-is_asking (commands.AddSegments flow segments) = false
-is_asking (commands.CutSegments flow range) = false
-is_asking (commands.PutHook hook) = false
-is_asking (commands.DropHook url) = false
-is_asking asking = true
-
--- what an asking command shows, or its refusal; nothing for a command that changes something
-abbrev pub asked : Library → Command → Option (Result View Refusal)
-asked library commands.Root = Some (Ok views.Root)
-asked library commands.Service = Some (Ok views.Service)
-asked library commands.Hooks =
-    Some (Ok (views.Hooks (map (shown_hook library) library.outbox.hooks)))
-asked library (commands.Sources wanted page) =
-    Some (Ok (shown_sources page (listed_sources library wanted)))
-asked library (commands.Source id) =
-    Some
-    (kept_or refusals.NoSource (λ row. Ok (views.Source row))
-    (source_of id library.catalog.sources))
-asked library (commands.SourcePart id name) =
-    Some
-    (kept_or refusals.NoSource (λ row. source_part row name) (source_of id library.catalog.sources))
-asked library (commands.Flows wanted range page) =
-    Some (Ok (shown_flows library page (listed_flows library wanted range)))
-asked library (commands.Flow id) =
-    Some
-    (kept_or refusals.NoFlow (λ row. Ok (views.Flow (shown_flow library.segments row)))
-    (flow_of id library.catalog.flows))
-asked library (commands.FlowPart id name) =
-    Some
-    (kept_or refusals.NoFlow (λ row. flow_part row.body name) (flow_of id library.catalog.flows))
-asked library (commands.Segments id wanted page) =
-    Some
-    (kept_or refusals.NoFlow (λ row. Ok (shown_segments page
+-- what is shown to a question, or its refusal
+abbrev pub asked : Library → Query → Result View Refusal
+asked library queries.Root = Ok views.Root
+asked library queries.Service = Ok views.Service
+asked library queries.Hooks = Ok (views.Hooks (map (shown_hook library) library.outbox.hooks))
+asked library (queries.Sources wanted page) =
+    Ok (shown_sources page (listed_sources library wanted))
+asked library (queries.Source id) =
+    kept_or refusals.NoSource (λ row. Ok (views.Source row))
+    (source_of id library.catalog.sources)
+asked library (queries.SourcePart id name) =
+    kept_or refusals.NoSource (λ row. source_part row name) (source_of id library.catalog.sources)
+asked library (queries.Flows wanted range page) =
+    Ok (shown_flows library page (listed_flows library wanted range))
+asked library (queries.Flow id) =
+    kept_or refusals.NoFlow (λ row. Ok (views.Flow (shown_flow library.segments row)))
+    (flow_of id library.catalog.flows)
+asked library (queries.FlowPart id name) =
+    kept_or refusals.NoFlow (λ row. flow_part row.body name) (flow_of id library.catalog.flows)
+asked library (queries.Segments id wanted page) =
+    kept_or refusals.NoFlow (λ row. Ok (shown_segments page
     (overlapping library.segments id wanted.range wanted.object)))
-    (flow_of id library.catalog.flows))
-asked library (commands.Object id) =
-    Some
-    (kept_or refusals.UnknownObject (λ row. Ok (shown_object library row))
-    (object_of id library.objects))
-asked library commands.Requests = Some (Ok (views.Requests library.requests))
-asked library (commands.Request serial) =
-    Some
-    (kept_or refusals.NoRequest (λ row. Ok (views.Request row))
-    (request_of serial library.requests))
-asked library changing = None
+    (flow_of id library.catalog.flows)
+asked library (queries.Object id) =
+    kept_or refusals.UnknownObject (λ row. Ok (shown_object library row))
+    (object_of id library.objects)
+asked library queries.Requests = Ok (views.Requests library.requests)
+asked library (queries.Request serial) =
+    kept_or refusals.NoRequest (λ row. Ok (views.Request row))
+    (request_of serial library.requests)

@@ -57,7 +57,26 @@ pub struct SegmentFilter {
     pub object: Option<Text>,
 }
 
-/// A command. Those up to `DropHook` change the library, the rest ask it.
+/// A question, which changes nothing of the library.
+#[derive(Drop)]
+pub enum Query {
+    Root,
+    Service,
+    Hooks,
+    Sources(SourceFilter, Page),
+    Source(u128),
+    SourcePart(u128, PartName),
+    /// Where a range is named, only flows of which a segment overlaps it are listed.
+    Flows(FlowFilter, Option<TimeRange>, Page),
+    Flow(u128),
+    FlowPart(u128, PartName),
+    Segments(u128, SegmentFilter, Page),
+    Object(Text),
+    Requests,
+    Request(u64),
+}
+
+/// A command: to change the library, or to answer a question.
 #[derive(Drop)]
 pub enum Command {
     PutFlow(FlowBody),
@@ -75,18 +94,5 @@ pub enum Command {
     CutSegments(u128, TimeRange),
     PutHook(Hook),
     DropHook(Text),
-    Root,
-    Service,
-    Hooks,
-    Sources(SourceFilter, Page),
-    Source(u128),
-    SourcePart(u128, PartName),
-    /// Where a range is named, only flows of which a segment overlaps it are listed.
-    Flows(FlowFilter, Option<TimeRange>, Page),
-    Flow(u128),
-    FlowPart(u128, PartName),
-    Segments(u128, SegmentFilter, Page),
-    Object(Text),
-    Requests,
-    Request(u64),
+    Ask(Query),
 }

@@ -24,7 +24,7 @@ mod texts;
 
 pub use crate::change::Change;
 pub use crate::command::{
-    Command, FlowFilter, Page, SegmentFilter, SourceFilter, TagTest, TagTests, Want,
+    Command, FlowFilter, Page, Query, SegmentFilter, SourceFilter, TagTest, TagTests, Want,
 };
 pub use crate::essence::{holds_float, is_essence};
 pub use crate::event::{EventKind, EventList, EventRow, EventRowList, Happened, HappenedList};

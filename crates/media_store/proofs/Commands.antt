@@ -9,7 +9,7 @@ use Rattle.media_rows.specs.declared.command.Command.TheVariants as commands
 use Rattle.media_rows.specs.declared.refusal.Refusal.{Refusal}
 use Rattle.media_rows.specs.declared.refusal.Refusal.TheVariants.{JournalFull}
 use Rattle.media_rows.specs.declared.reply.Reply.TheVariants as replies
-use Rattle.media_rows.specs.Answer.{Outcome, accepted, accepted_cut, accepted_drop, accepted_drop_hook, accepted_request, answer, changed, changing_answer, refusal_of, unchanged}
+use Rattle.media_rows.specs.Answer.{Outcome, accepted, accepted_cut, accepted_drop, accepted_drop_hook, accepted_request, answer, answer_by, changed, refusal_of, unchanged}
 use Rattle.media_rows.specs.Library.{Library}
 use Rattle.media_rows.specs.Media.{fits_bytes}
 use Rattle.media_rows.specs.Outbox.{hook_of}
@@ -25,15 +25,8 @@ either : (b : Bool) (x y : Outcome) → stores x.change ≡ false → stores y.c
 either true x y one other = one
 either false x y one other = other
 
--- the same of what is made, if it is
-stores_made : Option Outcome → Bool
-stores_made None = false
-stores_made (Some outcome) = stores outcome.change
-
-answered : (refusal : Option Refusal) (made : Option Outcome) → stores_made made ≡ false → stores (changing_answer refusal made).change ≡ false
-unfolding stores_made
-answered None None none = refl
-answered None (Some outcome) none = none
+answered : (refusal : Option Refusal) (made : Outcome) → stores made.change ≡ false → stores (answer_by refusal made).change ≡ false
+answered None made none = none
 answered (Some why) made none = refl
 
 -- ---- commands
@@ -56,7 +49,6 @@ none_unhooked library url moment =
 
 pub none_stored : (library : Library) (command : Command) (moment : ℕ) → brings_bytes command ≡ false
     → stores (answer library command moment).change ≡ false
-unfolding stores_made
 none_stored library (commands.PutFlow body) moment is =
     answered (refusal_of library (commands.PutFlow body)) (accepted library (commands.PutFlow body) moment) refl
 none_stored library (commands.SetFlow flow part) moment is =
@@ -77,19 +69,8 @@ none_stored library (commands.PutHook hook) moment is =
 none_stored library (commands.DropHook url) moment is =
     answered (refusal_of library (commands.DropHook url)) (accepted library (commands.DropHook url) moment) (none_unhooked library url moment)
 none_stored library (commands.Keep object start size) moment is = absurd cc
-none_stored library commands.Root moment is = refl
-none_stored library commands.Service moment is = refl
-none_stored library commands.Hooks moment is = refl
-none_stored library (commands.Sources wanted page) moment is = refl
-none_stored library (commands.Source id) moment is = refl
-none_stored library (commands.SourcePart id name) moment is = refl
-none_stored library (commands.Flows wanted range page) moment is = refl
-none_stored library (commands.Flow id) moment is = refl
-none_stored library (commands.FlowPart id name) moment is = refl
-none_stored library (commands.Segments id wanted page) moment is = refl
-none_stored library (commands.Object id) moment is = refl
-none_stored library commands.Requests moment is = refl
-none_stored library (commands.Request serial) moment is = refl
+none_stored library (commands.Ask query) moment is =
+    answered (refusal_of library (commands.Ask query)) (accepted library (commands.Ask query) moment) refl
 
 -- nor where the change may not fit
 by_change : (journal : State) (outcome : Outcome) (change : Option Change) → stores change ≡ false → outcome.change ≡ change

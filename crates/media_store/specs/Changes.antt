@@ -9,7 +9,6 @@ use Rattle.media_rows.specs.Media.{Archive, archive_after}
 use Rattle.disk_trait.specs.Calls.{Elapses}
 use Rattle.disk_trait.specs.Device.{Device, Left, may_leave}
 use Rattle.change_codec.specs.Fitting.{State, change_size, fits_room, snapshot_size, with_record}
-use Rattle.media_journal.specs.declared.header.TheConstants.{BLOCK}
 use Rattle.store_states.specs.Fitting.{fitted}
 use Rattle.store_states.specs.Held.{StandsThere}
 use Rattle.store_states.specs.Kept.{AgreesWith, StoreView}
@@ -78,9 +77,9 @@ archive_next kept held change came = archive_after change came (archive_of kept 
 pub record ChangesStore (ok : Bool) (change : Change) (came : List ℕ) (kept next : StoreView)
     (held : List (List ℕ)) (old new : Device) : Type 0 where
   pub moments : Elapses
-      (Replaces (BLOCK * kept.journal.half) (archive_of kept held)
+      (Replaces (4096 * kept.journal.half) (archive_of kept held)
       (archive_next kept held change came))
-      (ReplaceEnds ok (BLOCK * kept.journal.half) (archive_of kept held)
+      (ReplaceEnds ok (4096 * kept.journal.half) (archive_of kept held)
       (archive_next kept held change came)) old new
   pub agrees : ok ≡ true → AgreesWith new next (archive_next kept held change came).held
 

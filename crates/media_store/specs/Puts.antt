@@ -17,7 +17,6 @@ use Rattle.store_plans.specs.declared.puts.PutPlan.{PutPlan}
 use Rattle.store_plans.specs.declared.puts.PutPlan.TheVariants.{Refused, Kept, Write}
 use Rattle.store_plans.specs.Plans.{HasExtent, IsPutPlan, PutFits}
 use Rattle.store_writes.specs.Writes.{Keeps}
-use Rattle.media_store.specs.declared.puts.TheConstants.{PIECE}
 use Rattle.media_store.specs.Changes.{ChangesStore, bytes_by, kept_by}
 use Rattle.media_store.specs.Stores.{IsSoundStore, PutSeen, journal_of}
 
@@ -139,7 +138,7 @@ asks_disk_if (Some put) = asks_disk put.same put.plan
 -- the put has room for a piece of the bytes that it compares
 abbrev pub HasRoomToCompare : PutPlan → ℕ → Type 0
 HasRoomToCompare (Refused why) room = Unit {0}
-HasRoomToCompare (Kept extent) room = room ≡ PIECE
+HasRoomToCompare (Kept extent) room = room ≡ 65536
 HasRoomToCompare (Write extent planned) room = Unit {0}
 
 -- why a put is refused, if it is

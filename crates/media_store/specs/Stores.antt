@@ -7,7 +7,6 @@ use Rattle.media_rows.specs.declared.object.ObjectState.TheVariants.{Allocated, 
 use Rattle.media_rows.specs.Media.{Archive}
 use Rattle.change_codec.specs.Fitting.{State}
 use Rattle.media_journal.specs.declared.fault.JournalFault.{JournalFault}
-use Rattle.media_journal.specs.declared.header.TheConstants.{BLOCK}
 use Rattle.media_journal.specs.Journal.{IsWhole}
 use Rattle.store_states.specs.Kept.{StoreView}
 use Rattle.store_states.specs.States.{blocks_before}
@@ -50,7 +49,7 @@ archive_of kept held = record { library = kept.library; held = held }
 
 -- the least device that a store works on, in bytes
 abbrev pub size_of : StoreView → ℕ
-size_of kept = BLOCK * kept.journal.blocks
+size_of kept = 4096 * kept.journal.blocks
 
 -- What opening answers over an image: a store of what the image has, or why it has none.
 abbrev pub OpensAs : List ℕ → Result StoreSeen JournalFault → Type 0

@@ -141,7 +141,7 @@ impl Store {
         requires unspent { IsFalse self.old.spent }
         requires device { size_of self.old.kept ≤ (D.device disk.old).size }
         requires under_way { MayTake self.old.put (length piece.now) }
-        requires short { length piece.now ≤ PIECE }
+        requires short { length piece.now ≤ 65536 }
 
         // What is kept stays, also where the call fails, and at each moment a crash leaves its state.
         ensures keeps { (held : List (List ℕ)) → AgreesWith (D.device disk.old) self.old.kept held
@@ -275,7 +275,7 @@ impl Put {
         requires place { IsPlacedOn area (D.device disk.old).size self.old.plan self.old.same
             (self.old.handed + length piece.now) }
         requires inside { self.old.handed + length piece.now ≤ self.old.size }
-        requires short { length piece.now ≤ PIECE }
+        requires short { length piece.now ≤ 65536 }
         ensures keeps { (kept : StoreView) → (held : List (List ℕ))
             → AgreesWith (D.device disk.old) kept held → area ≡ media_start kept.journal.half
             → LeavesObjects kept.library self.old.plan

@@ -41,6 +41,9 @@ impl Model for Store {
 }
 
 impl Store {
+    /// Lets the store go. What was changed stands in its file already.
+    pub fn close(self) {}
+
     /// Whether a call of the disk failed. Then the store must be opened again.
     pub fn spent(&self) -> bool
         ensures { result ≡ self.now.spent }

@@ -1,6 +1,6 @@
 -- What is answered to a command, to the bytes of an object and to a question of them has its texts.
-use Rattle.std.proofs.Common.{◌≡◌, ℕ, Bool, true, false, List, [], map, length, Option, Some, None, Ok, refl}
-use Rattle.std.specs.Prelude.{◌==◌, ◌&&◌, nat_le, is_some, IfSome}
+use Rattle.std.proofs.Common.{◌≡◌, ℕ, Bool, true, false, List, [], map, length, Option, Some, None, Result, Ok, Err, refl}
+use Rattle.std.specs.Prelude.{◌==◌, ◌&&◌, nat_le, is_some}
 use Rattle.std.specs.List.{list_all}
 use Rattle.std.proofs.lemmas.Bool.{and_from, and_parts, cond_both}
 use Rattle.time_range.specs.declared.ranges.Span.{Span}
@@ -10,6 +10,8 @@ use Rattle.media_rows.specs.declared.command.Command.{Command}
 use Rattle.media_rows.specs.declared.command.Command.TheVariants as commands
 use Rattle.media_rows.specs.declared.command.FlowFilter.{FlowFilter}
 use Rattle.media_rows.specs.declared.command.Page.{Page}
+use Rattle.media_rows.specs.declared.command.Query.{Query}
+use Rattle.media_rows.specs.declared.command.Query.TheVariants as queries
 use Rattle.media_rows.specs.declared.command.SourceFilter.{SourceFilter}
 use Rattle.media_rows.specs.declared.flow.FlowRow.{FlowRow}
 use Rattle.media_rows.specs.declared.object.ObjectRow.{ObjectRow}
@@ -17,10 +19,11 @@ use Rattle.media_rows.specs.declared.object.ObjectState.{ObjectState}
 use Rattle.media_rows.specs.declared.object.ObjectState.TheVariants.{Allocated, Stored}
 use Rattle.media_rows.specs.declared.refusal.Refusal.{Refusal}
 use Rattle.media_rows.specs.declared.refusal.Refusal.TheVariants as refusals
+use Rattle.media_rows.specs.declared.reply.View.{View}
 use Rattle.media_rows.specs.declared.reply.View.TheVariants as views
 use Rattle.media_rows.specs.declared.request.Deletion.{Deletion}
 use Rattle.media_rows.specs.declared.segment.Segment.{Segment}
-use Rattle.media_rows.specs.Answer.{Outcome, created_unless, changing_answer, accepted_request, accepted_drop, accepted_cut, accepted_drop_hook, wanted_ids, is_taken, first_taken, taken_refusal, change_refusal, keep_refusal, keep_state}
+use Rattle.media_rows.specs.Answer.{Outcome, created_unless, answer_by, unchanged, shown_refusal, shown_reply, accepted_request, accepted_drop, accepted_cut, accepted_drop_hook, wanted_ids, is_taken, first_taken, taken_refusal, change_refusal, keep_refusal, keep_state}
 use Rattle.media_rows.specs.Catalog.{flow_of, source_of}
 use Rattle.media_rows.specs.Good.{Good, is_body_text, is_flow_text, is_source_text, is_object_text, is_request_text, is_hook_text}
 use Rattle.media_rows.specs.Ids.{is_object_id}
@@ -47,7 +50,7 @@ use Rattle.reply_laws.proofs.Shown.{Fine}
 
 -- a refusal is answered with its texts, and what isn't refused with those of its reply
 by_refusal : (refusal : Option Refusal) (outcome : Outcome) → Told refusal → has_reply_texts outcome.reply ≡ true
-    → has_reply_texts (changing_answer refusal (Some outcome)).reply ≡ true
+    → has_reply_texts (answer_by refusal outcome).reply ≡ true
 by_refusal None outcome h e = e
 by_refusal (Some why) outcome h e = h.is
 
@@ -81,7 +84,7 @@ unhooked library url moment =
 
 allocated : (library : Library) (flow : ℕ) (ids : List (List ℕ)) (taken : List ℕ → Bool) (outcome : Outcome) → list_all is_object_id ids ≡ true
     → has_reply_texts outcome.reply ≡ true
-    → has_reply_texts (changing_answer (or_else (change_refusal library flow) (taken_refusal (first_taken taken [] ids))) (Some outcome)).reply ≡ true
+    → has_reply_texts (answer_by (or_else (change_refusal library flow) (taken_refusal (first_taken taken [] ids))) outcome).reply ≡ true
 allocated library flow ids taken outcome forms e =
     by_refusal _ outcome (refused.either _ _ (refused.of_change library flow) (refused.of_taken taken [] ids forms)) e
 
@@ -125,41 +128,44 @@ hooks_shown library texts = record {
       (λ row here. list_all-In is_hook_text library.outbox.hooks texts.hooks row here);
 }
 
-asked_is_fine : (library : Library) (command : Command) → Good library → IfSome (asked library command) Fine
-asked_is_fine library commands.Root good = record { is = refl }
-asked_is_fine library commands.Service good = record { is = refl }
-asked_is_fine library commands.Hooks good = hooks_shown library (Texts-from library good.texts)
-asked_is_fine library (commands.Sources wanted page) good = sources_shown library wanted page (Texts-from library good.texts)
-asked_is_fine library (commands.Source id) good =
+asked_is_fine : (library : Library) (query : Query) → Good library → Fine (asked library query)
+asked_is_fine library queries.Root good = record { is = refl }
+asked_is_fine library queries.Service good = record { is = refl }
+asked_is_fine library queries.Hooks good = hooks_shown library (Texts-from library good.texts)
+asked_is_fine library (queries.Sources wanted page) good = sources_shown library wanted page (Texts-from library good.texts)
+asked_is_fine library (queries.Source id) good =
     shown.kept refusals.NoSource (λ row. Ok (views.Source row)) (source_of id library.catalog.sources) refl
     (λ row at. record { is = shown.found is_source_text _ library.catalog.sources row (Texts-from library good.texts).sources at })
-asked_is_fine library (commands.SourcePart id name) good =
+asked_is_fine library (queries.SourcePart id name) good =
     shown.kept refusals.NoSource (λ row. source_part row name) (source_of id library.catalog.sources) refl
     (λ row at. shown.of_source row name (shown.found is_source_text _ library.catalog.sources row (Texts-from library good.texts).sources at))
-asked_is_fine library (commands.Flows wanted range page) good = flows_shown library wanted range page (Texts-from library good.texts)
-asked_is_fine library (commands.Flow id) good =
+asked_is_fine library (queries.Flows wanted range page) good = flows_shown library wanted range page (Texts-from library good.texts)
+asked_is_fine library (queries.Flow id) good =
     shown.kept refusals.NoFlow (λ row. Ok (views.Flow (shown_flow library.segments row))) (flow_of id library.catalog.flows) refl
     (λ row at. record { is = shown.found is_flow_text _ library.catalog.flows row (Texts-from library good.texts).flows at })
-asked_is_fine library (commands.FlowPart id name) good =
+asked_is_fine library (queries.FlowPart id name) good =
     shown.kept refusals.NoFlow (λ row. flow_part row.body name) (flow_of id library.catalog.flows) refl
     (λ row at. shown.of_flow row.body name (body_of row (shown.found is_flow_text _ library.catalog.flows row (Texts-from library good.texts).flows at)))
-asked_is_fine library (commands.Segments id wanted page) good =
+asked_is_fine library (queries.Segments id wanted page) good =
     shown.kept refusals.NoFlow (λ row. Ok (shown_segments page (overlapping library.segments id wanted.range wanted.object)))
     (flow_of id library.catalog.flows) refl (λ row at. record {
       is = shown.of_segments library.objects library.segments id wanted.range wanted.object page (Texts-from library good.texts).objects good.references;
     })
-asked_is_fine library (commands.Object id) good =
+asked_is_fine library (queries.Object id) good =
     shown.kept refusals.UnknownObject (λ row. Ok (shown_object library row)) (object_of id library.objects) refl
     (λ row at. record { is = shown.found is_object_text _ library.objects row (Texts-from library good.texts).objects at })
-asked_is_fine library commands.Requests good = record { is = (Texts-from library good.texts).requests }
-asked_is_fine library (commands.Request serial) good =
+asked_is_fine library queries.Requests good = record { is = (Texts-from library good.texts).requests }
+asked_is_fine library (queries.Request serial) good =
     shown.kept refusals.NoRequest (λ row. Ok (views.Request row)) (request_of serial library.requests) refl
     (λ row at. record { is = shown.found is_request_text _ library.requests row (Texts-from library good.texts).requests at })
-asked_is_fine library changing good = tt
+
+-- so is the reply
+shown_fine : (shown : Result View Refusal) → Fine shown → has_reply_texts (answer_by (shown_refusal shown) (unchanged (shown_reply shown))).reply ≡ true
+shown_fine (Ok view) fine = fine.is
+shown_fine (Err why) fine = fine.is
 
 -- ---- commands
 
--- an asking command stands last: it is answered by what it shows
 pub answers_have_texts : AnswersHaveTexts
 answers_have_texts library (commands.PutFlow body) moment good at fine few =
     by_refusal _ _ (refused.of_put library body) (created (is_some (flow_of body.id library.catalog.flows)))
@@ -176,4 +182,4 @@ answers_have_texts library (commands.CutSegments flow range) moment good at fine
     by_refusal _ _ (refused.of_change library flow) (cut library flow range moment at)
 answers_have_texts library (commands.PutHook hook) moment good at fine few = created (is_some (hook_of hook.url library.outbox.hooks))
 answers_have_texts library (commands.DropHook url) moment good at fine few = unhooked library url moment
-answers_have_texts library asking moment good at fine few = (asked_is_fine library asking good).is
+answers_have_texts library (commands.Ask query) moment good at fine few = shown_fine (asked library query) (asked_is_fine library query good)

@@ -1,6 +1,6 @@
 //! Words for methods, for what is asked for, and for what a refusal names.
 use http_wire::MethodKind;
-use media_rows::{Command, Refusal};
+use media_rows::{Command, Query, Refusal};
 use std::str;
 use tams_http::Ask;
 
@@ -37,19 +37,25 @@ fn command_name(command: &Command) -> &'static str {
         Command::CutSegments(..) => "CutSegments",
         Command::PutHook(_) => "PutHook",
         Command::DropHook(_) => "DropHook",
-        Command::Root => "Root",
-        Command::Service => "Service",
-        Command::Hooks => "Hooks",
-        Command::Sources(..) => "Sources",
-        Command::Source(_) => "Source",
-        Command::SourcePart(..) => "SourcePart",
-        Command::Flows(..) => "Flows",
-        Command::Flow(_) => "Flow",
-        Command::FlowPart(..) => "FlowPart",
-        Command::Segments(..) => "Segments",
-        Command::Object(_) => "Object",
-        Command::Requests => "Requests",
-        Command::Request(_) => "Request",
+        Command::Ask(query) => query_name(query),
+    }
+}
+
+fn query_name(query: &Query) -> &'static str {
+    match query {
+        Query::Root => "Root",
+        Query::Service => "Service",
+        Query::Hooks => "Hooks",
+        Query::Sources(..) => "Sources",
+        Query::Source(_) => "Source",
+        Query::SourcePart(..) => "SourcePart",
+        Query::Flows(..) => "Flows",
+        Query::Flow(_) => "Flow",
+        Query::FlowPart(..) => "FlowPart",
+        Query::Segments(..) => "Segments",
+        Query::Object(_) => "Object",
+        Query::Requests => "Requests",
+        Query::Request(_) => "Request",
     }
 }
 

@@ -64,13 +64,3 @@ module _ {State Request : Type 0} {m : Machine State Request} {b : Beginning Sta
       → state_now (replied_trace states bytes made (asked_trace m b said finished steps)) ≡ last_or held.state states
   state_now-replied o states bytes made =
       state_now-states (asked_trace m b said finished steps) states ∙ ap (λ s. last_or s states) (state_now-open o)
-
--- What the connection was told stays over calls of the disk before the reply and behind it.
-pub told_between : (linked : Bool) {whole : Bool} {bytes : List ℕ} (old mid new last : Device) → mid.link ≡ old.link → last.link ≡ new.link
-    → (sent : List ℕ) × Sends whole bytes sent × (new.link.connections ≡ change_last (after_say linked sent) mid.link.connections)
-    → (sent : List ℕ) × Sends whole bytes sent × (last.link.connections ≡ change_last (after_say linked sent) old.link.connections)
-told_between linked old mid new last before behind told = (
-  told.0,
-  told.1,
-  ap (λ (l : Link). l.connections) behind ∙ told.2 ∙ ap (λ (l : Link). change_last (after_say linked told.0) l.connections) before,
-)

@@ -100,7 +100,7 @@ may_media fed is goes = may_open (stages.Media 0) fed is refl (λ fault failed. 
 
 -- the wire refuses what was heard
 pub refused_step : RefusalsAreSteps
-refused_step base n s all said new refusal r = record { fault = r.fault; next = r.next; interim = r.interim; response_is = refl }
+refused_step base n s all said new fault r = record { fault = fault; next = r.next; interim = r.interim; response_is = refl }
 
 -- a request is cut that isn't whole
 pub waiting_step : WaitingIsCut

@@ -22,7 +22,6 @@ use Rattle.http_wire.specs.declared.stage.FeedStep.TheVariants as steps
 use Rattle.http_wire.proofs.Alone.{HasHead, due_head, due_later, given_head, heads_wait, media_opens, opened_head, stands_alone}
 use Rattle.http_wire.proofs.Interims.{same_head}
 use Rattle.http_wire.proofs.Room.{head_has_room, waits_with_room}
-use Rattle.media_rows.specs.declared.refusal.Refusal.{Refusal}
 use Rattle.tams_machine.specs.Requests.{HadInterim, IsCut, ends_behind, interim_of, interim_text, other, waiting, within}
 use Rattle.run_history.proofs.Hearings.{each-append}
 use Rattle.request_hearing.specs.Hearing.{GivesRequest, HearPart, HearsAndSays, HearsRequest, HearsWaiting, IsHeardAs, IsRefusedByWire, IsUnsaid, IsWaiting, OpensMedia, interim_bytes, interim_where, part_behind}
@@ -60,7 +59,7 @@ due_is bytes head media due has tells =
 -- a step tells whether it is due
 pub due_step : (old new : Fed) (step : FeedStep) (due : Bool) → Turns old step new → IsDueBy new step due → IsTrue due ↔ IsInterimDue old.unread
 due_step old new steps.More due waits by = rw waits.leaves.unread at by
-due_step old new (steps.Refused refusal) due refuses by = rw refuses.2.leaves.unread at by
+due_step old new (steps.Refused fault) due refuses by = rw refuses.leaves.unread at by
 due_step old new (steps.Whole shown) due gives by =
     let has = given_head old.unread gives.head gives.body gives.n gives.next in
     let same : due ≡ wants_interim gives.head = by ∙ gives.tells.interim in
@@ -225,11 +224,8 @@ module _ (old new : Fed) (due : Bool) (tells : IsTrue due ↔ IsInterimDue old.u
         room = omega (arith, head_has_room old new shown g);
       }
 
-  pub comes_refused : (refusal : Refusal) → Turns old (steps.Refused refusal) new
-      → IsRefusedByWire (old.unread ++ []) due new refusal
-  comes_refused refusal (fault, is, r) = record {
-    fault = fault;
-    refusal_is = is;
+  pub comes_refused : (fault : WireFault) → Turns old (steps.Refused fault) new → IsRefusedByWire (old.unread ++ []) due new fault
+  comes_refused fault r = record {
     next = rw (append-nil old.unread) r.next;
     interim = rw (append-nil old.unread) (had_interim due old.unread tells);
     unread = r.leaves.unread ∙ sym (append-nil old.unread);
@@ -283,7 +279,7 @@ pub comes_unsaid : (old new : Fed) (step : FeedStep) → Turns old step new → 
     → IsHeardAs old.requests (old.unread ++ []) true new (unsaid_of step)
 comes_unsaid old new steps.More waits (head, n, stands, wants) =
     unsaid_by (is_media head.method head.target) old.unread head n more waits.next stands wants refl (λ size e. cc)
-comes_unsaid old new (steps.Refused refusal) (fault, is, r) (head, n, stands, wants) =
+comes_unsaid old new (steps.Refused fault) r (head, n, stands, wants) =
     unsaid_by (is_media head.method head.target) old.unread head n (refused fault) r.next stands wants refl (λ size e. cc)
 comes_unsaid old new (steps.Whole shown) g (head, n, stands, wants) =
     unsaid_by (is_media head.method head.target) old.unread head n (whole (given g.head g.body) g.n) g.next stands wants refl (λ size e. cc)
@@ -300,8 +296,8 @@ follows_unsaid : (old new : Fed) (step : FeedStep) (says : Bool) (before now : D
     → HearsAndSays [] [] says false false false before now → FollowsTurn says true old.requests old.unread new before now (Done (unsaid_of step))
 follows_unsaid old new steps.More says before now turns is_due leaves =
     record { parts = []; bytes = []; leaves = leaves; waits = tt; comes = comes_unsaid old new steps.More turns is_due }
-follows_unsaid old new (steps.Refused refusal) says before now turns is_due leaves =
-    record { parts = []; bytes = []; leaves = leaves; waits = tt; comes = comes_unsaid old new (steps.Refused refusal) turns is_due }
+follows_unsaid old new (steps.Refused fault) says before now turns is_due leaves =
+    record { parts = []; bytes = []; leaves = leaves; waits = tt; comes = comes_unsaid old new (steps.Refused fault) turns is_due }
 follows_unsaid old new (steps.Whole shown) says before now turns is_due leaves =
     record { parts = []; bytes = []; leaves = leaves; waits = tt; comes = comes_unsaid old new (steps.Whole shown) turns is_due }
 follows_unsaid old new (steps.Head shown) says before now turns is_due leaves =
@@ -347,10 +343,10 @@ module _ (old mid new : Fed) (said due : Bool) (before between after : Device) (
   turned_media shown gives leaves =
       record { due = due; stays = stays; follows = record { parts = []; bytes = []; leaves = leaves; waits = tt; comes = comes_media old mid due tells shown gives } }
 
-  pub turned_refused : (refusal : Refusal) → Turns old (steps.Refused refusal) mid → HearsAndSays [] [] (due && not said) true true false before between
-      → TurnsTo said old.requests old.unread mid before between (Done (heards.Refused refusal))
-  turned_refused refusal refuses leaves =
-      record { due = due; stays = stays; follows = record { parts = []; bytes = []; leaves = leaves; waits = tt; comes = comes_refused old mid due tells refusal refuses } }
+  pub turned_refused : (fault : WireFault) → Turns old (steps.Refused fault) mid → HearsAndSays [] [] (due && not said) true true false before between
+      → TurnsTo said old.requests old.unread mid before between (Done (heards.Refused fault))
+  turned_refused fault refuses leaves =
+      record { due = due; stays = stays; follows = record { parts = []; bytes = []; leaves = leaves; waits = tt; comes = comes_refused old mid due tells fault refuses } }
 
   pub turned_unsaid : (step : FeedStep) → Turns old step mid → (due && not said) ≡ true → HearsAndSays [] [] (due && not said) false false false before between
       → TurnsTo said old.requests old.unread mid before between (Done (unsaid_of step))

@@ -11,12 +11,10 @@ use Rattle.http_wire.specs.Feeds.{Fed, TellsBody, TellsHead, feed_room, handed_o
 use Rattle.http_wire.specs.Framing.{is_media, wants_interim}
 use Rattle.http_wire.specs.Heads.{more, refused, whole}
 use Rattle.http_wire.specs.Requests.{IsNext, opened}
-use Rattle.http_wire.specs.Steps.{wire_refusal}
 use Rattle.http_wire.specs.declared.framing.WireFault.{WireFault}
 use Rattle.http_wire.specs.declared.stage.Head.{Head}
 use Rattle.http_wire.specs.declared.stage.FeedStage.{FeedStage}
 use Rattle.http_wire.specs.declared.stage.FeedStage.TheVariants as stages
-use Rattle.media_rows.specs.declared.refusal.Refusal.{Refusal}
 use Rattle.run_history.specs.Steps.{Interim}
 use Rattle.run_history.specs.Traces.{Trace}
 use Rattle.run_history.specs.Growing.{with_piece}
@@ -112,7 +110,7 @@ with_interim said t = if said then with_piece (Interim interim_text) t else t
 abbrev pub saying_held : Heard → Bool
 saying_held (Whole shown) = true
 saying_held (Media shown) = true
-saying_held (Refused refusal) = true
+saying_held (Refused fault) = true
 saying_held Ended = true
 saying_held Cut = true
 saying_held Unheard = true
@@ -123,7 +121,7 @@ saying_held MediaUnsaid = false
 abbrev pub link_held : Heard → Bool
 link_held (Whole shown) = true
 link_held (Media shown) = true
-link_held (Refused refusal) = true
+link_held (Refused fault) = true
 link_held Ended = true
 link_held Cut = true
 link_held Unheard = false
@@ -134,7 +132,7 @@ link_held MediaUnsaid = false
 abbrev pub has_ended : Heard → Bool
 has_ended (Whole shown) = false
 has_ended (Media shown) = false
-has_ended (Refused refusal) = false
+has_ended (Refused fault) = false
 has_ended Ended = true
 has_ended Cut = true
 has_ended Unheard = false
@@ -175,13 +173,11 @@ pub record OpensMedia (taken : ℕ) (all : List ℕ) (said : Bool) (new : Fed) (
     pub room : length new.last < feed_room
 
 -- The wire refuses what stands there.
-pub record IsRefusedByWire (all : List ℕ) (said : Bool) (new : Fed)
-    (refusal : Refusal) : Type 0 where
-  pub fault : WireFault
-  pub refusal_is : refusal ≡ wire_refusal fault
-  pub next : IsNext all (refused fault)
-  pub interim : HadInterim all (interim_where said)
-  pub unread : new.unread ≡ all
+pub record IsRefusedByWire (all : List ℕ) (said : Bool) (new : Fed) (fault : WireFault) : Type 0
+  where
+    pub next : IsNext all (refused fault)
+    pub interim : HadInterim all (interim_where said)
+    pub unread : new.unread ≡ all
 
 -- Nothing whole stands there.
 pub record IsWaiting (all : List ℕ) (said : Bool) (new : Fed) : Type 0 where
@@ -204,7 +200,7 @@ pub record IsUnsaid (all : List ℕ) (said takes : Bool) : Type 0 where
 abbrev pub IsHeardAs : ℕ → List ℕ → Bool → Fed → Heard → Type 0
 IsHeardAs taken all said new (Whole shown) = GivesRequest taken all said new shown
 IsHeardAs taken all said new (Media shown) = OpensMedia taken all said new shown
-IsHeardAs taken all said new (Refused refusal) = IsRefusedByWire all said new refusal
+IsHeardAs taken all said new (Refused fault) = IsRefusedByWire all said new fault
 IsHeardAs taken all said new Ended = (all ≡ []) × IsWaiting all said new
 IsHeardAs taken all said new Cut = (all ≢ []) × IsWaiting all said new
 IsHeardAs taken all said new Unheard = IsWaiting all said new

@@ -5,8 +5,8 @@ use Rattle.httparse.specs.Grammar.{RequestHead}
 use Rattle.http_wire.specs.Feeds.{Fed}
 use Rattle.http_wire.specs.Heads.{more}
 use Rattle.http_wire.specs.Requests.{IsNext}
+use Rattle.http_wire.specs.declared.framing.WireFault.{WireFault}
 use Rattle.http_wire.specs.declared.stage.Head.{Head}
-use Rattle.media_rows.specs.declared.refusal.Refusal.{Refusal}
 use Rattle.store_states.specs.States.{StoreState}
 use Rattle.run_history.specs.Sessions.{IsUnfinished}
 use Rattle.run_history.specs.Steps.{Cut, IsStep, Refused}
@@ -19,9 +19,9 @@ use Rattle.request_hearing.specs.Hearing.{HearPart, HearsWaiting, IsRefusedByWir
 -- what the wire refuses
 abbrev pub RefusalsAreSteps : Type 0
 RefusalsAreSteps = (base : List ℕ) (n : ℕ) (s : StoreState) (all : List ℕ) (said : Bool) (new : Fed)
-    (refusal : Refusal) (r : IsRefusedByWire all said new refusal)
+    (fault : WireFault) → IsRefusedByWire all said new fault
     → IsStep (tams_machine base) n s
-    (Refused all (record { interim = interim_where said; response = wire_response base r.fault }))
+    (Refused all (record { interim = interim_where said; response = wire_response base fault }))
 
 -- a request that isn't whole is cut
 abbrev pub WaitingIsCut : Type 0

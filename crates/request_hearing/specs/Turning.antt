@@ -56,14 +56,14 @@ abbrev pub IsDueBy : Fed → FeedStep → Bool → Type 0
 IsDueBy fed steps.More due = IsTrue due ↔ IsInterimDue fed.unread
 IsDueBy fed (steps.Head shown) due = due ≡ shown.wants_interim
 IsDueBy fed (steps.Whole shown) due = due ≡ shown.wants_interim
-IsDueBy fed (steps.Refused refusal) due = IsTrue due ↔ IsInterimDue fed.unread
+IsDueBy fed (steps.Refused fault) due = IsTrue due ↔ IsInterimDue fed.unread
 
 -- what a step comes to where saying the interim response failed
 abbrev pub unsaid_of : FeedStep → Heard
 unsaid_of steps.More = Unsaid
 unsaid_of (steps.Head shown) = MediaUnsaid
 unsaid_of (steps.Whole shown) = Unsaid
-unsaid_of (steps.Refused refusal) = Unsaid
+unsaid_of (steps.Refused fault) = Unsaid
 
 -- Hearing goes on: all these bytes are unread, behind so many requests, and the interim response
 -- was said only where it is due.

@@ -1,6 +1,5 @@
 //! What comes of hearing.
-use http_wire::Head;
-use media_rows::Refusal;
+use http_wire::{Head, WireFault};
 
 /// What came of hearing a request.
 #[derive(Drop)]
@@ -10,7 +9,7 @@ pub enum Heard {
     /// The head of a media PUT, whose body is heard apart. The request takes its moment now.
     Media(Head),
     /// The wire is refused, which ends the connection.
-    Refused(Refusal),
+    Refused(WireFault),
     /// The peer's bytes ended where no request had begun.
     Ended,
     /// The peer's bytes ended within a request.

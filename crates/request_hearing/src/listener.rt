@@ -182,7 +182,7 @@ impl Hearing {
                 FeedStep::More => self.hear_more(site, due),
                 FeedStep::Head(head) => Turn::Done(Heard::Media(head)),
                 FeedStep::Whole(head) => Turn::Done(Heard::Whole(head)),
-                FeedStep::Refused(refusal) => Turn::Done(Heard::Refused(refusal)),
+                FeedStep::Refused(fault) => Turn::Done(Heard::Refused(fault)),
             },
         }
     }

@@ -3,16 +3,12 @@
 //! `differs` with what differs, and last how many of each there were.
 #![tactic(auto)]
 
-mod case;
-mod lines;
-mod problem;
 mod running;
 mod steps;
 mod sweep;
-mod word;
 
-use crate::problem::Problem;
 use crate::steps::{CaseFile, run_case};
+use case_files::Problem;
 use disk_trait::Text;
 use std::process::ExitCode;
 use std::rt::Files;

@@ -1,6 +1,5 @@
 //! Runs of the program over a site in memory, and what they are compared with.
-use crate::case::{Ends, Given, PeerAnswer};
-use crate::problem::{Fault, Problem};
+use case_files::{Ends, Fault, Given, PeerAnswer, Problem};
 use disk_trait::{MemoryDisk, NumberList, Text, TextList, same_bytes};
 use site_edge::{LAST_MOMENT, ListClock, MemorySink, MemorySite, PeerList};
 use std::alloc::Global;

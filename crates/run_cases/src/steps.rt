@@ -1,8 +1,7 @@
 //! The steps of a case.
-use crate::case::{CaseStep, Range, Run, read_case};
-use crate::problem::{Fault, Problem};
 use crate::running::{FailingCall, compare, compare_bytes, run_on};
 use crate::sweep::make_sweep;
+use case_files::{CaseStep, Fault, Problem, Range, Run, read_case};
 use disk_trait::{Text, TextList};
 use std::alloc::Global;
 use tams_top::Wanted;

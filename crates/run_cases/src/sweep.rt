@@ -1,8 +1,6 @@
 //! Sweeps: a run made again with each call failing in turn, or stopped within each.
-use crate::case::{Run, Sweep};
-use crate::problem::Problem;
 use crate::running::{FailingCall, Ran, compare, run_on};
-use crate::word::Failing;
+use case_files::{Failing, Problem, Run, Sweep};
 use disk_trait::{NumberList, Text, same_bytes};
 use std::alloc::{AllocError, Global};
 

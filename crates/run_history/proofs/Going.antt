@@ -2,7 +2,7 @@
 use Rattle.std.proofs.Common.{◌≡◌, ◌≢◌, ◌+◌, ◌-◌, ℕ, Bool, true, false, List, [], ◌∷◌, ◌++◌, length, All, None, refl, sym, ap, ◌∙◌, subst, arith}
 use Rattle.std.proofs.lemmas.List.{append-nil, append_assoc, length-append}
 use Rattle.std.proofs.lemmas.List.Elements.{All-cons, All-nil}
-use Rattle.disk_trait.specs.Device.{Connection, Device, HearCall, IsDevice, Left, as_read, may_leave}
+use Rattle.disk_trait.specs.Device.{Connection, Device, HearCall, IsDevice, Left, may_leave, read_with}
 use Rattle.disk_trait.specs.Calls.{Elapses, Unchanged}
 use Rattle.site_edge.specs.Links.{AddsConnection, change_last, fresh}
 use Rattle.site_edge.proofs.Theorems.{change_last_push}
@@ -246,6 +246,6 @@ has_run m b d given sessions n h sound honest shows tells = record {
   given_is = h.given_is;
   served = h.served;
   right = h.reached.right;
-  stands = (h.reached.now (as_read d) (sound.itself honest shows tells)).stands;
+  stands = (h.reached.now (read_with d (sound.itself shows).0) (sound.itself shows).1).stands;
   good = h.good;
 }

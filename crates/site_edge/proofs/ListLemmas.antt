@@ -2,7 +2,7 @@
 use Rattle.std.proofs.Common.{◌≡◌, ◌<◌, ◌+◌, ◌-◌, ◌^◌, ℕ, zero, suc, List, length, Option, Some, None, true, refl, arith}
 use Rattle.std.specs.Prelude.{SomeIff, is_some, unwrap_or}
 use Rattle.std.proofs.lemmas.List.{length_push}
-use Rattle.site_edge.specs.Clocks.{first_moments, moment_after}
+use Rattle.site_edge.specs.ListClock.{first_moments, moment_after}
 
 length-first_moments : (moments : List ℕ) (n : ℕ) → length (first_moments moments n) ≡ n
 length-first_moments moments zero = refl

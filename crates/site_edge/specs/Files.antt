@@ -76,7 +76,7 @@ file_device_is_sound f = record {
   images = λ honest _ _ _. cc;
   length = λ shows. cc;
   earlier = λ t u p _ _ left. left;
-  itself = λ honest _ _. cc;
+  itself = λ shows. cc;
   told = λ honest _ _ _. cc;
 }
 
@@ -85,7 +85,7 @@ file_site_device_is_sound s = record {
   images = λ honest _ _ _. cc;
   length = λ shows. cc;
   earlier = λ t u p _ _ left. left;
-  itself = λ honest _ _. cc;
+  itself = λ shows. cc;
   told = λ honest _ _ _. cc;
 }
 
@@ -94,6 +94,6 @@ net_site_device_is_sound s = record {
   images = λ honest _ _ _. cc;
   length = λ shows. cc;
   earlier = λ t u p _ _ left. left;
-  itself = λ honest _ _. cc;
+  itself = λ shows. cc;
   told = λ honest _ _ _. cc;
 }

@@ -1,7 +1,9 @@
 pub mod Links
 pub mod Saying
 pub mod Clocks
+pub mod ListClock
 pub mod Sinks
+pub mod MemorySink
 pub mod Files
 pub use Rattle.disk_trait.specs.Device
 pub use Rattle.disk_trait.specs.Calls

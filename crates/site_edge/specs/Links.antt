@@ -57,30 +57,25 @@ fresh = record {
   hearings = [];
 }
 
--- the connections after a call that waits for a peer
-abbrev pub with_next : {E : Type 0} → Result Bool E → List Connection → List Connection
-with_next (Ok true) connections = connections ++ fresh ∷ []
-with_next (Ok false) connections = connections
-with_next (Err _) connections = connections
+-- the connections, with another one behind them where one began
+abbrev pub with_next : Bool → List Connection → List Connection
+with_next true connections = connections ++ fresh ∷ []
+with_next false connections = connections
 
--- whether a connection is under way after such a call
-abbrev pub under_way_after : {E : Type 0} → Result Bool E → Bool → Bool
-under_way_after (Ok came) before = came
-under_way_after (Err _) before = before
-
--- whether such a call said anything else than that no more will come
-abbrev pub stays_open : {E : Type 0} → Result Bool E → Bool
-stays_open (Ok came) = came
-stays_open (Err _) = true
+-- what a call that waits for a peer said, whether one came, or this where it failed
+abbrev pub came_or : {E : Type 0} → Result Bool E → Bool → Bool
+came_or (Ok came) other = came
+came_or (Err _) other = other
 
 -- The site after a call that waits for a peer. The count of its closings is one like those of
 -- faults: it rises where the call says that no more will come, or stands at the last value of a
 -- u64.
 pub record NextPeer {E : Type 0} (result : Result Bool E) (old new : Device) : Type 0 where
-  pub under_way : new.link.under_way ≡ under_way_after result old.link.under_way
-  pub connections : old.tells ≡ true → new.link.connections ≡ with_next result old.link.connections
+  pub under_way : new.link.under_way ≡ came_or result old.link.under_way
+  pub connections : old.tells ≡ true
+      → new.link.connections ≡ with_next (came_or result false) old.link.connections
   pub closed : old.tells ≡ true
-      → IsCounted (stays_open result) old.link.closed new.link.closed
+      → IsCounted (came_or result true) old.link.closed new.link.closed
   pub dials : new.link.dials ≡ old.link.dials
 
 -- what hearing, saying and closing leave
@@ -145,17 +140,12 @@ dials_after true port place d =
     record d { begun = d.begun ++ record { place = place; port = port } ∷ [] }
 dials_after false port place d = record d { missed = slice_set d.missed port true }
 
--- the connections after a call of `dial`
-abbrev pub with_dialled : Bool → List Connection → List Connection
-with_dialled true connections = connections ++ fresh ∷ []
-with_dialled false connections = connections
-
 -- the site after a call of `dial`
 pub record HasDialled (ok : Bool) (port : ℕ) (old new : Device) : Type 0 where
   pub peer_faults : new.link.peer_faults ≡ old.link.peer_faults
   pub closed : new.link.closed ≡ old.link.closed
   pub under_way : new.link.under_way ≡ (ok || old.link.under_way)
   pub connections : old.tells ≡ true
-      → new.link.connections ≡ with_dialled ok old.link.connections
+      → new.link.connections ≡ with_next ok old.link.connections
   pub dials : old.tells ≡ true
       → new.link.dials ≡ dials_after ok port (length old.link.connections) old.link.dials

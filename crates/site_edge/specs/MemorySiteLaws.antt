@@ -50,13 +50,16 @@ site_device_is_sound site = record {
   length = λ _. refl;
   images = λ _ t p left. length-left site t p left;
   earlier = λ t u p le _ left. site_since_earlier site t u p le left;
-  itself = λ _ _ _. now (record {
-    moment = disk_calls site;
-    begun = omega arith;
-    not_over = omega arith;
-    within = omega arith;
-    later = omega arith;
-    leaves = itself_at_last site.disk.past;
-  }) refl;
+  itself = λ _. (
+    told_of site,
+    now (record {
+      moment = disk_calls site;
+      begun = omega arith;
+      not_over = omega arith;
+      within = omega arith;
+      later = omega arith;
+      leaves = itself_at_last site.disk.past;
+    }) refl,
+  );
   told = λ _ _ p left. told_now site p left;
 }

@@ -1,6 +1,7 @@
 //! A clock over a list of moments.
 ghost use Rattle.std.specs.Prelude.{◌≡◌, ◌<◌, ◌+◌, ◌^◌, ◌∷◌, ◌++◌, [], true, length, All};
-ghost use Rattle.site_edge.specs.Clocks.{IsMoment, count_after, not_begun, moment_after, listing_tells, listing_given};
+ghost use Rattle.site_edge.specs.Clocks.{IsMoment};
+ghost use Rattle.site_edge.specs.ListClock.{count_after, not_begun, moment_after, listing_tells, listing_given};
 
 use crate::Clock;
 use disk_trait::NumberList;
@@ -16,7 +17,8 @@ pub struct ListClock {
 
 impl Model for ListClock {
     ghost use Rattle.std.specs.Prelude.{All};
-    ghost use Rattle.site_edge.specs.Clocks.{IsMoment, Listing};
+    ghost use Rattle.site_edge.specs.Clocks.{IsMoment};
+    ghost use Rattle.site_edge.specs.ListClock.{Listing};
 
     ghost Value = { Listing };
 

@@ -1,7 +1,7 @@
 //! A sink in memory.
 ghost use Rattle.std.specs.Prelude.{◌≡◌, ◌++◌, ◌≤◌, ◌<◌, IsTrue, IsFalse, true, if◌then◌else◌};
 ghost use Rattle.disk_trait.specs.Calls.{IsCounted};
-ghost use Rattle.site_edge.specs.Sinks.{empty_sink, PutEnds};
+ghost use Rattle.site_edge.specs.MemorySink.{empty_sink, PutEnds};
 
 use crate::fault::count_fault;
 use crate::{Sink, SinkFailed};
@@ -19,7 +19,7 @@ pub struct MemorySink {
 }
 
 impl Model for MemorySink {
-    ghost use Rattle.site_edge.specs.Sinks.{SinkState};
+    ghost use Rattle.site_edge.specs.MemorySink.{SinkState};
 
     ghost Value = { SinkState };
 

@@ -7,7 +7,7 @@ ghost use Rattle.disk_trait.specs.Calls.{DiskCalls, LeavesOnly};
 ghost use Rattle.media_journal.specs.Journal.{IsWhole, after_append};
 ghost use Rattle.store_states.specs.Fitting.{FitsJournal};
 ghost use Rattle.store_states.specs.Kept.{AgreesWith, HoldsEach, StoreView, kept_state};
-ghost use Rattle.store_states.specs.States.{StepOf, held_in, media_start};
+ghost use Rattle.store_states.specs.States.{StepOf, media_start};
 ghost use Rattle.store_commits.specs.Carrying.{AreRowsOf, Carries, journal_for, kept_written, rows_bytes, rows_calls, written_bytes};
 ghost use Rattle.store_commits.specs.Within.{kept_with_rows};
 
@@ -54,46 +54,6 @@ pub fn write_change<D: Disk>(
 {
     write_rows(disk, journal, rows)?;
     append_change(disk, journal, frame)
-}
-
-/// Syncs what was written, as an object's bytes, and then writes a change that may name it. After `Failed`
-/// the store must be opened again.
-pub fn store_change<D: Disk>(
-    disk: &mut D,
-    journal: &mut Journal,
-    rows: Option<&Text>,
-    frame: &Frame,
-) -> Result<(), Failed>
-    requires device { BLOCK * journal.old.blocks ≤ (D.device disk.old).size }
-    requires whole { IsWhole journal.old }
-    requires fits { FitsJournal journal.old (option_copied rows) frame.now }
-
-    // As of `write_change`; the bytes of the next library's objects are those that a read gives.
-    ensures makes { (D.device disk.old).honest ≡ true → (D.device disk.old).shows ≡ true
-        → (kept : StoreView) → (held : List (List ℕ)) → (next : Library)
-        → AgreesWith (D.device disk.old) kept held → kept.journal ≡ journal.old
-        → AreRowsOf (option_copied rows.entry) kept.library → StepOf frame.now kept.library next
-        → Carries (is_ok result) (kept_state kept held).archive
-        (kept_written kept (option_copied rows.entry) next frame.now)
-        (held_in (D.device disk.old).seen (media_start kept.journal.half) next.objects)
-        (D.device disk.old) (D.device disk.new) }
-
-    ensures moved { OnOk result
-        (journal.new ≡ after_append (journal_for journal.old (option_copied rows.entry)) (length frame.now)) }
-    ensures still_whole { IsWhole journal.new }
-    ensures durable { (D.device disk.old).honest ≡ true
-        → OnOk result (LeavesOnly (D.device disk.new).seen (D.device disk.new)) }
-    ensures handed { (D.device disk.old).tells ≡ true → OnOk result ((D.device disk.new).handed
-        ≡ (D.device disk.old).handed + written_bytes (option_copied rows.entry) frame.now) }
-    ensures handed_at_most { (D.device disk.old).tells ≡ true → (D.device disk.new).handed
-        ≤ (D.device disk.old).handed + written_bytes (option_copied rows.entry) frame.now }
-    ensures calls { DiskCalls (is_ok result) (D.device disk.old) (D.device disk.new) }
-    ensures few_calls { (D.device disk.new).moment
-        ≤ (D.device disk.old).moment + (5 + rows_calls (option_copied rows.entry)) }
-{
-    // A record that names bytes must not be on the disk before they are.
-    disk.sync()?;
-    write_change(disk, journal, rows, frame)
 }
 
 /// Writes these rows of the library as a checkpoint, where there are some.

@@ -4,4 +4,4 @@
 
 mod changes;
 
-pub use crate::changes::{store_change, write_change};
+pub use crate::changes::write_change;

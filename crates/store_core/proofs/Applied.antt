@@ -11,7 +11,7 @@ use Rattle.media_rows.specs.declared.refusal.BookFault.TheVariants as books
 use Rattle.media_rows.specs.declared.refusal.Refusal.{Refusal}
 use Rattle.media_rows.specs.declared.reply.Reply.TheVariants as replies
 use Rattle.media_rows.specs.declared.row.Row.{Row}
-use Rattle.media_rows.specs.Answer.{changed, changing_answer}
+use Rattle.media_rows.specs.Answer.{answer_by, changed}
 use Rattle.media_rows.specs.Apply.{applies, is_allowed, passes_serials}
 use Rattle.media_rows.specs.Changes.{after, moment_of}
 use Rattle.media_rows.specs.Good.{Good, is_good}
@@ -126,7 +126,7 @@ pub has_room : AnswersApply → AppliedIsSound → (library : Library) (object :
 has_room apply sound library object extent moment good ready command at = λ free.
     let store = changes.Store moment object extent.start extent.length in
     let then : AppliesWithin library store = subst
-    (λ refusal. IfSome (changing_answer refusal (Some (changed replies.Created store))).change (AppliesWithin library)) free
+    (λ refusal. IfSome (answer_by refusal (changed replies.Created store)).change (AppliesWithin library)) free
     (apply library (commands.Keep object extent.start extent.length) moment good command at) in
     let was = sound library store (after store library) (then (le-ltb last_serial library.next_serial ready.within)) in
     let allowed = and_parts _ (is_free library.objects library.blocks (blocks_of extent.length) extent.start) was.allowed in

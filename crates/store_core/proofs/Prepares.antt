@@ -1,6 +1,6 @@
 -- What is prepared of a library, from what was made of it.
-use Rattle.std.proofs.Common.{◌≡◌, ℕ, Bool, true, false, cond, List, Option, Some, None, length, refl, sym, subst, ap, ap₂, ◌∙◌}
-use Rattle.std.specs.Prelude.{IfSome, Ok, Err, ◌==◌, ◌&&◌, nat_lt, nat_le, is_some, option_map}
+use Rattle.std.proofs.Common.{◌≡◌, ℕ, Bool, true, false, cond, List, Option, Some, None, length, refl, sym, subst, ap, ◌∙◌}
+use Rattle.std.specs.Prelude.{IfSome, Result, Ok, Err, ◌==◌, ◌&&◌, nat_lt, nat_le, is_some, option_map}
 use Rattle.std.proofs.lemmas.Bool.{and_parts, cond_both, le-leb, lt-leb, ltb-false, ltb-true}
 use Rattle.time_range.specs.declared.ranges.Span.{Span}
 use Rattle.media_rows.specs.declared.change.Change.{Change}
@@ -10,7 +10,8 @@ use Rattle.media_rows.specs.declared.command.Command.TheVariants as commands
 use Rattle.media_rows.specs.declared.refusal.Refusal.{Refusal}
 use Rattle.media_rows.specs.declared.reply.Reply.{Reply}
 use Rattle.media_rows.specs.declared.reply.Reply.TheVariants as replies
-use Rattle.media_rows.specs.Answer.{Outcome, accepted, accepted_cut, accepted_drop, answer, answer_by, changed, changing_answer, created_unless, refusal_of, unchanged}
+use Rattle.media_rows.specs.declared.reply.View.{View}
+use Rattle.media_rows.specs.Answer.{Outcome, accepted, accepted_cut, accepted_drop, answer, answer_by, changed, created_unless, refusal_of, shown_refusal, shown_reply, unchanged}
 use Rattle.media_rows.specs.Apply.{applied, applies, is_allowed, passes_serials}
 use Rattle.media_rows.specs.Catalog.{flow_of}
 use Rattle.media_rows.specs.Changes.{after, moment_of}
@@ -23,6 +24,7 @@ use Rattle.media_rows.specs.Sound.{is_good_command}
 use Rattle.media_rows.specs.Views.{asked}
 use Rattle.library_laws.specs.Laws.{AnswersApply, AppliesWithin, GoodIsTested}
 use Rattle.core_parts.specs.Parts.{within_serials}
+use Rattle.core_queries.specs.Replies.{replied}
 use Rattle.store_core.specs.declared.made.Made.{Made}
 use Rattle.store_core.specs.declared.prepare.Prepared.{Prepared}
 use Rattle.store_core.specs.Prepared.{AppliesTo, prepared_by, prepared_of, unless_refused}
@@ -87,62 +89,65 @@ hook_passes : (url : List ℕ) (moment : ℕ) (kept : Bool)
 hook_passes url moment true p = refl
 hook_passes url moment false p = refl
 
--- what a command makes is no refusal
-made_passes : (library : Library) (command : Command) (moment : ℕ) → Passes (changing_answer None (accepted library command moment))
-made_passes library (commands.PutFlow body) moment = created_passes (is_some (flow_of body.id library.catalog.flows))
-made_passes library (commands.SetFlow flow part) moment = λ p. refl
-made_passes library (commands.SetSource source part) moment = λ p. refl
-made_passes library (commands.DropFlow flow) moment = drop_passes library flow moment
-made_passes library (commands.Allocate flow want) moment = λ p. refl
-made_passes library (commands.Keep object start size) moment = λ p. refl
-made_passes library (commands.AddSegments flow posts) moment = λ p. refl
-made_passes library (commands.CutSegments flow range) moment = cut_passes library flow range moment
-made_passes library (commands.PutHook hook) moment = created_passes (is_some (hook_of hook.url library.outbox.hooks))
-made_passes library (commands.DropHook url) moment = hook_passes url moment (is_some (hook_of url library.outbox.hooks))
-made_passes library commands.Root moment = λ p. refl
-made_passes library commands.Service moment = λ p. refl
-made_passes library commands.Hooks moment = λ p. refl
-made_passes library (commands.Sources wanted page) moment = λ p. refl
-made_passes library (commands.Source id) moment = λ p. refl
-made_passes library (commands.SourcePart id name) moment = λ p. refl
-made_passes library (commands.Flows wanted range page) moment = λ p. refl
-made_passes library (commands.Flow id) moment = λ p. refl
-made_passes library (commands.FlowPart id name) moment = λ p. refl
-made_passes library (commands.Segments id wanted page) moment = λ p. refl
-made_passes library (commands.Object id) moment = λ p. refl
-made_passes library commands.Requests moment = λ p. refl
-made_passes library (commands.Request serial) moment = λ p. refl
+-- what a question shows
+shown_passes : (shown : Result View Refusal) → shown_refusal shown ≡ None → Passes (unchanged (shown_reply shown))
+shown_passes (Ok view) free p = refl
+shown_passes (Err why) free p = absurd (cc)
+
+-- what a command makes that isn't refused is no refusal
+made_passes : (library : Library) (command : Command) (moment : ℕ) → refusal_of library command ≡ None → Passes (accepted library command moment)
+made_passes library (commands.PutFlow body) moment free = created_passes (is_some (flow_of body.id library.catalog.flows))
+made_passes library (commands.SetFlow flow part) moment free = λ p. refl
+made_passes library (commands.SetSource source part) moment free = λ p. refl
+made_passes library (commands.DropFlow flow) moment free = drop_passes library flow moment
+made_passes library (commands.Allocate flow want) moment free = λ p. refl
+made_passes library (commands.Keep object start size) moment free = λ p. refl
+made_passes library (commands.AddSegments flow posts) moment free = λ p. refl
+made_passes library (commands.CutSegments flow range) moment free = cut_passes library flow range moment
+made_passes library (commands.PutHook hook) moment free = created_passes (is_some (hook_of hook.url library.outbox.hooks))
+made_passes library (commands.DropHook url) moment free = hook_passes url moment (is_some (hook_of url library.outbox.hooks))
+made_passes library (commands.Ask query) moment free = shown_passes (asked library query) free
+
+-- ---- a question
+
+-- what is shown is replied
+pub reply_made : (shown : Result View Refusal) (reply : Reply) → replied shown ≡ Ok reply → (shown_refusal shown ≡ None) × (reply ≡ shown_reply shown)
+reply_made (Ok view) reply e = (refl, cc)
+reply_made (Err why) reply e = absurd (cc)
+
+-- and a refusal is one
+pub reply_refused : (shown : Result View Refusal) (why : Refusal) → replied shown ≡ Err why → shown_refusal shown ≡ Some why
+reply_refused (Ok view) why e = absurd (cc)
+reply_refused (Err other) why e = cc
 
 -- ---- a command
 
--- a changing command is answered by its refusal or by what it makes
-answered : (library : Library) (command : Command) (moment : ℕ) (refusal : Option Refusal) → asked library command ≡ None
-    → refusal_of library command ≡ refusal
-    → answer library command moment ≡ changing_answer refusal (accepted library command moment)
-answered library command moment refusal changing is =
-    ap₂ (λ shown why. answer_by shown why (accepted library command moment)) changing is
+-- a command is answered by its refusal or by what it makes
+answered : (library : Library) (command : Command) (moment : ℕ) (refusal : Option Refusal) → refusal_of library command ≡ refusal
+    → answer library command moment ≡ answer_by refusal (accepted library command moment)
+answered library command moment refusal is = ap (λ why. answer_by why (accepted library command moment)) is
 
 -- what was made is prepared
-pub given : (library : Library) (command : Command) (moment : ℕ) → asked library command ≡ None → refusal_of library command ≡ None
-    → (made : Made) → made ≡ made_by library (changing_answer None (accepted library command moment))
+pub given : (library : Library) (command : Command) (moment : ℕ) → refusal_of library command ≡ None
+    → (made : Made) → made ≡ made_by library (accepted library command moment)
     → (p : Prepared) → p ≡ prepared_step library made.reply made.step → prepared_of library (answer library command moment) ≡ Ok p
-given library command moment changing free made made_is p p_is =
-    let outcome = changing_answer None (accepted library command moment) in
-    ap (prepared_of library) (answered library command moment None changing free)
-    ∙ made_passes library command moment (prepared_by library outcome)
+given library command moment free made made_is p p_is =
+    let outcome = accepted library command moment in
+    ap (prepared_of library) (answered library command moment None free)
+    ∙ made_passes library command moment free (prepared_by library outcome)
     ∙ ap Ok (outcome_prepared library outcome.reply outcome.change ∙ ap (λ (m : Made). prepared_step library m.reply m.step) (sym made_is) ∙ sym p_is)
 
 -- a refusal is answered
-pub refused : (library : Library) (command : Command) (moment : ℕ) (why : Refusal) → asked library command ≡ None
-    → refusal_of library command ≡ Some why → prepared_of library (answer library command moment) ≡ Err why
-refused library command moment why changing is = ap (prepared_of library) (answered library command moment (Some why) changing is)
+pub refused : (library : Library) (command : Command) (moment : ℕ) (why : Refusal) → refusal_of library command ≡ Some why
+    → prepared_of library (answer library command moment) ≡ Err why
+refused library command moment why is = ap (prepared_of library) (answered library command moment (Some why) is)
 
 -- what was made of a library under one name was made of it under another
 pub made_at : (inside library : Library) → inside ≡ library → (command : Command) (moment : ℕ) (made : Made)
-    → (refusal_of inside command ≡ None) × (made ≡ made_by inside (changing_answer None (accepted inside command moment)))
-    → (refusal_of library command ≡ None) × (made ≡ made_by library (changing_answer None (accepted library command moment)))
+    → (refusal_of inside command ≡ None) × (made ≡ made_by inside (accepted inside command moment))
+    → (refusal_of library command ≡ None) × (made ≡ made_by library (accepted library command moment))
 made_at inside library same command moment made =
-    subst (λ (l : Library). (refusal_of l command ≡ None) × (made ≡ made_by l (changing_answer None (accepted l command moment)))) same
+    subst (λ (l : Library). (refusal_of l command ≡ None) × (made ≡ made_by l (accepted l command moment))) same
 
 -- ---- good libraries
 
@@ -170,14 +175,13 @@ step_good tested library (Some change) applies_then = by (passes_serials change 
         (applied_good tested library change (after change library) (applies_then room))
 
 -- what a command makes is good
-pub made_good : AnswersApply → GoodIsTested → (library : Library) (command : Command) (moment : ℕ) → Good library → asked library command ≡ None
-    → refusal_of library command ≡ None → is_good_command library command ≡ true → is_moment moment ≡ true
-    → (made : Made) → made ≡ made_by library (changing_answer None (accepted library command moment))
+pub made_good : AnswersApply → GoodIsTested → (library : Library) (command : Command) (moment : ℕ) → Good library → refusal_of library command ≡ None → is_good_command library command ≡ true → is_moment moment ≡ true
+    → (made : Made) → made ≡ made_by library (accepted library command moment)
     → IfSome made.step (λ step. IfSome step.next Good)
-made_good apply tested library command moment good changing free brings at made made_is =
-    let outcome = changing_answer None (accepted library command moment) in
+made_good apply tested library command moment good free brings at made made_is =
+    let outcome = accepted library command moment in
     let then : IfSome outcome.change (AppliesWithin library) = subst (λ (o : Outcome). IfSome o.change (AppliesWithin library))
-    (answered library command moment None changing free) (apply library command moment good brings at) in
+    (answered library command moment None free) (apply library command moment good brings at) in
     subst (λ (m : Made). IfSome m.step (λ step. IfSome step.next Good)) (sym made_is) (step_good tested library outcome.change then)
 
 -- ---- what is prepared applies

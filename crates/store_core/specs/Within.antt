@@ -7,7 +7,7 @@ use Rattle.media_rows.specs.declared.refusal.ApplyFault.TheVariants as faults
 use Rattle.media_rows.specs.declared.refusal.BookFault.{BookFault}
 use Rattle.media_rows.specs.declared.refusal.BookFault.TheVariants as books
 use Rattle.media_rows.specs.declared.reply.Reply.{Reply}
-use Rattle.media_rows.specs.Answer.{Outcome, accepted, changing_answer, refusal_of}
+use Rattle.media_rows.specs.Answer.{Outcome, accepted, refusal_of}
 use Rattle.media_rows.specs.Changes.{after}
 use Rattle.media_rows.specs.Library.{Library}
 use Rattle.media_rows.specs.Refusals.{IsChange}
@@ -35,11 +35,11 @@ abbrev pub made_by : Library → Outcome → Made
 made_by library outcome =
     record { reply = outcome.reply; step = option_map (step_by library) outcome.change }
 
--- a changing command makes this of a library that doesn't refuse it
+-- a command makes this of a library that doesn't refuse it
 abbrev pub MakesAnswer : Library → Command → ℕ → Result Made BookFault → Type 0
 MakesAnswer library command moment result =
     IsChange (refusal_of library command)
-    (made_by library (changing_answer None (accepted library command moment))) result
+    (made_by library (accepted library command moment)) result
 
 -- what is prepared of a library by what was made of it
 abbrev pub prepared_step : Library → Reply → Option ChangeStep → Prepared

@@ -1,12 +1,13 @@
 //! What is prepared for a command.
-ghost use Rattle.std.specs.Prelude.{◌≡◌, IfOk, IfSome, IsTrue, None};
-ghost use Rattle.media_rows.specs.Answer.{answer};
+ghost use Rattle.std.specs.Prelude.{◌≡◌, IfOk, IfSome, IsTrue};
+ghost use Rattle.media_rows.specs.Answer.{answer, shown_refusal, shown_reply};
 ghost use Rattle.media_rows.specs.Good.{Good};
 ghost use Rattle.media_rows.specs.Moments.{is_moment};
+ghost use Rattle.media_rows.specs.Refusals.{IsChange};
 ghost use Rattle.media_rows.specs.Sound.{is_good_command};
 ghost use Rattle.media_rows.specs.Views.{asked};
 ghost use Rattle.store_core.specs.Prepared.{AppliesTo, IsGiven, prepared_of};
-ghost use Rattle.store_core.specs.Within.{MakesAnswer, prepared_step};
+ghost use Rattle.store_core.specs.Within.{MakesAnswer, made_none, prepared_step};
 
 use crate::Core;
 use crate::commands::{
@@ -15,9 +16,10 @@ use crate::commands::{
 };
 use crate::made::{ChangeStep, Made};
 use core_parts::{Parts, good_is_ready};
+use core_queries::query;
 use disk_trait::Memory;
 use library_laws::{answers_apply, good_is_tested};
-use media_rows::{BookFault, Change, Command, Extent, Reply};
+use media_rows::{BookFault, Change, Command, Extent, Query, Reply};
 use std::alloc::Global;
 
 /// What a command or a turn makes of a library: the library afterwards, the change, where there is one, and the reply.
@@ -31,10 +33,10 @@ pub struct Prepared {
 }
 
 impl Core {
-    /// What the library answers to a changing command at a moment, in seconds since 1970-01-01T00:00:00Z: a refusal, or
-    /// what the command makes of it. The library itself stays. An object that is to be kept has its least free place.
+    /// What the library answers to a command at a moment, in seconds since 1970-01-01T00:00:00Z: a refusal, or what the
+    /// command makes of it, with its reply. A question makes nothing: its reply is what it shows. The library itself
+    /// stays. An object that is to be kept has its least free place.
     pub fn prepare(&self, alloc: Global, command: &Command, now: u64) -> Result<Prepared, BookFault>
-        requires changing { asked self.now command.now ≡ None }
         requires good { IsTrue (is_good_command self.now command.now) }
         requires moment { IsTrue (is_moment now) }
         ensures prepared { IsGiven (prepared_of self.now (answer self.now command.now now)) result }
@@ -78,10 +80,9 @@ impl Core {
     }
 }
 
-/// What a changing command makes of a library.
+/// What a command makes of a library.
 fn made(alloc: Global, parts: &Parts, command: &Command, now: u64) -> Result<Made, BookFault>
     requires library { Good parts.now }
-    requires changing { asked parts.now command.now ≡ None }
     requires good { IsTrue (is_good_command parts.now command.now) }
     requires moment { IsTrue (is_moment now) }
     ensures { MakesAnswer parts.now command.now now result }
@@ -108,6 +109,14 @@ fn made(alloc: Global, parts: &Parts, command: &Command, now: u64) -> Result<Mad
         Command::CutSegments(flow, range) => cut_segments(alloc, parts, *flow, range, now),
         Command::PutHook(hook) => put_hook(alloc, parts, hook, now),
         Command::DropHook(url) => drop_hook(alloc, parts, url, now),
-        _ => unreachable!(),
+        Command::Ask(question) => shown(alloc, parts, question),
     }
+}
+
+/// The reply to a question, which makes nothing.
+fn shown(alloc: Global, parts: &Parts, question: &Query) -> Result<Made, BookFault>
+    ensures { IsChange (shown_refusal (asked parts.now question.now))
+        (made_none (shown_reply (asked parts.now question.now))) result }
+{
+    Ok(Made::unchanged(query(alloc, parts, question)?))
 }

@@ -23,6 +23,11 @@ pub struct OpenedStore {
     pub journal: Journal,
 }
 
+impl OpenedStore {
+    /// Lets the store go. Its file is as it was.
+    pub fn close(self) {}
+}
+
 /// Opens the store of a device. `NotStore` comes exactly where the device has fewer than 20,480 bytes or
 /// no open header, and `Damaged` with the offset at which the file is damaged, in bytes: 8 for numbers
 /// that a file can't have, the start of the active half where its rows don't fit it or aren't those of a

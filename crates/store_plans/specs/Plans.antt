@@ -16,7 +16,6 @@ use Rattle.media_rows.specs.Objects.{blocks_of, free_place, object_of}
 use Rattle.change_codec.specs.Codec.{SpellsChange}
 use Rattle.change_codec.specs.Fitting.{State, fits, fits_room, snapshot_size}
 use Rattle.library_laws.specs.MediaLaws.{bytes_in}
-use Rattle.media_journal.specs.declared.header.TheConstants.{BLOCK}
 use Rattle.media_journal.specs.Journal.{Position}
 use Rattle.store_states.specs.Fitting.{FitsJournal, fitted}
 use Rattle.store_states.specs.Laws.{is_clear}
@@ -32,7 +31,7 @@ abbrev pub journal_in : Library → Position → State
 journal_in library position = record {
   library = library;
   room = position.room;
-  half = BLOCK * position.half;
+  half = 4096 * position.half;
 }
 
 -- ---- what is written

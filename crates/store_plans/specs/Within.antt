@@ -1,15 +1,13 @@
 -- Words that the calls within this crate cite, and no other crate.
-use Rattle.std.specs.Prelude.{◌≡◌, ◌+◌, ℕ, nat_le, Bool, true, false, ◌||◌, List, length, Option, Some, None, IfSome, Result, IsTrue, IsFalse}
+use Rattle.std.specs.Prelude.{◌≡◌, ◌+◌, ℕ, nat_le, Bool, true, false, ◌||◌, List, length, Option, Some, None, IfSome, IsTrue, IsFalse}
 use Rattle.media_rows.specs.declared.change.Change.{Change}
 use Rattle.media_rows.specs.declared.change.Change.TheVariants as changes
 use Rattle.media_rows.specs.declared.object.Extent.{Extent}
 use Rattle.media_rows.specs.declared.object.ObjectRow.{ObjectRow}
 use Rattle.media_rows.specs.declared.object.ObjectState.TheVariants.{Allocated}
-use Rattle.media_rows.specs.declared.refusal.Refusal.{Refusal}
 use Rattle.media_rows.specs.declared.reply.Reply.{Reply}
 use Rattle.media_rows.specs.declared.reply.Reply.TheVariants.{Created}
-use Rattle.media_rows.specs.declared.reply.View.{View}
-use Rattle.media_rows.specs.Answer.{Outcome, changed, shown_reply}
+use Rattle.media_rows.specs.Answer.{Outcome, changed}
 use Rattle.media_rows.specs.Library.{Library}
 use Rattle.change_codec.specs.Codec.{SpellsChange}
 use Rattle.change_codec.specs.Fitting.{State, fits, fits_behind_rows, fits_room, snapshot_size}
@@ -101,11 +99,6 @@ WrittenFits position written = IfSome written.frame (FitsJournal position writte
 -- the plan that leaves a library as it is
 abbrev pub still : Library → Reply → Planned
 still library reply = record { next = library; frame = None; rows = None; reply = reply }
-
--- the plan of a command that asks, which leaves the library as it is
-abbrev pub IsAskedPlan : Option (Result View Refusal) → Library → Planned → Type 0
-IsAskedPlan None library planned = ⊥
-IsAskedPlan (Some shown) library planned = planned ≡ still library (shown_reply shown)
 
 -- ---- turns and puts
 

@@ -1,23 +1,20 @@
 //! The plan of a command.
-ghost use Rattle.std.specs.Prelude.{◌≡◌, IfOk, IsTrue, None};
+ghost use Rattle.std.specs.Prelude.{IfOk, IsTrue};
 ghost use Rattle.media_rows.specs.Answer.{answer};
 ghost use Rattle.media_rows.specs.Moments.{is_moment};
 ghost use Rattle.media_rows.specs.Sound.{is_good_command};
-ghost use Rattle.media_rows.specs.Views.{asked, is_asking};
 ghost use Rattle.store_plans.specs.Plans.{IsPlanOf, PlanFits, journal_in};
-ghost use Rattle.store_plans.specs.Within.{IsAskedPlan};
 
 use crate::outcome::{Planned, fitted, unchanged};
 use disk_trait::Memory;
-use library_laws::asking_is_answered;
 use media_journal::Journal;
 use media_rows::{BookFault, Command, Refusal, Reply};
 use std::alloc::Global;
 use store_core::Core;
 
 /// The plan of a command at a moment, in seconds since 1970-01-01T00:00:00Z: its refusal, or what it makes of the store. A
-/// change that doesn't fit the journal is refused after all else, as `JournalFull`. An object that is to be kept has its
-/// least free place.
+/// question makes nothing. A change that doesn't fit the journal is refused after all else, as `JournalFull`. An object
+/// that is to be kept has its least free place.
 pub fn plan(
     alloc: Global,
     library: &Core,
@@ -33,41 +30,6 @@ pub fn plan(
     // Where there is a record, it has the room that it needs.
     ensures fits { IfOk result (PlanFits journal.now) }
 {
-    asking_is_answered();
-    if is_asking(command) {
-        Ok(plan_query(alloc, library, command)?)
-    } else {
-        plan_change(alloc, library, journal, command, now)
-    }
-}
-
-/// The plan of a command that asks: what it shows, or its refusal.
-fn plan_query(alloc: Global, library: &Core, command: &Command) -> Result<Planned, Memory>
-    requires asking { IsTrue (is_asking command.now) }
-    ensures { IfOk result (IsAskedPlan (asked library.now command.now) library.now) }
-{
-    match library.query(alloc, command) {
-        Ok(reply) => Ok(unchanged(library, reply)?),
-        Err(BookFault::Refused(why)) => Ok(unchanged(library, Reply::Refused(why))?),
-        Err(BookFault::Memory) => Err(Memory),
-    }
-}
-
-/// The plan of a command that changes something.
-fn plan_change(
-    alloc: Global,
-    library: &Core,
-    journal: &Journal,
-    command: &Command,
-    now: u64,
-) -> Result<Planned, Memory>
-    requires changing { asked library.now command.now ≡ None }
-    requires good { IsTrue (is_good_command library.now command.now) }
-    requires moment { IsTrue (is_moment now) }
-    ensures planned { IfOk result
-        (IsPlanOf (journal_in library.now journal.now) (answer library.now command.now now)) }
-    ensures fits { IfOk result (PlanFits journal.now) }
-{
     let prepared = match library.prepare(alloc, command, now) {
         Ok(prepared) => prepared,
         Err(BookFault::Refused(why)) => return Ok(unchanged(library, Reply::Refused(why))?),
@@ -77,23 +39,4 @@ fn plan_change(
         Some(planned) => Ok(planned),
         None => Ok(unchanged(library, Reply::Refused(Refusal::JournalFull))?),
     }
-}
-
-/// Whether the command asks, and changes nothing.
-fn is_asking(command: &Command) -> bool
-    ensures { result ≡ is_asking command.now }
-{
-    !matches!(
-        command,
-        Command::PutFlow(_)
-            | Command::SetFlow(_, _)
-            | Command::SetSource(_, _)
-            | Command::DropFlow(_)
-            | Command::Allocate(_, _)
-            | Command::Keep { .. }
-            | Command::AddSegments(_, _)
-            | Command::CutSegments(_, _)
-            | Command::PutHook(_)
-            | Command::DropHook(_)
-    )
 }

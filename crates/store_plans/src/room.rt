@@ -3,7 +3,7 @@ ghost use Rattle.std.specs.Prelude.{◌<◌, IfOk, IfSome, length};
 ghost use Rattle.store_plans.specs.Plans.{journal_in};
 ghost use Rattle.store_plans.specs.Within.{IsBehindRows, IsRecorded, RecordFits};
 
-use change_codec::encode_change;
+use change_codec::{encode_change, has_spelling};
 use disk_trait::{Memory, Text};
 use library_laws::{good_is_tested, rows_give_the_library};
 use media_journal::{BLOCK, Frame, Journal};
@@ -19,7 +19,8 @@ pub(crate) struct Recorded {
 }
 
 /// The record of a change, and `None` exactly where the journal has no place for it, be it behind a checkpoint. The rows are
-/// made only where the room is too small.
+/// made only where the room is too small. A change without a spelling, with a text or a list of 2^32 items or more, is want
+/// of memory.
 pub(crate) fn record_of(
     alloc: Global,
     library: &Core,
@@ -29,6 +30,9 @@ pub(crate) fn record_of(
     ensures found { IfOk result (IsRecorded (journal_in library.now journal.now) change.now) }
     ensures fits { IfOk result (λ found. IfSome found (RecordFits journal.now)) }
 {
+    if !has_spelling(change) {
+        return Err(Memory);
+    }
     let payload = encode_change(alloc, change)?;
     let size = payload.bytes().len() as u64;
     // A record takes 5 bytes beside its payload, and the gate behind it one.

@@ -9,4 +9,4 @@ mod records;
 
 pub use crate::checkpoints::checkpoint;
 pub use crate::pieces::{read_kept, write_free};
-pub use crate::records::{append_change, sync_and_append};
+pub use crate::records::append_change;

@@ -4,7 +4,7 @@ ghost use Rattle.media_rows.specs.Library.{Library};
 ghost use Rattle.disk_trait.specs.Calls.{DiskCalls, LeavesOnly};
 ghost use Rattle.media_journal.specs.Journal.{IsWhole, after_append};
 ghost use Rattle.store_states.specs.Kept.{AgreesWith, HoldsEach, StoreView, kept_after, kept_state};
-ghost use Rattle.store_states.specs.States.{StepOf, held_in, media_start};
+ghost use Rattle.store_states.specs.States.{StepOf, media_start};
 ghost use Rattle.store_writes.specs.Writes.{Advances};
 
 use disk_trait::{Disk, Failed};
@@ -46,40 +46,4 @@ pub fn append_change<D: Disk>(
         Ok(()) => Ok(()),
         Err(_) => Err(Failed),
     }
-}
-
-/// Syncs what was written, as an object's bytes, and then appends the record of a change that may name it.
-/// After `Failed` the store must be opened again.
-pub fn sync_and_append<D: Disk>(
-    disk: &mut D,
-    journal: &mut Journal,
-    frame: &Frame,
-) -> Result<(), Failed>
-    requires device { BLOCK * journal.old.blocks ≤ (D.device disk.old).size }
-    requires fits { length frame.now + 6 ≤ journal.old.room }
-
-    // As of `append_change`; the bytes of the next library's objects are those that a read gives.
-    ensures makes { (D.device disk.old).honest ≡ true → (D.device disk.old).shows ≡ true
-        → (kept : StoreView) → (held : List (List ℕ)) → (next : Library)
-        → AgreesWith (D.device disk.old) kept held → kept.journal ≡ journal.old
-        → StepOf frame.now kept.library next
-        → Advances (is_ok result) (kept_state kept held) (kept_after kept next (length frame.now))
-        (held_in (D.device disk.old).seen (media_start kept.journal.half) next.objects)
-        (D.device disk.old) (D.device disk.new) }
-
-    ensures moved { OnOk result (journal.new ≡ after_append journal.old (length frame.now)) }
-    ensures err { OnErr result (journal.new ≡ journal.old) }
-    ensures whole { IsWhole journal.old → IsWhole journal.new }
-    ensures durable { (D.device disk.old).honest ≡ true
-        → OnOk result (LeavesOnly (D.device disk.new).seen (D.device disk.new)) }
-    ensures handed { (D.device disk.old).tells ≡ true → OnOk result
-        ((D.device disk.new).handed ≡ (D.device disk.old).handed + (length frame.now + 6)) }
-    ensures handed_at_most { (D.device disk.old).tells ≡ true
-        → (D.device disk.new).handed ≤ (D.device disk.old).handed + (length frame.now + 6) }
-    ensures calls { DiskCalls (is_ok result) (D.device disk.old) (D.device disk.new) }
-    ensures five_calls { (D.device disk.new).moment ≤ (D.device disk.old).moment + 5 }
-{
-    // A record that names bytes must not be on the disk before they are.
-    disk.sync()?;
-    append_change(disk, journal, frame)
 }

@@ -5,12 +5,9 @@
 #![tactic(auto)]
 
 ghost use Rattle.std.specs.Prelude.{◌≡◌};
-
-mod help;
-mod outlets;
+ghost use Rattle.tams_outcomes.specs.Statuses.{number_of};
 
 use disk_trait::{Memory, MemoryDisk, NumberList, Text, TextList};
-use outlets::{Outlets, Streams};
 use site_edge::{
     DialSite, FileFailed, FileSite, HostClock, HostSink, MemorySite, NetSite, PeerList, Sink,
     StoreFile,
@@ -22,22 +19,8 @@ use std::net::{Ipv4Addr, Net, TcpListener, TcpStream};
 use std::process::ExitCode;
 use std::rt::{Clock, Env, Files};
 use std::{env, str};
-use tams_top::Wanted;
-
-/// The status where all is done.
-const DONE: u8 = 0;
-
-/// The status of words that are no command.
-const BAD_WORDS: u8 = 1;
-
-/// The status where the file can't be opened, made, lengthened, locked or synced.
-const DISK_FAULT: u8 = 3;
-
-/// The status where there is no memory for the words, what they name, or the site.
-const NO_MEMORY: u8 = 4;
-
-/// The status where the listener can't be made.
-const LINK_FAULT: u8 = 5;
+use tams_help::{Outlets, Streams, blame, explain, is_shown};
+use tams_top::{Status, Wanted};
 
 fn main(rt: HostRuntime) -> ExitCode {
     let streams = Streams {
@@ -47,7 +30,8 @@ fn main(rt: HostRuntime) -> ExitCode {
     };
     let status = match words_of(&rt) {
         Ok(words) => status_within(&rt, &words, Outlets::new(&rt, streams, &words)),
-        Err(Memory) => no_memory(&mut HostSink::output(streams.output)),
+        // Which command it was is not known, and the output of a `replay` has answers alone.
+        Err(Memory) => no_memory(&mut HostSink::error(streams.error)),
     };
     ExitCode::from(status)
 }
@@ -63,7 +47,7 @@ fn status_within<
 >(rt: &R, words: &TextList, outlets: Outlets) -> u8 {
     match status_of(rt, words, outlets) {
         Ok(status) => status,
-        Err(Memory) => no_memory(&mut outlets.notes(false)),
+        Err(Memory) => no_memory(&mut outlets.notes(begins_replay(words))),
     }
 }
 
@@ -76,15 +60,15 @@ fn status_of<
         + Net<Stream = TcpStream, Listener = TcpListener>
         + AllocGlobal,
 >(rt: &R, words: &TextList, outlets: Outlets) -> Result<u8, Memory> {
-    if help::is_shown(rt, rt.alloc(), words, &outlets)? {
-        return Ok(DONE);
+    if is_shown(rt, rt.alloc(), words, &outlets)? {
+        return Ok(Status::Done.number());
     }
     let wanted = tams_top::devices(rt.alloc(), words)?;
     let mut notes = outlets.notes(is_replay(&wanted, words));
     let status = status_over(rt, words, &wanted, outlets, &mut notes);
-    if status == BAD_WORDS {
+    if status == Status::BadWords.number() {
         // The words were told to be wrong, which want of memory for more doesn't change.
-        let _ = help::explain(rt.alloc(), words, &outlets.aside);
+        let _ = explain(rt.alloc(), words, &outlets.aside);
     }
     Ok(status)
 }
@@ -105,8 +89,8 @@ fn status_over<
         Ok(file) => file,
         Err(failed) => {
             let path = str::from_utf8(path.bytes()).unwrap_or("");
-            help::blame(rt.alloc(), &outlets.aside, path, failed);
-            return report(notes, b"disk fault\n", DISK_FAULT);
+            blame(rt.alloc(), &outlets.aside, path, failed);
+            return report(notes, b"disk fault\n", Status::DiskFault);
         }
     };
     file.show_progress(outlets.aside, progress_word(words));
@@ -185,8 +169,8 @@ fn serve<R: Net<Stream = TcpStream, Listener = TcpListener> + AllocGlobal, C: si
         }
         Err(error) => {
             let port = format_args!("port {port}");
-            help::blame(rt.alloc(), &outlets.aside, port, FileFailed::System(error));
-            report(notes, b"link fault\n", LINK_FAULT)
+            blame(rt.alloc(), &outlets.aside, port, FileFailed::System(error));
+            report(notes, b"link fault\n", Status::LinkFault)
         }
     }
 }
@@ -215,21 +199,26 @@ fn words_of<R: Env + AllocGlobal>(rt: &R) -> Result<TextList, Memory> {
 
 /// Whether the words are a `replay`.
 fn is_replay(wanted: &Wanted, words: &TextList) -> bool {
-    match (wanted, words.items()) {
-        (Wanted::Plain(_), [command, ..]) => command.bytes() == b"replay".as_slice(),
-        _ => false,
+    matches!(wanted, Wanted::Plain(_)) && begins_replay(words)
+}
+
+/// Whether the first word is that of a `replay`.
+fn begins_replay(words: &TextList) -> bool {
+    match words.items() {
+        [command, ..] => command.bytes() == b"replay".as_slice(),
+        [] => false,
     }
 }
 
 /// Reports that there is no memory.
 fn no_memory(notes: &mut HostSink) -> u8 {
-    report(notes, b"no memory\n", NO_MEMORY)
+    report(notes, b"no memory\n", Status::NoMemory)
 }
 
 /// Puts this line to the notes. A fault of theirs changes no status.
-fn report(notes: &mut HostSink, line: &[u8], status: u8) -> u8
-    ensures { result ≡ status }
+fn report(notes: &mut HostSink, line: &[u8], status: Status) -> u8
+    ensures { result ≡ number_of status }
 {
     let _ = notes.put(line);
-    status
+    status.number()
 }

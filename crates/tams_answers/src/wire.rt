@@ -4,14 +4,14 @@ ghost use Rattle.std.specs.Str.{is_utf8};
 ghost use Rattle.json_replies.specs.Texts.{has_refusal_texts};
 ghost use Rattle.media_rows.specs.declared.reply.Reply.TheVariants.{Refused};
 ghost use Rattle.http_wire.specs.Steps.{wire_refusal};
-ghost use Rattle.http_wire.specs.declared.framing.WireFault.{WireFault};
 ghost use Rattle.tams_http.specs.Answered.{response_to};
 ghost use Rattle.tams_machine.specs.Requests.{wire_response};
 ghost use Rattle.tams_answers.specs.Wire.{AreResponses};
 ghost use Rattle.tams_answers.specs.Within.{ending_context};
 
 use disk_trait::{Memory, Text};
-use media_rows::{Refusal, Reply};
+use http_wire::WireFault;
+use media_rows::Reply;
 use std::alloc::Global;
 use tams_http::{AnswerContext, Routes};
 
@@ -42,27 +42,24 @@ impl WireResponses {
         ensures { IfOk result (λ responses. AreResponses base.now responses) }
     {
         Ok(WireResponses {
-            bad_head: response_of(alloc, routes, base, Refusal::BadHead)?,
-            bad_framing: response_of(alloc, routes, base, Refusal::BadFraming)?,
-            length_required: response_of(alloc, routes, base, Refusal::LengthRequired)?,
-            too_large: response_of(alloc, routes, base, Refusal::TooLarge)?,
-            coding: response_of(alloc, routes, base, Refusal::Coding)?,
+            bad_head: response_of(alloc, routes, base, WireFault::BadHead)?,
+            bad_framing: response_of(alloc, routes, base, WireFault::BadFraming)?,
+            length_required: response_of(alloc, routes, base, WireFault::LengthRequired)?,
+            too_large: response_of(alloc, routes, base, WireFault::TooLarge)?,
+            coding: response_of(alloc, routes, base, WireFault::Coding)?,
         })
     }
 
     /// The bytes of the response to a fault of the wire.
-    pub fn of(&self, refusal: &Refusal) -> &[u8]
-        requires { (fault : WireFault) × (refusal.now ≡ wire_refusal fault) }
-        ensures { (base : List ℕ) → AreResponses base self.now → (fault : WireFault) → refusal.now ≡ wire_refusal fault
-            → result.now ≡ wire_response base fault }
+    pub fn of(&self, fault: WireFault) -> &[u8]
+        ensures { (base : List ℕ) → AreResponses base self.now → result.now ≡ wire_response base fault }
     {
-        match refusal {
-            Refusal::BadHead => self.bad_head.bytes(),
-            Refusal::BadFraming => self.bad_framing.bytes(),
-            Refusal::LengthRequired => self.length_required.bytes(),
-            Refusal::TooLarge => self.too_large.bytes(),
-            Refusal::Coding => self.coding.bytes(),
-            _ => unreachable!(),
+        match fault {
+            WireFault::BadHead => self.bad_head.bytes(),
+            WireFault::BadFraming => self.bad_framing.bytes(),
+            WireFault::LengthRequired => self.length_required.bytes(),
+            WireFault::TooLarge => self.too_large.bytes(),
+            WireFault::Coding => self.coding.bytes(),
         }
     }
 }
@@ -72,14 +69,14 @@ fn response_of(
     alloc: Global,
     routes: &Routes,
     base: &Text,
-    refusal: Refusal,
+    fault: WireFault,
 ) -> Result<Text, Memory>
     requires base { IsTrue (is_utf8 base.now) }
-    requires texts { IsTrue (has_refusal_texts refusal) }
+    requires texts { IsTrue (has_refusal_texts (wire_refusal fault)) }
     ensures { IfOk result (λ text. text
-        ≡ response_to (ending_context routes.now base.now) (Refused refusal)) }
+        ≡ response_to (ending_context routes.now base.now) (Refused (wire_refusal fault))) }
 {
-    let reply = Reply::Refused(refusal);
+    let reply = Reply::Refused(fault.refusal());
     let context = AnswerContext {
         target: b"",
         base,

@@ -87,19 +87,7 @@ no_place library (commands.AddSegments flow posts) sent = tt
 no_place library (commands.CutSegments flow range) sent = tt
 no_place library (commands.PutHook hook) sent = tt
 no_place library (commands.DropHook url) sent = tt
-no_place library commands.Root sent = tt
-no_place library commands.Service sent = tt
-no_place library commands.Hooks sent = tt
-no_place library (commands.Sources wanted page) sent = tt
-no_place library (commands.Source id) sent = tt
-no_place library (commands.SourcePart id name) sent = tt
-no_place library (commands.Flows wanted range page) sent = tt
-no_place library (commands.Flow id) sent = tt
-no_place library (commands.FlowPart id name) sent = tt
-no_place library (commands.Segments id wanted page) sent = tt
-no_place library (commands.Object id) sent = tt
-no_place library commands.Requests sent = tt
-no_place library (commands.Request serial) sent = tt
+no_place library (commands.Ask query) sent = tt
 
 -- ---- turns
 

@@ -21,6 +21,8 @@ use Rattle.json_bodies.specs.Segments.{segments_in}
 use Rattle.json_bodies.specs.Storage.{want_in}
 use Rattle.media_rows.specs.declared.command.Command.{Command}
 use Rattle.media_rows.specs.declared.command.Command.TheVariants as commands
+use Rattle.media_rows.specs.declared.command.Query.{Query}
+use Rattle.media_rows.specs.declared.command.Query.TheVariants as queries
 use Rattle.media_rows.specs.declared.event.EventKind.{EventKind}
 use Rattle.media_rows.specs.declared.hook.Hook.{Hook}
 use Rattle.media_rows.specs.declared.refusal.Refusal.{Refusal}
@@ -47,50 +49,54 @@ pairs_in kind query = without_fault (query_pairs query) (query_fault kind (query
 
 -- ---- GET and HEAD
 
+-- a question is answered
+abbrev pub shows : Query → Result Ask Refusal
+shows query = runs (commands.Ask query)
+
 -- a list of sources
 abbrev pub sources_asked : List ℕ → Result Ask Refusal
 sources_asked query =
     pairs_in kinds.Sources query
-    >>= λ pairs. runs (commands.Sources (source_filter pairs) (asked_list_page pairs))
+    >>= λ pairs. shows (queries.Sources (source_filter pairs) (asked_list_page pairs))
 
 -- a list of flows
 abbrev pub flows_asked : List ℕ → Result Ask Refusal
 flows_asked query =
     pairs_in kinds.Flows query
-    >>= λ pairs. runs (commands.Flows (flow_filter pairs) (range_of pairs) (asked_list_page pairs))
+    >>= λ pairs. shows (queries.Flows (flow_filter pairs) (range_of pairs) (asked_list_page pairs))
 
 -- a list of the segments of a flow
 abbrev pub segments_asked : List ℕ → List ℕ → Result Ask Refusal
 segments_asked path query =
     flow_at path >>= λ flow.
     pairs_in kinds.Segments query >>= λ pairs.
-    runs (commands.Segments flow (segment_filter pairs) (asked_segment_page pairs))
+    shows (queries.Segments flow (segment_filter pairs) (asked_segment_page pairs))
 
 -- what is shown
 abbrev pub get_asked : ℕ → Route → List ℕ → List ℕ → Result Ask Refusal
-get_asked store routes.Root path query = runs commands.Root
-get_asked store routes.Service path query = runs commands.Service
-get_asked store routes.Hooks path query = runs commands.Hooks
+get_asked store routes.Root path query = shows queries.Root
+get_asked store routes.Service path query = shows queries.Service
+get_asked store routes.Hooks path query = shows queries.Hooks
 get_asked store routes.Sources path query = sources_asked query
 get_asked store routes.Source path query = source_at path >>= λ source.
-    runs (commands.Source source)
+    shows (queries.Source source)
 get_asked store (routes.SourcePart part) path query =
     source_at path >>= λ source.
     source_part_name part path >>= λ name.
-    runs (commands.SourcePart source name)
+    shows (queries.SourcePart source name)
 get_asked store routes.Flows path query = flows_asked query
-get_asked store routes.Flow path query = flow_at path >>= λ flow. runs (commands.Flow flow)
+get_asked store routes.Flow path query = flow_at path >>= λ flow. shows (queries.Flow flow)
 get_asked store (routes.FlowPart part) path query =
     flow_at path >>= λ flow.
     flow_part_name part path >>= λ name.
-    runs (commands.FlowPart flow name)
+    shows (queries.FlowPart flow name)
 get_asked store routes.Segments path query = segments_asked path query
 get_asked store routes.Storage path query = Err NoMethod
 get_asked store routes.Object path query = object_at path >>= λ object.
-    runs (commands.Object object)
-get_asked store routes.Requests path query = runs commands.Requests
+    shows (queries.Object object)
+get_asked store routes.Requests path query = shows queries.Requests
 get_asked store routes.Request path query =
-    request_at store path >>= λ serial. runs (commands.Request serial)
+    request_at store path >>= λ serial. shows (queries.Request serial)
 get_asked store routes.Media path query = object_at path >>= λ object. Ok (GetMedia object)
 
 -- ---- PUT

@@ -12,8 +12,26 @@ use Rattle.media_rows.specs.Good.{is_body_text}
 use Rattle.media_rows.specs.Ids.{is_object_id}
 use Rattle.media_rows.specs.declared.command.Command.{Command}
 use Rattle.media_rows.specs.declared.command.Command.TheVariants as commands
+use Rattle.media_rows.specs.declared.command.Query.{Query}
+use Rattle.media_rows.specs.declared.command.Query.TheVariants as queries
 use Rattle.tams_http.specs.declared.ask.Ask.{Ask}
 use Rattle.tams_http.specs.declared.ask.Ask.TheVariants.{Run, PutMedia, GetMedia}
+
+-- a question that the library takes
+abbrev pub is_query_good : Query → Bool
+is_query_good queries.Root = true
+is_query_good queries.Service = true
+is_query_good queries.Hooks = true
+is_query_good (queries.Sources filter page) = nat_le 1 page.limit
+is_query_good (queries.Source id) = true
+is_query_good (queries.SourcePart id name) = true
+is_query_good (queries.Flows filter range page) = nat_le 1 page.limit
+is_query_good (queries.Flow id) = true
+is_query_good (queries.FlowPart id name) = true
+is_query_good (queries.Segments id filter page) = nat_le 1 page.limit
+is_query_good (queries.Object object) = is_object_id object
+is_query_good queries.Requests = true
+is_query_good (queries.Request serial) = true
 
 -- a command that the library takes
 abbrev pub is_command_good : Command → Bool
@@ -27,19 +45,7 @@ is_command_good (commands.AddSegments id segments) = list_all is_post_good segme
 is_command_good (commands.CutSegments id range) = true
 is_command_good (commands.PutHook hook) = has_hook_texts hook
 is_command_good (commands.DropHook url) = is_utf8 url
-is_command_good commands.Root = true
-is_command_good commands.Service = true
-is_command_good commands.Hooks = true
-is_command_good (commands.Sources filter page) = nat_le 1 page.limit
-is_command_good (commands.Source id) = true
-is_command_good (commands.SourcePart id name) = true
-is_command_good (commands.Flows filter range page) = nat_le 1 page.limit
-is_command_good (commands.Flow id) = true
-is_command_good (commands.FlowPart id name) = true
-is_command_good (commands.Segments id filter page) = nat_le 1 page.limit
-is_command_good (commands.Object object) = is_object_id object
-is_command_good commands.Requests = true
-is_command_good (commands.Request serial) = true
+is_command_good (commands.Ask query) = is_query_good query
 
 -- so it is for what a request asks for
 abbrev pub is_ask_good : Ask → Bool

@@ -12,7 +12,7 @@ use crate::parts::{cleared_part, flow_part_name, set_part, source_part_name};
 use http_queries::{QueryKind, read_cut_range};
 use http_routes::{Route, path_of, query_of};
 use http_wire::MethodKind;
-use media_rows::{Command, Hook, Refusal};
+use media_rows::{Command, Hook, Query, Refusal};
 use std::alloc::Global;
 use tams_json::{read_flow, read_hook, read_segments, read_storage};
 
@@ -27,30 +27,30 @@ pub(crate) fn get_asked(
     ensures answer { Answers (get_asked store route path.now query.now) result }
     ensures good { IfOk result (λ ask. IsTrue (is_ask_good ask)) }
 {
-    let command = match route {
-        Route::Root => Command::Root,
-        Route::Service => Command::Service,
-        Route::Hooks => Command::Hooks,
+    let query = match route {
+        Route::Root => Query::Root,
+        Route::Service => Query::Service,
+        Route::Hooks => Query::Hooks,
         Route::Sources => return sources_asked(alloc, query),
-        Route::Source => Command::Source(source_at(alloc, path)?),
+        Route::Source => Query::Source(source_at(alloc, path)?),
         Route::SourcePart(part) => {
             let source = source_at(alloc, path)?;
-            Command::SourcePart(source, source_part_name(alloc, part, path)?)
+            Query::SourcePart(source, source_part_name(alloc, part, path)?)
         }
         Route::Flows => return flows_asked(alloc, query),
-        Route::Flow => Command::Flow(flow_at(alloc, path)?),
+        Route::Flow => Query::Flow(flow_at(alloc, path)?),
         Route::FlowPart(part) => {
             let flow = flow_at(alloc, path)?;
-            Command::FlowPart(flow, flow_part_name(alloc, part, path)?)
+            Query::FlowPart(flow, flow_part_name(alloc, part, path)?)
         }
         Route::Segments => return segments_asked(alloc, path, query),
         Route::Storage => return Err(AskFault::Refused(Refusal::NoMethod)),
-        Route::Object => Command::Object(object_at(alloc, path)?),
-        Route::Requests => Command::Requests,
-        Route::Request => Command::Request(request_at(alloc, store, path)?),
+        Route::Object => Query::Object(object_at(alloc, path)?),
+        Route::Requests => Query::Requests,
+        Route::Request => Query::Request(request_at(alloc, store, path)?),
         Route::Media => return Ok(Ask::GetMedia(object_at(alloc, path)?)),
     };
-    Ok(Ask::Run(command))
+    Ok(Ask::Run(Command::Ask(query)))
 }
 
 /// PUT.

@@ -10,7 +10,7 @@ use http_queries::{
     PairList, QueryKind, query_fault, read_flow_filter, read_list_page, read_pairs, read_range,
     read_segment_filter, read_segment_page, read_source_filter,
 };
-use media_rows::{Command, Refusal};
+use media_rows::{Command, Query, Refusal};
 use std::alloc::Global;
 
 /// The pairs of a query, or the name of the first one at fault.
@@ -30,7 +30,8 @@ pub(crate) fn sources_asked(alloc: Global, query: &[u8]) -> Result<Ask, AskFault
 {
     let pairs = pairs_in(alloc, QueryKind::Sources, query)?;
     let filter = read_source_filter(alloc, &pairs)?;
-    Ok(Ask::Run(Command::Sources(filter, read_list_page(&pairs))))
+    let page = read_list_page(&pairs);
+    Ok(Ask::Run(Command::Ask(Query::Sources(filter, page))))
 }
 
 pub(crate) fn flows_asked(alloc: Global, query: &[u8]) -> Result<Ask, AskFault>
@@ -40,7 +41,8 @@ pub(crate) fn flows_asked(alloc: Global, query: &[u8]) -> Result<Ask, AskFault>
     let pairs = pairs_in(alloc, QueryKind::Flows, query)?;
     let filter = read_flow_filter(alloc, &pairs)?;
     let range = read_range(&pairs);
-    Ok(Ask::Run(Command::Flows(filter, range, read_list_page(&pairs))))
+    let page = read_list_page(&pairs);
+    Ok(Ask::Run(Command::Ask(Query::Flows(filter, range, page))))
 }
 
 pub(crate) fn segments_asked(alloc: Global, path: &[u8], query: &[u8]) -> Result<Ask, AskFault>
@@ -50,5 +52,6 @@ pub(crate) fn segments_asked(alloc: Global, path: &[u8], query: &[u8]) -> Result
     let flow = flow_at(alloc, path)?;
     let pairs = pairs_in(alloc, QueryKind::Segments, query)?;
     let filter = read_segment_filter(alloc, &pairs)?;
-    Ok(Ask::Run(Command::Segments(flow, filter, read_segment_page(&pairs))))
+    let page = read_segment_page(&pairs);
+    Ok(Ask::Run(Command::Ask(Query::Segments(flow, filter, page))))
 }

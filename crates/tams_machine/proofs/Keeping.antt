@@ -18,7 +18,7 @@ use Rattle.media_rows.specs.declared.refusal.Refusal.{Refusal}
 use Rattle.media_rows.specs.declared.refusal.Refusal.TheVariants.{JournalFull}
 use Rattle.media_rows.specs.declared.reply.Reply.{Reply}
 use Rattle.media_rows.specs.declared.reply.Reply.TheVariants as replies
-use Rattle.media_rows.specs.Answer.{Outcome, accepted, accepted_request, answer, changed, changing_answer, refusal_of, unchanged}
+use Rattle.media_rows.specs.Answer.{Outcome, accepted, accepted_request, answer, answer_by, changed, refusal_of, unchanged}
 use Rattle.media_rows.specs.Apply.{passes_serials, turn}
 use Rattle.media_rows.specs.Changes.{after}
 use Rattle.media_rows.specs.Library.{Library, last_serial}
@@ -69,10 +69,9 @@ kept s change came good applies fit size =
 abbrev Takes : List ℕ → Outcome → Type 0
 Takes came outcome = IfSome outcome.change (λ change. fits_bytes change came ≡ true)
 
-refused_or : (came : List ℕ) (refusal : Option Refusal) (made : Option Outcome) → IfSome made (Takes came) → Takes came (changing_answer refusal made)
+refused_or : (came : List ℕ) (refusal : Option Refusal) (made : Outcome) → Takes came made → Takes came (answer_by refusal made)
 refused_or came (Some refusal) made takes = tt
-refused_or came None (Some outcome) takes = takes
-refused_or came None None takes = tt
+refused_or came None made takes = takes
 
 either : (came : List ℕ) (test : Bool) (one two : Outcome) → Takes came one → Takes came two → Takes came (if test then one else two)
 either came true one two h k = h
@@ -108,19 +107,8 @@ commands_take library (commands.PutHook hook) moment came sent =
 commands_take library (commands.DropHook url) moment came sent =
     refused_or came None (accepted library (commands.DropHook url) moment)
     (either came (is_some (hook_of url library.outbox.hooks)) (changed replies.Done (changes.DropHook moment url)) (unchanged replies.Done) refl tt)
-commands_take library commands.Root moment came sent = tt
-commands_take library commands.Service moment came sent = tt
-commands_take library commands.Hooks moment came sent = tt
-commands_take library (commands.Sources wanted page) moment came sent = tt
-commands_take library (commands.Source id) moment came sent = tt
-commands_take library (commands.SourcePart id name) moment came sent = tt
-commands_take library (commands.Flows wanted range page) moment came sent = tt
-commands_take library (commands.Flow id) moment came sent = tt
-commands_take library (commands.FlowPart id name) moment came sent = tt
-commands_take library (commands.Segments id wanted page) moment came sent = tt
-commands_take library (commands.Object id) moment came sent = tt
-commands_take library commands.Requests moment came sent = tt
-commands_take library (commands.Request serial) moment came sent = tt
+commands_take library (commands.Ask query) moment came sent =
+    refused_or came (refusal_of library (commands.Ask query)) (accepted library (commands.Ask query) moment) tt
 
 places_take : (library : Library) (object bytes : List ℕ) (moment : ℕ) (o : Option Change) → IfSome o (TakesPlace library object bytes moment)
     → IfSome o (λ change. fits_bytes change bytes ≡ true)

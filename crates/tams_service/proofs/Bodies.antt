@@ -231,7 +231,7 @@ module _ (s : StoreSeen) (from : Fed) (shown : Head) (old : Device) (moment : �
         size = sized put filled;
         holds =
             subst (λ k. HoldsIf k put body.part mid.seen) (sym kept_is)
-            (body.holds refl tells.honest tells.shows tells.tells p.state.archive.held keeps.agrees);
+            (body.holds refl tells.shows p.state.archive.held keeps.agrees);
       }
         where
           sized : (q : Option PutSeen) → IfSome q (IsFilled s.kept shown.length) → IfSome q (λ x. x.size ≡ length body.part)

@@ -7,7 +7,7 @@ use Rattle.disk_trait.specs.Device.{Device}
 use Rattle.site_edge.specs.Links.{Said, Tells}
 use Rattle.http_wire.specs.Framing.{wants_interim}
 use Rattle.library_laws.specs.MediaLaws.{IsGoodArchive}
-use Rattle.media_rows.specs.declared.refusal.Refusal.{Refusal}
+use Rattle.http_wire.specs.declared.framing.WireFault.{WireFault}
 use Rattle.media_store.specs.Stores.{StoreSeen}
 use Rattle.store_states.specs.States.{StoreState}
 use Rattle.run_history.specs.Machine.{BeforeAnswer}
@@ -27,7 +27,7 @@ use Rattle.request_hearing.specs.Asking.{IsAnswerStep, asked_trace}
 use Rattle.request_hearing.specs.Hearing.{interim_where}
 use Rattle.request_hearing.proofs.AskingReached.{changed_none, replied}
 use Rattle.request_hearing.proofs.Theorems.{refused_step}
-use Rattle.tams_service.specs.Answering.{AsksAt, ChangedAt, EndsThere, FailedIn, RunPlace, RefuseLeads, Responds, StarveLeads, StopLeads, is_writing}
+use Rattle.tams_service.specs.Answering.{AsksAt, ChangedAt, EndsThere, FailedIn, RunPlace, RefuseLeads, StarveLeads, StopLeads, is_writing}
 use Rattle.tams_service.specs.Keeping.{KeepsState}
 use Rattle.tams_service.proofs.Effects.{ask_of, effect_by, starved_effect, stopped_effect}
 use Rattle.tams_service.proofs.Effects as effects
@@ -113,8 +113,8 @@ module _ (old new : Device) (n now : RunCounts) (ok : Bool) (tells : old.tells �
 
 -- ---- the wire refuses
 
-module _ (base : List ℕ) (old new : Device) (store : StoreSeen) (n now : RunCounts) (refusal : Refusal) (response : List ℕ) (tells : old.tells ≡ true)
-    (counts : now ≡ plus_answer 0 false n) (responds : Responds base refusal response)
+module _ (base : List ℕ) (old new : Device) (store : StoreSeen) (n now : RunCounts) (fault : WireFault) (response : List ℕ) (tells : old.tells ≡ true)
+    (counts : now ≡ plus_answer 0 false n) (responds : response ≡ wire_response base fault)
     (ok : Bool) (time : Elapses (Tells false response) (Tells ok response) old new) (said : Said ok response old new) (still : new.handed ≡ old.handed) where
   refused_at : (p : RunPlace) (all : List ℕ) → AsksAt p old all n
       → IsStep (tams_machine p.base) p.taken p.state (Refused all (record { interim = interim_where p.said; response = response }))
@@ -135,13 +135,12 @@ module _ (base : List ℕ) (old new : Device) (store : StoreSeen) (n now : RunCo
     handed = λ on. handed_nothing new asks still (Refused all (record { interim = interim_where p.said; response = response })) refl refl;
   }
 
-  pub refuse_leads : RefuseLeads base old new store n now refusal (if ok then endings.Complete else endings.Unlinked)
+  pub refuse_leads : RefuseLeads base old new store n now fault (if ok then endings.Complete else endings.Unlinked)
   refuse_leads p fed all same asks keeps refused =
-      let responded : response ≡ wire_response p.base refused.fault =
-      responds refused.fault refused.refusal_is ∙ ap (λ b. wire_response b refused.fault) (sym same) in
+      let responded : response ≡ wire_response p.base fault = responds ∙ ap (λ b. wire_response b fault) (sym same) in
       let step = subst
       (λ bytes. IsStep (tams_machine p.base) p.taken p.state (Refused all (record { interim = interim_where p.said; response = bytes })))
-      (sym responded) (refused_step p.base p.taken p.state all p.said fed refusal refused) in
+      (sym responded) (refused_step p.base p.taken p.state all p.said fed fault refused) in
       subst (λ k. EndsThere p new store [] k (if ok then endings.Complete else endings.Unlinked)) (sym counts)
       (step_ends (refused_at p all asks step) (KeepsState store new) (if ok then endings.Complete else endings.Unlinked) (ending_if ok) tt
       (λ on. keeps_told store p.state ok response old new keeps time))

@@ -4,7 +4,7 @@ use Rattle.std.specs.Prelude.{bytes_eq}
 use Rattle.std.proofs.lemmas.List.{length-append}
 use Rattle.media_rows.specs.declared.object.Extent.{Extent}
 use Rattle.media_rows.specs.declared.object.ObjectRow.{ObjectRow}
-use Rattle.disk_trait.specs.Device.{Device, IsDevice, as_read}
+use Rattle.disk_trait.specs.Device.{Device, IsDevice, read_with}
 use Rattle.library_laws.proofs.ListLemmas.{In, In-from_Contains}
 use Rattle.store_states.specs.Kept.{AgreesWith, StoreView}
 use Rattle.store_states.specs.States.{held_in, media_start, state_bytes}
@@ -26,21 +26,21 @@ at_same f g (y ∷ ys) is x (inl same) = ap f same ∙ ap (λ l. get_or l 0 (f y
 at_same f g (y ∷ ys) is x (inr later) = at_same f g ys (ap (drop 1) is) x later
 
 -- a device as it reads has the bytes that each crash leaves of the stored objects
-pub held_seen : (d : Device) (kept : StoreView) (held : List (List ℕ)) → IsDevice d → d.honest ≡ true → d.shows ≡ true → d.tells ≡ true
-    → AgreesWith d kept held → held_in d.seen (media_start kept.journal.half) kept.library.objects ≡ held
-held_seen d kept held device honest shows tells agrees =
-    let could = device.itself honest shows tells in
-    subst (λ (h : ℕ). held_in d.seen (media_start h) kept.library.objects ≡ held) (sym (agrees.gives.gives (as_read d) could).half.half_blocks)
-    (agrees.bytes (as_read d) could)
+pub held_seen : (d : Device) (kept : StoreView) (held : List (List ℕ)) → IsDevice d → d.shows ≡ true → AgreesWith d kept held
+    → held_in d.seen (media_start kept.journal.half) kept.library.objects ≡ held
+held_seen d kept held device shows agrees =
+    let could = device.itself shows in
+    let shown = read_with d could.0 in
+    subst (λ (h : ℕ). held_in d.seen (media_start h) kept.library.objects ≡ held) (sym (agrees.gives.gives shown could.1).half.half_blocks)
+    (agrees.bytes shown could.1)
 
 -- so where what is kept agrees before and after, they are the same
-pub stored_same : (old new : Device) (kept : StoreView) (held : List (List ℕ)) → IsDevice old → IsDevice new → new.honest ≡ old.honest
-    → new.shows ≡ old.shows → new.tells ≡ old.tells → old.honest ≡ true → old.shows ≡ true → old.tells ≡ true → AgreesWith old kept held
-    → AgreesWith new kept held → (extent : Extent) → IsExtent kept.library extent → bytes_at_extent kept extent new.seen ≡ bytes_at_extent kept extent old.seen
-stored_same old new kept held old_sound new_sound as_honest as_shows as_tells honest shows tells before after extent is =
+pub stored_same : (old new : Device) (kept : StoreView) (held : List (List ℕ)) → IsDevice old → IsDevice new → new.shows ≡ old.shows
+    → old.shows ≡ true → AgreesWith old kept held → AgreesWith new kept held → (extent : Extent) → IsExtent kept.library extent
+    → bytes_at_extent kept extent new.seen ≡ bytes_at_extent kept extent old.seen
+stored_same old new kept held old_sound new_sound as_shows shows before after extent is =
     let area = media_start kept.journal.half in
-    let both = held_seen new kept held new_sound (as_honest ∙ honest) (as_shows ∙ shows) (as_tells ∙ tells) after
-    ∙ sym (held_seen old kept held old_sound honest shows tells before) in
+    let both = held_seen new kept held new_sound (as_shows ∙ shows) after ∙ sym (held_seen old kept held old_sound shows before) in
     subst (λ state. state_bytes new.seen area state ≡ state_bytes old.seen area state) is.stored
     (at_same (λ (row : ObjectRow). state_bytes new.seen area row.state) (λ (row : ObjectRow). state_bytes old.seen area row.state) kept.library.objects both
     is.row

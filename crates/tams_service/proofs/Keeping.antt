@@ -38,8 +38,8 @@ keeps_so store next old new s keeps same unspent agrees = record {
 }
 
 -- a read of an honest device gives the bytes of the objects that are kept
-pub bytes_seen : (store : StoreSeen) (d : Device) (s : StoreState) → IsDevice d → d.honest ≡ true → d.shows ≡ true → d.tells ≡ true
-    → KeepsState store d s → held_in d.seen (media_start store.kept.journal.half) s.archive.library.objects ≡ s.archive.held
-bytes_seen store d s device honest shows tells keeps =
+pub bytes_seen : (store : StoreSeen) (d : Device) (s : StoreState) → IsDevice d → d.shows ≡ true → KeepsState store d s
+    → held_in d.seen (media_start store.kept.journal.half) s.archive.library.objects ≡ s.archive.held
+bytes_seen store d s device shows keeps =
     ap (λ (t : StoreState). held_in d.seen (media_start store.kept.journal.half) t.archive.library.objects) keeps.state
-    ∙ held_seen d store.kept s.archive.held device honest shows tells keeps.agrees
+    ∙ held_seen d store.kept s.archive.held device shows keeps.agrees

@@ -58,7 +58,7 @@ module _ (p : RunPlace) (old mid : Device) (n : RunCounts) (text rest : List ℕ
     (keeps : KeepsState store old p.state)
     (full : IsFull p r moment store.kept put responses old.seen) (link : mid.link ≡ old.link) where
   has : held_in old.seen (media_start store.kept.journal.half) p.state.archive.library.objects ≡ p.state.archive.held
-  has = bytes_seen store old p.state sound all.honest all.shows all.tells keeps
+  has = bytes_seen store old p.state sound all.shows keeps
 
   good : is_good p.state
   good = good_now asks.asking.begun

@@ -39,7 +39,7 @@ pub record HasTaken (kept : StoreView) (store : StoreSeen) (size left : ℕ) (fr
   pub keeps : (held : List (List ℕ)) → AgreesWith first kept held → Keeps kept held first last
   pub plan : plan_of next ≡ plan_of put
   pub has : IfSome next (HasPart kept size part)
-  pub holds : first.honest ≡ true → first.shows ≡ true → first.tells ≡ true → (held : List (List ℕ)) → AgreesWith first kept held
+  pub holds : first.shows ≡ true → (held : List (List ℕ)) → AgreesWith first kept held
       → HoldsIf kept next part last.seen
   pub handed : first.tells ≡ true → last.handed ≡ first.handed + body_handed (plan_of next) part
 
@@ -145,7 +145,7 @@ taken_first kept store size fed put d put_is kept_is unspent begun = rw put_is r
   keeps = λ held agrees. keeps_none kept held d agrees;
   plan = refl;
   has = has_none kept size put begun;
-  holds = λ honest shows tells held agrees. holds_first kept size put d.seen begun;
+  holds = λ shows held agrees. holds_first kept size put d.seen begun;
   handed = λ tells. omega (arith, body_none (plan_of put));
 }
 
@@ -182,13 +182,13 @@ plan_more kept piece None next old new none = ap plan_of none
 plan_more kept piece (Some put) next old new on = ap plan_of on.is ∙ ap Some on.goes.plan
 
 module _ (kept : StoreView) (size : ℕ) (part piece : List ℕ) (old new : Device) (old_sound : IsDevice old) (new_sound : IsDevice new)
-    (counts : SiteCounts true true old new) (honest : old.honest ≡ true) (shows : old.shows ≡ true) (tells : old.tells ≡ true) (held : List (List ℕ))
+    (counts : SiteCounts true true old new) (shows : old.shows ≡ true) (held : List (List ℕ))
     (before : AgreesWith old kept held) (after : AgreesWith new kept held) where
   holds_on : (put next : Option PutSeen) → IfSome put (HasPart kept size part) → HoldsIf kept put part old.seen → HandsOn kept piece put next old new
       → HoldsIf kept next (part ++ piece) new.seen
   holds_on None next has holds none = rw none tt
   holds_on (Some put) next has holds on =
-      let stays = stored_same old new kept held old_sound new_sound counts.same.honest counts.same.shows counts.same.tells honest shows tells before after in
+      let stays = stored_same old new kept held old_sound new_sound counts.same.shows shows before after in
       rw on.is
       (subst (λ plan. HoldsPart kept on.later plan (part ++ piece) new.seen) (sym on.goes.plan)
       (holds_more kept put on.later put.plan part piece put.object put.size put.moment old new has.handed on.goes has.of_store.extent stays holds
@@ -227,13 +227,11 @@ module _ (kept : StoreView) (store : StoreSeen) (size left : ℕ) (from now fed 
         keeps = keeps_so kept store size left from now put next first last new so_far keeps;
         plan = plan_more kept piece.part next later last new on ∙ so_far.plan;
         has = has_more kept size so_far.part piece.part next later last new so_far.has on;
-        holds = λ honest shows tells held agrees.
+        holds = λ shows held agrees.
             let stands = so_far.keeps held agrees in
-            holds_on kept size so_far.part piece.part last new last_sound new_sound counts (so_far.counts.same.honest ∙ honest)
-            (so_far.counts.same.shows ∙ shows)
-            (so_far.counts.same.tells ∙ tells) held stands.agrees
+            holds_on kept size so_far.part piece.part last new last_sound new_sound counts (so_far.counts.same.shows ∙ shows) held stands.agrees
             (keeps_on kept store size left from now put next first last new so_far keeps held agrees).agrees next later so_far.has
-            (so_far.holds honest shows tells held agrees) on;
+            (so_far.holds shows held agrees) on;
         handed = λ tells.
             let before = so_far.handed tells in
             let now = piece.handed refl (so_far.counts.same.tells ∙ tells) in

@@ -6,7 +6,7 @@ use Rattle.disk_trait.specs.Calls.{SameDevice}
 use Rattle.disk_trait.specs.Device.{Device}
 use Rattle.http_wire.specs.Feeds.{Fed}
 use Rattle.http_wire.specs.declared.stage.Head.{Head}
-use Rattle.media_rows.specs.declared.refusal.Refusal.{Refusal}
+use Rattle.http_wire.specs.declared.framing.WireFault.{WireFault}
 use Rattle.media_store.specs.Stores.{StoreSeen}
 use Rattle.store_states.specs.States.{StoreState}
 use Rattle.run_history.specs.Runs.{Beginning}
@@ -91,11 +91,11 @@ module _ (base : List ℕ) (b : Beginning StoreState) (old mid new : Device) (gi
 
   -- ---- what the wire refuses
 
-  pub refused_turn : (later : Fed) (refusal : Refusal) (ending : ConnectionEnd) (unread : List ℕ) (taken : ℕ) → IsRefusedByWire
-      (fed.unread ++ bytes) said later refusal
-      → RefuseLeads base mid new store n now refusal ending
+  pub refused_turn : (later : Fed) (fault : WireFault) (ending : ConnectionEnd) (unread : List ℕ) (taken : ℕ) → IsRefusedByWire
+      (fed.unread ++ bytes) said later fault
+      → RefuseLeads base mid new store n now fault ending
       → TurnLeads (tams_machine base) b new given unread taken (KeepsState store new) finished now (Some ending)
-  refused_turn later refusal ending unread taken refused leads =
+  refused_turn later fault ending unread taken refused leads =
       subst (λ g. TurnLeads (tams_machine base) b new g unread taken (KeepsState store new) finished now (Some ending)) (append-nil given)
       (leads (here base b old mid given s fed finished steps n store tells keeps going bytes said parts waits) later (fed.unread ++ bytes) refl
       (asks_here base b old mid given s fed finished steps n store tells keeps going bytes said parts waits h)

@@ -6,10 +6,8 @@ use Rattle.disk_trait.specs.Device.{Device}
 use Rattle.httparse.specs.Grammar.{RequestHead}
 use Rattle.http_wire.specs.Feeds.{Fed}
 use Rattle.http_wire.specs.Framing.{wants_interim}
-use Rattle.http_wire.specs.Steps.{wire_refusal}
 use Rattle.http_wire.specs.declared.framing.WireFault.{WireFault}
 use Rattle.library_laws.specs.MediaLaws.{IsGoodArchive}
-use Rattle.media_rows.specs.declared.refusal.Refusal.{Refusal}
 use Rattle.media_rows.specs.declared.reply.Reply.{Reply}
 use Rattle.media_store.specs.Stores.{PutSeen, StoreSeen}
 use Rattle.media_store.specs.declared.turns.TurnMade.{TurnMade}
@@ -26,7 +24,7 @@ use Rattle.connection_loop.specs.declared.ending.ConnectionEnd.TheVariants.{Comp
 use Rattle.connection_loop.specs.Turns.{EndsAs, TurnLeads, held_with}
 use Rattle.tams_machine.specs.Answers.{answer_handed, answer_in}
 use Rattle.tams_machine.specs.Machine.{tams_machine}
-use Rattle.tams_machine.specs.Requests.{Heads, SpellsRequest, TamsRequest, wire_response}
+use Rattle.tams_machine.specs.Requests.{Heads, SpellsRequest, TamsRequest}
 use Rattle.request_hearing.specs.Asking.{Asking, Open, asked_trace, with_states}
 use Rattle.request_hearing.specs.Hearing.{GivesRequest, OpensMedia, IsRefusedByWire}
 use Rattle.request_hearing.specs.Laws.{media_request}
@@ -292,16 +290,10 @@ StopLeads old new n now changes =
     → FailedIn p text r moment states → p.said ≡ wants_interim r.head → length states ≡ changes
     → EndsThere p new store (moment ∷ []) now Stopped
 
--- the response is that to the fault of the wire which this refusal answers
-abbrev pub Responds : List ℕ → Refusal → List ℕ → Type 0
-Responds base refusal response =
-    (fault : WireFault) → refusal ≡ wire_refusal fault → response ≡ wire_response base fault
-
 -- From bytes that the wire refuses.
-abbrev pub RefuseLeads : List ℕ → Device → Device → StoreSeen → RunCounts → RunCounts → Refusal
-    → ConnectionEnd
-    → Type 0
-RefuseLeads base old new store n now refusal ending =
+abbrev pub RefuseLeads : List ℕ → Device → Device → StoreSeen → RunCounts → RunCounts
+    → WireFault → ConnectionEnd → Type 0
+RefuseLeads base old new store n now fault ending =
     (p : RunPlace) (fed : Fed) (all : List ℕ) → p.base ≡ base → AsksAt p old all n
-    → KeepsState store old p.state → IsRefusedByWire all p.said fed refusal
+    → KeepsState store old p.state → IsRefusedByWire all p.said fed fault
     → EndsThere p new store [] now ending

@@ -4,7 +4,6 @@ use Rattle.std.specs.Str.{is_utf8}
 use Rattle.http_wire.specs.Feeds.{Fed}
 use Rattle.media_journal.specs.declared.fault.JournalFault.{JournalFault}
 use Rattle.media_store.specs.Stores.{OpensAs, StoreSeen, size_of}
-use Rattle.media_store.specs.declared.puts.TheConstants.{PIECE}
 use Rattle.tams_answers.specs.Wire.{AreResponses}
 use Rattle.tams_answers.specs.declared.wire.WireResponses.{WireResponses}
 
@@ -22,7 +21,7 @@ pub record IsService (store : StoreSeen) (routes : ℕ) (base : List ℕ) (refus
   pub routes_are : store.spent ≡ false → routes ≡ store.kept.library.id
   pub base_is : IsTrue (is_utf8 base)
   pub refusals_are : AreResponses base refusals
-  pub room_is : room ≡ PIECE
+  pub room_is : room ≡ 65536
   pub idle : store.put ≡ None
 
 -- the least device that a store works on, in bytes; one that is spent asks for nothing

@@ -111,7 +111,7 @@ pub record TakesBody (kept : StoreView) (size : ℕ) (old new : Fed) (put : Opti
   pub part : List ℕ
   pub takes : TakesOfBody part (has_end result) (not (is_heard result)) old new before now
   pub comes : BodyIs result size part new.unread
-  pub holds : result ≡ Whole → before.honest ≡ true → before.shows ≡ true → before.tells ≡ true
+  pub holds : result ≡ Whole → before.shows ≡ true
       → (held : List (List ℕ)) → AgreesWith before kept held → HoldsIf kept put part now.seen
   pub handed : is_taken_unfailed result ≡ true → before.tells ≡ true
       → HandedMost (length part) before now

@@ -1,19 +1,18 @@
 //! Answers that end a connection whatever was asked: where there was no memory, where the disk failed, and where
 //! the wire refuses what was heard.
 ghost use Rattle.std.specs.Prelude.{◌≡◌, ◌≤◌, ◌<◌, ◌^◌, ℕ, List, true, false, Some};
-ghost use Rattle.http_wire.specs.Steps.{wire_refusal};
 ghost use Rattle.http_wire.specs.declared.framing.WireFault.{WireFault};
-ghost use Rattle.media_rows.specs.declared.refusal.Refusal.{Refusal};
 ghost use Rattle.media_store.specs.Stores.{StoreSeen};
 ghost use Rattle.connection_loop.specs.Tallies.{plus_answer};
 ghost use Rattle.connection_loop.specs.Turns.{SiteCalls};
 ghost use Rattle.connection_loop.specs.declared.ending.ConnectionEnd.TheVariants.{Starved, Stopped};
+ghost use Rattle.tams_machine.specs.Requests.{wire_response};
 ghost use Rattle.tams_answers.specs.Wire.{AreResponses};
-ghost use Rattle.tams_service.specs.Answering.{RefuseLeads, Responds, StarveLeads, StopLeads, TellsAllOf};
+ghost use Rattle.tams_service.specs.Answering.{RefuseLeads, StarveLeads, StopLeads, TellsAllOf};
 ghost use Rattle.tams_service.specs.Sites.{LinkCalls};
 
 use connection_loop::{ConnectionEnd, RunTally};
-use media_rows::Refusal;
+use http_wire::WireFault;
 use site_edge::{LinkFailed, Site};
 use tams_answers::WireResponses;
 use tams_http::{server_error, unavailable};
@@ -54,9 +53,8 @@ pub(crate) fn refuse_wire<X: Site>(
     site: &mut X,
     tally: &mut RunTally,
     responses: &WireResponses,
-    refusal: Refusal,
+    fault: WireFault,
 ) -> ConnectionEnd
-    requires fault { (fault : WireFault) × (refusal ≡ wire_refusal fault) }
     requires room { tally.old.answers < 2 ^ 60 }
     requires under_way { (X.device site.old).link.under_way ≡ true }
     ensures calls { SiteCalls (Some result) (X.device site.old) (X.device site.new) }
@@ -64,9 +62,9 @@ pub(crate) fn refuse_wire<X: Site>(
     ensures leads { TellsAllOf (X.device site.old) → (base : List ℕ) (store : StoreSeen)
         → AreResponses base responses.now
         → RefuseLeads base (X.device site.old) (X.device site.new) store tally.old tally.new
-        refusal result }
+        fault result }
 {
-    refuse(site, tally, responses.of(&refusal))
+    refuse(site, tally, responses.of(fault))
 }
 
 /// Says a response that ends the connection.
@@ -76,9 +74,9 @@ fn refuse<X: Site>(site: &mut X, tally: &mut RunTally, response: &[u8]) -> Conne
     ensures calls { SiteCalls (Some result) (X.device site.old) (X.device site.new) }
     ensures counted { tally.new ≡ plus_answer 0 false tally.old }
     ensures leads { TellsAllOf (X.device site.old) → (base : List ℕ) (store : StoreSeen)
-        → (refusal : Refusal) → Responds base refusal response.now
+        → (fault : WireFault) → response.now ≡ wire_response base fault
         → RefuseLeads base (X.device site.old) (X.device site.new) store tally.old tally.new
-        refusal result }
+        fault result }
 {
     tally.count(0);
     match site.say(response) {

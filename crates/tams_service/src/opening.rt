@@ -19,6 +19,9 @@ use tams_answers::WireResponses;
 use tams_http::Routes;
 
 impl TamsService {
+    /// Lets the service go. What was changed stands in its store's file already.
+    pub fn close(self) {}
+
     /// A service of the store that a device has, whose addresses begin with `base`. It takes all memory for what a
     /// connection says. It answers as `Store::open` of `media_store` does.
     pub fn open<D: Disk>(
@@ -54,12 +57,9 @@ impl TamsService {
                 room,
             }),
             Err(Memory) => {
-                let_go(store);
+                store.close();
                 Err(JournalFault::Memory)
             }
         }
     }
 }
-
-/// Lets a store go that can't be served.
-fn let_go(store: Store) {}

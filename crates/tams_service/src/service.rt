@@ -92,7 +92,7 @@ impl Service for TamsService {
         match self.hearing.hear_request(site) {
             Heard::Whole(head) => self.answer_whole(alloc, site, clock, tally, head),
             Heard::Media(head) => self.answer_media(alloc, site, clock, tally, head),
-            Heard::Refused(refusal) => Some(refuse_wire(site, tally, &self.refusals, refusal)),
+            Heard::Refused(fault) => Some(refuse_wire(site, tally, &self.refusals, fault)),
             Heard::Ended => Some(ConnectionEnd::Complete),
             Heard::Cut => Some(ConnectionEnd::Cut),
             Heard::Unheard => Some(ConnectionEnd::Unlinked),

@@ -1,9 +1,4 @@
-pub mod Commands
-pub mod Words
-pub mod Formatting
-pub mod Histories
-pub mod Working
+pub mod Ends
+pub mod Refusals
+pub mod Laws
 pub mod Within
-pub mod Completeness
-pub mod Generating
-pub mod Running

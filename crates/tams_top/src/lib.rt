@@ -1,20 +1,14 @@
-//! The top call: it reads the words of a command line, opens the store on the site that it is handed, and
-//! counts what it keeps, makes turns, or serves one connection, or connections one after another.
+//! The top call: it reads the words of a command line, and does what they ask for on the site that it is handed.
 #![tactic(auto)]
 
-mod checking;
-mod commands;
-mod formatting;
-mod generating;
-mod outcome;
-mod premises;
-mod serving;
-mod still_clock;
+mod laws;
 mod top;
-mod words;
-mod working;
 
-pub use crate::commands::command_line;
-pub use crate::premises::site_over;
+pub use crate::laws::{
+    a_whole_run_is_told, bad_words_are_told, done_is_told, faults_are_told, histories_are_told,
+    little_is_touched, refusals_are_told, starving_is_told, statuses_are_known,
+};
 pub use crate::top::run;
-pub use crate::words::{Invocation, Wanted, devices};
+pub use store_commands::site_over;
+pub use tams_outcomes::Status;
+pub use tams_words::{Invocation, Wanted, command_line, devices};

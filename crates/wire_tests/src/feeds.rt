@@ -27,7 +27,7 @@ fn number(step: &FeedStep) -> u8 {
         FeedStep::More => MORE,
         FeedStep::Head(_) => HEAD,
         FeedStep::Whole(_) => WHOLE,
-        FeedStep::Refused(refusal) => refusal.number(),
+        FeedStep::Refused(fault) => fault.refusal().number(),
     }
 }
 

@@ -1,16 +1,36 @@
 use Rattle.std.proofs.Common.{◌∙◌, true, false, length, ap, refl, sym, rules}
+use Rattle.std.proofs.lemmas.Bool.{false≢true}
 use Rattle.std.proofs.lemmas.Result.{err_from_is_err_and}
 use Rattle.media_journal.specs.declared.header.Header.{Header}
 use Rattle.media_journal.specs.Formatting.{FitsStore}
 use Rattle.media_journal.proofs.FormattingLemmas.{not_store, reads_formatted, written_as}
 use Rattle.media_journal.proofs.OthersLemmas.{others_along, others_quiet}
-use Rattle.media_journal.proofs.StoreLemmas.{formats, reads_failed}
+use Rattle.media_journal.proofs.StoreLemmas.{formats, reads_failed, reads_refused}
 use Rattle.media_journal.proofs.format.format_device.Goals as goal
 
 pub returns-in_err-gate-clause-moments : goal.returns-in_err-gate-clause-moments
 returns-in_err-gate-clause-moments g c = λ rest none.
     let failed = err_from_is_err_and c.from_residual.result c.from_residual.ensures.1 in
     rw (failed.1, failed.2) (reads_failed _ rest none _ _ _ c.in_err-gate.ensures.reads.time)
+
+-- Where the numbers don't fit, the gate was read alone.
+pub returns-then-not-fits_store : goal.returns-then-not-fits_store
+returns-then-not-fits_store g c =
+    let first = c.in_ok-gate.ensures in
+    record {
+      calls = first.reads.calls;
+      answer = λ shows. (
+        not_store _ c.in_ok-gate.gate c.in_default.not-Store (first.gate shows),
+        λ fits.
+            let size = (g.met.D.Disk.sound c.args.disk.now).length shows ∙ sym (c.len.ensures ∙ first.reads.calls.same.size) in
+            false≢true (c.if-not-fits_store.ensures.1 (rw (← size) fits)),
+      );
+      written = λ shows. tt;
+      refused = first.reads;
+      moments = λ rest none. reads_refused _ rest none _ _ _ first.reads.time;
+      durable = λ honest. tt;
+      others = others_quiet _ _ _ first.reads.time;
+    }
 
 pub returns-in_err-make_store : goal.returns-in_err-make_store
 returns-in_err-make_store g c =

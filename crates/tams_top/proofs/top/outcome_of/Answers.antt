@@ -1,4 +1,4 @@
-use Rattle.tams_top.proofs.WordLemmas.{base_is_utf8}
+use Rattle.tams_words.proofs.WordLemmas.{base_is_utf8}
 use Rattle.tams_top.proofs.top.outcome_of.Goals as goal
 
 -- The base is one of the words.

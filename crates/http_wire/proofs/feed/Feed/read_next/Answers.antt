@@ -8,7 +8,7 @@ returns-in-Refused c =
     rw (← c.self.view_is)
     (turn_refused f.kept c.hold-in-Refused.new.self c.unread.result.now f.body.items c.find_next-next.new.body.items f.stage f.requests f.ended
     c.unread.ensures.value
-    c.in-Refused.fault _ c.hold-in-Refused.ensures c.refusal.ensures c.in-Refused.ensures.found)
+    c.in-Refused.fault c.hold-in-Refused.ensures c.in-Refused.ensures.found)
 
 pub returns-in-Opened : goal.returns-in-Opened
 returns-in-Opened c =

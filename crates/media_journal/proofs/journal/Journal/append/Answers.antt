@@ -40,8 +40,8 @@ returns-in_err-write_record-clause-moments g c =
     (rw c.bytes-bytes.ensures.text at (c.in_err-write_record.ensures.moments honest shows)))
 
 pub returns-in_err-write_record-clause-left : goal.returns-in_err-write_record-clause-left
-returns-in_err-write_record-clause-left g c = λ honest shows tells _ held each.
+returns-in_err-write_record-clause-left g c = λ honest shows _ held each.
     let same = c.in_err-write_record.ensures.calls.same in
     let failed = err_from_is_err_and c.from_residual.result c.from_residual.ensures.1 in
     let time = rw failed.1 at (returns-in_err-write_record-clause-moments g c honest shows held each) in
-    append_left _ _ c.args.self.now c.args.frame.now held (g.met.D.Disk.sound _) (same.honest ∙ honest) (same.shows ∙ shows) (same.tells ∙ tells) time
+    append_left _ _ c.args.self.now c.args.frame.now held (g.met.D.Disk.sound _) (same.shows ∙ shows) time

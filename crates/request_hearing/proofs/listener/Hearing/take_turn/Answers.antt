@@ -44,4 +44,4 @@ pub returns-in-Refused : goal.returns-in-Refused
 returns-in-Refused g c =
     turned_refused c.args.self.now c.next_step-step.new.self c.next_step-step.new.self c.args.said c.next_step-step.result.1
     (g.X.Disk.device c.args.site.now) (g.X.Disk.device c.say_interim.new.site) (g.X.Disk.device c.say_interim.new.site) c.next_step-step.ensures.due
-    c.requires.due c.in-Refused.refusal (rw c.in-Refused.is at c.next_step-step.ensures.step) (rw c.is_missing.ensures at c.in-Ok.ensures.says)
+    c.requires.due c.in-Refused.fault (rw c.in-Refused.is at c.next_step-step.ensures.step) (rw c.is_missing.ensures at c.in-Ok.ensures.says)

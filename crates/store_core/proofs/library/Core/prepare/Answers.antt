@@ -10,7 +10,7 @@ prepared-requires c =
     let made = made_at c.self.inside.parts library c.self.view_is c.args.command.now c.args.now c.in-Ok.made c.in-Ok.ensures in
     record {
       good = made_good c.answers_apply.ensures c.good_is_tested.ensures library c.args.command.now c.args.now (subst Good c.self.view_is c.self.invariant)
-          c.requires.changing made.0 c.requires.good c.requires.moment c.in-Ok.made made.1;
+          made.0 c.requires.good c.requires.moment c.in-Ok.made made.1;
     }
 
 -- it is prepared as it was made
@@ -18,7 +18,7 @@ pub returns-in_ok-prepared-in-Ok-clause-prepared : goal.returns-in_ok-prepared-i
 returns-in_ok-prepared-in-Ok-clause-prepared c =
     let library = c.args.self.now in
     let made = made_at c.self.inside.parts library c.self.view_is c.args.command.now c.args.now c.in-Ok.made c.in-Ok.ensures in
-    given library c.args.command.now c.args.now c.requires.changing made.0 c.in-Ok.made made.1 c.in_ok-prepared-in-Ok.field-0 c.in_ok-prepared-in-Ok.ensures
+    given library c.args.command.now c.args.now made.0 c.in-Ok.made made.1 c.in_ok-prepared-in-Ok.field-0 c.in_ok-prepared-in-Ok.ensures
 
 -- and applies
 pub returns-in_ok-prepared-in-Ok-clause-applies : goal.returns-in_ok-prepared-in-Ok-clause-applies

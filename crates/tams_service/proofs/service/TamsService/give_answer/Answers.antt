@@ -38,7 +38,7 @@ returns-clause-leads g c = λ all.
     (λ change step. made.makes all.honest all.shows p.state.archive.held keeps.agrees change step)
     (λ none. ap (λ d. g.X.Disk.device d) (made.unchanged none).0)
     (made.handed all.tells) made.kept made.spent
-    (bytes_seen store old p.state (g.met.X.Disk.sound c.args.site.now) all.honest all.shows all.tells keeps)
+    (bytes_seen store old p.state (g.met.X.Disk.sound c.args.site.now) all.shows keeps)
     (media_or_none (IsExtent store.kept.library) (c.args.answer.planned.frame ≡ None) c.args.answer.media (rw (← c.self.view_is) at c.requires.media))
     c.finish.new.self.store c.args.request.head.ends request few c.finish.result
     ((rw (c.bytes.ensures, c.changes_of-changes.ensures) at c.finish.ensures.leads behind)

@@ -71,7 +71,7 @@ returns-in-Refused-clause-goes g c = λ all b finished steps s keeps going.
     → Going (tams_machine v.base) b old given (held_with s v.fed.unread v.fed.requests) finished steps c.args.tally.now
     → EndsAs (tams_machine v.base) b new given (KeepsState c.self.inside.store new) finished c.refuse_wire.new.tally c.refuse_wire.result) c.self.view_is
     (λ kept goes. refused_turn c.self.inside.base b old mid new given given s c.self.inside.hearing finished steps c.args.tally.now c.refuse_wire.new.tally
-    c.self.inside.store all.tells kept goes h.bytes h.said h.parts h.waits h.leaves c.hear_request.new.self c.in-Refused.refusal c.refuse_wire.result
+    c.self.inside.store all.tells kept goes h.bytes h.said h.parts h.waits h.leaves c.hear_request.new.self c.in-Refused.fault c.refuse_wire.result
     c.hear_request.new.self.unread c.hear_request.new.self.requests h.comes
     (c.refuse_wire.ensures.leads (tells_behind old mid _ h.leaves.call.same all) c.self.inside.base c.self.inside.store c.self.invariant.refusals_are))
     keeps going

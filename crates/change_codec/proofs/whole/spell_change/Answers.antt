@@ -1,5 +1,0 @@
-use Rattle.change_codec.proofs.CodecLemmas.{change_written}
-use Rattle.change_codec.proofs.whole.spell_change.Goals as goal
-
-pub returns : goal.returns
-returns c = change_written c.args.change.now c.write_to.new.out (rw c.new-text.ensures at c.in_ok-write_to.ensures)

@@ -1,0 +1,3 @@
+pub mod Formatting
+pub mod Ends
+pub mod Fresh

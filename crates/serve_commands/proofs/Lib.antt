@@ -1,0 +1,4 @@
+pub mod CompletenessLemmas
+pub mod EndLemmas
+mod RunningLemmas
+mod ServedLemmas

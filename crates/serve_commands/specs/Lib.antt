@@ -1,0 +1,4 @@
+pub mod Histories
+pub mod Completeness
+pub mod Ends
+pub mod Running

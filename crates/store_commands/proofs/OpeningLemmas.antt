@@ -1,0 +1,67 @@
+-- The ends of a command whose store couldn't be opened, and what its status says of its file.
+use Rattle.std.proofs.Common.{◌≡◌, ◌≢◌, ◌⊎◌, ℕ, Bool, true, List, Err, refl, inl, inr, arith}
+use Rattle.disk_trait.specs.Device.{Device}
+use Rattle.disk_trait.specs.Calls.{DiskReads}
+use Rattle.media_journal.specs.declared.fault.JournalFault.{JournalFault}
+use Rattle.media_journal.specs.declared.fault.JournalFault.TheVariants as opening
+use Rattle.media_journal.specs.Opening.{IsStore}
+use Rattle.media_journal.proofs.OpeningLemmas.{is_store}
+use Rattle.store_opening.specs.Laws.{DamagedStandsForNone}
+use Rattle.store_opening.specs.Opening.{StoreAnswer}
+use Rattle.tams_outcomes.specs.Statuses.{exit_of}
+use Rattle.tams_outcomes.specs.Touching.{Untouched}
+use Rattle.tams_outcomes.specs.declared.outcome.RunOutcome.{RunOutcome}
+use Rattle.tams_outcomes.specs.declared.outcome.RunOutcome.TheVariants.{Served, BadWords, Cut, NotStore, AlreadyStore, TooSmall, Damaged, DiskFault, NoMemory, LinkFault}
+use Rattle.store_commands.specs.Opening.{DamageFound, NoStoreFound, OpenedCause, StandsForNone, opening_outcome}
+
+-- an image that is no store stands for no state
+pub no_store : (image : List ℕ) → ¬ (IsStore image) → StandsForNone image
+no_store image none s stands =
+    let sizes = stands.reads.sizes in
+    none (is_store image stands.header stands.reads.header (omega (arith, sizes.some_half, sizes.fits, sizes.within)))
+
+-- reads leave all as it was
+pub untouched_by : (ok : Bool) (old new : Device) → DiskReads ok old new → Untouched old new
+untouched_by ok old new reads = record { seen = reads.seen; handed = reads.handed; link = reads.calls.link; time = reads.time }
+
+-- what opening answered of what is shown
+abbrev pub Answers : Device → JournalFault → Type 0
+Answers old fault = old.shows ≡ true → StoreAnswer old.seen (Err fault)
+
+pub refused_cause : (old new : Device) (fault : JournalFault) → Untouched old new → Answers old fault → OpenedCause old new (opening_outcome fault)
+refused_cause old new opening.NotStore untouched answer = (answer, untouched)
+refused_cause old new (opening.Damaged at) untouched answer = (answer, untouched)
+refused_cause old new opening.Disk untouched answer = tt
+refused_cause old new opening.Memory untouched answer = tt
+
+-- ---- what the file is where it refuses a command
+
+module _ (old new : Device) where
+  pub none_found : NoStoreFound old new → Untouched old new × (old.shows ≡ true → StandsForNone old.seen)
+  none_found cause = (cause.1, λ shows. no_store old.seen (cause.0 shows))
+
+  pub damage_found : DamagedStandsForNone → (at : ℕ) → DamageFound old new at → Untouched old new × (old.shows ≡ true → StandsForNone old.seen)
+  damage_found damaged at cause = (cause.1, λ shows state. damaged old.seen at state (cause.0 shows).1)
+
+  pub opened_refused : DamagedStandsForNone → (o : RunOutcome) → OpenedCause old new o → exit_of o ≡ 2
+      → Untouched old new × (old.shows ≡ true → StandsForNone old.seen)
+  opened_refused damaged NotStore cause s = none_found cause
+  opened_refused damaged (Damaged at) cause s = damage_found damaged at cause
+  opened_refused damaged AlreadyStore cause s = absurd cause
+  opened_refused damaged TooSmall cause s = absurd cause
+  opened_refused damaged _ cause s = absurd (omega (arith, s))
+
+  pub opened_only : (o : RunOutcome) → OpenedCause old new o → old.shows ≡ true → StandsForNone old.seen
+      → (exit_of o ≡ 2) ⊎ ((exit_of o ≡ 3) ⊎ (exit_of o ≡ 4))
+  opened_only (Served requests changes skipped) cause shows none = let stood = cause shows in absurd (none stood.0 stood.1)
+  opened_only Cut cause shows none = let stood = cause shows in absurd (none stood.0 stood.1)
+  opened_only LinkFault cause shows none = let stood = cause shows in absurd (none stood.0 stood.1)
+  opened_only NotStore cause shows none = inl refl
+  opened_only (Damaged at) cause shows none = inl refl
+  opened_only DiskFault cause shows none = inr (inl refl)
+  opened_only NoMemory cause shows none = inr (inr refl)
+  opened_only _ cause shows none = absurd cause
+
+  pub opened_words : (o : RunOutcome) → OpenedCause old new o → exit_of o ≢ 1
+  opened_words BadWords cause s = cause
+  opened_words _ cause s = omega (arith, s)

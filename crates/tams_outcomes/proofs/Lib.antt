@@ -1,0 +1,3 @@
+pub mod ExitLemmas
+mod NoteLemmas
+pub mod TouchingLemmas

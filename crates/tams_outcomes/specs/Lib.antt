@@ -1,0 +1,5 @@
+pub mod Statuses
+pub mod Lines
+pub mod Parts
+pub mod Touching
+pub mod Laws

@@ -1,0 +1,67 @@
+-- The line that each outcome puts into the notes, and what a sink took of a line.
+use Rattle.std.specs.Prelude.{◌≡◌, ℕ, zero, suc, Bool, true, List, ◌++◌, codes}
+use Rattle.std.specs.Fmt.{decimal}
+use Rattle.disk_trait.specs.Calls.{IsCounted}
+use Rattle.site_edge.specs.Sinks.{Puts}
+use Rattle.tams_outcomes.specs.declared.outcome.StoreCounts.{StoreCounts}
+use Rattle.tams_outcomes.specs.declared.outcome.WorkloadRun.{WorkloadRun}
+use Rattle.tams_outcomes.specs.declared.outcome.RunOutcome.{RunOutcome}
+use Rattle.tams_outcomes.specs.declared.outcome.RunOutcome.TheVariants.{Formatted, Checked, Worked, Served, Generated, Cut, BadWords, NotStore, AlreadyStore, TooSmall, Damaged, DiskFault, NoMemory, LinkFault}
+
+-- a number within a line
+abbrev pub numbered : List ℕ → ℕ → List ℕ → List ℕ
+numbered front n rest = (front ++ decimal n) ++ rest
+
+-- the end of the line of a run that served
+abbrev pub changes_end : ℕ → List ℕ
+changes_end zero = codes " changes\n"
+changes_end (suc n) = numbered (codes " changes, ") (suc n) (codes " turns skipped\n")
+
+-- the line of a run that served: its answers, its changes, and the turns that it skipped where
+-- there are any
+abbrev pub served_line : ℕ → ℕ → ℕ → List ℕ
+served_line requests changes skipped =
+    numbered (codes "ok: ") requests (numbered (codes " requests, ") changes (changes_end skipped))
+
+-- the line of a store that was checked: how much it keeps
+abbrev pub checked_line : StoreCounts → List ℕ
+checked_line n =
+    numbered (codes "ok: ") n.flows (numbered (codes " flows, ") n.segments
+    (numbered (codes " segments, ") n.objects (numbered (codes " objects, ") n.requests
+    (numbered (codes " requests, ") n.hooks
+    (numbered (codes " hooks, ") n.events (codes " events\n"))))))
+
+-- the line of a run of generated requests: their two numbers, its answers and changes, and what the
+-- store keeps then
+abbrev pub generated_line : WorkloadRun → List ℕ
+generated_line n =
+    numbered (codes "workload ") n.number (numbered (codes " ") n.count
+    (numbered (codes ": requests ") n.requests (numbered (codes ", changes ") n.changes
+    (numbered (codes ", flows ") n.kept.flows (numbered (codes ", segments ") n.kept.segments
+    (numbered (codes ", objects ") n.kept.objects
+    (numbered (codes ", bytes ") n.bytes (codes "\n"))))))))
+
+-- the line of each end in the notes
+abbrev pub line_of : RunOutcome → List ℕ
+line_of (Formatted blocks half media) =
+    numbered (codes "formatted ") blocks (numbered (codes " blocks, ") half
+    (numbered (codes " per half, ") media (codes " for media\n")))
+line_of (Checked counts) = checked_line counts
+line_of (Worked turns) = numbered (codes "worked: ") turns (codes " turns\n")
+line_of (Served requests changes skipped) = served_line requests changes skipped
+line_of (Generated run) = generated_line run
+line_of BadWords = codes "bad words\n"
+line_of NotStore = codes "not a store\n"
+line_of AlreadyStore = codes "already a store\n"
+line_of TooSmall = codes "too small\n"
+line_of (Damaged at) = numbered (codes "damaged at ") at (codes "\n")
+line_of DiskFault = codes "disk fault\n"
+line_of NoMemory = codes "no memory\n"
+line_of LinkFault = codes "link fault\n"
+line_of Cut = codes "input ended within a request\n"
+
+-- A sink took these bytes, or a prefix of them where its count of faults rose.
+pub record TakesPart (ok tells : Bool) (bytes : List ℕ) (faults faults_after : ℕ)
+    (taken taken_after : List ℕ) : Type 0 where
+  pub counted : IsCounted ok faults faults_after
+  pub puts : tells ≡ true → Puts ok bytes taken taken_after

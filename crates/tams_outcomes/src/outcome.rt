@@ -1,0 +1,219 @@
+//! What a run ends with, and its line in the notes.
+ghost use Rattle.std.specs.Prelude.{◌≡◌, ◌++◌, is_ok};
+ghost use Rattle.std.specs.Fmt.{decimal};
+ghost use Rattle.tams_outcomes.specs.Lines.{TakesPart, checked_line, generated_line, line_of, served_line};
+ghost use Rattle.tams_outcomes.specs.Parts.{line_by};
+
+use crate::status::Status;
+use itoa::Buffer;
+use site_edge::{Sink, SinkFailed};
+
+/// How much a store keeps: the numbers of its rows of each kind.
+#[derive(Clone, Copy, Debug, PartialEq, Eq)]
+pub struct StoreCounts {
+    pub flows: u64,
+    pub segments: u64,
+    pub objects: u64,
+    pub requests: u64,
+    pub hooks: u64,
+    pub events: u64,
+}
+
+/// What a run of generated requests came to: the two numbers that they were made from, how many were
+/// answered, the changes, what the store keeps at its end, and the bytes of its objects.
+#[derive(Clone, Copy, Debug, PartialEq, Eq)]
+pub struct WorkloadRun {
+    pub number: u64,
+    pub count: u64,
+    pub requests: u64,
+    pub changes: u64,
+    pub kept: StoreCounts,
+    pub bytes: u64,
+}
+
+/// How a run ended.
+#[derive(Clone, Copy, Debug, PartialEq, Eq)]
+pub enum RunOutcome {
+    /// A store of so many blocks was made, with so many a half and so many for media.
+    Formatted {
+        blocks: u64,
+        half: u64,
+        media: u64,
+    },
+    /// The file has a store that keeps so much.
+    Checked(StoreCounts),
+    /// So many turns changed something, before one that changed nothing.
+    Worked(u64),
+    /// All was heard and answered, with so many answers and changes, and so many turns skipped.
+    Served {
+        requests: u64,
+        changes: u64,
+        skipped: u64,
+    },
+    /// Generated requests were answered.
+    Generated(WorkloadRun),
+    /// The input ended within a request.
+    Cut,
+    BadWords,
+    NotStore,
+    AlreadyStore,
+    TooSmall,
+    /// The file stands for no library from this offset on, in bytes.
+    Damaged(u64),
+    DiskFault,
+    NoMemory,
+    LinkFault,
+}
+
+impl RunOutcome {
+    ghost use Rattle.tams_outcomes.specs.Statuses.{status_of};
+
+    /// What its status says.
+    pub fn status(self) -> Status
+        ensures { result ≡ status_of self }
+    {
+        match self {
+            RunOutcome::Formatted { .. }
+            | RunOutcome::Checked(_)
+            | RunOutcome::Worked(_)
+            | RunOutcome::Served { .. }
+            | RunOutcome::Generated(_) => Status::Done,
+            RunOutcome::BadWords => Status::BadWords,
+            RunOutcome::NotStore
+            | RunOutcome::AlreadyStore
+            | RunOutcome::TooSmall
+            | RunOutcome::Damaged(_) => Status::Refused,
+            RunOutcome::DiskFault => Status::DiskFault,
+            RunOutcome::NoMemory => Status::NoMemory,
+            RunOutcome::LinkFault => Status::LinkFault,
+            RunOutcome::Cut => Status::Cut,
+        }
+    }
+
+    /// Puts the outcome's line into the notes. It takes no memory.
+    pub fn put_line<N: Sink>(self, notes: &mut N) -> Result<(), SinkFailed>
+        ensures { TakesPart (is_ok result) (N.tells notes.old) (line_of self) (N.faults notes.old)
+            (N.faults notes.new) (N.taken notes.old) (N.taken notes.new) }
+    {
+        match self {
+            RunOutcome::Formatted {
+                blocks,
+                half,
+                media,
+            } => {
+                let parts = [
+                    part(b"formatted ", blocks),
+                    part(b" blocks, ", half),
+                    part(b" per half, ", media),
+                ];
+                put_parts(notes, &parts, b" for media\n")
+            }
+            RunOutcome::Checked(counts) => put_checked(notes, counts),
+            RunOutcome::Worked(turns) => put_parts(notes, &[part(b"worked: ", turns)], b" turns\n"),
+            RunOutcome::Served {
+                requests,
+                changes,
+                skipped,
+            } => put_served(notes, requests, changes, skipped),
+            RunOutcome::Generated(run) => put_generated(notes, run),
+            RunOutcome::Damaged(at) => put_parts(notes, &[part(b"damaged at ", at)], b"\n"),
+            RunOutcome::BadWords => notes.put(b"bad words\n"),
+            RunOutcome::NotStore => notes.put(b"not a store\n"),
+            RunOutcome::AlreadyStore => notes.put(b"already a store\n"),
+            RunOutcome::TooSmall => notes.put(b"too small\n"),
+            RunOutcome::DiskFault => notes.put(b"disk fault\n"),
+            RunOutcome::NoMemory => notes.put(b"no memory\n"),
+            RunOutcome::LinkFault => notes.put(b"link fault\n"),
+            RunOutcome::Cut => notes.put(b"input ended within a request\n"),
+        }
+    }
+}
+
+/// Puts the line of a store that was checked.
+fn put_checked<N: Sink>(notes: &mut N, counts: StoreCounts) -> Result<(), SinkFailed>
+    ensures { TakesPart (is_ok result) (N.tells notes.old) (checked_line counts)
+        (N.faults notes.old) (N.faults notes.new) (N.taken notes.old) (N.taken notes.new) }
+{
+    let parts = [
+        part(b"ok: ", counts.flows),
+        part(b" flows, ", counts.segments),
+        part(b" segments, ", counts.objects),
+        part(b" objects, ", counts.requests),
+        part(b" requests, ", counts.hooks),
+        part(b" hooks, ", counts.events),
+    ];
+    put_parts(notes, &parts, b" events\n")
+}
+
+/// Puts the line of a run that served.
+fn put_served<N: Sink>(
+    notes: &mut N,
+    requests: u64,
+    changes: u64,
+    skipped: u64,
+) -> Result<(), SinkFailed>
+    ensures { TakesPart (is_ok result) (N.tells notes.old) (served_line requests changes skipped)
+        (N.faults notes.old) (N.faults notes.new) (N.taken notes.old) (N.taken notes.new) }
+{
+    let served = [part(b"ok: ", requests), part(b" requests, ", changes)];
+    if skipped == 0 {
+        return put_parts(notes, &served, b" changes\n");
+    }
+    let [answered, changed] = served;
+    let parts = [answered, changed, part(b" changes, ", skipped)];
+    put_parts(notes, &parts, b" turns skipped\n")
+}
+
+/// Puts the line of a run of generated requests.
+fn put_generated<N: Sink>(notes: &mut N, run: WorkloadRun) -> Result<(), SinkFailed>
+    ensures { TakesPart (is_ok result) (N.tells notes.old) (generated_line run)
+        (N.faults notes.old) (N.faults notes.new) (N.taken notes.old) (N.taken notes.new) }
+{
+    let parts = [
+        part(b"workload ", run.number),
+        part(b" ", run.count),
+        part(b": requests ", run.requests),
+        part(b", changes ", run.changes),
+        part(b", flows ", run.kept.flows),
+        part(b", segments ", run.kept.segments),
+        part(b", objects ", run.kept.objects),
+        part(b", bytes ", run.bytes),
+    ];
+    put_parts(notes, &parts, b"\n")
+}
+
+/// A text of a line, and the number behind it.
+#[derive(Clone, Copy)]
+struct LinePart<'a> {
+    text: &'a [u8],
+    number: u64,
+}
+
+fn part<'a>(text: &'a [u8], number: u64) -> LinePart<'a>
+    ensures { result ≡ record { text = text.entry; number = number } }
+{
+    LinePart { text, number }
+}
+
+/// Puts these parts of a line, and then its end.
+fn put_parts<N: Sink>(notes: &mut N, parts: &[LinePart], end: &[u8]) -> Result<(), SinkFailed>
+    ensures { TakesPart (is_ok result) (N.tells notes.old) (line_by parts.now end.now)
+        (N.faults notes.old) (N.faults notes.new) (N.taken notes.old) (N.taken notes.new) }
+{
+    let Some((first, later)) = parts.split_first() else {
+        return notes.put(end);
+    };
+    put_number(notes, first.text, first.number)?;
+    put_parts(notes, later, end)
+}
+
+/// Puts a text and a number behind it.
+fn put_number<N: Sink>(notes: &mut N, text: &[u8], number: u64) -> Result<(), SinkFailed>
+    ensures tells { N.tells notes.new ≡ N.tells notes.old }
+    ensures takes { TakesPart (is_ok result) (N.tells notes.old) (text.now ++ decimal number)
+        (N.faults notes.old) (N.faults notes.new) (N.taken notes.old) (N.taken notes.new) }
+{
+    let mut buffer = Buffer::new();
+    notes.put(text)?;
+    notes.put(buffer.format(number).as_bytes())
+}

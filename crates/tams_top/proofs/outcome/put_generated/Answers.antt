@@ -1,6 +1,0 @@
-use Rattle.tams_top.proofs.outcome.put_generated.Goals as goal
-
-pub returns : goal.returns
-returns g c =
-    rw (c.part.ensures, c.part-2.ensures, c.part-3.ensures, c.part-4.ensures, c.part-5.ensures, c.part-6.ensures, c.part-7.ensures, c.part-8.ensures)
-    at c.put_parts.ensures

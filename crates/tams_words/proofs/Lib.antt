@@ -1,0 +1,4 @@
+mod CommandLemmas
+pub mod WordLemmas
+pub mod WordTheorems
+pub mod WorkedWords

@@ -1,0 +1,3 @@
+pub mod EndLemmas
+mod TurnsLeft
+mod WorkingLemmas

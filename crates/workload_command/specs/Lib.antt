@@ -1,0 +1,3 @@
+pub mod Generating
+pub mod Ends
+pub mod Standing
