@@ -52,7 +52,7 @@ fn stored(alloc: Global, book: &ObjectBook, id: &Text) -> Result<ObjectBook, Mem
         start: 0,
         length: 1,
     };
-    match book.mark_stored(alloc, id, extent, 0) {
+    match book.mark_stored(alloc, id, extent, None, 0) {
         Ok(next) => Ok(next),
         Err(_) => Err(Memory),
     }

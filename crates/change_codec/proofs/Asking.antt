@@ -7,12 +7,11 @@ use Rattle.time_range.specs.declared.ends.End.TheVariants.{Unbounded, Including,
 use Rattle.time_range.specs.Spelling.{low_end, high_end}
 use Rattle.media_rows.specs.declared.event.EventKind.{EventKind}
 use Rattle.media_rows.specs.declared.flow.FormatKind.{FormatKind}
-use Rattle.media_rows.specs.declared.object.ObjectState.{ObjectState}
-use Rattle.media_rows.specs.declared.object.ObjectState.TheVariants.{Allocated, Stored}
+use Rattle.media_rows.specs.declared.object.Digest.{Digest}
 use Rattle.media_rows.specs.declared.request.DeleteStatus.{DeleteStatus}
 use Rattle.field_codec.specs.Leaves.{u8_spelling, u32_spelling, u64_spelling, u128_spelling, bool_spelling, ts_spelling, end_spelling, range_spelling}
-use Rattle.change_codec.specs.Rows.{state_spelling, status_spelling}
-use Rattle.change_codec.specs.Values.{event_spelling, kind_spelling}
+use Rattle.change_codec.specs.Rows.{status_spelling}
+use Rattle.change_codec.specs.Values.{digest_spelling, event_spelling, kind_spelling}
 
 u8_asks : (n : ℕ) → u8_spelling.asks n
 unfolding u8_spelling
@@ -61,7 +60,6 @@ pub status_asks : (status : DeleteStatus) → status_spelling.asks status
 unfolding status_spelling
 status_asks status = (u8_asks _, tt)
 
-pub state_asks : (state : ObjectState) → state_spelling.asks state
-unfolding state_spelling
-state_asks Allocated = tt
-state_asks (Stored start size) = (u64_asks start, u64_asks size)
+pub digest_asks : (digest : Digest) → digest_spelling.asks digest
+unfolding digest_spelling
+digest_asks digest = (u128_asks digest.high, u128_asks digest.low)

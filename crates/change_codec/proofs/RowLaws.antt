@@ -15,12 +15,13 @@ use Rattle.field_codec.specs.Leaves.{u32_spelling, u64_spelling, u128_spelling, 
 use Rattle.field_codec.specs.Laws.{Lawful}
 use Rattle.field_codec.proofs.Combined.{NarrowLaws, narrowed_lawful, nothing_lawful, pair_lawful, via_lawful}
 use Rattle.field_codec.proofs.KindLaws.{no_kinds, one_kind, optional_lawful}
+use Rattle.field_codec.proofs.FormLaws.{present_lawful}
 use Rattle.field_codec.proofs.LeafLaws.{bool_lawful, text_lawful, one_of_lawful}
 use Rattle.field_codec.proofs.Numbers.{u32_below, u32_lawful, u64_lawful, u128_lawful}
 use Rattle.field_codec.proofs.RangeLaws.{range_lawful}
-use Rattle.change_codec.specs.Values.{kind_spelling, event_spelling, tags_spelling, flow_spelling, hook_spelling}
-use Rattle.change_codec.specs.Rows.{source_row_spelling, flow_row_spelling, object_state, state_values, state_spelling, object_row_spelling, segment_row_spelling, status_spelling, delete_row_spelling, hook_row_spelling, event_row_spelling, measured, sized, RowFields, row_of_fields, row_fields, row_spelling}
-use Rattle.change_codec.proofs.ValueLaws.{opt_text, opt_u64, kind_lawful, event_lawful, tags_lawful, flow_lawful, segment_lawful, hook_lawful}
+use Rattle.change_codec.specs.Values.{kind_spelling, event_spelling, tags_spelling, flow_spelling, digest_spelling, hook_spelling}
+use Rattle.change_codec.specs.Rows.{source_row_spelling, flow_row_spelling, StateValues, object_state, state_values, digest_in, state_spelling, object_row_spelling, segment_row_spelling, status_spelling, delete_row_spelling, hook_row_spelling, event_row_spelling, measured, sized, RowFields, row_of_fields, row_fields, row_spelling}
+use Rattle.change_codec.proofs.ValueLaws.{opt_text, opt_u64, kind_lawful, event_lawful, tags_lawful, flow_lawful, segment_lawful, digest_lawful, hook_lawful}
 
 -- ---- the fields of each kind of row
 
@@ -37,27 +38,28 @@ flow_row_lawful =
     via_lawful _ _ _ (λ x. refl) (λ x. refl)
     (pair_lawful flow_spelling _ flow_lawful (pair_lawful u64_spelling _ u64_lawful (pair_lawful u64_spelling _ u64_lawful opt_u64)))
 
-values-state : (p : Unit {0} ⊎ ((ℕ × ℕ) ⊎ ⊥)) → state_values (object_state p) ≡ p
+values-state : (p : StateValues) → state_values (object_state p) ≡ p
 values-state (inl tt) = refl
 values-state (inr (inl p)) = refl
 values-state (inr (inr x)) = absurd x
 
 state-values : (s : ObjectState) → object_state (state_values s) ≡ s
 state-values Allocated = refl
-state-values (Stored start size) = refl
+state-values (Stored start size digest) = refl
 
-pub state_lawful : Lawful state_spelling
+pub state_lawful : (form : ℕ) → Lawful (state_spelling form)
 unfolding state_spelling
-state_lawful =
+state_lawful form =
     via_lawful object_state state_values _ values-state state-values
     (one_kind 0 1 no_field _ (omega arith) nothing_lawful
-    (one_kind 1 2 (pair u64_spelling u64_spelling) no_kind (omega arith) (pair_lawful u64_spelling u64_spelling u64_lawful u64_lawful) (no_kinds 2))).lawful
+    (one_kind 1 2 (pair u64_spelling (pair u64_spelling (digest_in form))) no_kind (omega arith)
+    (pair_lawful u64_spelling _ u64_lawful (pair_lawful u64_spelling _ u64_lawful (present_lawful (form == 2) digest_spelling digest_lawful))) (no_kinds 2))).lawful
 
-pub object_row_lawful : Lawful object_row_spelling
+pub object_row_lawful : (form : ℕ) → Lawful (object_row_spelling form)
 unfolding object_row_spelling
-object_row_lawful =
+object_row_lawful form =
     via_lawful _ _ _ (λ x. refl) (λ x. refl)
-    (pair_lawful u64_spelling _ u64_lawful (pair_lawful text_spelling _ text_lawful (pair_lawful state_spelling _ state_lawful u64_lawful)))
+    (pair_lawful u64_spelling _ u64_lawful (pair_lawful text_spelling _ text_lawful (pair_lawful (state_spelling form) _ (state_lawful form) u64_lawful)))
 
 pub segment_row_lawful : Lawful segment_row_spelling
 unfolding segment_row_spelling
@@ -144,14 +146,14 @@ row-fields (rows.Hook row) = refl
 row-fields (rows.Event row) = refl
 row-fields (rows.Numbers serial) = refl
 
--- A row is read exactly as it is spelled and exactly up to its fault, and written as it is spelled.
-pub row_lawful : Lawful row_spelling
+-- A row is read exactly as a form spells it and exactly up to its fault, and written as it is spelled.
+pub row_lawful : (form : ℕ) → Lawful (row_spelling form)
 unfolding row_spelling
-row_lawful =
+row_lawful form =
     via_lawful row_of_fields row_fields _ fields-row row-fields
     (one_kind 1 2 (sized source_row_spelling) _ (omega arith) (sized_lawful _ source_row_lawful)
     (one_kind 2 3 (sized flow_row_spelling) _ (omega arith) (sized_lawful _ flow_row_lawful)
-    (one_kind 3 4 (sized object_row_spelling) _ (omega arith) (sized_lawful _ object_row_lawful)
+    (one_kind 3 4 (sized (object_row_spelling form)) _ (omega arith) (sized_lawful _ (object_row_lawful form))
     (one_kind 4 5 (sized segment_row_spelling) _ (omega arith) (sized_lawful _ segment_row_lawful)
     (one_kind 5 6 (sized delete_row_spelling) _ (omega arith) (sized_lawful _ delete_row_lawful)
     (one_kind 6 7 (sized hook_row_spelling) _ (omega arith) (sized_lawful _ hook_row_lawful)
@@ -161,13 +163,13 @@ row_lawful =
 -- ---- kinds
 
 -- a row's first byte is its kind's number
-pub first_is_kind : (row : Row) → slice_get (row_spelling.meaning.spell row) 0 ≡ Some (kind_number row)
+pub first_is_kind : (form : ℕ) (row : Row) → slice_get ((row_spelling form).meaning.spell row) 0 ≡ Some (kind_number row)
 unfolding row_spelling
-first_is_kind (rows.Source row) = refl
-first_is_kind (rows.Flow row) = refl
-first_is_kind (rows.Object row) = refl
-first_is_kind (rows.Segment row) = refl
-first_is_kind (rows.Request row) = refl
-first_is_kind (rows.Hook row) = refl
-first_is_kind (rows.Event row) = refl
-first_is_kind (rows.Numbers next_serial) = refl
+first_is_kind form (rows.Source row) = refl
+first_is_kind form (rows.Flow row) = refl
+first_is_kind form (rows.Object row) = refl
+first_is_kind form (rows.Segment row) = refl
+first_is_kind form (rows.Request row) = refl
+first_is_kind form (rows.Hook row) = refl
+first_is_kind form (rows.Event row) = refl
+first_is_kind form (rows.Numbers next_serial) = refl

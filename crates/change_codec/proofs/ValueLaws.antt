@@ -1,22 +1,23 @@
 -- The spellings of the values that stand in changes and rows are lawful.
-use Rattle.std.proofs.Common.{◌≡◌, Some, refl, arith, inl, inr}
+use Rattle.std.proofs.Common.{◌≡◌, Bool, false, Some, refl, sym, ap, arith, inl, inr}
 use Rattle.std.specs.Prelude.{bytes_eq}
 use Rattle.media_rows.specs.Formats.{format_number, event_number, all_formats, all_events}
 use Rattle.media_rows.specs.declared.event.EventKind.{EventKind}
 use Rattle.media_rows.specs.declared.event.EventKind.TheVariants as events
 use Rattle.media_rows.specs.declared.flow.FormatKind.{FormatKind}
 use Rattle.media_rows.specs.declared.flow.FormatKind.TheVariants as formats
+use Rattle.media_rows.specs.declared.segment.PostList.{PostList}
 use Rattle.media_rows.specs.declared.part.Part.{Part}
 use Rattle.media_rows.specs.declared.part.Part.TheVariants as parts
 use Rattle.field_codec.specs.Spelling.{Spelling, no_kind, optional}
 use Rattle.field_codec.specs.Leaves.{u64_spelling, u128_spelling, bool_spelling, ts_spelling, text_spelling, range_spelling, listed, with_number}
 use Rattle.field_codec.specs.Laws.{Lawful}
-use Rattle.field_codec.proofs.Combined.{pair_lawful, followed_lawful, via_lawful, where_is_lawful}
+use Rattle.field_codec.proofs.Combined.{NarrowLaws, pair_lawful, followed_lawful, via_lawful, narrowed_lawful, where_is_lawful}
 use Rattle.field_codec.proofs.KindLaws.{Kinds, no_kinds, one_kind, optional_lawful}
 use Rattle.field_codec.proofs.LeafLaws.{bool_lawful, text_lawful, listed_lawful, one_of_lawful}
 use Rattle.field_codec.proofs.Numbers.{u64_lawful, u128_lawful}
 use Rattle.field_codec.proofs.RangeLaws.{ts_lawful, range_lawful}
-use Rattle.change_codec.specs.Values.{kind_spelling, event_spelling, has_its_values, tag_spelling, is_rising, tags_spelling, member_spelling, flow_head_spelling, flow_texts_spelling, flow_rest_spelling, flow_spelling, segment_spelling, named_tag, tag_part_spelling, PartValues, part_of, part_values, shared_parts, flow_part_spelling, source_part_spelling, hook_spelling}
+use Rattle.change_codec.specs.Values.{kind_spelling, event_spelling, has_its_values, tag_spelling, is_rising, tags_spelling, member_spelling, flow_head_spelling, flow_texts_spelling, flow_rest_spelling, flow_spelling, segment_spelling, posts_spelling, digest_spelling, named_tag, tag_part_spelling, PartValues, part_of, part_values, shared_parts, flow_part_spelling, source_part_spelling, hook_spelling}
 
 -- ---- formats and events
 
@@ -104,6 +105,27 @@ segment_lawful =
     (pair_lawful text_spelling _ text_lawful (pair_lawful range_spelling _ range_lawful (pair_lawful ts_spelling _ ts_lawful
     (pair_lawful (optional ts_spelling) _ (optional_lawful ts_spelling ts_lawful)
     (pair_lawful u64_spelling _ u64_lawful (pair_lawful (optional u64_spelling) _ opt_u64 opt_u64))))))
+
+-- a list of segments is one post, which isn't single
+posts_laws : NarrowLaws (λ segments. Some (record { single = false; segments = segments })) (λ (posts : PostList). posts.segments)
+    (λ posts. posts.single ≡ false) (λ posts. posts.single ≡ false) (listed segment_spelling).meaning.fits
+posts_laws = record {
+  is = λ segments posts fits e.
+      let same : record { single = false; segments = segments } ≡ posts = cc in
+      (sym (ap (λ (p : PostList). p.segments) same), sym (ap (λ (p : PostList). p.single) same));
+  again = λ posts fits listed. ap (λ (s : Bool). Some (record posts { single = s })) (sym listed);
+  writable = λ posts fits listed. listed;
+}
+
+pub posts_lawful : Lawful posts_spelling
+unfolding posts_spelling
+posts_lawful = narrowed_lawful _ _ _ _ _ posts_laws (listed_lawful segment_spelling segment_lawful)
+
+-- ---- digests
+
+pub digest_lawful : Lawful digest_spelling
+unfolding digest_spelling
+digest_lawful = via_lawful _ _ _ (λ x. refl) (λ x. refl) (pair_lawful u128_spelling u128_spelling u128_lawful u128_lawful)
 
 -- ---- parts
 

@@ -4,6 +4,7 @@
 -- bytes for their length. Our own rules.
 use Rattle.std.specs.Prelude.{ℕ, nat_le, ◌+◌, ◌-◌, Bool, ◌&&◌, ◌||◌, length, if◌then◌else◌}
 use Rattle.std.specs.List.{flat_map}
+use Rattle.disk_trait.specs.Forms.{form_in_use}
 use Rattle.media_rows.specs.declared.change.Change.{Change}
 use Rattle.media_rows.specs.Changes.{after}
 use Rattle.media_rows.specs.Library.{Library, last_serial}
@@ -20,11 +21,11 @@ pub record State : Type 0 where
 
 -- the length of a change's bytes
 abbrev pub change_size : Change → ℕ
-change_size change = length (change_spelling.meaning.spell change)
+change_size change = length ((change_spelling form_in_use).meaning.spell change)
 
 -- the length of the snapshot rows of a library
 abbrev pub snapshot_size : Library → ℕ
-snapshot_size library = length (flat_map row_spelling.meaning.spell (rows_of library))
+snapshot_size library = length (flat_map (row_spelling form_in_use).meaning.spell (rows_of library))
 
 -- the record of a change fits the room
 abbrev pub fits_room : State → Change → Bool

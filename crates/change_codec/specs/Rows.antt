@@ -1,10 +1,12 @@
--- The spelling of rows: a kind, the length of the fields in 4 bytes, and the fields. Our own rules.
+-- The spelling of rows: a kind, the length of the fields in 4 bytes, and the fields. The digest of
+-- an object stands in form 2 alone. Our own rules.
 use Rattle.std.proofs.Common.{inl, inr}
 use Rattle.std.specs.Prelude.{◌⊎◌, ◌==◌, ◌<◌, ◌^◌, ℕ, List, length, Bool, true, false, Option, Some, None, if◌then◌else◌}
 use Rattle.media_rows.specs.Formats.{status_number, all_statuses}
 use Rattle.media_rows.specs.declared.event.EventRow.{EventRow}
 use Rattle.media_rows.specs.declared.flow.FlowRow.{FlowRow}
 use Rattle.media_rows.specs.declared.hook.HookRow.{HookRow}
+use Rattle.media_rows.specs.declared.object.Digest.{Digest}
 use Rattle.media_rows.specs.declared.object.ObjectRow.{ObjectRow}
 use Rattle.media_rows.specs.declared.object.ObjectState.{ObjectState}
 use Rattle.media_rows.specs.declared.object.ObjectState.TheVariants.{Allocated, Stored}
@@ -15,9 +17,9 @@ use Rattle.media_rows.specs.declared.row.Row.TheVariants as rows
 use Rattle.media_rows.specs.declared.segment.SegmentRow.{SegmentRow}
 use Rattle.media_rows.specs.declared.source.SourceRow.{SourceRow}
 use Rattle.field_codec.specs.Reading.{WritesValue}
-use Rattle.field_codec.specs.Spelling.{Spelling, no_field, pair, via, narrowed, either, no_kind, optional}
+use Rattle.field_codec.specs.Spelling.{Spelling, no_field, pair, via, narrowed, either, no_kind, present_if, optional}
 use Rattle.field_codec.specs.Leaves.{u32_spelling, u64_spelling, u128_spelling, bool_spelling, text_spelling, range_spelling, one_of}
-use Rattle.change_codec.specs.Values.{kind_spelling, event_spelling, tags_spelling, flow_spelling, segment_spelling, hook_spelling}
+use Rattle.change_codec.specs.Values.{kind_spelling, event_spelling, tags_spelling, flow_spelling, segment_spelling, digest_spelling, hook_spelling}
 
 -- ---- the fields of each kind of row
 
@@ -51,26 +53,36 @@ flow_row_spelling = via
     (λ row. (row.body, (row.created, (row.metadata_updated, row.segments_updated))))
     (pair flow_spelling (pair u64_spelling (pair u64_spelling (optional u64_spelling))))
 
--- the state with these values: none where allocated, the first block and the length where stored
-abbrev pub object_state : Unit {0} ⊎ ((ℕ × ℕ) ⊎ ⊥) → ObjectState
+-- the values of a state: none where allocated, the first block, the length and the digest where
+-- stored
+abbrev pub StateValues : Type 0
+StateValues = Unit {0} ⊎ ((ℕ × (ℕ × Option Digest)) ⊎ ⊥)
+
+-- the state with these values
+abbrev pub object_state : StateValues → ObjectState
 object_state (inl x) = Allocated
-object_state (inr (inl p)) = Stored p.0 p.1
+object_state (inr (inl p)) = Stored p.0 p.1.0 p.1.1
 object_state (inr (inr x)) = absurd x
 
 -- the values of a state
-abbrev pub state_values : ObjectState → Unit {0} ⊎ ((ℕ × ℕ) ⊎ ⊥)
+abbrev pub state_values : ObjectState → StateValues
 state_values Allocated = inl tt
-state_values (Stored start size) = inr (inl (start, size))
+state_values (Stored start size digest) = inr (inl (start, (size, digest)))
 
--- 0 allocated, or 1 stored with the first block and the length
-unfoldable pub state_spelling : Spelling ObjectState
-state_spelling =
+-- the digest of an object, where the form has one
+abbrev pub digest_in : ℕ → Spelling (Option Digest)
+digest_in form = present_if (form == 2) digest_spelling
+
+-- 0 allocated, or 1 stored with the first block, the length and the digest
+unfoldable pub state_spelling : ℕ → Spelling ObjectState
+state_spelling form =
     via object_state state_values
-    (either 0 no_field (either 1 (pair u64_spelling u64_spelling) no_kind))
+    (either 0 no_field
+    (either 1 (pair u64_spelling (pair u64_spelling (digest_in form))) no_kind))
 
 -- serial, id, state, idle moment
-unfoldable pub object_row_spelling : Spelling ObjectRow
-object_row_spelling = via
+unfoldable pub object_row_spelling : ℕ → Spelling ObjectRow
+object_row_spelling form = via
     (λ (serial, (id, (state, idle_since))). record {
       serial = serial;
       id = id;
@@ -78,7 +90,7 @@ object_row_spelling = via
       idle_since = idle_since;
     })
     (λ row. (row.serial, (row.id, (row.state, row.idle_since))))
-    (pair u64_spelling (pair text_spelling (pair state_spelling u64_spelling)))
+    (pair u64_spelling (pair text_spelling (pair (state_spelling form) u64_spelling)))
 
 -- flow, serial, segment
 unfoldable pub segment_row_spelling : Spelling SegmentRow
@@ -181,12 +193,12 @@ row_fields (rows.Hook row) = inr (inr (inr (inr (inr (inl row)))))
 row_fields (rows.Event row) = inr (inr (inr (inr (inr (inr (inl row))))))
 row_fields (rows.Numbers serial) = inr (inr (inr (inr (inr (inr (inr (inl serial)))))))
 
--- one byte of kind, and the fields of that kind behind their length
-unfoldable pub row_spelling : Spelling Row
-row_spelling = via row_of_fields row_fields
+-- a row as a form has it: one byte of kind, and the fields of that kind behind their length
+unfoldable pub row_spelling : ℕ → Spelling Row
+row_spelling form = via row_of_fields row_fields
     (either 1 (sized source_row_spelling)
     (either 2 (sized flow_row_spelling)
-    (either 3 (sized object_row_spelling)
+    (either 3 (sized (object_row_spelling form))
     (either 4 (sized segment_row_spelling)
     (either 5 (sized delete_row_spelling)
     (either 6 (sized hook_row_spelling)

@@ -1,7 +1,7 @@
 -- The spelling of the values that stand in changes and rows: formats, events, tags, members, flows,
--- segments, parts and hooks. A list of fields is their order in the file. Our own rules.
+-- segments, digests, parts and hooks. A list of fields is their order in the file. Our own rules.
 use Rattle.std.proofs.Common.{inl, inr}
-use Rattle.std.specs.Prelude.{◌⊎◌, ◌==◌, ◌&&◌, ℕ, Bool, true, if◌then◌else◌, List, [], ◌∷◌, length, Option, bytes_eq}
+use Rattle.std.specs.Prelude.{◌≡◌, ◌⊎◌, ◌==◌, ◌&&◌, ℕ, Bool, true, false, if◌then◌else◌, List, [], ◌∷◌, length, Option, Some, bytes_eq}
 use Rattle.media_rows.specs.Formats.{format_number, event_number, all_formats, all_events}
 use Rattle.media_rows.specs.Lists.{text_before}
 use Rattle.media_rows.specs.declared.event.EventKind.{EventKind}
@@ -9,11 +9,13 @@ use Rattle.media_rows.specs.declared.flow.FormatKind.{FormatKind}
 use Rattle.media_rows.specs.declared.flow.Tag.{Tag}
 use Rattle.media_rows.specs.declared.flow.Member.{Member}
 use Rattle.media_rows.specs.declared.flow.FlowBody.{FlowBody}
+use Rattle.media_rows.specs.declared.object.Digest.{Digest}
+use Rattle.media_rows.specs.declared.segment.PostList.{PostList}
 use Rattle.media_rows.specs.declared.segment.Segment.{Segment}
 use Rattle.media_rows.specs.declared.part.Part.{Part}
 use Rattle.media_rows.specs.declared.part.Part.TheVariants as parts
 use Rattle.media_rows.specs.declared.hook.Hook.{Hook}
-use Rattle.field_codec.specs.Spelling.{Spelling, followed, pair, via, where_is, either, no_kind, optional}
+use Rattle.field_codec.specs.Spelling.{Spelling, followed, pair, via, narrowed, where_is, either, no_kind, optional}
 use Rattle.field_codec.specs.Leaves.{u64_spelling, u128_spelling, bool_spelling, ts_spelling, text_spelling, range_spelling, listed, one_of}
 
 -- ---- formats and events
@@ -153,6 +155,22 @@ segment_spelling = via
     ))
     (pair text_spelling (pair range_spelling (pair ts_spelling (pair (optional ts_spelling)
     (pair u64_spelling (pair (optional u64_spelling) (optional u64_spelling)))))))
+
+-- a post as a list of its segments: a single one has no spelling
+unfoldable pub posts_spelling : Spelling PostList
+posts_spelling = narrowed
+    (λ segments. Some (record { single = false; segments = segments }))
+    (λ posts. posts.segments)
+    (λ posts. posts.single ≡ false) (λ posts. posts.single ≡ false) (listed segment_spelling)
+
+-- ---- digests
+
+-- the 32 bytes of a digest: its high half, then its low one
+unfoldable pub digest_spelling : Spelling Digest
+digest_spelling = via
+    (λ (high, low). record { high = high; low = low })
+    (λ digest. (digest.high, digest.low))
+    (pair u128_spelling u128_spelling)
 
 -- ---- parts
 

@@ -3,7 +3,7 @@ ghost use Rattle.std.specs.Prelude.{◌≡◌, ◌∷◌, OnOk};
 ghost use Rattle.media_rows.specs.Changes.{moment_of};
 ghost use Rattle.field_codec.specs.Spelling.{pair};
 ghost use Rattle.field_codec.specs.Reading.{GivesField, WritesValue};
-ghost use Rattle.change_codec.specs.Changes.{change_kind, change_spelling};
+ghost use Rattle.change_codec.specs.Changes.{all_changes, change_kind};
 
 use crate::field::Field;
 use crate::parts::{read_source_part, write_source_part};
@@ -13,9 +13,9 @@ use media_rows::Change;
 use std::alloc::Global;
 
 impl Field for Change {
-    ghost spelling = { change_spelling };
+    ghost spelling = { all_changes };
 
-    #[tactic(auto, unfolding(crate::specs::Changes::change_spelling, crate::specs::Changes::later_spelling))]
+    #[tactic(auto, unfolding(crate::specs::Changes::all_changes, crate::specs::Changes::later_spelling, crate::specs::Changes::last_spelling))]
     fn read_from(alloc: Global, input: &mut Cursor) -> Result<Change, ReadFault> {
         let left = input.left();
         match input.first() {
@@ -32,11 +32,13 @@ impl Field for Change {
             Some(11) => read_sweep_step(alloc, input),
             Some(12) => read_put_hook(alloc, input),
             Some(13) => read_drop_hook(alloc, input),
+            Some(14) => read_delivered(alloc, input),
+            Some(15) => read_store_with_digest(alloc, input),
             _ => Err(BadField { left })?,
         }
     }
 
-    #[tactic(auto, unfolding(crate::specs::Changes::change_spelling, crate::specs::Changes::later_spelling))]
+    #[tactic(auto, unfolding(crate::specs::Changes::all_changes, crate::specs::Changes::later_spelling, crate::specs::Changes::last_spelling))]
     fn write_to(&self, alloc: Global, out: &mut Text) -> Result<(), Memory> {
         out.push(kind_of(self))?;
         write_u64(out, moment_of(self))?;
@@ -53,10 +55,15 @@ impl Field for Change {
                 object,
                 start_block,
                 length,
+                digest,
                 ..
             } => {
                 object.write_to(alloc, out)?;
-                write_both(alloc, start_block, length, out)
+                write_both(alloc, start_block, length, out)?;
+                match digest {
+                    Some(digest) => digest.write_to(alloc, out),
+                    None => Ok(()),
+                }
             }
             Change::AddSegments { flow, segments, .. } => write_both(alloc, flow, segments, out),
             Change::CutSegments { flow, range, .. } => write_both(alloc, flow, range, out),
@@ -72,31 +79,32 @@ impl Field for Change {
             Change::DeleteStep { .. } | Change::SweepStep { .. } => Ok(()),
             Change::PutHook { hook, .. } => hook.write_to(alloc, out),
             Change::DropHook { url, .. } => url.write_to(alloc, out),
+            Change::Delivered { event, .. } => event.write_to(alloc, out),
         }
     }
 }
 
 // ---- reading: the moment and the fields of each kind, which stand behind it
 
-#[tactic(auto, unfolding(crate::specs::Changes::change_spelling))]
+#[tactic(auto, unfolding(crate::specs::Changes::all_changes))]
 fn read_put_flow(alloc: Global, input: &mut Cursor) -> Result<Change, ReadFault>
-    ensures { GivesField change_spelling (1 ∷ input.old) input.new result }
+    ensures { GivesField all_changes (1 ∷ input.old) input.new result }
 {
     let (moment, flow) = Field::read_from(alloc, input)?;
     Ok(Change::PutFlow { moment, flow })
 }
 
-#[tactic(auto, unfolding(crate::specs::Changes::change_spelling))]
+#[tactic(auto, unfolding(crate::specs::Changes::all_changes))]
 fn read_set_flow(alloc: Global, input: &mut Cursor) -> Result<Change, ReadFault>
-    ensures { GivesField change_spelling (2 ∷ input.old) input.new result }
+    ensures { GivesField all_changes (2 ∷ input.old) input.new result }
 {
     let (moment, (flow, part)) = Field::read_from(alloc, input)?;
     Ok(Change::SetFlow { moment, flow, part })
 }
 
-#[tactic(auto, unfolding(crate::specs::Changes::change_spelling))]
+#[tactic(auto, unfolding(crate::specs::Changes::all_changes))]
 fn read_set_source(alloc: Global, input: &mut Cursor) -> Result<Change, ReadFault>
-    ensures { GivesField change_spelling (3 ∷ input.old) input.new result }
+    ensures { GivesField all_changes (3 ∷ input.old) input.new result }
 {
     Ok(Change::SetSource {
         moment: Field::read_from(alloc, input)?,
@@ -105,17 +113,17 @@ fn read_set_source(alloc: Global, input: &mut Cursor) -> Result<Change, ReadFaul
     })
 }
 
-#[tactic(auto, unfolding(crate::specs::Changes::change_spelling))]
+#[tactic(auto, unfolding(crate::specs::Changes::all_changes))]
 fn read_drop_flow(alloc: Global, input: &mut Cursor) -> Result<Change, ReadFault>
-    ensures { GivesField change_spelling (4 ∷ input.old) input.new result }
+    ensures { GivesField all_changes (4 ∷ input.old) input.new result }
 {
     let (moment, flow) = Field::read_from(alloc, input)?;
     Ok(Change::DropFlow { moment, flow })
 }
 
-#[tactic(auto, unfolding(crate::specs::Changes::change_spelling))]
+#[tactic(auto, unfolding(crate::specs::Changes::all_changes))]
 fn read_allocate(alloc: Global, input: &mut Cursor) -> Result<Change, ReadFault>
-    ensures { GivesField change_spelling (5 ∷ input.old) input.new result }
+    ensures { GivesField all_changes (5 ∷ input.old) input.new result }
 {
     Ok(Change::Allocate {
         moment: Field::read_from(alloc, input)?,
@@ -124,21 +132,22 @@ fn read_allocate(alloc: Global, input: &mut Cursor) -> Result<Change, ReadFault>
     })
 }
 
-#[tactic(auto, unfolding(crate::specs::Changes::change_spelling))]
+#[tactic(auto, unfolding(crate::specs::Changes::all_changes))]
 fn read_store(alloc: Global, input: &mut Cursor) -> Result<Change, ReadFault>
-    ensures { GivesField change_spelling (6 ∷ input.old) input.new result }
+    ensures { GivesField all_changes (6 ∷ input.old) input.new result }
 {
     Ok(Change::Store {
         moment: Field::read_from(alloc, input)?,
         object: Field::read_from(alloc, input)?,
         start_block: Field::read_from(alloc, input)?,
         length: Field::read_from(alloc, input)?,
+        digest: None,
     })
 }
 
-#[tactic(auto, unfolding(crate::specs::Changes::change_spelling, crate::specs::Changes::later_spelling))]
+#[tactic(auto, unfolding(crate::specs::Changes::all_changes, crate::specs::Changes::later_spelling))]
 fn read_add_segments(alloc: Global, input: &mut Cursor) -> Result<Change, ReadFault>
-    ensures { GivesField change_spelling (7 ∷ input.old) input.new result }
+    ensures { GivesField all_changes (7 ∷ input.old) input.new result }
 {
     Ok(Change::AddSegments {
         moment: Field::read_from(alloc, input)?,
@@ -147,9 +156,9 @@ fn read_add_segments(alloc: Global, input: &mut Cursor) -> Result<Change, ReadFa
     })
 }
 
-#[tactic(auto, unfolding(crate::specs::Changes::change_spelling, crate::specs::Changes::later_spelling))]
+#[tactic(auto, unfolding(crate::specs::Changes::all_changes, crate::specs::Changes::later_spelling))]
 fn read_cut_segments(alloc: Global, input: &mut Cursor) -> Result<Change, ReadFault>
-    ensures { GivesField change_spelling (8 ∷ input.old) input.new result }
+    ensures { GivesField all_changes (8 ∷ input.old) input.new result }
 {
     Ok(Change::CutSegments {
         moment: Field::read_from(alloc, input)?,
@@ -158,9 +167,9 @@ fn read_cut_segments(alloc: Global, input: &mut Cursor) -> Result<Change, ReadFa
     })
 }
 
-#[tactic(auto, unfolding(crate::specs::Changes::change_spelling, crate::specs::Changes::later_spelling))]
+#[tactic(auto, unfolding(crate::specs::Changes::all_changes, crate::specs::Changes::later_spelling))]
 fn read_ask_delete(alloc: Global, input: &mut Cursor) -> Result<Change, ReadFault>
-    ensures { GivesField change_spelling (9 ∷ input.old) input.new result }
+    ensures { GivesField all_changes (9 ∷ input.old) input.new result }
 {
     Ok(Change::AskDelete {
         moment: Field::read_from(alloc, input)?,
@@ -170,42 +179,63 @@ fn read_ask_delete(alloc: Global, input: &mut Cursor) -> Result<Change, ReadFaul
     })
 }
 
-#[tactic(auto, unfolding(crate::specs::Changes::change_spelling, crate::specs::Changes::later_spelling))]
+#[tactic(auto, unfolding(crate::specs::Changes::all_changes, crate::specs::Changes::later_spelling))]
 fn read_delete_step(alloc: Global, input: &mut Cursor) -> Result<Change, ReadFault>
-    ensures { GivesField change_spelling (10 ∷ input.old) input.new result }
+    ensures { GivesField all_changes (10 ∷ input.old) input.new result }
 {
     let moment = Field::read_from(alloc, input)?;
     Ok(Change::DeleteStep { moment })
 }
 
-#[tactic(auto, unfolding(crate::specs::Changes::change_spelling, crate::specs::Changes::later_spelling))]
+#[tactic(auto, unfolding(crate::specs::Changes::all_changes, crate::specs::Changes::later_spelling))]
 fn read_sweep_step(alloc: Global, input: &mut Cursor) -> Result<Change, ReadFault>
-    ensures { GivesField change_spelling (11 ∷ input.old) input.new result }
+    ensures { GivesField all_changes (11 ∷ input.old) input.new result }
 {
     let moment = Field::read_from(alloc, input)?;
     Ok(Change::SweepStep { moment })
 }
 
-#[tactic(auto, unfolding(crate::specs::Changes::change_spelling, crate::specs::Changes::later_spelling))]
+#[tactic(auto, unfolding(crate::specs::Changes::all_changes, crate::specs::Changes::later_spelling))]
 fn read_put_hook(alloc: Global, input: &mut Cursor) -> Result<Change, ReadFault>
-    ensures { GivesField change_spelling (12 ∷ input.old) input.new result }
+    ensures { GivesField all_changes (12 ∷ input.old) input.new result }
 {
     let (moment, hook) = Field::read_from(alloc, input)?;
     Ok(Change::PutHook { moment, hook })
 }
 
-#[tactic(auto, unfolding(crate::specs::Changes::change_spelling, crate::specs::Changes::later_spelling))]
+#[tactic(auto, unfolding(crate::specs::Changes::all_changes, crate::specs::Changes::later_spelling))]
 fn read_drop_hook(alloc: Global, input: &mut Cursor) -> Result<Change, ReadFault>
-    ensures { GivesField change_spelling (13 ∷ input.old) input.new result }
+    ensures { GivesField all_changes (13 ∷ input.old) input.new result }
 {
     let (moment, url) = Field::read_from(alloc, input)?;
     Ok(Change::DropHook { moment, url })
 }
 
+#[tactic(auto, unfolding(crate::specs::Changes::all_changes, crate::specs::Changes::later_spelling, crate::specs::Changes::last_spelling))]
+fn read_delivered(alloc: Global, input: &mut Cursor) -> Result<Change, ReadFault>
+    ensures { GivesField all_changes (14 ∷ input.old) input.new result }
+{
+    let (moment, event) = Field::read_from(alloc, input)?;
+    Ok(Change::Delivered { moment, event })
+}
+
+#[tactic(auto, unfolding(crate::specs::Changes::all_changes, crate::specs::Changes::later_spelling, crate::specs::Changes::last_spelling))]
+fn read_store_with_digest(alloc: Global, input: &mut Cursor) -> Result<Change, ReadFault>
+    ensures { GivesField all_changes (15 ∷ input.old) input.new result }
+{
+    Ok(Change::Store {
+        moment: Field::read_from(alloc, input)?,
+        object: Field::read_from(alloc, input)?,
+        start_block: Field::read_from(alloc, input)?,
+        length: Field::read_from(alloc, input)?,
+        digest: Some(Field::read_from(alloc, input)?),
+    })
+}
+
 // ---- writing
 
 /// The number of a change's kind.
-fn kind_of(change: &Change) -> u8
+pub(crate) fn kind_of(change: &Change) -> u8
     ensures { result ≡ change_kind change.now }
 {
     match change {
@@ -214,7 +244,7 @@ fn kind_of(change: &Change) -> u8
         Change::SetSource { .. } => 3,
         Change::DropFlow { .. } => 4,
         Change::Allocate { .. } => 5,
-        Change::Store { .. } => 6,
+        Change::Store { digest: None, .. } => 6,
         Change::AddSegments { .. } => 7,
         Change::CutSegments { .. } => 8,
         Change::AskDelete { .. } => 9,
@@ -222,6 +252,11 @@ fn kind_of(change: &Change) -> u8
         Change::SweepStep { .. } => 11,
         Change::PutHook { .. } => 12,
         Change::DropHook { .. } => 13,
+        Change::Delivered { .. } => 14,
+        Change::Store {
+            digest: Some(_),
+            ..
+        } => 15,
     }
 }
 
@@ -242,7 +277,8 @@ pub fn moment_of(change: &Change) -> u64
         | Change::DeleteStep { moment }
         | Change::SweepStep { moment }
         | Change::PutHook { moment, .. }
-        | Change::DropHook { moment, .. } => *moment,
+        | Change::DropHook { moment, .. }
+        | Change::Delivered { moment, .. } => *moment,
     }
 }
 

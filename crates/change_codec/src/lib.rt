@@ -7,6 +7,7 @@ mod field;
 mod flows;
 mod laws;
 mod lists;
+mod objects;
 mod parts;
 mod rows;
 mod sized;
@@ -17,8 +18,8 @@ mod writable_changes;
 
 pub use crate::changes::moment_of;
 pub use crate::laws::{
-    change_faults_have_one_place, changes_have_one_spelling, fits_as_worked,
-    row_faults_have_one_place, rows_are_no_prefixes, rows_begin_with_their_kinds,
+    change_faults_have_one_place, changes_begin_with_their_kinds, changes_have_one_spelling,
+    fits_as_worked, row_faults_have_one_place, rows_are_no_prefixes, rows_begin_with_their_kinds,
 };
 pub use crate::whole::{
     decode_change, decode_row, encode_change, encode_row, encode_row_if_spelled, has_spelling,

@@ -1,16 +1,13 @@
 //! The fields of each kind of row.
 ghost use Rattle.std.specs.Prelude.{◌≡◌, OnOk};
 ghost use Rattle.field_codec.specs.Reading.{GivesField, WritesValue};
-ghost use Rattle.change_codec.specs.Rows.{source_row_spelling, flow_row_spelling, state_spelling, object_row_spelling, segment_row_spelling, status_spelling, delete_row_spelling, hook_row_spelling, event_row_spelling};
+ghost use Rattle.change_codec.specs.Rows.{source_row_spelling, flow_row_spelling, segment_row_spelling, status_spelling, delete_row_spelling, hook_row_spelling, event_row_spelling};
 
 use crate::field::Field;
 use crate::values::{read_tags, write_tags};
 use disk_trait::{Memory, Text};
 use field_codec::{BadField, Cursor, ReadFault, write_u8};
-use media_rows::{
-    DeleteRow, DeleteStatus, EventRow, FlowRow, HookRow, ObjectRow, ObjectState, SegmentRow,
-    SourceRow,
-};
+use media_rows::{DeleteRow, DeleteStatus, EventRow, FlowRow, HookRow, SegmentRow, SourceRow};
 use std::alloc::Global;
 
 impl Field for SourceRow {
@@ -61,63 +58,6 @@ impl Field for FlowRow {
         self.created.write_to(alloc, out)?;
         self.metadata_updated.write_to(alloc, out)?;
         self.segments_updated.write_to(alloc, out)?;
-        Ok(())
-    }
-}
-
-impl Field for ObjectState {
-    ghost spelling = { state_spelling };
-
-    #[tactic(auto, unfolding(crate::specs::Rows::state_spelling))]
-    fn read_from(alloc: Global, input: &mut Cursor) -> Result<ObjectState, ReadFault> {
-        let left = input.left();
-        match input.first() {
-            Some(0) => Ok(ObjectState::Allocated),
-            Some(1) => Ok(ObjectState::Stored {
-                start_block: Field::read_from(alloc, input)?,
-                length: Field::read_from(alloc, input)?,
-            }),
-            _ => Err(BadField { left })?,
-        }
-    }
-
-    #[tactic(auto, unfolding(crate::specs::Rows::state_spelling))]
-    fn write_to(&self, alloc: Global, out: &mut Text) -> Result<(), Memory> {
-        match self {
-            ObjectState::Allocated => out.push(0)?,
-            ObjectState::Stored {
-                start_block,
-                length,
-            } => {
-                out.push(1)?;
-                start_block.write_to(alloc, out)?;
-                length.write_to(alloc, out)?;
-            }
-        }
-        Ok(())
-    }
-}
-
-impl Field for ObjectRow {
-    ghost spelling = { object_row_spelling };
-
-    #[tactic(auto, unfolding(crate::specs::Rows::object_row_spelling))]
-    fn read_from(alloc: Global, input: &mut Cursor) -> Result<ObjectRow, ReadFault> {
-        let (serial, (id, (state, idle_since))) = Field::read_from(alloc, input)?;
-        Ok(ObjectRow {
-            id,
-            serial,
-            state,
-            idle_since,
-        })
-    }
-
-    #[tactic(auto, unfolding(crate::specs::Rows::object_row_spelling))]
-    fn write_to(&self, alloc: Global, out: &mut Text) -> Result<(), Memory> {
-        self.serial.write_to(alloc, out)?;
-        self.id.write_to(alloc, out)?;
-        self.state.write_to(alloc, out)?;
-        self.idle_since.write_to(alloc, out)?;
         Ok(())
     }
 }

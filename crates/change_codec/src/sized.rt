@@ -1,10 +1,12 @@
 //! Rows: a kind, the length of the fields in 4 bytes, and the fields.
 ghost use Rattle.std.specs.Prelude.{◌≡◌, ◌∷◌, ◌++◌, [], IfOk};
+ghost use Rattle.disk_trait.specs.Forms.{form_in_use};
 ghost use Rattle.field_codec.specs.Laws.{Lawful};
 ghost use Rattle.field_codec.specs.Reading.{GivesField};
 ghost use Rattle.change_codec.specs.Rows.{WritesIfSpelled, row_spelling, sized};
 
 use crate::field::Field;
+use crate::objects::read_sized_object;
 use crate::writable::Writable;
 use disk_trait::{Memory, Text};
 use field_codec::{BadField, Cursor, ReadFault, write_u32};
@@ -12,14 +14,14 @@ use media_rows::Row;
 use std::alloc::Global;
 
 #[tactic(auto, unfolding(crate::specs::Rows::row_spelling))]
-pub(crate) fn read_row(alloc: Global, input: &mut Cursor) -> Result<Row, ReadFault>
-    ensures { GivesField row_spelling input.old input.new result }
+pub(crate) fn read_row(alloc: Global, input: &mut Cursor, form: u8) -> Result<Row, ReadFault>
+    ensures { GivesField (row_spelling form) input.old input.new result }
 {
     let left = input.left();
     match input.first() {
         Some(1) => Ok(Row::Source(read_sized(alloc, input)?)),
         Some(2) => Ok(Row::Flow(read_sized(alloc, input)?)),
-        Some(3) => Ok(Row::Object(read_sized(alloc, input)?)),
+        Some(3) => Ok(Row::Object(read_sized_object(alloc, input, form)?)),
         Some(4) => Ok(Row::Segment(read_sized(alloc, input)?)),
         Some(5) => Ok(Row::Request(read_sized(alloc, input)?)),
         Some(6) => Ok(Row::Hook(read_sized(alloc, input)?)),
@@ -33,7 +35,7 @@ pub(crate) fn read_row(alloc: Global, input: &mut Cursor) -> Result<Row, ReadFau
 
 /// Writes a row where it has a spelling, and tells whether it has.
 pub(crate) fn write_row(alloc: Global, row: &Row, out: &mut Text) -> Result<bool, Memory>
-    ensures { IfOk result (WritesIfSpelled row_spelling out.old row.now out.new) }
+    ensures { IfOk result (WritesIfSpelled (row_spelling form_in_use) out.old row.now out.new) }
 {
     match row {
         Row::Source(row) => write_sized(alloc, 1, row, out),

@@ -1,12 +1,15 @@
-//! The values that stand in changes and rows: formats, events, statuses, tags, members, segments, hooks.
+//! The values that stand in changes and rows: formats, events, statuses, tags, members, segments, digests,
+//! hooks.
 ghost use Rattle.std.specs.Prelude.{◌≡◌, OnOk};
 ghost use Rattle.field_codec.specs.Reading.{GivesField, WritesValue};
-ghost use Rattle.change_codec.specs.Values.{kind_spelling, event_spelling, tag_spelling, is_rising, tags_spelling, member_spelling, segment_spelling, hook_spelling};
+ghost use Rattle.change_codec.specs.Values.{kind_spelling, event_spelling, tag_spelling, is_rising, tags_spelling, member_spelling, segment_spelling, posts_spelling, digest_spelling, hook_spelling};
 
 use crate::field::Field;
 use disk_trait::{Memory, Text};
 use field_codec::{BadField, Cursor, ReadFault, write_u8};
-use media_rows::{EventKind, FormatKind, Hook, Member, Segment, Tag, TagList, text_before};
+use media_rows::{
+    Digest, EventKind, FormatKind, Hook, Member, PostList, Segment, Tag, TagList, text_before,
+};
 use std::alloc::Global;
 
 impl Field for FormatKind {
@@ -162,6 +165,42 @@ impl Field for Segment {
         self.sample_offset.write_to(alloc, out)?;
         self.sample_count.write_to(alloc, out)?;
         self.key_frames.write_to(alloc, out)?;
+        Ok(())
+    }
+}
+
+impl Field for PostList {
+    ghost spelling = { posts_spelling };
+
+    #[tactic(auto, unfolding(crate::specs::Values::posts_spelling))]
+    fn read_from(alloc: Global, input: &mut Cursor) -> Result<PostList, ReadFault> {
+        Ok(PostList {
+            single: false,
+            segments: Field::read_from(alloc, input)?,
+        })
+    }
+
+    #[tactic(auto, unfolding(crate::specs::Values::posts_spelling))]
+    fn write_to(&self, alloc: Global, out: &mut Text) -> Result<(), Memory> {
+        self.segments.write_to(alloc, out)
+    }
+}
+
+impl Field for Digest {
+    ghost spelling = { digest_spelling };
+
+    #[tactic(auto, unfolding(crate::specs::Values::digest_spelling))]
+    fn read_from(alloc: Global, input: &mut Cursor) -> Result<Digest, ReadFault> {
+        Ok(Digest {
+            high: Field::read_from(alloc, input)?,
+            low: Field::read_from(alloc, input)?,
+        })
+    }
+
+    #[tactic(auto, unfolding(crate::specs::Values::digest_spelling))]
+    fn write_to(&self, alloc: Global, out: &mut Text) -> Result<(), Memory> {
+        self.high.write_to(alloc, out)?;
+        self.low.write_to(alloc, out)?;
         Ok(())
     }
 }

@@ -2,14 +2,17 @@
 //! tags are as the file has them.
 ghost use Rattle.std.specs.Prelude.{◌≡◌, true, false};
 ghost use Rattle.std.specs.List.{AllByRecursion};
+ghost use Rattle.disk_trait.specs.Forms.{form_in_use};
+ghost use Rattle.change_codec.specs.Rows.{digest_in};
 ghost use Rattle.change_codec.specs.Values.{tags_spelling};
 
 use crate::field::Field;
 use crate::values::are_rising;
-use disk_trait::{Listed, Text};
+use disk_trait::{FORM_IN_USE, Listed, Text};
 use media_rows::{
-    DeleteRow, DeleteStatus, EventKind, EventRow, FlowBody, FlowRow, FormatKind, Hook, HookRow,
-    Member, ObjectRow, ObjectState, Segment, SegmentRow, SourceRow, Tag, TagList,
+    DeleteRow, DeleteStatus, Digest, EventKind, EventRow, FlowBody, FlowRow, FormatKind, Hook,
+    HookRow, Member, ObjectRow, ObjectState, PostList, Segment, SegmentRow, SourceRow, Tag,
+    TagList,
 };
 use time_range::{TimeRange, Ts};
 
@@ -201,10 +204,42 @@ impl Writable for FlowRow {
     }
 }
 
+impl Writable for PostList {
+    #[tactic(auto, unfolding(crate::specs::Values::posts_spelling))]
+    fn can_write(&self) -> bool {
+        !self.single && self.segments.can_write()
+    }
+}
+
+impl Writable for Digest {
+    #[tactic(auto, unfolding(crate::specs::Values::digest_spelling))]
+    fn can_write(&self) -> bool {
+        self.high.can_write() && self.low.can_write()
+    }
+}
+
 impl Writable for ObjectState {
     #[tactic(auto, unfolding(crate::specs::Rows::state_spelling))]
     fn can_write(&self) -> bool {
-        true
+        match self {
+            ObjectState::Allocated => true,
+            ObjectState::Stored {
+                start_block,
+                length,
+                digest,
+            } => start_block.can_write() && length.can_write() && can_write_digest(digest),
+        }
+    }
+}
+
+/// Whether a digest can be written, or left out, in the form in use.
+fn can_write_digest(digest: &Option<Digest>) -> bool
+    ensures yes { result ≡ true → (digest_in form_in_use).asks digest.now }
+    ensures no { result ≡ false → (digest_in form_in_use).asks digest.now → ⊥ }
+{
+    match digest {
+        Some(digest) => FORM_IN_USE == 2 && digest.can_write(),
+        None => FORM_IN_USE != 2,
     }
 }
 

@@ -57,7 +57,7 @@ fn can_write_named(name: &Text, tag: &Option<Tag>) -> bool
 }
 
 impl Writable for Change {
-    #[tactic(auto, unfolding(crate::specs::Changes::change_spelling, crate::specs::Changes::later_spelling))]
+    #[tactic(auto, unfolding(crate::specs::Changes::all_changes, crate::specs::Changes::later_spelling, crate::specs::Changes::last_spelling))]
     fn can_write(&self) -> bool {
         match self {
             Change::PutFlow { moment, flow } => moment.can_write() && flow.can_write(),
@@ -80,11 +80,13 @@ impl Writable for Change {
                 object,
                 start_block,
                 length,
+                digest,
             } => {
                 moment.can_write()
                     && object.can_write()
                     && start_block.can_write()
                     && length.can_write()
+                    && digest.can_write()
             }
             Change::AddSegments {
                 moment,
@@ -110,6 +112,7 @@ impl Writable for Change {
             Change::DeleteStep { moment } | Change::SweepStep { moment } => moment.can_write(),
             Change::PutHook { moment, hook } => moment.can_write() && hook.can_write(),
             Change::DropHook { moment, url } => moment.can_write() && url.can_write(),
+            Change::Delivered { moment, event } => moment.can_write() && event.can_write(),
         }
     }
 }

@@ -9,11 +9,14 @@ use crate::let_go;
 use crate::stop::{Stop, stop_of};
 use disk_trait::{Text, TextList};
 use media_rows::{
-    BookFault, Command, FlowBody, Hook, ObjectState, Part, PostList, Want, is_object_id,
+    BookFault, Command, Digest, FlowBody, Hook, ObjectState, Part, PostList, Want, is_object_id,
 };
 use std::alloc::Global;
 use store_core::{Core, Prepared};
 use time_range::TimeRange;
+
+/// What stands for the digest of an object's bytes, of which the form in use keeps none.
+const NO_DIGEST: Digest = Digest { high: 0, low: 0 };
 
 /// Bytes of a media block.
 const BLOCK: u64 = 4096;
@@ -153,6 +156,7 @@ pub(crate) fn keep(
         object,
         start_block,
         length,
+        digest: NO_DIGEST,
     };
     prepared(alloc, core, command, now)
 }
@@ -164,7 +168,7 @@ pub(crate) fn add_segments(
     posts: PostList,
     now: u64,
 ) -> Result<Prepared, Stop>
-    requires good { IsTrue (are_posts_good posts) }
+    requires good { IsTrue (are_posts_good posts.segments) }
     requires moment { IsTrue (is_moment now) }
 {
     prepared(alloc, core, Command::AddSegments(flow, posts), now)

@@ -116,9 +116,9 @@ pub(crate) fn posts(
     place: u64,
     count: u64,
 ) -> Result<PostList, Memory>
-    ensures { IfOk result (λ posts. IsTrue (are_posts_good posts)) }
+    ensures { IfOk result (λ posts. IsTrue (are_posts_good posts.segments)) }
 {
-    let mut posts = PostList::new(alloc);
+    let mut posts = PostList::new(alloc, false);
     for number in 0..count {
         if let Some(post) = segment(alloc, object, place.saturating_add(number))? {
             posts.push(post)?;

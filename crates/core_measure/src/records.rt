@@ -4,9 +4,12 @@ use crate::let_go;
 use crate::library::{FLOWS_OF_A_SOURCE, OBJECT_BYTES, empty, object_of};
 use crate::stop::{Stop, stop_of_apply};
 use disk_trait::{Listed, Memory, TextList};
-use media_rows::{ApplyFault, Change};
+use media_rows::{ApplyFault, Change, Digest};
 use std::alloc::Global;
 use store_core::Core;
+
+/// What stands for the digest of an object's bytes, of which the form in use keeps none.
+const NO_DIGEST: Digest = Digest { high: 0, low: 0 };
 
 /// The moment of each change.
 const NOW: u64 = 1_000;
@@ -41,6 +44,7 @@ fn store(alloc: Global, index: u64) -> Result<Change, Memory> {
         object: object_of(alloc, index)?,
         start_block: index,
         length: u64::from(OBJECT_BYTES),
+        digest: NO_DIGEST.kept(),
     })
 }
 

@@ -1,6 +1,7 @@
-//! Hooks that come and go.
-ghost use Rattle.std.specs.Prelude.{◌≡◌, IfOk};
-ghost use Rattle.media_rows.specs.Changes.{after_hook, without_hook};
+//! Hooks that come and go, and events that were delivered to them.
+ghost use Rattle.std.specs.Prelude.{◌≡◌, IfOk, IsTrue};
+ghost use Rattle.media_rows.specs.Changes.{after_hook, without_event, without_hook};
+ghost use Rattle.media_rows.specs.Outbox.{waits_first};
 ghost use Rattle.core_parts.specs.Conditions.{IsReady};
 ghost use Rattle.core_parts.specs.Parts.{within_serials};
 
@@ -27,6 +28,17 @@ impl Parts {
             (λ next. next ≡ within_serials (without_hook url.now self.now)) }
     {
         let registry = self.registry.drop_hook(alloc, url)?;
+        self.with_registry(Some(registry))
+    }
+
+    /// Leaves out an event that was delivered, which is the first that waits for its hook.
+    pub fn deliver(&self, alloc: Global, event: u64) -> Result<Option<Parts>, Memory>
+        requires ready { IsReady self.now }
+        requires first { IsTrue (waits_first event self.now.outbox.events) }
+        ensures { IfOk result
+            (λ next. next ≡ within_serials (without_event event self.now)) }
+    {
+        let registry = self.registry.deliver(alloc, event)?;
         self.with_registry(Some(registry))
     }
 }

@@ -6,6 +6,7 @@ ghost use Rattle.media_rows.specs.Answer.{keep_refusal, refusal_of};
 ghost use Rattle.media_rows.specs.Changes.{after};
 ghost use Rattle.media_rows.specs.Objects.{object_of};
 ghost use Rattle.media_rows.specs.Refusals.{IsChange};
+ghost use Rattle.media_rows.specs.Segments.{list_post};
 ghost use Rattle.media_rows.specs.Sound.{are_posts_good};
 ghost use Rattle.core_parts.specs.Conditions.{HasRoom, IsReady, allocate_refusal};
 ghost use Rattle.core_parts.specs.Parts.{within_serials};
@@ -13,7 +14,7 @@ ghost use Rattle.core_parts.specs.Parts.{within_serials};
 use crate::Parts;
 use disk_trait::Text;
 use media_book::posts_are_refused_alike;
-use media_rows::{BookFault, Extent, ObjectState, Refusal, Segment};
+use media_rows::{BookFault, Digest, Extent, ObjectState, Refusal, Segment};
 use std::alloc::Global;
 
 impl Parts {
@@ -48,25 +49,27 @@ impl Parts {
         }
     }
 
-    /// Notes that an object has its bytes at a place, and is idle since now. A number of all bytes that
-    /// passes a `u64` is want of memory.
+    /// Notes that an object has its bytes at a place, with their digest where one is kept, and is idle since
+    /// now. A number of all bytes that passes a `u64` is want of memory.
     pub fn store(
         &self,
         alloc: Global,
         object: &Text,
         extent: Extent,
+        digest: Option<Digest>,
         now: u64,
     ) -> Result<Option<Parts>, BookFault>
         requires ready { IsReady self.now }
         requires room { HasRoom self.now object.now extent }
-        ensures { IsChange (refusal_of self.now (commands.Keep object.now extent.start extent.length))
-            (within_serials (after (changes.Store now object.now extent.start extent.length) self.now)) result }
+        ensures { IsChange (keep_refusal (object_of object.now self.now.objects))
+            (within_serials (after
+            (changes.Store now object.now extent.start extent.length digest) self.now)) result }
     {
         let refusal = self.keep_refusal(object);
         if let Some(why) = refusal {
             return Err(BookFault::Refused(why));
         }
-        match self.media.store(alloc, object, extent, now) {
+        match self.media.store(alloc, object, extent, digest, now) {
             Ok(media) => Ok(self.with_both(alloc, media, Some(self.registry.share()?))?),
             Err(fault) => Err(fault),
         }
@@ -96,8 +99,8 @@ impl Parts {
     ) -> Result<Option<Parts>, BookFault>
         requires ready { IsReady self.now }
         requires bounded { IsTrue (are_posts_good posts.now) }
-        ensures { IsChange (refusal_of self.now (commands.AddSegments flow posts.now))
-            (within_serials (after (changes.AddSegments now flow posts.now) self.now)) result }
+        ensures { IsChange (refusal_of self.now (commands.AddSegments flow (list_post posts.now)))
+            (within_serials (after (changes.AddSegments now flow (list_post posts.now)) self.now)) result }
     {
         posts_are_refused_alike();
         let refusal = self.registry.change_refusal(flow);

@@ -1,6 +1,7 @@
-//! Hooks that come and go.
-ghost use Rattle.std.specs.Prelude.{◌≡◌, IfOk};
-ghost use Rattle.media_rows.specs.Changes.{after_hook, without_hook};
+//! Hooks that come and go, and events that were delivered to them.
+ghost use Rattle.std.specs.Prelude.{◌≡◌, IfOk, IsTrue};
+ghost use Rattle.media_rows.specs.Changes.{after_hook, without_event, without_hook};
+ghost use Rattle.media_rows.specs.Outbox.{waits_first};
 ghost use Rattle.webhook_outbox.specs.Delivered.{IsBehindHooks};
 ghost use Rattle.core_registry.specs.Registry.{bare_library, registry_of, within};
 
@@ -31,6 +32,16 @@ impl Registry {
             (λ next. next ≡ registry_of (without_hook url.now (bare_library self.now))) }
     {
         let outbox = self.outbox.drop_hook(alloc, url)?;
+        self.with_outbox(alloc, outbox, self.next_serial)
+    }
+
+    /// Leaves out an event that was delivered, which is the first that waits for its hook.
+    pub fn deliver(&self, alloc: Global, event: u64) -> Result<Registry, Memory>
+        requires first { IsTrue (waits_first event self.now.outbox.events) }
+        ensures { IfOk result
+            (λ next. next ≡ registry_of (without_event event (bare_library self.now))) }
+    {
+        let outbox = self.outbox.delivered(alloc, event)?;
         self.with_outbox(alloc, outbox, self.next_serial)
     }
 }

@@ -3,6 +3,7 @@ ghost use Rattle.std.specs.Prelude.{◌≡◌, ◌+◌, IfOk, IsTrue, None};
 ghost use Rattle.media_rows.specs.declared.change.Change.TheVariants as changes;
 ghost use Rattle.media_rows.specs.Catalog.{after_drop, after_touch, no_flow_refusal};
 ghost use Rattle.media_rows.specs.Good.{are_sources_good};
+ghost use Rattle.media_rows.specs.Segments.{list_post};
 ghost use Rattle.webhook_outbox.specs.Delivered.{IsBehind};
 ghost use Rattle.core_registry.specs.Going.{ending_events, going_events, touched_by, without_flow};
 ghost use Rattle.core_registry.specs.Registry.{after_change, with_events_of, within};
@@ -28,7 +29,7 @@ impl Registry {
         requires kept { no_flow_refusal self.now.catalog flow ≡ None }
         requires behind { IsBehind self.now.next_serial self.now.outbox.events }
         ensures { IfOk result (λ next. next
-            ≡ within (after_change (changes.AddSegments now flow posts.now) self.now)) }
+            ≡ within (after_change (changes.AddSegments now flow (list_post posts.now)) self.now)) }
     {
         let next_serial = self.serial_behind(posts.len())?;
         let kept = self.catalog();

@@ -6,6 +6,7 @@ use Rattle.std.proofs.Math.Seq.{take-append_seam}
 use Rattle.std.specs.List.{AllByRecursion}
 use Rattle.disk_trait.proofs.NumberLemmas.{length-u64_bytes}
 use Rattle.field_codec.specs.Leaves.{u32_spelling, u64_spelling}
+use Rattle.disk_trait.specs.Forms.{form_in_use}
 use Rattle.media_rows.specs.declared.row.Row.TheVariants as rows
 use Rattle.media_rows.specs.declared.row.Row.{Row}
 use Rattle.change_codec.specs.Codec.{AppendsIfSpelled, AppendsRow}
@@ -16,8 +17,8 @@ use Rattle.core_rows.specs.Texts.{AddsRows, text_of}
 pub none_added : (text : List ℕ) → AddsRows text [] text
 none_added text = record { fit = tt; text = sym (append-nil text) }
 
-both_fit : (xs ys : List Row) → AllByRecursion row_spelling.meaning.fits xs → AllByRecursion row_spelling.meaning.fits ys
-    → AllByRecursion row_spelling.meaning.fits (xs ++ ys)
+both_fit : (xs ys : List Row) → AllByRecursion (row_spelling form_in_use).meaning.fits xs → AllByRecursion (row_spelling form_in_use).meaning.fits ys
+    → AllByRecursion (row_spelling form_in_use).meaning.fits (xs ++ ys)
 both_fit [] ys first second = second
 both_fit (x ∷ xs) ys first second = (first.0, both_fit xs ys first.1 second)
 
@@ -26,14 +27,14 @@ pub added_behind : (old mid new : List ℕ) (xs ys : List Row) → AddsRows old 
 added_behind old mid new xs ys first second = record {
   fit = both_fit xs ys first.fit second.fit;
   text = second.text ∙ ap (λ t. t ++ text_of ys) first.text ∙ append_assoc old (text_of xs) (text_of ys)
-      ∙ ap (λ t. old ++ t) (sym (flat_map-append row_spelling.meaning.spell xs ys));
+      ∙ ap (λ t. old ++ t) (sym (flat_map-append (row_spelling form_in_use).meaning.spell xs ys));
 }
 
 -- one row is added
 pub one_added : (old new : List ℕ) (row : Row) → AppendsRow old row new → AddsRows old (row ∷ []) new
 one_added old new row appends = record {
   fit = (appends.spells.fits, tt);
-  text = appends.appended ∙ ap (λ t. old ++ t) (appends.spells.whole ∙ sym (append-nil (row_spelling.meaning.spell row)));
+  text = appends.appended ∙ ap (λ t. old ++ t) (appends.spells.whole ∙ sym (append-nil ((row_spelling form_in_use).meaning.spell row)));
 }
 
 -- so many rows, and one more
@@ -59,6 +60,6 @@ none_spelled text new row true is appends = absurd (true≢false is)
 none_spelled text new row false is appends = appends.1
 
 -- the row of numbers has a spelling, of 8 bytes
-pub numbers_asks : (serial : ℕ) → row_spelling.asks (rows.Numbers serial)
+pub numbers_asks : (serial : ℕ) → (row_spelling form_in_use).asks (rows.Numbers serial)
 unfolding row_spelling u32_spelling u64_spelling
 numbers_asks serial = ((tt, tt), omega (arith, length-u64_bytes serial))

@@ -2,6 +2,7 @@ pub mod Device
 pub mod Calls
 pub mod Fakes
 pub mod Numbers
+pub mod Forms
 pub mod History
 pub mod MemoryDisk
 pub mod MemoryDiskLaws

@@ -1,6 +1,7 @@
 pub mod Lawful
 pub mod Combined
 pub mod KindLaws
+pub mod FormLaws
 pub mod Many
 pub mod Wholes
 pub mod Numbers

@@ -2,7 +2,7 @@
 -- spelling are faulty: what is to be believed of a spelling. One is put together from smaller
 -- ones. A place in bytes is said by the number of bytes that are left there. Our own words.
 use Rattle.std.proofs.Common.{inl, inr}
-use Rattle.std.specs.Prelude.{◌≡◌, ◌<◌, ◌⊎◌, ℕ, List, [], ◌∷◌, ◌++◌, length, Option, None}
+use Rattle.std.specs.Prelude.{◌≡◌, ◌<◌, ◌⊎◌, ℕ, Bool, true, false, IsTrue, IsFalse, List, [], ◌∷◌, ◌++◌, length, Option, Some, None}
 use Rattle.std.specs.List.{flat_map, AllByRecursion}
 
 pub record Meaning (A : Type 0) : Type 1 where
@@ -113,6 +113,44 @@ no_kind_meaning = record {
   spell = λ x. [];
   fits = λ x. ⊥;
   faulty = λ bytes left. left ≡ length bytes;
+}
+
+-- the first byte is there, and passes a test
+abbrev pub begins_with : (ℕ → Bool) → List ℕ → Bool
+begins_with stands [] = false
+begins_with stands (kind ∷ rest) = stands kind
+
+-- Values of which only some kinds stand, each of which is its value's first byte: bytes that begin
+-- with no such kind are faulty there.
+abbrev pub of_kinds_meaning : {A : Type 0} → (ℕ → Bool) → (A → ℕ) → Meaning A → Meaning A
+of_kinds_meaning stands kind_of m = record {
+  spell = m.spell;
+  fits = λ x. m.fits x × IsTrue (stands (kind_of x));
+  faulty = λ bytes left.
+      (IsFalse (begins_with stands bytes) × (left ≡ length bytes))
+      ⊎ (IsTrue (begins_with stands bytes) × m.faulty bytes left);
+}
+
+-- ---- a field that may not stand
+
+-- the bytes of a value, and none where it isn't there
+abbrev pub spell_present : {A : Type 0} → (A → List ℕ) → Option A → List ℕ
+spell_present spell None = []
+spell_present spell (Some x) = spell x
+
+-- a value is there exactly where the field stands, and keeps this
+abbrev pub IsPresent : {A : Type 0} → Bool → (A → Type 0) → Option A → Type 0
+IsPresent true Keeps None = ⊥
+IsPresent true Keeps (Some x) = Keeps x
+IsPresent false Keeps None = Unit {0}
+IsPresent false Keeps (Some x) = ⊥
+
+-- A field that stands or doesn't: one that doesn't has no bytes, and none are faulty.
+abbrev pub present_meaning : {A : Type 0} → Bool → Meaning A → Meaning (Option A)
+present_meaning stands m = record {
+  spell = spell_present m.spell;
+  fits = IsPresent stands m.fits;
+  faulty = λ bytes left. IsTrue stands × m.faulty bytes left;
 }
 
 -- ---- so many values

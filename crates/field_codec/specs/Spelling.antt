@@ -1,9 +1,9 @@
 -- Spellings: a meaning beside how its bytes are written and read from the left, which is proved to
 -- agree with it (Laws). Each is put together from smaller ones as its meaning is. Our own words.
 use Rattle.std.proofs.Common.{inl, inr}
-use Rattle.std.specs.Prelude.{◌≡◌, ◌==◌, ◌⊎◌, ℕ, zero, suc, Bool, true, if◌then◌else◌, List, [], ◌∷◌, ◌++◌, length, Option, Some, None, Result, Ok, Err}
+use Rattle.std.specs.Prelude.{◌≡◌, ◌==◌, ◌⊎◌, ℕ, zero, suc, Bool, true, IsTrue, if◌then◌else◌, List, [], ◌∷◌, ◌++◌, length, Option, Some, None, Result, Ok, Err}
 use Rattle.std.specs.List.{AllByRecursion}
-use Rattle.field_codec.specs.Meaning.{Meaning, leaf_meaning, no_field_meaning, followed_meaning, via_meaning, narrowed_meaning, OfKind, on_kind, either_meaning, no_kind_meaning, items_meaning}
+use Rattle.field_codec.specs.Meaning.{Meaning, leaf_meaning, no_field_meaning, followed_meaning, via_meaning, narrowed_meaning, OfKind, on_kind, either_meaning, no_kind_meaning, begins_with, of_kinds_meaning, IsPresent, present_meaning, items_meaning}
 
 pub record Spelling (A : Type 0) : Type 1 where
   pub meaning : Meaning A
@@ -118,6 +118,34 @@ no_kind = record {
   onto = λ front x. front;
   read = λ bytes. Err (length bytes);
 }
+
+-- values of which only some kinds stand, each of which is its value's first byte
+abbrev pub of_kinds : {A : Type 0} → (ℕ → Bool) → (A → ℕ) → Spelling A → Spelling A
+of_kinds stands kind_of f = record {
+  meaning = of_kinds_meaning stands kind_of f.meaning;
+  asks = λ x. f.asks x × IsTrue (stands (kind_of x));
+  onto = f.onto;
+  read = λ bytes. if begins_with stands bytes then f.read bytes else Err (length bytes);
+}
+
+-- ---- a field that may not stand
+
+-- how a value is written behind some bytes, where it is there
+abbrev pub onto_present : {A : Type 0} → (List ℕ → A → List ℕ) → List ℕ → Option A → List ℕ
+onto_present onto front None = front
+onto_present onto front (Some x) = onto front x
+
+-- a value where the field stands, and nothing where it doesn't
+abbrev pub present_if : {A : Type 0} → Bool → Spelling A → Spelling (Option A)
+present_if stands f = record {
+  meaning = present_meaning stands f.meaning;
+  asks = IsPresent stands f.asks;
+  onto = onto_present f.onto;
+  read = λ bytes.
+      if stands then (f.read bytes >>= λ x. Ok (Some x.0, x.1)) else Ok (None, bytes);
+}
+
+-- ---- options
 
 -- an option by its two kinds: none, or some value
 abbrev pub option_of : {A : Type 0} → Unit {0} ⊎ (A ⊎ ⊥) → Option A

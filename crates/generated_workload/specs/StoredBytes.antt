@@ -13,7 +13,7 @@ use Rattle.media_rows.specs.Snapshot.{rows_of}
 -- the bytes of an object in this state: none as long as it isn't stored
 abbrev pub length_if_stored : ObjectState → ℕ
 length_if_stored Allocated = 0
-length_if_stored (Stored start_block length) = length
+length_if_stored (Stored start_block length digest) = length
 
 -- the bytes of all these objects
 abbrev pub stored_total : List ObjectRow → ℕ

@@ -34,7 +34,8 @@ pub fn has_good_values(alloc: Global, change: &Change) -> Result<bool, Memory>
         | Change::CutSegments { .. }
         | Change::DeleteStep { .. }
         | Change::SweepStep { .. }
-        | Change::DropHook { .. } => Ok(true),
+        | Change::DropHook { .. }
+        | Change::Delivered { .. } => Ok(true),
     }
 }
 

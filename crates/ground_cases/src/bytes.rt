@@ -1,7 +1,7 @@
 //! Changes and rows in bytes.
 use crate::digits::bytes_of;
 use change_codec::{CodecFault, decode_change, decode_row, encode_change, encode_row};
-use disk_trait::{Text, same_bytes};
+use disk_trait::{FORM_IN_USE, Text, same_bytes};
 use snapshot_rows::{RowsFault, read_rows};
 use std::alloc::Global;
 use std::io;
@@ -16,7 +16,7 @@ pub(crate) fn print_change<R: Print + AllocGlobal>(rt: &R, digits: &str) -> io::
 
 fn change_again(alloc: Global, digits: &str) -> Result<bool, CodecFault> {
     let bytes = bytes_of(alloc, digits)?;
-    let change = decode_change(alloc, bytes.bytes())?;
+    let change = decode_change(alloc, bytes.bytes(), FORM_IN_USE)?;
     let text = encode_change(alloc, &change)?;
     Ok(same_bytes(text.bytes(), bytes.bytes()))
 }
@@ -33,7 +33,7 @@ pub(crate) fn print_row<R: Print + AllocGlobal>(rt: &R, digits: &str) -> io::Res
 
 fn row_again(alloc: Global, digits: &str) -> Result<Option<u64>, CodecFault> {
     let bytes = bytes_of(alloc, digits)?;
-    let (row, taken) = decode_row(alloc, bytes.bytes())?;
+    let (row, taken) = decode_row(alloc, bytes.bytes(), FORM_IN_USE)?;
     let mut text = Text::new(alloc);
     encode_row(alloc, &row, &mut text)?;
     let is_same = text.bytes().len() as u64 == taken && bytes.bytes().starts_with(text.bytes());
@@ -58,5 +58,5 @@ pub(crate) fn print_rows<R: Print + AllocGlobal>(rt: &R, digits: &str) -> io::Re
 
 fn rows_in(alloc: Global, digits: &str) -> Result<usize, RowsFault> {
     let bytes = bytes_of(alloc, digits)?;
-    Ok(read_rows(alloc, bytes.bytes())?.items().len())
+    Ok(read_rows(alloc, bytes.bytes(), FORM_IN_USE)?.items().len())
 }

@@ -24,7 +24,7 @@ use Rattle.json_bodies.specs.Part.{part_from, part_in}
 use Rattle.json_bodies.specs.Refusals.{is_body_refusal}
 use Rattle.json_bodies.specs.Kinds.{counted_items, object_id_value, tag_rule, collection}
 use Rattle.json_bodies.specs.Rules.{◌>>=◌, named_result, optional_member, required, absent_or, if_required, id, text, truth, whole, longest_text, longest_description, last_whole}
-use Rattle.json_bodies.specs.Segments.{object_id, bounded, offset, duration, whole_number, samples_of, segment_of, segments_from, segments_in_items, post_items, segments_in}
+use Rattle.json_bodies.specs.Segments.{object_id, bounded, offset, duration, whole_number, samples_of, segment_of, segments_from, segments_in_items, post_items, post_of, segments_in}
 use Rattle.json_bodies.specs.Storage.{most_objects, count_in, want_from, want_of, want_in}
 
 -- a refusal, where there is one, is one of a body
@@ -145,7 +145,7 @@ posted (Some values) = segments values
 
 pub of_segments : (body : List ℕ) → IsOfBodies (segments_in body)
 of_segments body =
-    chain (value_in body) (λ value. segments_in_items (post_items value)) (value_of (json_in body)) (λ value. posted (post_items value))
+    chain (value_in body) post_of (value_of (json_in body)) (λ value. chain (segments_in_items (post_items value)) _ (posted (post_items value)) (λ segments. fine))
 
 -- ---- storage, hooks and parts
 

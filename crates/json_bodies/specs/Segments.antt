@@ -4,6 +4,7 @@ use Rattle.serde_json.specs.Data.{Data, Items, no_items, item}
 use Rattle.serde_json.specs.Find.{as_str, as_array}
 use Rattle.time_range.specs.Spelled.{ts_in, range_in}
 use Rattle.time_range.specs.declared.ranges.Span.{Span}
+use Rattle.media_rows.specs.declared.segment.PostList.{PostList}
 use Rattle.media_rows.specs.declared.segment.Segment.{Segment}
 use Rattle.media_rows.specs.declared.refusal.Refusal.{Refusal}
 use Rattle.media_rows.specs.declared.refusal.Refusal.TheVariants.{OutOfRange}
@@ -120,9 +121,15 @@ abbrev pub segments_in_items : Option Items → Result (List Segment) Refusal
 segments_in_items None = Err (OutOfRange (codes "body"))
 segments_in_items (Some values) = segments_from values
 
+-- the post that a value spells, which is single where it is an object
+abbrev pub post_of : Data → Result PostList Refusal
+post_of value =
+    segments_in_items (post_items value) >>= λ segments.
+    Ok (record { single = is_object value; segments = segments })
+
 -- the segments that a body posts
-abbrev pub segments_in : List ℕ → Result (List Segment) Refusal
-segments_in body = value_in body >>= λ value. segments_in_items (post_items value)
+abbrev pub segments_in : List ℕ → Result PostList Refusal
+segments_in body = value_in body >>= post_of
 
 -- the segment names an object by its id, is bounded at both ends and isn't never
 abbrev pub is_post_good : Segment → Bool

@@ -13,7 +13,7 @@ use crate::kinds::{Kind, ObjectIdKind};
 use crate::members::{optional, required};
 use crate::rules::{LAST_WHOLE, Rule, WholeRule};
 use crate::times::{BoundedRule, DurationRule, OffsetRule};
-use disk_trait::Text;
+use disk_trait::{Listed, Text};
 use media_rows::{PostList, Segment};
 use serde_json::Value;
 use std::alloc::Global;
@@ -31,28 +31,34 @@ pub(crate) struct Samples {
     pub(crate) key_frames: Option<u64>,
 }
 
-/// The segments that a body posts: one object, or a list of 1 to 1,000. It is our own profile of the
-/// Time-addressable Media Store.
+/// The segments that a body posts: one object, which makes the post a single one, or a list of 1 to 1,000.
+/// It is our own profile of the Time-addressable Media Store.
 pub fn read_segments(alloc: Global, body: &[u8]) -> Result<PostList, BodyFault>
     ensures answer { Answers (segments_in body.now) result }
-    ensures good { IfOk result (λ posts. IsTrue (list_all is_post_good posts)) }
+    ensures good { IfOk result (λ posts. IsTrue (list_all is_post_good posts.segments)) }
 {
     let value = read_body(alloc, body)?;
     if value.is_object() {
-        return one_segment(alloc, &value);
+        return Ok(PostList {
+            single: true,
+            segments: one_segment(alloc, &value)?,
+        });
     }
     match value.as_array() {
-        Some(values) if is_post_list(values.as_slice()) => { segments_of(alloc, values.as_slice()) }
+        Some(values) if is_post_list(values.as_slice()) => Ok(PostList {
+            single: false,
+            segments: segments_of(alloc, values.as_slice())?,
+        }),
         _ => body_refusal(alloc, Breach::OutOfRange),
     }
 }
 
-/// A post of one object.
-fn one_segment(alloc: Global, object: &Value) -> Result<PostList, BodyFault>
+/// The segment of a post of one object.
+fn one_segment(alloc: Global, object: &Value) -> Result<Listed<Segment>, BodyFault>
     ensures answer { Answers (segments_from (item (view object.now) no_items)) result }
     ensures good { IfOk result (λ posts. IsTrue (list_all is_post_good posts)) }
 {
-    let mut posts = PostList::new(alloc);
+    let mut posts = Listed::new(alloc);
     posts.push(segment_of(alloc, object)?)?;
     Ok(posts)
 }
@@ -84,11 +90,11 @@ fn are_objects(values: &[Value]) -> bool
 }
 
 /// The segments of objects, one after another.
-fn segments_of(alloc: Global, values: &[Value]) -> Result<PostList, BodyFault>
+fn segments_of(alloc: Global, values: &[Value]) -> Result<Listed<Segment>, BodyFault>
     ensures answer { Answers (segments_from (items_view values.now)) result }
     ensures good { IfOk result (λ posts. IsTrue (list_all is_post_good posts)) }
 {
-    let mut posts = PostList::new(alloc);
+    let mut posts = Listed::new(alloc);
     for value in values {
         posts.push(segment_of(alloc, value)?)?;
     }

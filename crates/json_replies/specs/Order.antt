@@ -5,12 +5,13 @@ use Rattle.media_rows.specs.declared.flow.Member.{Member}
 use Rattle.media_rows.specs.declared.flow.Tag.{Tag}
 use Rattle.media_rows.specs.declared.object.ObjectRow.{ObjectRow}
 use Rattle.media_rows.specs.declared.refusal.Refusal.{Refusal}
+use Rattle.media_rows.specs.declared.reply.FailedSegment.{FailedSegment}
 use Rattle.media_rows.specs.declared.reply.FlowShown.{FlowShown}
 use Rattle.media_rows.specs.declared.reply.HookShown.{HookShown}
 use Rattle.media_rows.specs.declared.request.DeleteRow.{DeleteRow}
 use Rattle.media_rows.specs.declared.segment.Segment.{Segment}
 use Rattle.media_rows.specs.declared.source.SourceRow.{SourceRow}
-use Rattle.json_replies.specs.Replies.{refusal_members, service_members}
+use Rattle.json_replies.specs.Replies.{failed_members, partly_members, refusal_members, service_members}
 use Rattle.json_replies.specs.Rows.{source_members, flow_members, get_url_members, segment_members, object_members, put_url_members, allocated_members, storage_members, request_members, hook_members}
 use Rattle.json_replies.specs.Shapes.{HasRisingKeys}
 use Rattle.json_replies.specs.Values.{collected_members, tag_member}
@@ -36,3 +37,5 @@ pub record KeysRise : Type 0 where
   pub request : (store : ℕ) (row : DeleteRow) → HasRisingKeys (request_members store row)
   pub hook : (shown : HookShown) → HasRisingKeys (hook_members shown)
   pub refusal : (refusal : Refusal) → HasRisingKeys (refusal_members refusal)
+  pub failed : (failed : FailedSegment) → HasRisingKeys (failed_members failed)
+  pub partly : (failed : List FailedSegment) → HasRisingKeys (partly_members failed)

@@ -1,14 +1,17 @@
 -- The body of each answer. It is empty where the answer has none: for `Created`, `Done`, and
 -- `Media`, whose bytes follow from elsewhere. Our own profile of the Time-addressable Media Store.
-use Rattle.std.specs.Prelude.{ℕ, List, [], ◌∷◌, Option, Some, None, codes}
+use Rattle.std.specs.Prelude.{ℕ, List, [], ◌∷◌, ◌++◌, Option, Some, None, codes}
 use Rattle.json.specs.Print.{print}
 use Rattle.json.specs.Token.{Token}
+use Rattle.media_rows.specs.Digests.{digest_text}
 use Rattle.media_rows.specs.Ids.{id_text}
 use Rattle.media_rows.specs.RefusalTable.{refusal_name}
+use Rattle.media_rows.specs.declared.object.Digest.{Digest}
 use Rattle.media_rows.specs.declared.part.Part.{Part}
 use Rattle.media_rows.specs.declared.part.Part.TheVariants as parts
 use Rattle.media_rows.specs.declared.refusal.Refusal.{Refusal}
 use Rattle.media_rows.specs.declared.refusal.Refusal.TheVariants as refusals
+use Rattle.media_rows.specs.declared.reply.FailedSegment.{FailedSegment}
 use Rattle.media_rows.specs.declared.reply.Reply.{Reply}
 use Rattle.media_rows.specs.declared.reply.Reply.TheVariants as replies
 use Rattle.media_rows.specs.declared.reply.View.{View}
@@ -16,9 +19,13 @@ use Rattle.media_rows.specs.declared.reply.View.TheVariants as views
 use Rattle.time_range.specs.Printing.{canonical_range_text}
 use Rattle.json_replies.specs.Rows.{source_value, flow_value, segment_value, object_value, storage_value, request_value, hook_value}
 use Rattle.json_replies.specs.Shapes.{string_value, number_value, truth_value, list_tokens, object_tokens, ObjectMember, always, where_set}
-use Rattle.json_replies.specs.Values.{id_value, tag_value, tags_value, collection_value}
+use Rattle.json_replies.specs.Values.{id_value, range_value, tag_value, tags_value, collection_value}
 
 -- ---- refusals
+
+-- the digest that is kept of an object's bytes and the one that was found, with a blank between
+unfoldable pub damage_text : Digest → Digest → List ℕ
+damage_text kept found = digest_text kept ++ codes " " ++ digest_text found
 
 -- the detail of a refusal, where it has one
 abbrev pub refusal_detail : Refusal → Option (List ℕ)
@@ -54,6 +61,7 @@ refusal_detail (refusals.NoObject object) = Some object
 refusal_detail (refusals.Overlap range) = Some (canonical_range_text range)
 refusal_detail refusals.JournalFull = None
 refusal_detail refusals.MediaFull = None
+refusal_detail (refusals.ObjectDamaged kept found) = Some (damage_text kept found)
 
 -- the members of a refusal
 abbrev pub refusal_members : Refusal → List ObjectMember
@@ -65,6 +73,26 @@ refusal_members refusal =
 -- a refusal
 unfoldable pub refusal_value : Refusal → List Token
 refusal_value refusal = object_tokens (refusal_members refusal)
+
+-- the members of a segment that isn't kept: why, the object that it names, and its range
+abbrev pub failed_members : FailedSegment → List ObjectMember
+failed_members failed =
+    always (codes "error") (refusal_value failed.refusal)
+    ∷ always (codes "object_id") (string_value failed.object)
+    ∷ always (codes "timerange") (range_value failed.range)
+    ∷ []
+
+-- a segment that isn't kept
+unfoldable pub failed_value : FailedSegment → List Token
+failed_value failed = object_tokens (failed_members failed)
+
+-- the members of what a post answers of which some segments aren't kept
+abbrev pub partly_members : List FailedSegment → List ObjectMember
+partly_members failed = always (codes "failed_segments") (list_tokens failed_value failed) ∷ []
+
+-- what such a post answers
+unfoldable pub partly_value : List FailedSegment → List Token
+partly_value failed = object_tokens (partly_members failed)
 
 -- ---- parts
 
@@ -125,6 +153,7 @@ reply_value store base replies.Done = []
 reply_value store base (replies.Shown view) = view_value store base view
 reply_value store base (replies.Media size) = []
 reply_value store base (replies.Refused refusal) = refusal_value refusal
+reply_value store base (replies.Partly failed) = partly_value failed
 
 -- the text of that body
 abbrev pub reply_text : ℕ → List ℕ → Reply → List ℕ

@@ -110,7 +110,7 @@ segment_value base row = object_tokens (segment_members base row.segment)
 -- the length of a stored object in bytes
 abbrev pub stored_length : ObjectState → Option ℕ
 stored_length Allocated = None
-stored_length (Stored start size) = Some size
+stored_length (Stored start size digest) = Some size
 
 -- the members of an object, with the flows that refer to it
 abbrev pub object_members : ObjectRow → List ℕ → List ObjectMember

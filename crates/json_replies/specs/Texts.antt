@@ -1,6 +1,6 @@
 -- Replies that can be printed: their texts are UTF-8, the ids of objects have their form, essence
 -- texts are such, and moments lie in their range. Those of a good library are.
-use Rattle.std.specs.Prelude.{Bool, true}
+use Rattle.std.specs.Prelude.{Bool, true, ◌&&◌}
 use Rattle.std.specs.List.{list_all}
 use Rattle.std.specs.Str.{is_utf8}
 use Rattle.media_rows.specs.Good.{if_there, is_tag_text, is_member_text, is_flow_text, is_source_text, is_object_text, is_request_text, is_hook_text}
@@ -9,6 +9,7 @@ use Rattle.media_rows.specs.declared.part.Part.{Part}
 use Rattle.media_rows.specs.declared.part.Part.TheVariants as parts
 use Rattle.media_rows.specs.declared.refusal.Refusal.{Refusal}
 use Rattle.media_rows.specs.declared.refusal.Refusal.TheVariants as refusals
+use Rattle.media_rows.specs.declared.reply.FailedSegment.{FailedSegment}
 use Rattle.media_rows.specs.declared.reply.Reply.{Reply}
 use Rattle.media_rows.specs.declared.reply.Reply.TheVariants as replies
 use Rattle.media_rows.specs.declared.reply.View.{View}
@@ -48,6 +49,11 @@ has_refusal_texts (refusals.NoObject object) = is_object_id object
 has_refusal_texts (refusals.Overlap range) = true
 has_refusal_texts refusals.JournalFull = true
 has_refusal_texts refusals.MediaFull = true
+has_refusal_texts (refusals.ObjectDamaged kept found) = true
+
+-- of a segment that isn't kept
+abbrev pub has_failed_texts : FailedSegment → Bool
+has_failed_texts failed = has_refusal_texts failed.refusal && is_object_id failed.object
 
 -- of a part, by what is shown of it
 abbrev pub has_shown_texts : Part → Bool
@@ -84,3 +90,4 @@ has_reply_texts replies.Done = true
 has_reply_texts (replies.Shown view) = has_view_texts view
 has_reply_texts (replies.Media size) = true
 has_reply_texts (replies.Refused refusal) = has_refusal_texts refusal
+has_reply_texts (replies.Partly failed) = list_all has_failed_texts failed

@@ -7,7 +7,7 @@ ghost use Rattle.json_replies.specs.Shapes.{Appends};
 ghost use Rattle.json_replies.specs.Texts.{has_reply_texts};
 
 use crate::json_text::JsonText;
-use crate::refusals::Refusals;
+use crate::refusals::{Refusals, show_partly};
 use crate::requests::Requests;
 use crate::segments::show_storage;
 use crate::shows::Shows;
@@ -49,5 +49,6 @@ fn show_reply(
         Reply::Accepted(row) => Requests { store }.show(alloc, row, out),
         Reply::Shown(view) => show_view(alloc, view, store, base, out),
         Reply::Refused(refusal) => Refusals.show(alloc, refusal, out),
+        Reply::Partly(failed) => show_partly(alloc, failed, out),
     }
 }

@@ -18,6 +18,7 @@ refused (replies.CreatedObjects ids) q why e = absurd (cc)
 refused (replies.Accepted row) q why e = absurd (cc)
 refused (replies.Shown view) q why e = absurd (cc)
 refused (replies.Media size) q why e = absurd (cc)
+refused (replies.Partly failed) q why e = absurd (cc)
 
 -- what was prepared of an outcome has its reply
 pub prepared_reply : (library : Library) (outcome : Outcome) (p : Prepared) → prepared_of library outcome ≡ Ok p → p.reply ≡ outcome.reply

@@ -13,10 +13,13 @@ ghost use Rattle.tams_http.specs.Good.{is_ask_good, is_command_good};
 use crate::kept::{Followed, run};
 use disk_trait::{Memory, Text};
 use http_wire::MethodKind;
-use media_rows::{Command, ObjectState, Refusal, Reply};
+use media_rows::{Command, Digest, ObjectState, Refusal, Reply};
 use reply_laws::{answers_have_texts, ask_refusals_have_texts, asks_are_good};
 use std::alloc::Global;
 use tams_http::{AnswerContext, Ask, AskFault, Routes};
+
+/// What stands for the digest of an object's bytes, of which the form in use keeps none.
+const NO_DIGEST: Digest = Digest { high: 0, low: 0 };
 
 /// What the addresses of the store begin with.
 const BASE: &str = "http://s";
@@ -165,6 +168,7 @@ fn put_first(
         object,
         start_block,
         length,
+        digest: NO_DIGEST,
     };
     answer(alloc, kept, &command, now)
 }

@@ -4,7 +4,7 @@ ghost use Rattle.media_rows.specs.Answer.{answer};
 ghost use Rattle.media_rows.specs.Moments.{is_moment};
 ghost use Rattle.media_rows.specs.Sound.{is_good_command};
 
-use disk_trait::{Memory, same_bytes};
+use disk_trait::{FORM_IN_USE, Memory, same_bytes};
 use media_rows::{ApplyFault, BookFault, Change, Command, Reply};
 use snapshot_rows::{RowsFault, read_rows};
 use std::alloc::Global;
@@ -106,7 +106,7 @@ pub(crate) fn restore(alloc: Global, kept: &mut Followed) -> Result<bool, Memory
 
 /// The library of a text of rows, if they are some.
 fn from_text(alloc: Global, text: &[u8]) -> Result<Option<Core>, Memory> {
-    let rows = match read_rows(alloc, text) {
+    let rows = match read_rows(alloc, text, FORM_IN_USE) {
         Ok(rows) => rows,
         Err(RowsFault::Damaged(_)) => return Ok(None),
         Err(RowsFault::Memory) => return Err(Memory),

@@ -26,6 +26,7 @@ impl fmt::Display for ShownReply<'_> {
             Reply::Shown(view) => tell_view(view, f),
             Reply::Media(length) => write!(f, "{length} bytes"),
             Reply::Refused(why) => tell_refusal(why, f),
+            Reply::Partly(failed) => write!(f, "{} failed", failed.items().len()),
         }
     }
 }

@@ -1,5 +1,5 @@
 -- Small libraries that changes make, on which the definitions are computed. Our own examples.
-use Rattle.std.specs.Prelude.{ℕ, ◌+◌, ◌*◌, pos, ◌-ℤ◌, List, [], ◌∷◌, false, Option, Some, None, map, codes}
+use Rattle.std.specs.Prelude.{ℕ, ◌+◌, ◌*◌, pos, ◌-ℤ◌, List, [], ◌∷◌, true, false, Option, Some, None, map, codes}
 use Rattle.time_range.specs.declared.ranges.Span.{Span}
 use Rattle.media_rows.specs.declared.change.Change.{Change}
 use Rattle.media_rows.specs.declared.change.Change.TheVariants as changes
@@ -10,8 +10,10 @@ use Rattle.media_rows.specs.declared.flow.FormatKind.{FormatKind}
 use Rattle.media_rows.specs.declared.flow.FormatKind.TheVariants.{Video}
 use Rattle.media_rows.specs.declared.flow.Member.{Member}
 use Rattle.media_rows.specs.declared.hook.Hook.{Hook}
+use Rattle.media_rows.specs.declared.object.Digest.{Digest}
 use Rattle.media_rows.specs.declared.part.Part.{Part}
 use Rattle.media_rows.specs.declared.part.Part.TheVariants as parts
+use Rattle.media_rows.specs.declared.segment.PostList.{PostList}
 use Rattle.media_rows.specs.declared.segment.Segment.{Segment}
 use Rattle.media_rows.specs.Changes.{after}
 use Rattle.media_rows.specs.Formats.{all_events}
@@ -99,6 +101,18 @@ piece_of object from to = record {
 abbrev pub piece : ℕ → ℕ → Segment
 piece from to = piece_of (codes "a") from to
 
+-- segments that were posted as a list
+abbrev pub a_list : List Segment → PostList
+a_list segments = record { single = false; segments = segments }
+
+-- a segment that was posted alone
+abbrev pub alone : Segment → PostList
+alone segment = record { single = true; segments = segment ∷ [] }
+
+-- a digest of zeros
+abbrev pub no_digest : Digest
+no_digest = record { high = 0; low = 0 }
+
 -- the first flow with the one object `a`, allocated by this change
 abbrev pub allocate : List ℕ → Change
 allocate object = changes.Allocate 0 first_flow (object ∷ [])
@@ -107,7 +121,8 @@ allocate object = changes.Allocate 0 first_flow (object ∷ [])
 abbrev pub stored : Library
 stored =
     after_all
-    (put 0 first_flow ∷ allocate (codes "a") ∷ changes.Store 0 (codes "a") 0 3 ∷ []) empty_store
+    (put 0 first_flow ∷ allocate (codes "a") ∷ changes.Store 0 (codes "a") 0 3 None ∷ [])
+    empty_store
 
 -- segments of the one object for so many seconds, one after the other, each of a second
 abbrev pub pieces : ℕ → List Segment
@@ -115,7 +130,7 @@ pieces count = map (λ i. piece i (i + 1)) (numbers_below count)
 
 -- a post of segments to the first flow
 abbrev pub post : List Segment → Change
-post segments = changes.AddSegments 0 first_flow segments
+post segments = changes.AddSegments 0 first_flow (a_list segments)
 
 -- the first flow with these segments, whose serials begin at 2
 abbrev pub with_pieces : ℕ → Library
@@ -124,7 +139,8 @@ with_pieces count = after (post (pieces count)) stored
 -- both flows, each with a segment of the one object for the first second
 abbrev pub shared : Library
 shared = after_all
-    (post (pieces 1) ∷ put 0 second_flow ∷ changes.AddSegments 0 second_flow (pieces 1) ∷ []) stored
+    (post (pieces 1) ∷ put 0 second_flow
+    ∷ changes.AddSegments 0 second_flow (a_list (pieces 1)) ∷ []) stored
 
 -- a hook of an address that takes every kind of event, of these flows alone where a list is given
 abbrev pub hook : List ℕ → Option (List ℕ) → Hook

@@ -127,11 +127,11 @@ both_flow = record {
 
 -- an object of three bytes, which the first flow names twice and the third once
 abbrev pub object_a : ObjectRow
-object_a = record { id = codes "a"; serial = 1; state = Stored 0 3; idle_since = 121 }
+object_a = record { id = codes "a"; serial = 1; state = Stored 0 3 None; idle_since = 121 }
 
 -- an object of one byte more than a block, which one segment names
 abbrev pub object_b : ObjectRow
-object_b = record { id = codes "b"; serial = 2; state = Stored 1 4097; idle_since = 122 }
+object_b = record { id = codes "b"; serial = 2; state = Stored 1 4097 None; idle_since = 122 }
 
 -- an object without bytes
 abbrev pub object_c : ObjectRow

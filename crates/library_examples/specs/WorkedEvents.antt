@@ -1,16 +1,17 @@
 -- The events that changes of the examples make, and which hook takes them.
-use Rattle.std.specs.Prelude.{◌≡◌, ℕ, ◌+◌, List, [], ◌∷◌, ◌++◌, true, false, Some, None, map, codes}
+use Rattle.std.specs.Prelude.{◌≡◌, ℕ, ◌+◌, List, [], ◌∷◌, ◌++◌, true, false, Option, Some, None, if◌then◌else◌, map, codes}
 use Rattle.media_rows.specs.declared.change.Change.{Change}
 use Rattle.media_rows.specs.declared.change.Change.TheVariants as changes
-use Rattle.media_rows.specs.declared.event.EventKind.TheVariants.{FlowCreated, SegmentsDeleted}
+use Rattle.media_rows.specs.declared.event.EventKind.TheVariants.{FlowCreated, SegmentsAdded, SegmentsDeleted, SourceUpdated}
 use Rattle.media_rows.specs.declared.part.Part.TheVariants as parts
+use Rattle.media_rows.specs.Apply.{is_allowed}
 use Rattle.media_rows.specs.Changes.{after}
 use Rattle.media_rows.specs.Events.{flow_event}
 use Rattle.media_rows.specs.Formats.{event_number}
 use Rattle.media_rows.specs.Library.{Library}
 use Rattle.media_rows.specs.Outbox.{Posted, after_post, waiting_count}
 use Rattle.media_rows.specs.Ranges.{eternity}
-use Rattle.library_examples.specs.Examples.{new_label, after_all, first_flow, second_flow, one_source, empty_store, put, seconds, piece, stored, post, allocate, hook, listen, outbox_with}
+use Rattle.library_examples.specs.Examples.{a_list, new_label, after_all, first_flow, second_flow, one_source, empty_store, put, seconds, piece, stored, post, allocate, hook, listen, outbox_with}
 use Rattle.library_examples.specs.Studio.{third_flow, other_source, main_body, one_hook, two_hook, event, studio_events, studio}
 
 -- ---- events of each change
@@ -59,7 +60,7 @@ pub record EventsAreTold : Type 0 where
       kinds (after_all (ask_for_all ∷ changes.DeleteStep 0 ∷ []) hook_alone) ≡ 3 ∷ 8 ∷ []
   pub allocated : kinds (after (allocate (codes "b")) at_work) ≡ []
   pub stored_one :
-      kinds (after (changes.Store 0 (codes "b") 1 1) (after (allocate (codes "b")) at_work))
+      kinds (after (changes.Store 0 (codes "b") 1 1 None) (after (allocate (codes "b")) at_work))
       ≡ []
   pub swept : kinds (after (changes.SweepStep 90000) hook_alone) ≡ []
   pub hook_comes : kinds (after (changes.PutHook 0 (hook (codes "i") None)) at_work) ≡ []
@@ -107,7 +108,8 @@ pub record TwoHooksHear : Type 0 where
   pub source_set : told (changes.SetSource 204 one_source new_label)
       ≡ (10, 7, 161, 15) ∷ (11, 7, 161, 16) ∷ []
   pub other_source_set : told (changes.SetSource 204 other_source new_label) ≡ []
-  pub kind_not_listed : told (changes.AddSegments 208 first_flow (piece 40 50 ∷ piece 50 60 ∷ []))
+  pub kind_not_listed :
+      told (changes.AddSegments 208 first_flow (a_list (piece 40 50 ∷ piece 50 60 ∷ [])))
       ≡ (10, 4, 241, 17) ∷ []
   pub cut : told (changes.CutSegments 209 first_flow (seconds 0 10))
       ≡ (10, 5, 241, 15) ∷ (11, 5, 241, 16) ∷ []
@@ -121,7 +123,7 @@ pub record TwoHooksHear : Type 0 where
       ++ event 15 10 SegmentsDeleted first_flow (Some (seconds 0 20)) 209
       ∷ event 16 11 SegmentsDeleted first_flow (Some (seconds 0 20)) 209 ∷ []
   pub hull_of_the_added : map (λ row. row.range) (after (changes.AddSegments 208 first_flow
-      (piece 50 60 ∷ piece 40 45 ∷ [])) quiet).outbox.events ≡ Some (seconds 40 60) ∷ []
+      (a_list (piece 50 60 ∷ piece 40 45 ∷ []))) quiet).outbox.events ≡ Some (seconds 40 60) ∷ []
   pub failed_hears_nothing :
       map (λ row. row.hook)
       (after (changes.SetFlow 203 first_flow new_label) one_failed).outbox.events
@@ -153,3 +155,33 @@ pub record HooksFail : Type 0 where
   pub no_serial_spent : (two_more 999).next ≡ 1002
   pub within_a_change : waiting_count 1 flow_came.outbox.events ≡ 1000
   pub one_serial_spent : flow_came.next_serial ≡ 1002
+
+-- ---- events that were delivered
+
+-- the delivery of the event of a serial
+abbrev pub deliver : ℕ → Change
+deliver serial = changes.Delivered 210 serial
+
+-- the serials of the events that wait once this one was delivered, where a library allows that
+abbrev pub left_of : ℕ → Library → Option (List ℕ)
+left_of serial library =
+    if is_allowed library (deliver serial)
+    then Some (map (λ row. row.serial) (after (deliver serial) library).outbox.events) else None
+
+-- Only the first event that waits for its hook is delivered. It goes, all else stays, and nothing
+-- happens.
+pub record FirstAreDelivered : Type 0 where
+  pub first : left_of 12 studio ≡ Some (13 ∷ 14 ∷ [])
+  pub first_of_other : left_of 13 studio ≡ Some (12 ∷ 14 ∷ [])
+  pub second : left_of 14 studio ≡ None
+  pub second_behind_first : left_of 14 (after (deliver 12) studio) ≡ Some (13 ∷ [])
+  pub again : left_of 12 (after (deliver 12) studio) ≡ None
+  pub no_event : left_of 10 studio ≡ None
+  pub whole : after (deliver 12) studio
+      ≡ record studio {
+        outbox = record {
+          hooks = one_hook ∷ two_hook ∷ [];
+          events = event 13 11 SourceUpdated one_source None 142
+              ∷ event 14 10 SegmentsAdded first_flow (Some (seconds 10 20)) 143 ∷ [];
+        };
+      }

@@ -23,7 +23,7 @@ use Rattle.media_rows.specs.Ranges.{eternity}
 use Rattle.media_rows.specs.Sound.{is_good_command, has_good_values, is_sound}
 use Rattle.media_rows.specs.declared.command.Command.TheVariants as commands
 use Rattle.media_rows.specs.declared.command.Want.TheVariants.{Count, Named}
-use Rattle.library_examples.specs.Examples.{one_source, first_flow, second_flow, member, empty_store, put, seconds, piece, piece_of, stored, allocate, with_pieces, shared, hook, outbox_with}
+use Rattle.library_examples.specs.Examples.{a_list, no_digest, one_source, first_flow, second_flow, member, empty_store, put, seconds, piece, piece_of, stored, allocate, with_pieces, shared, hook, outbox_with}
 use Rattle.library_examples.specs.Studio.{third_flow, take_tag, left_source, bare_source, main_body, sound_body, main_flow, sound_flow, both_flow, object_a, object_b, object_c, later_piece, early_piece, open_request, done_request, one_hook, event, studio_events, studio}
 
 -- ---- good libraries
@@ -84,7 +84,7 @@ pub record BadReferences : Type 0 where
 
 -- an object at a place
 abbrev pub at : ℕ → ℕ → ObjectRow
-at start size = record object_a { state = Stored start size }
+at start size = record object_a { state = Stored start size None }
 
 -- Extents lie apart and within the media blocks, and an object without bytes begins at block 0.
 pub record BadExtents : Type 0 where
@@ -96,7 +96,8 @@ pub record BadExtents : Type 0 where
   pub no_bytes : are_extents_good 46 (at 1 0 ∷ []) ≡ false
   pub no_bytes_at_0 : are_extents_good 46 (at 0 0 ∷ at 0 1 ∷ []) ≡ true
   pub no_good_library :
-      is_good (studio_with_objects (object_a ∷ object_b ∷ record object_c { state = Stored 2 1 }
+      is_good (studio_with_objects
+      (object_a ∷ object_b ∷ record object_c { state = Stored 2 1 None }
       ∷ []))
       ≡ false
 
@@ -267,8 +268,9 @@ pub record ChangesAreTested : Type 0 where
   pub no_step : applied (changes.DeleteStep 0) stored ≡ None
   pub no_sweep : applied (changes.SweepStep 0) stored ≡ None
   pub no_hook : applied (changes.DropHook 0 (codes "h")) stored ≡ None
-  pub stored_again : applied (changes.Store 0 (codes "a") 1 1) stored ≡ None
-  pub block_taken : applied (changes.Store 0 (codes "b") 0 1) (after (allocate (codes "b")) stored)
+  pub stored_again : applied (changes.Store 0 (codes "a") 1 1 None) stored ≡ None
+  pub block_taken :
+      applied (changes.Store 0 (codes "b") 0 1 None) (after (allocate (codes "b")) stored)
       ≡ None
   pub too_many : applied (changes.CutSegments 0 first_flow eternity) (with_pieces 33) ≡ None
   pub too_few : applied (changes.AskDelete 0 first_flow eternity false) (with_pieces 32) ≡ None
@@ -294,20 +296,23 @@ pub record ChangesAreAllowed : Type 0 where
       ≡ false
   pub read_only_put : is_allowed studio (changes.PutFlow 5 sound_body) ≡ false
   pub read_only_drop : is_allowed studio (changes.DropFlow 5 second_flow) ≡ false
-  pub read_only_post : is_allowed studio (changes.AddSegments 5 second_flow (piece 0 1 ∷ []))
+  pub read_only_post :
+      is_allowed studio (changes.AddSegments 5 second_flow (a_list (piece 0 1 ∷ [])))
       ≡ false
   pub read_only_cut : is_allowed studio (changes.CutSegments 5 second_flow eternity) ≡ false
   pub read_only_allocation : is_allowed studio (changes.Allocate 5 second_flow (codes "d" ∷ []))
       ≡ false
-  pub overlap : is_allowed studio (changes.AddSegments 5 first_flow (piece 0 1 ∷ [])) ≡ false
+  pub overlap :
+      is_allowed studio (changes.AddSegments 5 first_flow (a_list (piece 0 1 ∷ []))) ≡ false
   pub no_bytes :
-      is_allowed studio (changes.AddSegments 5 first_flow (piece_of (codes "c") 40 41 ∷ []))
+      is_allowed studio
+      (changes.AddSegments 5 first_flow (a_list (piece_of (codes "c") 40 41 ∷ [])))
       ≡ false
   pub no_source : is_allowed studio (changes.SetSource 5 99 (parts.Label (Some (codes "x"))))
       ≡ false
   pub unset_part : is_allowed studio (changes.SetFlow 5 third_flow (parts.Description None)) ≡ false
-  pub higher_place : is_allowed studio (changes.Store 5 (codes "c") 40 1) ≡ true
-  pub past_the_end : is_allowed studio (changes.Store 5 (codes "c") 45 4097) ≡ false
+  pub higher_place : is_allowed studio (changes.Store 5 (codes "c") 40 1 None) ≡ true
+  pub past_the_end : is_allowed studio (changes.Store 5 (codes "c") 45 4097 None) ≡ false
   pub hook : is_allowed studio (changes.DropHook 5 (codes "http://one/")) ≡ true
   pub early_sweep : is_allowed studio (changes.SweepStep 86522) ≡ false
   pub sweep : is_allowed studio (changes.SweepStep 86523) ≡ true
@@ -317,7 +322,7 @@ pub record ChangesAreAllowed : Type 0 where
 
 -- the storing of the studio's allocated object
 abbrev pub keep : ℕ → ℕ → Bool
-keep start size = is_good_command studio (commands.Keep (codes "c") start size)
+keep start size = is_good_command studio (commands.Keep (codes "c") start size no_digest)
 
 -- A command brings good texts, ranges and ids. Bytes come to the least free place for them, of an
 -- object that isn't stored.
@@ -328,8 +333,8 @@ pub record CommandsAreGood : Type 0 where
   pub no_bytes : keep 0 0 ≡ true
   pub no_bytes_elsewhere : keep 3 0 ≡ false
   pub no_place : keep 3 180225 ≡ false
-  pub stored_object : is_good_command studio (commands.Keep (codes "a") 3 5) ≡ false
-  pub unknown_object : is_good_command studio (commands.Keep (codes "z") 3 5) ≡ true
+  pub stored_object : is_good_command studio (commands.Keep (codes "a") 3 5 no_digest) ≡ false
+  pub unknown_object : is_good_command studio (commands.Keep (codes "z") 3 5 no_digest) ≡ true
   pub bad_body :
       is_good_command studio (commands.PutFlow (record main_body { label = Some no_text }))
       ≡ false
@@ -343,7 +348,7 @@ pub record CommandsAreGood : Type 0 where
   pub made_ids : is_good_command studio (commands.Allocate first_flow (Count 5)) ≡ true
   pub unbounded :
       is_good_command studio
-      (commands.AddSegments first_flow (record (piece 0 1) { range = eternity } ∷ []))
+      (commands.AddSegments first_flow (a_list (record (piece 0 1) { range = eternity } ∷ [])))
       ≡ false
   pub any_cut : is_good_command studio (commands.CutSegments first_flow eternity) ≡ true
   pub bad_hook : is_good_command studio (commands.PutHook (record one_hook.hook { url = no_text }))
@@ -360,10 +365,11 @@ pub record ChangesAreSound : Type 0 where
       has_good_values (changes.SetSource 5 one_source (parts.Label (Some no_text)))
       ≡ false
   pub bad_ids : has_good_values (changes.Allocate 5 first_flow (codes "d" ∷ [] ∷ [])) ≡ false
-  pub any_place : has_good_values (changes.Store 5 (codes "c") 9 1) ≡ true
-  pub no_bytes : has_good_values (changes.Store 5 (codes "c") 9 0) ≡ false
+  pub any_place : has_good_values (changes.Store 5 (codes "c") 9 1 None) ≡ true
+  pub no_bytes : has_good_values (changes.Store 5 (codes "c") 9 0 None) ≡ false
   pub unbounded :
-      has_good_values (changes.AddSegments 5 first_flow (record (piece 0 1) { range = None } ∷ []))
+      has_good_values
+      (changes.AddSegments 5 first_flow (a_list (record (piece 0 1) { range = None } ∷ [])))
       ≡ false
   pub whole_line : has_good_values (changes.AskDelete 5 first_flow eternity true) ≡ true
   pub part_with_flow : has_good_values (changes.AskDelete 5 first_flow (seconds 0 9) true) ≡ false
@@ -372,7 +378,7 @@ pub record ChangesAreSound : Type 0 where
       ≡ false
   pub sound : is_sound studio (changes.DeleteStep 253402300799) ≡ true
   pub no_moment : is_sound studio (changes.DeleteStep 253402300800) ≡ false
-  pub bad_values : is_sound studio (changes.Store 5 (codes "c") 9 0) ≡ false
+  pub bad_values : is_sound studio (changes.Store 5 (codes "c") 9 0 None) ≡ false
   pub last_serial_left :
       is_sound (record stored { next_serial = 9223372036854775806 }) (allocate (codes "b"))
       ≡ true

@@ -6,6 +6,7 @@ use Rattle.media_rows.specs.declared.refusal.Refusal.TheVariants as refusals
 use Rattle.media_rows.specs.Formats.{all_formats, all_events, all_statuses, format_number, event_number, status_number, format_name, event_name, status_name, hook_status_name}
 use Rattle.media_rows.specs.Lists.{is_page}
 use Rattle.media_rows.specs.RefusalTable.{refusal_name}
+use Rattle.library_examples.specs.Examples.{no_digest}
 
 -- ---- formats, events and states
 
@@ -49,7 +50,7 @@ late_refusals =
     ∷ refusals.SourceFormat ∷ refusals.FlowChanged ∷ refusals.CollectsItself
     ∷ refusals.CollectedMissing 242 ∷ refusals.IdTaken (codes "a") ∷ refusals.OtherBytes
     ∷ refusals.NoObject (codes "a") ∷ refusals.Overlap None ∷ refusals.JournalFull
-    ∷ refusals.MediaFull ∷ []
+    ∷ refusals.MediaFull ∷ refusals.ObjectDamaged no_digest no_digest ∷ []
 
 -- Each refusal is named by its own word, whatever its detail.
 pub record RefusalsAreNamed : Type 0 where
@@ -63,7 +64,7 @@ pub record RefusalsAreNamed : Type 0 where
       ∷ codes "NotSet" ∷ codes "Deleting" ∷ codes "ReadOnly" ∷ codes "SourceFormat"
       ∷ codes "FlowChanged" ∷ codes "CollectsItself" ∷ codes "CollectedMissing"
       ∷ codes "IdTaken" ∷ codes "OtherBytes" ∷ codes "NoObject" ∷ codes "Overlap"
-      ∷ codes "JournalFull" ∷ codes "MediaFull" ∷ []
+      ∷ codes "JournalFull" ∷ codes "MediaFull" ∷ codes "ObjectDamaged" ∷ []
 
 -- ---- pages
 

@@ -18,7 +18,7 @@ use Rattle.media_rows.specs.Catalog.{is_source_part}
 use Rattle.media_rows.specs.Changes.{after}
 use Rattle.media_rows.specs.Library.{Library}
 use Rattle.media_rows.specs.Ranges.{eternity}
-use Rattle.library_examples.specs.Examples.{after_all, first_flow, second_flow, one_source, body, body_of, member, empty_store, put, put_collecting, seconds, piece, piece_of, stored, with_pieces, shared}
+use Rattle.library_examples.specs.Examples.{a_list, no_digest, after_all, first_flow, second_flow, one_source, body, body_of, member, empty_store, put, put_collecting, seconds, piece, piece_of, stored, with_pieces, shared}
 use Rattle.library_examples.specs.Studio.{third_flow, other_source, take_tag, main_body, sound_body, open_request, done_request, studio}
 
 -- the first refusal of a command on the studio
@@ -77,7 +77,8 @@ pub record FlowsAreKept : Type 0 where
   pub set : refused (commands.SetFlow no_such_flow (parts.ReadOnly true)) ≡ Some refusals.NoFlow
   pub drop : refused (commands.DropFlow no_such_flow) ≡ Some refusals.NoFlow
   pub allocation : refused (commands.Allocate no_such_flow (Count 1)) ≡ Some refusals.NoFlow
-  pub post : refused (commands.AddSegments no_such_flow (piece 0 1 ∷ [])) ≡ Some refusals.NoFlow
+  pub post :
+      refused (commands.AddSegments no_such_flow (a_list (piece 0 1 ∷ []))) ≡ Some refusals.NoFlow
   pub cut : refused (commands.CutSegments no_such_flow eternity) ≡ Some refusals.NoFlow
   pub source : refused (commands.SetSource no_such_flow (parts.Label (Some [])))
       ≡ Some refusals.NoSource
@@ -92,7 +93,8 @@ pub record ReadOnlyStands : Type 0 where
   pub put : refused (commands.PutFlow sound_body) ≡ Some refusals.ReadOnly
   pub drop : refused (commands.DropFlow second_flow) ≡ Some refusals.ReadOnly
   pub allocation : refused (commands.Allocate second_flow (Count 1)) ≡ Some refusals.ReadOnly
-  pub post : refused (commands.AddSegments second_flow (piece 0 1 ∷ [])) ≡ Some refusals.ReadOnly
+  pub post :
+      refused (commands.AddSegments second_flow (a_list (piece 0 1 ∷ []))) ≡ Some refusals.ReadOnly
   pub cut : refused (commands.CutSegments second_flow eternity) ≡ Some refusals.ReadOnly
   pub tag : set_second (parts.Tag (codes "take") (Some take_tag)) ≡ Some refusals.ReadOnly
   pub label : set_second (parts.Label (Some (codes "x"))) ≡ Some refusals.ReadOnly
@@ -242,7 +244,8 @@ pub record DeletingStands : Type 0 where
   pub allocation :
       refusal_of (deleting first_flow) (commands.Allocate first_flow (Named (codes "a" ∷ [])))
       ≡ Some refusals.Deleting
-  pub post : refusal_of (deleting first_flow) (commands.AddSegments first_flow (piece 0 1 ∷ []))
+  pub post :
+      refusal_of (deleting first_flow) (commands.AddSegments first_flow (a_list (piece 0 1 ∷ [])))
       ≡ Some refusals.Deleting
   pub cut : refusal_of (deleting first_flow) (commands.CutSegments first_flow eternity)
       ≡ Some refusals.Deleting
@@ -253,7 +256,7 @@ pub record DeletingStands : Type 0 where
   pub range_part : refused (set (parts.Label None)) ≡ None
   pub range_drop : refused (commands.DropFlow first_flow) ≡ None
   pub range_allocation : refused (commands.Allocate first_flow (Count 1)) ≡ None
-  pub range_post : refused (commands.AddSegments first_flow (piece 40 41 ∷ [])) ≡ None
+  pub range_post : refused (commands.AddSegments first_flow (a_list (piece 40 41 ∷ []))) ≡ None
   pub range_cut : refused (commands.CutSegments first_flow eternity) ≡ None
   pub done : refusal_of deleted (commands.DropFlow first_flow) ≡ None
 
@@ -261,7 +264,7 @@ pub record DeletingStands : Type 0 where
 
 -- a post to the first flow of the studio
 abbrev pub posting : List Segment → Option Refusal
-posting segments = refused (commands.AddSegments first_flow segments)
+posting segments = refused (commands.AddSegments first_flow (a_list segments))
 
 -- For each segment in order its object comes before its range. The range in a refusal is that of
 -- the segment that begins first, be it posted later. Segments of other flows don't count, and
@@ -269,7 +272,7 @@ posting segments = refused (commands.AddSegments first_flow segments)
 pub record PostsAreTested : Type 0 where
   pub within :
       refusal_of stored
-      (commands.AddSegments first_flow (piece 30 40 ∷ piece 10 20 ∷ piece 39 41 ∷ []))
+      (commands.AddSegments first_flow (a_list (piece 30 40 ∷ piece 10 20 ∷ piece 39 41 ∷ [])))
       ≡ Some (refusals.Overlap (seconds 30 40))
   pub object_first : posting (piece_of (codes "z") 5 6 ∷ []) ≡ Some (refusals.NoObject (codes "z"))
   pub allocated : posting (piece_of (codes "c") 40 41 ∷ []) ≡ Some (refusals.NoObject (codes "c"))
@@ -279,8 +282,8 @@ pub record PostsAreTested : Type 0 where
       ≡ Some (refusals.NoObject (codes "z"))
   pub begins_first : posting (piece 5 25 ∷ []) ≡ Some (refusals.Overlap (seconds 0 10))
   pub touching : posting (piece 30 40 ∷ piece 40 50 ∷ []) ≡ None
-  pub other_flow : refused (commands.AddSegments third_flow (piece 10 20 ∷ [])) ≡ None
-  pub own_flow : refused (commands.AddSegments third_flow (piece 6 20 ∷ []))
+  pub other_flow : refused (commands.AddSegments third_flow (a_list (piece 10 20 ∷ []))) ≡ None
+  pub own_flow : refused (commands.AddSegments third_flow (a_list (piece 6 20 ∷ [])))
       ≡ Some (refusals.Overlap (seconds 5 7))
 
 -- an allocation of named objects for the first flow of the studio
@@ -304,9 +307,9 @@ pub record IdsAreTaken : Type 0 where
 
 -- Bytes are kept once, of an object that is allocated.
 pub record BytesAreKeptOnce : Type 0 where
-  pub unknown : refused (commands.Keep (codes "z") 3 1) ≡ Some refusals.UnknownObject
-  pub again : refused (commands.Keep (codes "a") 3 1) ≡ Some refusals.OtherBytes
-  pub first : refused (commands.Keep (codes "c") 3 1) ≡ None
+  pub unknown : refused (commands.Keep (codes "z") 3 1 no_digest) ≡ Some refusals.UnknownObject
+  pub again : refused (commands.Keep (codes "a") 3 1 no_digest) ≡ Some refusals.OtherBytes
+  pub first : refused (commands.Keep (codes "c") 3 1 no_digest) ≡ None
 
 -- ---- sources and entries
 

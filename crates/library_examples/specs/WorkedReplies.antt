@@ -20,7 +20,7 @@ use Rattle.media_rows.specs.Media.{Archive, is_held, asks, puts, gets, answer_to
 use Rattle.media_rows.specs.Objects.{free_place}
 use Rattle.media_rows.specs.Ranges.{eternity}
 use Rattle.media_rows.specs.Segments.{covered, overlapping}
-use Rattle.library_examples.specs.Examples.{segment_serials, new_label, first_flow, second_flow, body, empty_store, seconds, piece, stored, allocate, with_pieces, hook}
+use Rattle.library_examples.specs.Examples.{a_list, alone, no_digest, segment_serials, new_label, first_flow, second_flow, body, empty_store, seconds, piece, stored, allocate, with_pieces, hook}
 use Rattle.library_examples.specs.Studio.{other_source, main_body, object_a, object_b, one_hook, studio}
 
 -- the answer to a command on the studio at moment 205
@@ -53,10 +53,10 @@ pub record RepliesAreGiven : Type 0 where
   pub named : studio_answer (commands.Allocate first_flow (Named (codes "e" ∷ codes "d" ∷ [])))
       ≡ gives (replies.CreatedObjects (codes "e" ∷ codes "d" ∷ []))
       (changes.Allocate 205 first_flow (codes "e" ∷ codes "d" ∷ []))
-  pub bytes : studio_answer (commands.Keep (codes "c") 3 5)
-      ≡ gives replies.Created (changes.Store 205 (codes "c") 3 5)
-  pub posted : studio_answer (commands.AddSegments first_flow (piece 40 50 ∷ []))
-      ≡ gives replies.Created (changes.AddSegments 205 first_flow (piece 40 50 ∷ []))
+  pub bytes : studio_answer (commands.Keep (codes "c") 3 5 no_digest)
+      ≡ gives replies.Created (changes.Store 205 (codes "c") 3 5 None)
+  pub posted : studio_answer (commands.AddSegments first_flow (alone (piece 40 50)))
+      ≡ gives replies.Created (changes.AddSegments 205 first_flow (a_list (piece 40 50 ∷ [])))
   pub cut : studio_answer (commands.CutSegments first_flow (seconds 0 15))
       ≡ gives replies.Done (changes.CutSegments 205 first_flow (seconds 0 15))
   pub only_overlapped : studio_answer (commands.CutSegments first_flow (seconds 1 9))
@@ -156,7 +156,7 @@ pub record MediaAreKept : Type 0 where
   pub unknown : put_media_answer empty_store [] (codes "a") (codes "xyz") 5
       ≡ leaves (replies.Refused refusals.UnknownObject)
   pub first : put_media_answer two_objects their_bytes (codes "b") (codes "q") 5
-      ≡ gives replies.Created (changes.Store 5 (codes "b") 1 1)
+      ≡ gives replies.Created (changes.Store 5 (codes "b") 1 1 None)
   pub equal : put_media_answer stored (codes "xyz" ∷ []) (codes "a") (codes "xyz") 5
       ≡ leaves replies.Done
   pub other : put_media_answer stored (codes "xyz" ∷ []) (codes "a") (codes "xy") 5
@@ -166,7 +166,7 @@ pub record MediaAreKept : Type 0 where
   pub full : put_media_answer one_block their_bytes (codes "b") (codes "q") 5
       ≡ leaves (replies.Refused refusals.MediaFull)
   pub nothing_fits : put_media_answer one_block their_bytes (codes "b") [] 5
-      ≡ gives replies.Created (changes.Store 5 (codes "b") 0 0)
+      ≡ gives replies.Created (changes.Store 5 (codes "b") 0 0 None)
   pub given : get_media_reply stored (codes "a") ≡ replies.Media 3
   pub given_other : get_media_reply studio (codes "b") ≡ replies.Media 4097
   pub not_given : get_media_reply two_objects (codes "b") ≡ replies.Refused refusals.UnknownObject
@@ -190,16 +190,16 @@ pub record BytesStandBeside : Type 0 where
   pub command : answer_to archive (asks (commands.DropFlow 99)) 5
       ≡ leaves (replies.Refused refusals.NoFlow)
   pub put : answer_to archive (puts (codes "b") (codes "q")) 5
-      ≡ gives replies.Created (changes.Store 5 (codes "b") 1 1)
+      ≡ gives replies.Created (changes.Store 5 (codes "b") 1 1 None)
   pub get : answer_to archive (gets (codes "a")) 5 ≡ leaves (replies.Media 3)
   pub no_get : answer_to archive (gets (codes "b")) 5
       ≡ leaves (replies.Refused refusals.UnknownObject)
-  pub bytes_come : held_after (changes.Store 5 (codes "b") 1 1) (codes "q")
+  pub bytes_come : held_after (changes.Store 5 (codes "b") 1 1 None) (codes "q")
       ≡ codes "xyz" ∷ codes "q" ∷ []
   pub bytes_stay : held_after (changes.DropFlow 5 first_flow) (codes "q") ≡ codes "xyz" ∷ [] ∷ []
   pub objects_come : held_after (allocate (codes "c")) [] ≡ codes "xyz" ∷ [] ∷ [] ∷ []
   pub objects_go : held_after (changes.SweepStep 86400) [] ≡ []
-  pub came_whole : fits_bytes (changes.Store 5 (codes "b") 1 2) (codes "q") ≡ false
+  pub came_whole : fits_bytes (changes.Store 5 (codes "b") 1 2 None) (codes "q") ≡ false
 
 -- ---- places
 
@@ -209,7 +209,9 @@ pub record PlacesAreFound : Type 0 where
   pub whole : free_place studio.objects studio.blocks 43 ≡ Some 3
   pub too_many : free_place studio.objects studio.blocks 44 ≡ None
   pub no_blocks : free_place studio.objects studio.blocks 0 ≡ Some 0
-  pub between : free_place (object_b ∷ record object_a { state = Stored 5 4096 } ∷ []) 46 2 ≡ Some 3
-  pub in_front : free_place (object_b ∷ record object_a { state = Stored 5 4096 } ∷ []) 46 1
+  pub between :
+      free_place (object_b ∷ record object_a { state = Stored 5 4096 None } ∷ []) 46 2 ≡ Some 3
+  pub in_front : free_place (object_b ∷ record object_a { state = Stored 5 4096 None } ∷ []) 46 1
       ≡ Some 0
-  pub past : free_place (object_b ∷ record object_a { state = Stored 5 4096 } ∷ []) 46 3 ≡ Some 6
+  pub past :
+      free_place (object_b ∷ record object_a { state = Stored 5 4096 None } ∷ []) 46 3 ≡ Some 6

@@ -16,7 +16,7 @@ use Rattle.media_rows.specs.declared.request.DeleteStatus.TheVariants as statuse
 use Rattle.media_rows.specs.Changes.{after}
 use Rattle.media_rows.specs.Library.{Library}
 use Rattle.media_rows.specs.Ranges.{eternity}
-use Rattle.library_examples.specs.Examples.{new_label, after_all, first_flow, second_flow, one_source, body_of, member, put, seconds, piece}
+use Rattle.library_examples.specs.Examples.{a_list, new_label, after_all, first_flow, second_flow, one_source, body_of, member, put, seconds, piece}
 use Rattle.library_examples.specs.Studio.{third_flow, other_source, place_tag, take_tag, left_source, bare_source, main_body, sound_body, both_body, main_flow, sound_flow, both_flow, object_a, object_b, object_c, later_piece, early_piece, third_piece, last_piece, open_request, done_request, one_hook, two_hook, event, studio}
 
 -- when each flow was made, last said anew, and last got or lost a segment
@@ -54,7 +54,7 @@ new_body = body_of 244 163 Video []
 
 -- a post of one segment to the first flow
 abbrev pub post_at : ℕ → Change
-post_at moment = changes.AddSegments moment first_flow (piece 40 50 ∷ [])
+post_at moment = changes.AddSegments moment first_flow (a_list (piece 40 50 ∷ []))
 
 -- a cut of the first flow's first segment
 abbrev pub cut_at : ℕ → Change
@@ -81,7 +81,7 @@ pub record FlowStamps : Type 0 where
   pub dropped : flow_stamps (studio_after (changes.DropFlow 205 first_flow)) ≡ other_stamps
   pub allocated : flow_stamps (studio_after (changes.Allocate 206 first_flow (codes "d" ∷ [])))
       ≡ same_stamps
-  pub stored : flow_stamps (studio_after (changes.Store 207 (codes "c") 3 5)) ≡ same_stamps
+  pub stored : flow_stamps (studio_after (changes.Store 207 (codes "c") 3 5 None)) ≡ same_stamps
   pub posted : flow_stamps (studio_after (post_at 208)) ≡ (111, 112, Some 208) ∷ other_stamps
   pub cut : flow_stamps (studio_after (cut_at 209)) ≡ (111, 112, Some 209) ∷ other_stamps
   pub asked_for : flow_stamps (studio_after (ask_at 210)) ≡ same_stamps
@@ -113,7 +113,7 @@ pub record SourceStamps : Type 0 where
 pub record IdleMoments : Type 0 where
   pub allocated : idle_moments (studio_after (changes.Allocate 206 first_flow (codes "d" ∷ [])))
       ≡ 121 ∷ 122 ∷ 123 ∷ 206 ∷ []
-  pub stored : idle_moments (studio_after (changes.Store 207 (codes "c") 3 5))
+  pub stored : idle_moments (studio_after (changes.Store 207 (codes "c") 3 5 None))
       ≡ 121 ∷ 122 ∷ 207 ∷ []
   pub posted : idle_moments (studio_after (post_at 208)) ≡ 121 ∷ 122 ∷ 123 ∷ []
   pub cut_last : idle_moments (studio_after (cut_at 209)) ≡ 121 ∷ 209 ∷ 123 ∷ []
@@ -175,11 +175,12 @@ pub record RowsAreMade : Type 0 where
   pub behind_objects :
       (studio_after (changes.Allocate 206 first_flow (codes "e" ∷ codes "d" ∷ []))).next_serial
       ≡ 17
-  pub bytes : (studio_after (changes.Store 207 (codes "c") 3 5)).objects
+  pub bytes : (studio_after (changes.Store 207 (codes "c") 3 5 None)).objects
       ≡ object_a ∷ object_b
-      ∷ record { id = codes "c"; serial = 3; state = Stored 3 5; idle_since = 207 } ∷ []
+      ∷ record { id = codes "c"; serial = 3; state = Stored 3 5 None; idle_since = 207 } ∷ []
   pub segments :
-      (after (changes.AddSegments 208 third_flow (piece 9 10 ∷ piece 8 9 ∷ [])) studio).segments
+      (after
+      (changes.AddSegments 208 third_flow (a_list (piece 9 10 ∷ piece 8 9 ∷ []))) studio).segments
       ≡ later_piece ∷ early_piece ∷ third_piece ∷ last_piece
       ∷ record { flow = third_flow; serial = 15; segment = piece 9 10 }
       ∷ record { flow = third_flow; serial = 16; segment = piece 8 9 } ∷ []

@@ -15,7 +15,7 @@ use Rattle.media_rows.specs.Ranges.{eternity}
 use Rattle.media_rows.specs.Requests.{asked_row, is_finished_by_step}
 use Rattle.media_rows.specs.declared.request.DeleteRow.{DeleteRow}
 use Rattle.media_rows.specs.Segments.{covered}
-use Rattle.library_examples.specs.Examples.{segment_serials, after_all, first_flow, second_flow, empty_store, put, seconds, piece, stored, pieces, post, with_pieces, shared, hook}
+use Rattle.library_examples.specs.Examples.{a_list, segment_serials, after_all, first_flow, second_flow, empty_store, put, seconds, piece, stored, pieces, post, with_pieces, shared, hook}
 use Rattle.library_examples.specs.Studio.{third_flow, open_request, done_request, event, studio}
 
 -- the serials and the statuses of the delete requests, in their order
@@ -50,7 +50,8 @@ all_done = after (changes.DeleteStep 9) half_done
 -- the same request, with as many segments of another flow too
 abbrev pub two_flows : ℕ → Library
 two_flows count = after_all
-    (put 0 second_flow ∷ changes.AddSegments 0 second_flow (pieces count) ∷ []) (with_pieces count)
+    (put 0 second_flow ∷ changes.AddSegments 0 second_flow (a_list (pieces count)) ∷ [])
+    (with_pieces count)
 
 -- a request to delete all of the first flow's segments, behind all others
 abbrev pub behind_all : DeleteRow
@@ -81,9 +82,9 @@ pub record DeletesInSteps : Type 0 where
 abbrev pub backwards : Library
 backwards = after_all
     (put 1 first_flow ∷ changes.Allocate 2 first_flow (codes "a" ∷ [])
-    ∷ changes.Store 3 (codes "a") 0 3
+    ∷ changes.Store 3 (codes "a") 0 3 None
     ∷ changes.PutHook 4 (hook (codes "h") None)
-    ∷ changes.AddSegments 5 first_flow (reverse (pieces 34))
+    ∷ changes.AddSegments 5 first_flow (a_list (reverse (pieces 34)))
     ∷ changes.AskDelete 6 first_flow (seconds 1 34) false ∷ []) empty_store
 
 -- the same after the first step

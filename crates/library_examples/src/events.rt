@@ -1,5 +1,5 @@
 //! Events, and who hears of them.
-ghost use Rattle.library_examples.specs.WorkedEvents.{EventsAreTold, HooksFail, TwoHooksHear};
+ghost use Rattle.library_examples.specs.WorkedEvents.{EventsAreTold, FirstAreDelivered, HooksFail, TwoHooksHear};
 
 /// A change of flows, sources or segments makes its events in order, with rising serials. An
 /// allocation and a request to delete make none. A hook that keeps to some flows hears of sources
@@ -20,4 +20,10 @@ pub fn two_hooks_hear()
 /// also of the same change, and none gets a serial.
 pub fn hooks_fail()
     ensures { HooksFail }
+{}
+
+/// Only the first event that waits for its hook is delivered. It goes, all else stays, and nothing
+/// happens.
+pub fn first_are_delivered()
+    ensures { FirstAreDelivered }
 {}

@@ -13,7 +13,7 @@ mod stamps;
 mod turns;
 mod views;
 
-pub use crate::events::{events_are_told, hooks_fail, two_hooks_hear};
+pub use crate::events::{events_are_told, first_are_delivered, hooks_fail, two_hooks_hear};
 pub use crate::good::{
     bad_collections, bad_extents, bad_names, bad_outboxes, bad_references, bad_requests,
     bad_segments, bad_sources, bad_texts, changes_are_allowed, changes_are_sound,

@@ -122,8 +122,8 @@ answers_allowed library (commands.Allocate flow want) moment place = by_answer l
     let untaken = first_taken_less (is_taken library want) (is_kept_object library) (kept_is_taken library want) [] (wanted_ids library want)
     (taken_none _ parts.1) in
     record { allowed = and_from _ _ (none_is _ parts.0) (none_is _ untaken); at = refl })
-answers_allowed library (commands.Keep object start size) moment place =
-    by_answer library (commands.Keep object start size) moment _ (λ none. record { allowed = and_from _ _ (none_is _ none) (place none); at = refl })
+answers_allowed library (commands.Keep object start size digest) moment place =
+    by_answer library (commands.Keep object start size digest) moment _ (λ none. record { allowed = and_from _ _ (none_is _ none) (place none); at = refl })
 answers_allowed library (commands.AddSegments flow posts) moment place = by_answer library (commands.AddSegments flow posts) moment _
     (λ none. record { allowed = none_is _ none; at = refl })
 answers_allowed library (commands.CutSegments flow range) moment place = by_answer library (commands.CutSegments flow range) moment _

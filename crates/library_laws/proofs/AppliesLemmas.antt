@@ -2,12 +2,13 @@
 use Rattle.library_laws.proofs.PlaceLemmas.{places_are_least}
 use Rattle.library_laws.specs.Laws.{IsLeastPlace, TurnsApply, HasPlace, IsAllowedAt, AnswersApply}
 use Rattle.media_rows.specs.Sound.{has_good_values, is_good_command, is_want_good, is_place, is_least_place, may_keep, may_take}
+use Rattle.media_rows.specs.declared.object.Digest.{Digest}
 use Rattle.media_rows.specs.declared.object.ObjectRow.{ObjectRow}
 use Rattle.media_rows.specs.declared.object.ObjectState.{ObjectState}
 use Rattle.media_rows.specs.declared.object.ObjectState.TheVariants.{Allocated, Stored}
 use Rattle.media_rows.specs.Apply.{is_allowed, applied, passes_serials}
 use Rattle.media_rows.specs.Requests.{first_unfinished}
-use Rattle.media_rows.specs.Objects.{swept_objects, is_free, blocks_of, free_place, object_of}
+use Rattle.media_rows.specs.Objects.{swept_objects, is_free, blocks_of, free_place, object_of, kept_digest}
 use Rattle.std.proofs.Common.{subst, sym, Option, Some, None, cond, nat_lt, refl, ap, ◌∙◌, ◌≡◌, inl, inr, ℕ, zero, suc, ◌+◌, ◌<◌, ◌≤◌, ◌^◌, ◌%◌, Bool, true, false, List, [], ◌∷◌, map, length, codes, length-append, arith}
 use Rattle.std.proofs.lemmas.Bool.{cond_both, ltb-false, and_from, le-leb, eq-eqb, eqb-true, false≢true, or_left, lt-ltb}
 use Rattle.media_rows.specs.Changes.{moment_of, after}
@@ -111,7 +112,7 @@ IsFound library size start = IsTrue (is_free library.objects library.blocks (blo
 
 by_state : (state : ObjectState) (test : Bool) → may_take state test ≡ true → keep_state state ≡ None → test ≡ true
 by_state Allocated test good none = good
-by_state (Stored at length) test good none = absurd (cc)
+by_state (Stored at length digest) test good none = absurd (cc)
 
 -- an allocated object's bytes come to the place that was found
 at_place : (o : Option ObjectRow) (test : Bool) → may_keep o test ≡ true → keep_refusal o ≡ None → test ≡ true
@@ -132,10 +133,10 @@ is_found library size start (Some place) least same =
     subst (λ at. IsTrue (is_free library.objects library.blocks (blocks_of size) at) × IsTrue (nat_lt 0 size || (at == 0))) (sym e)
     (least.free, zero_or_more size place least.zero)
 
-found_place : (library : Library) (object : List ℕ) (start size : ℕ)
-    → is_good_command library (commands.Keep object start size) ≡ true → keep_refusal (object_of object library.objects) ≡ None
+found_place : (library : Library) (object : List ℕ) (start size : ℕ) (digest : Digest)
+    → is_good_command library (commands.Keep object start size digest) ≡ true → keep_refusal (object_of object library.objects) ≡ None
     → IsFound library size start
-found_place library object start size good none =
+found_place library object start size digest good none =
     is_found library size start (free_place library.objects library.blocks (blocks_of size))
     (places_are_least library.objects library.blocks (blocks_of size))
     (at_place (object_of object library.objects) (is_least_place library start size) good none)
@@ -176,9 +177,9 @@ answers_bring library (commands.SetFlow flow part) moment good = brings_by libra
 answers_bring library (commands.SetSource source part) moment good = brings_by library (commands.SetSource source part) _ (λ m. good)
 answers_bring library (commands.DropFlow flow) moment good = brings_by library (commands.DropFlow flow) _ (drop_brings library flow moment)
 answers_bring library (commands.Allocate flow want) moment good = brings_by library (commands.Allocate flow want) _ (λ m. wanted_are_ids library want good m)
-answers_bring library (commands.Keep object start size) moment good =
-    by_refusal (Brings library) (keep_refusal (object_of object library.objects)) (changed replies.Created (changes.Store moment object start size))
-    (λ none m. (found_place library object start size good none).1)
+answers_bring library (commands.Keep object start size digest) moment good =
+    by_refusal (Brings library) (keep_refusal (object_of object library.objects)) (changed replies.Created (changes.Store moment object start size (kept_digest digest)))
+    (λ none m. (found_place library object start size digest good none).1)
 answers_bring library (commands.AddSegments flow posts) moment good = brings_by library (commands.AddSegments flow posts) _ (λ m. good)
 answers_bring library (commands.CutSegments flow range) moment good = brings_by library (commands.CutSegments flow range) _
     (cut_brings library flow range moment)
@@ -194,7 +195,7 @@ good_place library (commands.SetFlow flow part) good = tt
 good_place library (commands.SetSource source part) good = tt
 good_place library (commands.DropFlow flow) good = tt
 good_place library (commands.Allocate flow want) good = tt
-good_place library (commands.Keep object start size) good = λ none. (found_place library object start size good none).0
+good_place library (commands.Keep object start size digest) good = λ none. (found_place library object start size digest good none).0
 good_place library (commands.AddSegments flow posts) good = tt
 good_place library (commands.CutSegments flow range) good = tt
 good_place library (commands.PutHook hook) good = tt

@@ -69,7 +69,7 @@ store_stays library (changes.SetFlow moment flow part) = record { id = refl; blo
 store_stays library (changes.SetSource moment source part) = record { id = refl; blocks = refl }
 store_stays library (changes.DropFlow moment flow) = record { id = refl; blocks = refl }
 store_stays library (changes.Allocate moment flow ids) = record { id = refl; blocks = refl }
-store_stays library (changes.Store moment object start size) = record { id = refl; blocks = refl }
+store_stays library (changes.Store moment object start size digest) = record { id = refl; blocks = refl }
 store_stays library (changes.AddSegments moment flow posts) = record { id = refl; blocks = refl }
 store_stays library (changes.CutSegments moment flow range) =
     let gone : List SegmentRow = covered library.segments flow range in
@@ -82,6 +82,7 @@ store_stays library (changes.DeleteStep moment) =
 store_stays library (changes.SweepStep moment) = record { id = refl; blocks = refl }
 store_stays library (changes.PutHook moment hook) = record { id = refl; blocks = refl }
 store_stays library (changes.DropHook moment url) = record { id = refl; blocks = refl }
+store_stays library (changes.Delivered moment event) = record { id = refl; blocks = refl }
 
 pub serials_end : SerialsEnd
 serials_end library good = (Names-from library good.names).most

@@ -6,7 +6,7 @@ use Rattle.std.proofs.lemmas.Bool.{and_parts, and_from, eqb-true, eq-eqb, not-tr
 use Rattle.time_range.specs.declared.ranges.Span.{Span}
 use Rattle.media_rows.specs.declared.change.Change.TheVariants as changes
 use Rattle.media_rows.specs.declared.event.Happened.{Happened}
-use Rattle.media_rows.specs.declared.segment.Segment.{Segment}
+use Rattle.media_rows.specs.declared.segment.PostList.{PostList}
 use Rattle.media_rows.specs.declared.flow.FlowRow.{FlowRow}
 use Rattle.media_rows.specs.declared.refusal.Refusal.TheVariants as refusals
 use Rattle.media_rows.specs.declared.request.DeleteRow.{DeleteRow}
@@ -35,7 +35,7 @@ use Rattle.library_laws.proofs.SettingsKept.{touch_keeps_good, set_keeps_catalog
 use Rattle.library_laws.proofs.FlowsKept.{with_catalog}
 use Rattle.library_laws.proofs.ObjectsKept.{sweep_keeps_good, removal_keeps_good}
 use Rattle.library_laws.proofs.NewObjectsKept.{allocation_keeps_good, storing_keeps_good}
-use Rattle.library_laws.proofs.HooksKept.{dropped_hook_keeps_good, put_hook_keeps_good}
+use Rattle.library_laws.proofs.HooksKept.{delivered_keeps_good, dropped_hook_keeps_good, put_hook_keeps_good}
 use Rattle.library_laws.proofs.PostsKept.{with_posts, posts_keep_good}
 use Rattle.library_laws.proofs.DeletionKept.{asking_keeps_good, step_keeps_good, gone_flow_keeps_good}
 use Rattle.library_laws.proofs.RequestLemmas.{unfinished_told}
@@ -197,16 +197,16 @@ delete_step_by library moment good at (Some request) is some most =
 
 -- ---- segments that are posted
 
-add_keeps_good : (library : Library) (moment flow : ℕ) (posts : List Segment) → Good library → IsSound library (changes.AddSegments moment flow posts)
+add_keeps_good : (library : Library) (moment flow : ℕ) (posts : PostList) → Good library → IsSound library (changes.AddSegments moment flow posts)
     → IsFree library flow
-    → posts_refusal library flow posts ≡ None → Good (after (changes.AddSegments moment flow posts) library)
+    → posts_refusal library flow posts.segments ≡ None → Good (after (changes.AddSegments moment flow posts) library)
 add_keeps_good library moment flow posts good sound free none =
-    let events : List Happened = added_events library.catalog flow (posted flow library.next_serial posts) in
+    let events : List Happened = added_events library.catalog flow (posted flow library.next_serial posts.segments) in
     let touched_one : Library = with_catalog (after_touch flow moment library.catalog) library in
-    let with_new : Library = with_posts flow posts touched_one in
+    let with_new : Library = with_posts flow posts.segments touched_one in
     let grows = next_grows events moment (record { outbox = library.outbox; next = with_new.next_serial }) in
     happened_keeps_good events moment with_new
-    (posts_keep_good touched_one flow posts (touch_keeps_good library flow moment free.row good sound.at free.kept) (touched_kept library flow moment free)
+    (posts_keep_good touched_one flow posts.segments (touch_keeps_good library flow moment free.row good sound.at free.kept) (touched_kept library flow moment free)
     free.free sound.values none (omega (arith, grows, sound.serials))) sound.at sound.serials
 
 -- ---- all changes
@@ -232,12 +232,12 @@ changes_keep_good library (changes.DropFlow moment flow) good allowed sound =
 changes_keep_good library (changes.Allocate moment flow ids) good allowed sound =
     let parts = and_parts (is_none (change_refusal library flow)) (is_none (first_taken (is_kept_object library) [] ids)) allowed in
     allocation_keeps_good library moment ids good sound.at sound.values (none_from (first_taken (is_kept_object library) [] ids) parts.1) sound.serials
-changes_keep_good library (changes.Store moment object start size) good allowed sound =
+changes_keep_good library (changes.Store moment object start size digest) good allowed sound =
     let parts = and_parts (is_none (keep_refusal (object_of object library.objects))) (is_free library.objects library.blocks (blocks_of size) start) allowed in
-    storing_keeps_good library moment object start size good sound.at parts.1 sound.values
+    storing_keeps_good library moment object start size digest good sound.at parts.1 sound.values
 changes_keep_good library (changes.AddSegments moment flow posts) good allowed sound =
-    let none = neither (change_refusal library flow) (posts_refusal library flow posts)
-    (none_from (or_else (change_refusal library flow) (posts_refusal library flow posts)) allowed) in
+    let none = neither (change_refusal library flow) (posts_refusal library flow posts.segments)
+    (none_from (or_else (change_refusal library flow) (posts_refusal library flow posts.segments)) allowed) in
     let free = is_free_flow library flow none.0 in
     add_keeps_good library moment flow posts good sound free none.1
 changes_keep_good library (changes.CutSegments moment flow range) good allowed sound =
@@ -258,6 +258,7 @@ changes_keep_good library (changes.DeleteStep moment) good allowed sound =
 changes_keep_good library (changes.SweepStep moment) good allowed sound = sweep_keeps_good library moment good
 changes_keep_good library (changes.PutHook moment hook) good allowed sound = put_hook_keeps_good library hook good sound.values sound.serials
 changes_keep_good library (changes.DropHook moment url) good allowed sound = dropped_hook_keeps_good library url good
+changes_keep_good library (changes.Delivered moment event) good allowed sound = delivered_keeps_good library event good
 
 -- ---- the one test
 

@@ -5,6 +5,7 @@ use Rattle.std.specs.List.{list_any}
 use Rattle.std.proofs.lemmas.Bool.{and_parts, cond_both, not-true, false≢true}
 use Rattle.media_rows.specs.declared.change.Change.{Change}
 use Rattle.media_rows.specs.declared.change.Change.TheVariants as changes
+use Rattle.media_rows.specs.declared.object.Digest.{Digest}
 use Rattle.media_rows.specs.declared.object.ObjectRow.{ObjectRow}
 use Rattle.media_rows.specs.declared.object.ObjectState.{ObjectState}
 use Rattle.media_rows.specs.declared.object.ObjectState.TheVariants.{Allocated, Stored}
@@ -88,7 +89,7 @@ same_id objects distinct a b here there same =
 
 allocated_state : (state : ObjectState) → is_none (keep_state state) ≡ true → is_stored state ≡ false
 allocated_state Allocated e = refl
-allocated_state (Stored start size) e = absurd (false≢true e)
+allocated_state (Stored start size digest) e = absurd (false≢true e)
 
 -- an object that may be stored is allocated
 pub allocated_one : (o : Option ObjectRow) → is_none (keep_refusal o) ≡ true → (row : ObjectRow) × (o ≡ Some row) × (is_stored row.state ≡ false)
@@ -96,28 +97,28 @@ allocated_one None e = absurd (false≢true e)
 allocated_one (Some row) e = (row, refl, allocated_state row.state e)
 
 -- a row that is stored by this change wasn't stored before
-stored_step : (b : Bool) (row : ObjectRow) (start size moment : ℕ) (old new : ObjectRow) → new ≡ cond b (stored_row start size moment row) row
+stored_step : (b : Bool) (row : ObjectRow) (start size : ℕ) (digest : Option Digest) (moment : ℕ) (old new : ObjectRow) → new ≡ cond b (stored_row start size digest moment row) row
     → (row.serial ≡ old.serial → row ≡ old) → new.serial ≡ old.serial
     → (b ≡ true → is_stored row.state ≡ false) → is_stored old.state ≡ true → Same old new
-stored_step true row start size moment old new e one same unstored st =
+stored_step true row start size digest moment old new e one same unstored st =
     let serial : row.serial ≡ old.serial = sym (ap (λ (r : ObjectRow). r.serial) e) ∙ same in
     absurd (false≢true (sym (unstored refl) ∙ ap (λ (r : ObjectRow). is_stored r.state) (one serial) ∙ st))
-stored_step false row start size moment old new e one same unstored st =
+stored_step false row start size digest moment old new e one same unstored st =
     let serial : row.serial ≡ old.serial = sym (ap (λ (r : ObjectRow). r.serial) e) ∙ same in (
       ap (λ (r : ObjectRow). r.id) e ∙ ap (λ (r : ObjectRow). r.id) (one serial),
       ap (λ (r : ObjectRow). r.state) e
           ∙ ap (λ (r : ObjectRow). r.state) (one serial),
     )
 
-stored_objects : (library : Library) → Good library → (id : List ℕ) (start size moment : ℕ) → is_none (keep_refusal (object_of id library.objects)) ≡ true
-    → Stay library (map (λ row. cond (bytes_eq row.id id) (stored_row start size moment row) row) library.objects)
-stored_objects library good id start size moment allowed = record {
+stored_objects : (library : Library) → Good library → (id : List ℕ) (start size : ℕ) (digest : Option Digest) (moment : ℕ) → is_none (keep_refusal (object_of id library.objects)) ≡ true
+    → Stay library (map (λ row. cond (bytes_eq row.id id) (stored_row start size digest moment row) row) library.objects)
+stored_objects library good id start size digest moment allowed = record {
   stay = λ old new here there same st.
       let names = Names-from library good.names in
-      let row = In-map (λ row. cond (bytes_eq row.id id) (stored_row start size moment row) row) library.objects new there in
+      let row = In-map (λ row. cond (bytes_eq row.id id) (stored_row start size digest moment row) row) library.objects new there in
       let one = allocated_one (object_of id library.objects) allowed in
       let at = find-In (λ r. bytes_eq r.id id) library.objects one.0 one.1 in
-      stored_step (bytes_eq row.0.id id) row.0 start size moment old new row.2
+      stored_step (bytes_eq row.0.id id) row.0 start size digest moment old new row.2
       (λ serial. same_by_key (λ (r : ObjectRow). r.serial) library.objects names.objects_rise row.0 old row.1 here serial) same
       (λ is. let e = same_id library.objects names.objects row.0 one.0 row.1 at.0 (same_text row.0.id id is ∙ sym (same_text one.0.id id at.1)) in ap
       (λ (r : ObjectRow). is_stored r.state) e ∙ one.2) st;
@@ -161,8 +162,8 @@ stay library (changes.SetSource moment source part) good allowed = same_objects 
 stay library (changes.DropFlow moment flow) good allowed = idled_objects library good library.segments
     (without_segments (segments_of flow library.segments) library.segments) moment
 stay library (changes.Allocate moment flow ids) good allowed = more_objects library good moment ids
-stay library (changes.Store moment object start size) good allowed =
-    stored_objects library good object start size moment (and_parts (is_none (keep_refusal (object_of object library.objects)))
+stay library (changes.Store moment object start size digest) good allowed =
+    stored_objects library good object start size digest moment (and_parts (is_none (keep_refusal (object_of object library.objects)))
     (is_free library.objects library.blocks (blocks_of size) start) allowed).0
 stay library (changes.AddSegments moment flow posts) good allowed = same_objects library good
 stay library (changes.CutSegments moment flow range) good allowed =
@@ -177,6 +178,7 @@ stay library (changes.SweepStep moment) good allowed = fewer_objects library goo
     (λ row. not (list_any (λ other. other.serial == row.serial) (swept_objects library.segments library.objects moment)))
 stay library (changes.PutHook moment hook) good allowed = same_objects library good
 stay library (changes.DropHook moment url) good allowed = same_objects library good
+stay library (changes.Delivered moment event) good allowed = same_objects library good
 
 pub first_bytes_stay : FirstBytesStay
 first_bytes_stay library change good allowed old new here there same stored =

@@ -1,4 +1,4 @@
--- Hooks that come and go keep a library good.
+-- Hooks that come and go, and events that were delivered, keep a library good.
 use Rattle.std.proofs.Common.{◌≡◌, inl, inr, ℕ, ◌+◌, ◌≤◌, Bool, true, false, not, ◌&&◌, ◌||◌, cond, List, [], ◌∷◌, ◌++◌, map, filter, length, nat_lt, refl, sym, ap, ap₂, subst, ◌∙◌, arith}
 use Rattle.std.specs.Prelude.{◌==◌, nat_le, bytes_eq}
 use Rattle.std.specs.List.{list_all}
@@ -7,11 +7,11 @@ use Rattle.std.proofs.lemmas.Bool.{and_parts, and_from, or_cases, or_left, or_ri
 use Rattle.media_rows.specs.declared.event.EventRow.{EventRow}
 use Rattle.media_rows.specs.declared.hook.Hook.{Hook}
 use Rattle.media_rows.specs.declared.hook.HookRow.{HookRow}
-use Rattle.media_rows.specs.Changes.{without_hook, after_hook}
+use Rattle.media_rows.specs.Changes.{without_hook, without_event, after_hook}
 use Rattle.media_rows.specs.Good.{Good, has_hook, is_hook_good, is_outbox_good, is_hook_text, is_event_text}
 use Rattle.media_rows.specs.Library.{Library, last_serial, serials_of}
 use Rattle.media_rows.specs.Lists.{are_distinct_texts, has_number}
-use Rattle.media_rows.specs.Outbox.{Outbox, has_url, waiting_for, waiting_count, gone_serials, after_drop_hook, hook_row, most_waiting}
+use Rattle.media_rows.specs.Outbox.{Outbox, has_url, waiting_for, waiting_count, gone_serials, after_drop_hook, after_delivered, hook_row, most_waiting}
 use Rattle.library_laws.proofs.ListLemmas.{In, In-front, In-filter, filter-In, map-In, In-map, list_all-In, list_all-from_In, list_any-In, list_any-from_In, rises-filter, list_all-filter, In-has_number, count-filter}
 use Rattle.library_laws.proofs.KeptLemmas.{Sub-same, Sub-filter, Sub-append, rises-Sub, Serials, Serials-Sub, counted-New, rises-counted, serials_hooks, list_all-both, rises-both}
 use Rattle.library_laws.proofs.OutboxKept.{hook_below, Names-from, Names-test, Texts-from, Texts-test}
@@ -98,6 +98,61 @@ dropped_hook_keeps_good library url good =
         requests = texts.requests;
         hooks = list_all-filter is_hook_text (stays url) library.outbox.hooks texts.hooks;
         events = list_all-filter is_event_text (waits url library.outbox.hooks) library.outbox.events texts.events;
+      });
+    }
+
+-- ---- an event that was delivered
+
+waits_on : ℕ → EventRow → Bool
+waits_on event row = not (row.serial == event)
+
+delivered_outbox_good : (event : ℕ) (outbox : Outbox) → is_outbox_good outbox ≡ true → is_outbox_good (after_delivered event outbox) ≡ true
+unfolding waits_on
+delivered_outbox_good event outbox e =
+    let parts = and_parts (list_all (has_hook outbox.hooks) outbox.events) (list_all (is_hook_good outbox.events) outbox.hooks) e in
+    let left : List EventRow = filter (waits_on event) outbox.events in
+    and_from _ _ (list_all-filter (has_hook outbox.hooks) (waits_on event) outbox.events parts.0)
+    (list_all-from_In (is_hook_good left) outbox.hooks (λ row here.
+    fewer_wait (waiting_count row.serial left) (waiting_count row.serial outbox.events) row.failed
+    (count-filter (λ other. other.hook == row.serial) (waits_on event) outbox.events)
+    (list_all-In (is_hook_good outbox.events) outbox.hooks parts.1 row here)))
+
+pub delivered_keeps_good : (library : Library) (event : ℕ) → Good library → Good (without_event event library)
+unfolding waits_on
+delivered_keeps_good library event good =
+    let names = Names-from library good.names in
+    let texts = Texts-from library good.texts in
+    record {
+      segments = good.segments;
+      references = good.references;
+      extents = good.extents;
+      names = Names-test (without_event event library) (record {
+        catalog = names.catalog;
+        objects = names.objects;
+        urls = names.urls;
+        objects_rise = names.objects_rise;
+        segments_rise = names.segments_rise;
+        requests_rise = names.requests_rise;
+        hooks_rise = names.hooks_rise;
+        events_rise = rises-filter _ (waits_on event) library.outbox.events names.events_rise;
+        serials = Serials-Sub library.next_serial (serials_of (without_event event library)) (serials_of library)
+            (Sub-append _ _ _ _ (Sub-same (map (λ row. row.serial) library.objects ++ map (λ row. row.serial) library.segments
+            ++ map (λ row. row.serial) library.requests ++ map (λ row. row.serial) library.outbox.hooks))
+            (Sub-filter (λ row. row.serial) (waits_on event) library.outbox.events)) names.serials;
+        least = names.least;
+        most = names.most;
+      });
+      sources = good.sources;
+      collections = good.collections;
+      requests = good.requests;
+      outbox = delivered_outbox_good event library.outbox good.outbox;
+      texts = Texts-test (without_event event library) (record {
+        sources = texts.sources;
+        flows = texts.flows;
+        objects = texts.objects;
+        requests = texts.requests;
+        hooks = texts.hooks;
+        events = list_all-filter is_event_text (waits_on event) library.outbox.events texts.events;
       });
     }
 

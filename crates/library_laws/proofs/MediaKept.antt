@@ -5,6 +5,7 @@ use Rattle.std.specs.List.{list_all}
 use Rattle.std.proofs.lemmas.Bool.{and_parts, and_from, not-true, false≢true}
 use Rattle.media_rows.specs.declared.change.Change.{Change}
 use Rattle.media_rows.specs.declared.change.Change.TheVariants as changes
+use Rattle.media_rows.specs.declared.object.Digest.{Digest}
 use Rattle.media_rows.specs.declared.object.ObjectRow.{ObjectRow}
 use Rattle.media_rows.specs.declared.object.ObjectState.{ObjectState}
 use Rattle.media_rows.specs.declared.object.ObjectState.TheVariants.{Allocated, Stored}
@@ -87,14 +88,15 @@ record Stores (change : Change) (id : List ℕ) : Type 0 where
   moment : ℕ
   start : ℕ
   size : ℕ
-  is : change ≡ changes.Store moment id start size
+  digest : Option Digest
+  is : change ≡ changes.Store moment id start size digest
 
-by_id : (b : Bool) (moment start size : ℕ) (given : List ℕ) (archive : Archive) (id object : List ℕ) → bytes_eq id object ≡ b
+by_id : (b : Bool) (moment start size : ℕ) (digest : Option Digest) (given : List ℕ) (archive : Archive) (id object : List ℕ) → bytes_eq id object ≡ b
     → (cond b given (bytes_of id archive.library.objects archive.held) ≡ bytes_of id archive.library.objects archive.held) ⊎ Stores
-    (changes.Store moment object start size) id
-by_id true moment start size given archive id object is =
-    inr (record { moment = moment; start = start; size = size; is = ap (λ o. changes.Store moment o start size) (sym (same_text id object is)) })
-by_id false moment start size given archive id object is = inl refl
+    (changes.Store moment object start size digest) id
+by_id true moment start size digest given archive id object is =
+    inr (record { moment = moment; start = start; size = size; digest = digest; is = ap (λ o. changes.Store moment o start size digest) (sym (same_text id object is)) })
+by_id false moment start size digest given archive id object is = inl refl
 
 -- the bytes of an object after a change are those of before, or the change stores it
 cases_of : (change : Change) (given : List ℕ) (archive : Archive) (id : List ℕ)
@@ -104,7 +106,7 @@ cases_of (changes.SetFlow moment flow part) given archive id = inl refl
 cases_of (changes.SetSource moment source part) given archive id = inl refl
 cases_of (changes.DropFlow moment flow) given archive id = inl refl
 cases_of (changes.Allocate moment flow ids) given archive id = inl refl
-cases_of (changes.Store moment object start size) given archive id = by_id (bytes_eq id object) moment start size given archive id object refl
+cases_of (changes.Store moment object start size digest) given archive id = by_id (bytes_eq id object) moment start size digest given archive id object refl
 cases_of (changes.AddSegments moment flow posts) given archive id = inl refl
 cases_of (changes.CutSegments moment flow range) given archive id = inl refl
 cases_of (changes.AskDelete moment flow range delete_flow) given archive id = inl refl
@@ -112,29 +114,30 @@ cases_of (changes.DeleteStep moment) given archive id = inl refl
 cases_of (changes.SweepStep moment) given archive id = inl refl
 cases_of (changes.PutHook moment hook) given archive id = inl refl
 cases_of (changes.DropHook moment url) given archive id = inl refl
+cases_of (changes.Delivered moment event) given archive id = inl refl
 
 -- the object of an id is at the place at which its bytes were stored
-state_step : (b : Bool) (id : List ℕ) (start size moment : ℕ) (row old : ObjectRow) → bytes_eq old.id id ≡ b → row
-    ≡ cond b (stored_row start size moment old) old → row.id ≡ id → row.state ≡ Stored start size
-state_step true id start size moment row old is e same = ap (λ (r : ObjectRow). r.state) e
-state_step false id start size moment row old is e same =
+state_step : (b : Bool) (id : List ℕ) (start size : ℕ) (digest : Option Digest) (moment : ℕ) (row old : ObjectRow) → bytes_eq old.id id ≡ b → row
+    ≡ cond b (stored_row start size digest moment old) old → row.id ≡ id → row.state ≡ Stored start size digest
+state_step true id start size digest moment row old is e same = ap (λ (r : ObjectRow). r.state) e
+state_step false id start size digest moment row old is e same =
     absurd (false≢true (sym is ∙ ap (λ t. bytes_eq t id) (sym (ap (λ (r : ObjectRow). r.id) e) ∙ same) ∙ text_same id))
 
-stored_state : (objects : List ObjectRow) (id : List ℕ) (start size moment : ℕ) (row : ObjectRow)
-    → In row (with_object id (stored_row start size moment) objects) → row.id
-    ≡ id → row.state ≡ Stored start size
-stored_state objects id start size moment row here same =
-    let old = In-map (λ row. cond (bytes_eq row.id id) (stored_row start size moment row) row) objects row here in
-    state_step (bytes_eq old.0.id id) id start size moment row old.0 refl old.2 same
+stored_state : (objects : List ObjectRow) (id : List ℕ) (start size : ℕ) (digest : Option Digest) (moment : ℕ) (row : ObjectRow)
+    → In row (with_object id (stored_row start size digest moment) objects) → row.id
+    ≡ id → row.state ≡ Stored start size digest
+stored_state objects id start size digest moment row here same =
+    let old = In-map (λ row. cond (bytes_eq row.id id) (stored_row start size digest moment row) row) objects row here in
+    state_step (bytes_eq old.0.id id) id start size digest moment row old.0 refl old.2 same
 
 -- bytes that come have the length of the object that is stored
-given_fits : (archive : Archive) (given : List ℕ) (row : ObjectRow) (moment start size : ℕ)
-    → In row (after (changes.Store moment row.id start size) archive.library).objects
-    → fits_bytes (changes.Store moment row.id start size) given ≡ true
-    → fits_state row.state (bytes_after (changes.Store moment row.id start size) given archive row.id) ≡ true
-given_fits archive given row moment start size here fits =
-    ap (λ s. fits_state s (bytes_after (changes.Store moment row.id start size) given archive row.id))
-    (stored_state archive.library.objects row.id start size moment row here refl)
+given_fits : (archive : Archive) (given : List ℕ) (row : ObjectRow) (moment start size : ℕ) (digest : Option Digest)
+    → In row (after (changes.Store moment row.id start size digest) archive.library).objects
+    → fits_bytes (changes.Store moment row.id start size digest) given ≡ true
+    → fits_state row.state (bytes_after (changes.Store moment row.id start size digest) given archive row.id) ≡ true
+given_fits archive given row moment start size digest here fits =
+    ap (λ s. fits_state s (bytes_after (changes.Store moment row.id start size digest) given archive row.id))
+    (stored_state archive.library.objects row.id start size digest moment row here refl)
     ∙ ap (λ b. length b == size) (chosen (bytes_eq row.id row.id) given (bytes_of row.id archive.library.objects archive.held) (text_same row.id)) ∙ fits
 
 stores_fit : (archive : Archive) (change : Change) (given : List ℕ) (row : ObjectRow) → Stores change row.id → In row (after change archive.library).objects
@@ -143,7 +146,7 @@ stores_fit : (archive : Archive) (change : Change) (given : List ℕ) (row : Obj
 stores_fit archive change given row s here fits =
     subst (λ c. In row (after c archive.library).objects → fits_bytes c given ≡ true → fits_state row.state (bytes_after c given archive row.id) ≡ true)
     (sym s.is)
-    (given_fits archive given row s.moment s.start s.size) here fits
+    (given_fits archive given row s.moment s.start s.size s.digest) here fits
 
 -- ---- bytes that fit
 
@@ -186,8 +189,8 @@ old_fits archive change given row good allowed fits here same (made moment flow 
     ap (fits_state row.state) (same ∙ no_bytes row.id archive.library.objects archive.held
     (new_is_new archive.library change moment flow ids row.id is allowed among))
     ∙ ap (λ s. fits_state s []) state
-old_fits archive change given row good allowed fits here same (stored moment start size is state) =
-    stores_fit archive change given row (record { moment = moment; start = start; size = size; is = is }) here fits
+old_fits archive change given row good allowed fits here same (stored moment start size digest is state) =
+    stores_fit archive change given row (record { moment = moment; start = start; size = size; digest = digest; is = is }) here fits
 
 row_fits : (archive : Archive) (change : Change) (given : List ℕ) → IsGoodArchive archive → is_allowed archive.library change ≡ true → fits_bytes change given
     ≡ true → (row : ObjectRow)
@@ -231,7 +234,7 @@ bytes_stay archive change given good allowed old new here there serial st =
 takes : (library : Library) (object bytes : List ℕ) (moment : ℕ) → Good library → is_moment moment ≡ true → (row : ObjectRow) → object_of object library.objects
     ≡ Some row → row.state ≡ Allocated
     → (start : ℕ) → IsLeastPlace library.objects library.blocks (blocks_of (length bytes)) start
-    → TakesPlace library object bytes moment (changes.Store moment object start (length bytes))
+    → TakesPlace library object bytes moment (changes.Store moment object start (length bytes) None)
 takes library object bytes moment good at row is state start least =
     let refused : is_none (keep_refusal (object_of object library.objects)) ≡ true = ap (λ o. is_none (keep_refusal o)) is
     ∙ ap (λ s. is_none (keep_state s)) state in
@@ -239,7 +242,7 @@ takes library object bytes moment good at row is state start least =
       start = start;
       is = refl;
       least = least;
-      applies = changes_apply library (changes.Store moment object start (length bytes)) good (and_from _ _ refused least.free)
+      applies = changes_apply library (changes.Store moment object start (length bytes) None) good (and_from _ _ refused least.free)
           (record { at = at; values = zero_or_more (length bytes) start least.zero; serials = (Names-from library good.names).most });
     }
 
@@ -259,7 +262,7 @@ by_state : (library : Library) (object bytes : List ℕ) (moment : ℕ) → Good
 by_state library object bytes moment good at row is Allocated state again =
     placed library object bytes moment good at row is state (free_place library.objects library.blocks (blocks_of (length bytes)))
     (places_are_least library.objects library.blocks (blocks_of (length bytes)))
-by_state library object bytes moment good at row is (Stored start size) state again = tt
+by_state library object bytes moment good at row is (Stored start size digest) state again = tt
 
 by_object : (library : Library) (object bytes : List ℕ) (moment : ℕ) → Good library → is_moment moment ≡ true → (o : Option ObjectRow)
     → object_of object library.objects ≡ o → (again : Reply)

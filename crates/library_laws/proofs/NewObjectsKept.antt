@@ -4,6 +4,7 @@ use Rattle.std.specs.Prelude.{◌==◌, nat_le, bytes_eq, option_map, is_some}
 use Rattle.std.specs.List.{list_all}
 use Rattle.std.proofs.lemmas.List.{map-append}
 use Rattle.std.proofs.lemmas.Bool.{and_parts, and_from, or_cases, or_left, or_right, or_parts, not-true, not_from_false, cond_both, false≢true, false_from_ne_true}
+use Rattle.media_rows.specs.declared.object.Digest.{Digest}
 use Rattle.media_rows.specs.declared.object.ObjectRow.{ObjectRow}
 use Rattle.media_rows.specs.declared.object.ObjectState.{ObjectState}
 use Rattle.media_rows.specs.declared.object.ObjectState.TheVariants.{Allocated, Stored}
@@ -70,7 +71,7 @@ allocated_is serial moment (id ∷ later) row (inr more) = let w = allocated_is 
 
 apart_allocated : (a b : ObjectState) → b ≡ Allocated → are_states_apart a b ≡ true
 apart_allocated Allocated b e = refl
-apart_allocated (Stored start size) b e = ap (are_states_apart (Stored start size)) e
+apart_allocated (Stored start size digest) b e = ap (are_states_apart (Stored start size digest)) e
 
 first_apart : (a b : ObjectState) → a ≡ Allocated → are_states_apart a b ≡ true
 first_apart a b e = ap (λ s. are_states_apart s b) e
@@ -156,96 +157,96 @@ allocation_keeps_good library moment ids good at forms free most =
 -- ---- an object that is stored
 
 -- the change of one row
-put_bytes : List ℕ → ℕ → ℕ → ℕ → ObjectRow → ObjectRow
-put_bytes id start size moment row = cond (bytes_eq row.id id) (stored_row start size moment row) row
+put_bytes : List ℕ → ℕ → ℕ → Option Digest → ℕ → ObjectRow → ObjectRow
+put_bytes id start size digest moment row = cond (bytes_eq row.id id) (stored_row start size digest moment row) row
 
-bytes_id : (id : List ℕ) (start size moment : ℕ) (row : ObjectRow) → (put_bytes id start size moment row).id ≡ row.id
+bytes_id : (id : List ℕ) (start size : ℕ) (digest : Option Digest) (moment : ℕ) (row : ObjectRow) → (put_bytes id start size digest moment row).id ≡ row.id
 unfolding put_bytes
-bytes_id id start size moment row = cond_both (bytes_eq row.id id) (stored_row start size moment row) row (λ r. r.id ≡ row.id) (λ e. refl) (λ e. refl)
+bytes_id id start size digest moment row = cond_both (bytes_eq row.id id) (stored_row start size digest moment row) row (λ r. r.id ≡ row.id) (λ e. refl) (λ e. refl)
 
-bytes_serial : (id : List ℕ) (start size moment : ℕ) (row : ObjectRow) → (put_bytes id start size moment row).serial ≡ row.serial
+bytes_serial : (id : List ℕ) (start size : ℕ) (digest : Option Digest) (moment : ℕ) (row : ObjectRow) → (put_bytes id start size digest moment row).serial ≡ row.serial
 unfolding put_bytes
-bytes_serial id start size moment row = cond_both (bytes_eq row.id id) (stored_row start size moment row) row (λ r. r.serial ≡ row.serial) (λ e. refl)
+bytes_serial id start size digest moment row = cond_both (bytes_eq row.id id) (stored_row start size digest moment row) row (λ r. r.serial ≡ row.serial) (λ e. refl)
     (λ e. refl)
 
-state_step : (b : Bool) (start size moment : ℕ) (row : ObjectRow) → (cond b (stored_row start size moment row) row).state ≡ cond b (Stored start size) row.state
-state_step true start size moment row = refl
-state_step false start size moment row = refl
+state_step : (b : Bool) (start size : ℕ) (digest : Option Digest) (moment : ℕ) (row : ObjectRow) → (cond b (stored_row start size digest moment row) row).state ≡ cond b (Stored start size digest) row.state
+state_step true start size digest moment row = refl
+state_step false start size digest moment row = refl
 
-bytes_state : (id : List ℕ) (start size moment : ℕ) (row : ObjectRow) → (put_bytes id start size moment row).state
-    ≡ cond (bytes_eq row.id id) (Stored start size) row.state
+bytes_state : (id : List ℕ) (start size : ℕ) (digest : Option Digest) (moment : ℕ) (row : ObjectRow) → (put_bytes id start size digest moment row).state
+    ≡ cond (bytes_eq row.id id) (Stored start size digest) row.state
 unfolding put_bytes
-bytes_state id start size moment row = state_step (bytes_eq row.id id) start size moment row
+bytes_state id start size digest moment row = state_step (bytes_eq row.id id) start size digest moment row
 
-still_stored : (id : List ℕ) (start size moment : ℕ) (o : Option ObjectRow) → is_stored_row o ≡ true
-    → is_stored_row (option_map (put_bytes id start size moment) o) ≡ true
-still_stored id start size moment None e = absurd (false≢true e)
-still_stored id start size moment (Some row) e =
-    ap is_stored (bytes_state id start size moment row) ∙ cond_both (bytes_eq row.id id) (Stored start size) row.state (λ s. is_stored s ≡ true) (λ k. refl)
+still_stored : (id : List ℕ) (start size : ℕ) (digest : Option Digest) (moment : ℕ) (o : Option ObjectRow) → is_stored_row o ≡ true
+    → is_stored_row (option_map (put_bytes id start size digest moment) o) ≡ true
+still_stored id start size digest moment None e = absurd (false≢true e)
+still_stored id start size digest moment (Some row) e =
+    ap is_stored (bytes_state id start size digest moment row) ∙ cond_both (bytes_eq row.id id) (Stored start size digest) row.state (λ s. is_stored s ≡ true) (λ k. refl)
     (λ k. e)
 
 -- a free place is apart from each state, on either side
-clear_before : (start size : ℕ) (state : ObjectState) → is_clear_of start (blocks_of size) state ≡ true → are_states_apart (Stored start size) state ≡ true
-clear_before start size Allocated e = refl
-clear_before start size (Stored other more) e = e
+clear_before : (start size : ℕ) (digest : Option Digest) (state : ObjectState) → is_clear_of start (blocks_of size) state ≡ true → are_states_apart (Stored start size digest) state ≡ true
+clear_before start size digest Allocated e = refl
+clear_before start size digest (Stored other more other_digest) e = e
 
 swap : (a b : Bool) → (a || b) ≡ true → (b || a) ≡ true
 swap a b e = elim (or_cases a b e) [ inl left ↦ or_right b a left | inr right ↦ or_left b a right ]
 
-clear_behind : (start size : ℕ) (state : ObjectState) → is_clear_of start (blocks_of size) state ≡ true → are_states_apart state (Stored start size) ≡ true
-clear_behind start size Allocated e = refl
-clear_behind start size (Stored other more) e = swap (nat_le (start + blocks_of size) other) (nat_le (other + blocks_of more) start) e
+clear_behind : (start size : ℕ) (digest : Option Digest) (state : ObjectState) → is_clear_of start (blocks_of size) state ≡ true → are_states_apart state (Stored start size digest) ≡ true
+clear_behind start size digest Allocated e = refl
+clear_behind start size digest (Stored other more other_digest) e = swap (nat_le (start + blocks_of size) other) (nat_le (other + blocks_of more) start) e
 
-still_apart : (a b : Bool) (start size : ℕ) (left right : ObjectState) → (a ≡ true → b ≡ true → ⊥) → are_states_apart left right ≡ true
+still_apart : (a b : Bool) (start size : ℕ) (digest : Option Digest) (left right : ObjectState) → (a ≡ true → b ≡ true → ⊥) → are_states_apart left right ≡ true
     → is_clear_of start (blocks_of size) left ≡ true → is_clear_of start (blocks_of size) right ≡ true
-    → are_states_apart (cond a (Stored start size) left) (cond b (Stored start size) right) ≡ true
-still_apart true true start size left right one e l r = absurd (one refl refl)
-still_apart true false start size left right one e l r = clear_before start size right r
-still_apart false true start size left right one e l r = clear_behind start size left l
-still_apart false false start size left right one e l r = e
+    → are_states_apart (cond a (Stored start size digest) left) (cond b (Stored start size digest) right) ≡ true
+still_apart true true start size digest left right one e l r = absurd (one refl refl)
+still_apart true false start size digest left right one e l r = clear_before start size digest right r
+still_apart false true start size digest left right one e l r = clear_behind start size digest left l
+still_apart false false start size digest left right one e l r = e
 
-pub storing_keeps_good : (library : Library) (moment : ℕ) (object : List ℕ) (start size : ℕ) → Good library → is_moment moment ≡ true
+pub storing_keeps_good : (library : Library) (moment : ℕ) (object : List ℕ) (start size : ℕ) (digest : Option Digest) → Good library → is_moment moment ≡ true
     → is_free library.objects library.blocks (blocks_of size) start ≡ true → (nat_lt 0 size || (start == 0)) ≡ true
-    → Good (after_store moment object start size library)
+    → Good (after_store moment object start size digest library)
 unfolding put_bytes
-storing_keeps_good library moment object start size good at free zero_first =
+storing_keeps_good library moment object start size digest good at free zero_first =
     let names = Names-from library good.names in
     let texts = Texts-from library good.texts in
-    let change : ObjectRow → ObjectRow = put_bytes object start size moment in
+    let change : ObjectRow → ObjectRow = put_bytes object start size digest moment in
     let place = and_parts (nat_le (start + blocks_of size) library.blocks) (list_all (λ row. is_clear_of start (blocks_of size) row.state) library.objects) free
     in
     let extents = and_parts (rises (λ a b. are_states_apart a.state b.state) library.objects)
     (list_all (λ row. is_extent_good library.blocks row.state) library.objects) good.extents in
-    let ids = map-kept (λ (row : ObjectRow). row.id) change library.objects (bytes_id object start size moment) in
-    let serials = map-kept (λ (row : ObjectRow). row.serial) change library.objects (bytes_serial object start size moment) in
+    let ids = map-kept (λ (row : ObjectRow). row.id) change library.objects (bytes_id object start size digest moment) in
+    let serials = map-kept (λ (row : ObjectRow). row.serial) change library.objects (bytes_serial object start size digest moment) in
     record {
       segments = good.segments;
       references = list_all-from_In (λ s. is_stored_object (map change library.objects) s.segment.object) library.segments (λ s here.
           ap is_stored_row (find-map (λ row. bytes_eq row.id s.segment.object) change library.objects
-          (λ row. ap (λ i. bytes_eq i s.segment.object) (bytes_id object start size moment row)))
-          ∙ still_stored object start size moment (object_of s.segment.object library.objects)
+          (λ row. ap (λ i. bytes_eq i s.segment.object) (bytes_id object start size digest moment row)))
+          ∙ still_stored object start size digest moment (object_of s.segment.object library.objects)
           (list_all-In (λ t. is_stored_object library.objects t.segment.object) library.segments good.references s here));
       extents = and_from _ _
           (rises-mapped (λ a b. are_states_apart a.state b.state) (λ a b. not (bytes_eq a.id b.id)) (λ a b. are_states_apart a.state b.state) change
           library.objects
-          (λ x y here there t u. ap₂ are_states_apart (bytes_state object start size moment x) (bytes_state object start size moment y)
-          ∙ still_apart (bytes_eq x.id object) (bytes_eq y.id object) start size x.state y.state
+          (λ x y here there t u. ap₂ are_states_apart (bytes_state object start size digest moment x) (bytes_state object start size digest moment y)
+          ∙ still_apart (bytes_eq x.id object) (bytes_eq y.id object) start size digest x.state y.state
           (λ a b. false≢true (sym (not-true (bytes_eq x.id y.id) u) ∙ ap (bytes_eq x.id) (same_text y.id object b ∙ sym (same_text x.id object a))
           ∙ text_same x.id)) t
           (list_all-In (λ row. is_clear_of start (blocks_of size) row.state) library.objects place.1 x here)
           (list_all-In (λ row. is_clear_of start (blocks_of size) row.state) library.objects place.1 y there))
           extents.0 (sym (rises-keys (λ a b. not (bytes_eq a b)) (λ (row : ObjectRow). row.id) library.objects) ∙ names.objects))
           (list_all-mapped (λ row. is_extent_good library.blocks row.state) change library.objects (λ row here.
-          ap (is_extent_good library.blocks) (bytes_state object start size moment row)
-          ∙ cond_both (bytes_eq row.id object) (Stored start size) row.state (λ s. is_extent_good library.blocks s ≡ true)
+          ap (is_extent_good library.blocks) (bytes_state object start size digest moment row)
+          ∙ cond_both (bytes_eq row.id object) (Stored start size digest) row.state (λ s. is_extent_good library.blocks s ≡ true)
           (λ e. and_from _ _ place.0 zero_first)
           (λ e. list_all-In (λ r. is_extent_good library.blocks r.state) library.objects extents.1 row here)));
-      names = Names-test (after_store moment object start size library) (record {
+      names = Names-test (after_store moment object start size digest library) (record {
         catalog = names.catalog;
         objects = ap are_distinct_texts ids ∙ names.objects;
         urls = names.urls;
         objects_rise = rises-mapped _ _ (λ a b. nat_lt a.serial b.serial) change library.objects
-            (λ x y here there t u. ap₂ nat_lt (bytes_serial object start size moment x) (bytes_serial object start size moment y) ∙ t) names.objects_rise
+            (λ x y here there t u. ap₂ nat_lt (bytes_serial object start size digest moment x) (bytes_serial object start size digest moment y) ∙ t) names.objects_rise
             names.objects_rise;
         segments_rise = names.segments_rise;
         requests_rise = names.requests_rise;
@@ -261,12 +262,12 @@ storing_keeps_good library moment object start size good at free zero_first =
       collections = good.collections;
       requests = good.requests;
       outbox = good.outbox;
-      texts = Texts-test (after_store moment object start size library) (record {
+      texts = Texts-test (after_store moment object start size digest library) (record {
         sources = texts.sources;
         flows = texts.flows;
         objects = list_all-mapped is_object_text change library.objects (λ row here.
             let parts = and_parts (is_object_id row.id) (is_moment row.idle_since) (list_all-In is_object_text library.objects texts.objects row here) in
-            cond_both (bytes_eq row.id object) (stored_row start size moment row) row (λ r. is_object_text r ≡ true)
+            cond_both (bytes_eq row.id object) (stored_row start size digest moment row) row (λ r. is_object_text r ≡ true)
             (λ e. and_from (is_object_id row.id) (is_moment moment) parts.0 at)
             (λ e. and_from (is_object_id row.id) (is_moment row.idle_since) parts.0 parts.1));
         requests = texts.requests;

@@ -5,6 +5,7 @@ use Rattle.std.specs.List.{list_any}
 use Rattle.std.proofs.lemmas.Bool.{false≢true}
 use Rattle.media_rows.specs.declared.change.Change.{Change}
 use Rattle.media_rows.specs.declared.change.Change.TheVariants as changes
+use Rattle.media_rows.specs.declared.object.Digest.{Digest}
 use Rattle.media_rows.specs.declared.object.ObjectRow.{ObjectRow}
 use Rattle.media_rows.specs.declared.object.ObjectState.TheVariants.{Allocated, Stored}
 use Rattle.media_rows.specs.declared.request.DeleteRow.{DeleteRow}
@@ -24,7 +25,7 @@ use Rattle.library_laws.proofs.ObjectsKept.{idled_id, idled_serial, idled_state}
 pub data Came (library : Library) (change : Change) (row : ObjectRow) : Type 0 where
   kept : (old : ObjectRow) → In old library.objects → row.serial ≡ old.serial → row.id ≡ old.id → row.state ≡ old.state → Came library change row
   made : (moment flow : ℕ) (ids : List (List ℕ)) → change ≡ changes.Allocate moment flow ids → In row.id ids → row.state ≡ Allocated → Came library change row
-  stored : (moment start size : ℕ) → change ≡ changes.Store moment row.id start size → row.state ≡ Stored start size → Came library change row
+  stored : (moment start size : ℕ) (digest : Option Digest) → change ≡ changes.Store moment row.id start size digest → row.state ≡ Stored start size digest → Came library change row
 
 by_idled : (library : Library) (change : Change) (was left : List SegmentRow) (moment : ℕ) (row : ObjectRow) → In row (idled was left moment library.objects)
     → Came library change row
@@ -42,13 +43,13 @@ in_allocated serial moment [] row here = absurd here
 in_allocated serial moment (id ∷ later) row (inl same) = (inl (ap (λ (r : ObjectRow). r.id) same), ap (λ (r : ObjectRow). r.state) same)
 in_allocated serial moment (id ∷ later) row (inr there) = let found = in_allocated (serial + 1) moment later row there in (inr found.0, found.1)
 
-by_stored : (library : Library) (moment : ℕ) (object : List ℕ) (start size : ℕ) (row old : ObjectRow) (b : Bool) → bytes_eq old.id object ≡ b
+by_stored : (library : Library) (moment : ℕ) (object : List ℕ) (start size : ℕ) (digest : Option Digest) (row old : ObjectRow) (b : Bool) → bytes_eq old.id object ≡ b
     → In old library.objects
-    → row ≡ cond b (stored_row start size moment old) old → Came library (changes.Store moment object start size) row
-by_stored library moment object start size row old true is here e =
-    stored moment start size (ap (λ o. changes.Store moment o start size) (sym (ap (λ (r : ObjectRow). r.id) e ∙ same_text old.id object is)))
+    → row ≡ cond b (stored_row start size digest moment old) old → Came library (changes.Store moment object start size digest) row
+by_stored library moment object start size digest row old true is here e =
+    stored moment start size digest (ap (λ o. changes.Store moment o start size digest) (sym (ap (λ (r : ObjectRow). r.id) e ∙ same_text old.id object is)))
     (ap (λ (r : ObjectRow). r.state) e)
-by_stored library moment object start size row old false is here e =
+by_stored library moment object start size digest row old false is here e =
     kept old here (ap (λ (r : ObjectRow). r.serial) e) (ap (λ (r : ObjectRow). r.id) e) (ap (λ (r : ObjectRow). r.state) e)
 
 by_step : (library : Library) (change : Change) (moment : ℕ) (o : Option DeleteRow) (row : ObjectRow) → In row (after_step_of o moment library).objects
@@ -69,9 +70,9 @@ came library (changes.Allocate moment flow ids) row here =
       | inl old ↦ by_same library _ row old
       | inr new ↦ let found = in_allocated library.next_serial moment ids row new in made moment flow ids refl found.0 found.1
     ]
-came library (changes.Store moment object start size) row here =
-    let old = In-map (λ row. cond (bytes_eq row.id object) (stored_row start size moment row) row) library.objects row here in
-    by_stored library moment object start size row old.0 (bytes_eq old.0.id object) refl old.1 old.2
+came library (changes.Store moment object start size digest) row here =
+    let old = In-map (λ row. cond (bytes_eq row.id object) (stored_row start size digest moment row) row) library.objects row here in
+    by_stored library moment object start size digest row old.0 (bytes_eq old.0.id object) refl old.1 old.2
 came library (changes.AddSegments moment flow posts) row here = by_same library _ row here
 came library (changes.CutSegments moment flow range) row here =
     let gone : List SegmentRow = covered library.segments flow range in
@@ -84,11 +85,12 @@ came library (changes.SweepStep moment) row here =
     library.objects row here).0
 came library (changes.PutHook moment hook) row here = by_same library _ row here
 came library (changes.DropHook moment url) row here = by_same library _ row here
+came library (changes.Delivered moment event) row here = by_same library _ row here
 
 was_stored : (library : Library) (change : Change) (row : ObjectRow) → is_stored row.state ≡ true → Came library change row → WasStored library change row
 was_stored library change row st (kept old here serial id state) = before old (Contains-from_In library.objects old here) serial id state
 was_stored library change row st (made moment flow ids is among state) = absurd (false≢true (sym (ap is_stored state) ∙ st))
-was_stored library change row st (stored moment start size is state) = now moment start size is state
+was_stored library change row st (stored moment start size digest is state) = now moment start size digest is state
 
 pub stored_stay : StoredStay
 stored_stay library change row here st = was_stored library change row st (came library change row (In-from_Contains (after change library).objects row here))

@@ -48,7 +48,7 @@ least_found p (suc n) = subst (Least p (suc n)) (sym (find-behind p (numbers_bel
 -- no blocks are clear of everything
 nothing_clear : (state : ObjectState) → is_clear_of 0 0 state ≡ true
 nothing_clear Allocated = refl
-nothing_clear (Stored start size) = or_left (nat_le (0 + 0) start) (nat_le (start + blocks_of size) 0) (le-leb (0 + 0) start (omega arith))
+nothing_clear (Stored start size digest) = or_left (nat_le (0 + 0) start) (nat_le (start + blocks_of size) 0) (le-leb (0 + 0) start (omega arith))
 
 no_blocks : (objects : List ObjectRow) (blocks : ℕ) → IsLeastPlace objects blocks 0 0
 no_blocks objects blocks = record {

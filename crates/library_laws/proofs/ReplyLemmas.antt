@@ -17,9 +17,9 @@ use Rattle.media_rows.specs.declared.reply.View.{View}
 use Rattle.media_rows.specs.Answer.{Outcome, changed, unchanged, created_unless, refusal_of, answer_by, accepted_request, accepted_drop, accepted_cut, accepted_drop_hook, wanted_ids, shown_reply}
 use Rattle.media_rows.specs.Views.{asked}
 use Rattle.media_rows.specs.Library.{Library}
-use Rattle.media_rows.specs.Objects.{allocated_rows}
+use Rattle.media_rows.specs.Objects.{allocated_rows, kept_digest}
 use Rattle.media_rows.specs.Outbox.{hook_of}
-use Rattle.media_rows.specs.Segments.{covered, segments_of}
+use Rattle.media_rows.specs.Segments.{covered, segments_of, as_list}
 use Rattle.media_rows.specs.Catalog.{flow_of}
 use Rattle.library_laws.specs.ChangeLaws.{TellsRows, RepliesTell}
 use Rattle.library_laws.proofs.NewObjectsKept.{ids-allocated}
@@ -111,12 +111,12 @@ replies_tell library (commands.SetSource source part) moment =
 replies_tell library (commands.DropFlow flow) moment = by_refusal library (refusal_of library (commands.DropFlow flow)) _ (drop_tells library flow moment)
 replies_tell library (commands.Allocate flow want) moment = by_refusal library (refusal_of library (commands.Allocate flow want)) _
     (made library moment flow (wanted_ids library want))
-replies_tell library (commands.Keep object start size) moment =
-    by_refusal library (refusal_of library (commands.Keep object start size)) _
-    (plain library (changed replies.Created (changes.Store moment object start size)) refl)
+replies_tell library (commands.Keep object start size digest) moment =
+    by_refusal library (refusal_of library (commands.Keep object start size digest)) _
+    (plain library (changed replies.Created (changes.Store moment object start size (kept_digest digest))) refl)
 replies_tell library (commands.AddSegments flow posts) moment =
     by_refusal library (refusal_of library (commands.AddSegments flow posts)) _
-    (plain library (changed replies.Created (changes.AddSegments moment flow posts)) refl)
+    (plain library (changed replies.Created (changes.AddSegments moment flow (as_list posts))) refl)
 replies_tell library (commands.CutSegments flow range) moment = by_refusal library (refusal_of library (commands.CutSegments flow range)) _
     (cut_tells library flow range moment)
 replies_tell library (commands.PutHook hook) moment = created_plain library (is_some (hook_of hook.url library.outbox.hooks)) (changes.PutHook moment hook)

@@ -142,24 +142,24 @@ values library (changes.DropFlow moment flow) allowed good = refl
 values library (changes.Allocate moment flow ids) allowed good =
     ids_in library.next_serial moment ids (list_all-parts is_object_text library.objects (allocated_rows library.next_serial moment ids)
     (Texts-from (after (changes.Allocate moment flow ids) library) good.texts).objects).1
-values library (changes.Store moment object start size) allowed good =
+values library (changes.Store moment object start size digest) allowed good =
     let parts = and_parts (is_none (keep_refusal (object_of object library.objects))) (is_free library.objects library.blocks (blocks_of size) start) allowed in
     let one = stored_in (object_of object library.objects) parts.0 in
     let at = find-In (λ r. bytes_eq r.id object) library.objects one.0 one.1 in
-    let change : ObjectRow → ObjectRow = λ r. cond (bytes_eq r.id object) (stored_row start size moment r) r in
+    let change : ObjectRow → ObjectRow = λ r. cond (bytes_eq r.id object) (stored_row start size digest moment r) r in
     let extents = and_parts (rises (λ a b. are_states_apart a.state b.state) (map change library.objects))
     (list_all (λ row. is_extent_good library.blocks row.state) (map change library.objects)) good.extents in
     let row = list_all-In (λ row. is_extent_good library.blocks row.state) (map change library.objects) extents.1 (change one.0)
     (map-In change library.objects one.0 at.0) in
-    let fine : is_extent_good library.blocks (Stored start size) ≡ true =
-    ap (λ (r : ObjectRow). is_extent_good library.blocks r.state) (sym (chosen (bytes_eq one.0.id object) (stored_row start size moment one.0) one.0 at.1))
+    let fine : is_extent_good library.blocks (Stored start size digest) ≡ true =
+    ap (λ (r : ObjectRow). is_extent_good library.blocks r.state) (sym (chosen (bytes_eq one.0.id object) (stored_row start size digest moment one.0) one.0 at.1))
     ∙ row in
     (and_parts (nat_le (start + blocks_of size) library.blocks) (nat_lt 0 size || (start == 0)) fine).1
 values library (changes.AddSegments moment flow posts) allowed good =
     let next : Library = after (changes.AddSegments moment flow posts) library in
     let segments = and_parts (rises are_compatible next.segments) (list_all (is_segment_good next.catalog.flows) next.segments) good.segments in
-    ranges_in next.catalog.flows flow library.next_serial posts
-    (list_all-parts (is_segment_good next.catalog.flows) library.segments (posted flow library.next_serial posts) segments.1).1
+    ranges_in next.catalog.flows flow library.next_serial posts.segments
+    (list_all-parts (is_segment_good next.catalog.flows) library.segments (posted flow library.next_serial posts.segments) segments.1).1
 values library (changes.CutSegments moment flow range) allowed good = refl
 values library (changes.AskDelete moment flow range delete_flow) allowed good =
     let row : DeleteRow = asked_row (record { flow = flow; range = range; delete_flow = delete_flow }) library.next_serial moment in
@@ -175,6 +175,7 @@ values library (changes.PutHook moment hook) allowed good =
     let hooks = (Texts-from (after (changes.PutHook moment hook) library) good.texts).hooks in
     (and_parts (is_hook_text row) true (list_all-parts is_hook_text (filter (λ r. not (has_url hook.url r)) library.outbox.hooks) (row ∷ []) hooks).1).0
 values library (changes.DropHook moment url) allowed good = refl
+values library (changes.Delivered moment event) allowed good = refl
 
 -- ---- the laws
 

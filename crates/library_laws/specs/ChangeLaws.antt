@@ -1,9 +1,10 @@
 -- Laws of what each change needs and leaves, and of what its reply says.
-use Rattle.std.specs.Prelude.{◌≡◌, ◌≤◌, ℕ, ◌&&◌, IsTrue, List, [], ◌∷◌, ◌++◌, Contains, Some, map}
+use Rattle.std.specs.Prelude.{◌≡◌, ◌≤◌, ℕ, ◌&&◌, IsTrue, List, [], ◌∷◌, ◌++◌, Contains, Option, Some, map}
 use Rattle.media_rows.specs.declared.change.Change.{Change}
 use Rattle.media_rows.specs.declared.change.Change.TheVariants as changes
 use Rattle.media_rows.specs.declared.command.Command.{Command}
 use Rattle.media_rows.specs.declared.event.Happened.{Happened}
+use Rattle.media_rows.specs.declared.object.Digest.{Digest}
 use Rattle.media_rows.specs.declared.object.ObjectRow.{ObjectRow}
 use Rattle.media_rows.specs.declared.object.ObjectState.TheVariants.{Stored}
 use Rattle.media_rows.specs.declared.reply.Reply.TheVariants as replies
@@ -42,8 +43,9 @@ AppliesIsTested = (library : Library) (change : Change) → Good library
 pub data WasStored (library : Library) (change : Change) (row : ObjectRow) : Type 0 where
   before : (old : ObjectRow) → Contains library.objects old → row.serial ≡ old.serial
       → row.id ≡ old.id → row.state ≡ old.state → WasStored library change row
-  now : (moment start size : ℕ) → change ≡ changes.Store moment row.id start size
-      → row.state ≡ Stored start size → WasStored library change row
+  now : (moment start size : ℕ) (digest : Option Digest)
+      → change ≡ changes.Store moment row.id start size digest
+      → row.state ≡ Stored start size digest → WasStored library change row
 
 -- this holds of each change of any library
 abbrev pub StoredStay : Type 0

@@ -39,7 +39,7 @@ HasPlace library (commands.SetFlow flow part) = Unit {0}
 HasPlace library (commands.SetSource source part) = Unit {0}
 HasPlace library (commands.DropFlow flow) = Unit {0}
 HasPlace library (commands.Allocate flow want) = Unit {0}
-HasPlace library (commands.Keep object start size) =
+HasPlace library (commands.Keep object start size digest) =
     keep_refusal (object_of object library.objects) ≡ None
     → IsTrue (is_free library.objects library.blocks (blocks_of size) start)
 HasPlace library (commands.AddSegments flow posts) = Unit {0}

@@ -1,5 +1,5 @@
 -- Laws of a library together with the bytes of its objects.
-use Rattle.std.specs.Prelude.{◌≡◌, ℕ, IsTrue, List, Contains, Some, IfSome, length}
+use Rattle.std.specs.Prelude.{◌≡◌, ℕ, IsTrue, List, Contains, Some, None, IfSome, length}
 use Rattle.media_rows.specs.declared.change.Change.{Change}
 use Rattle.media_rows.specs.declared.change.Change.TheVariants as changes
 use Rattle.media_rows.specs.declared.object.ObjectRow.{ObjectRow}
@@ -39,7 +39,7 @@ BytesStay = (archive : Archive) (change : Change) (came : List ℕ) → IsGoodAr
 pub record TakesPlace (library : Library) (object bytes : List ℕ) (moment : ℕ) (change : Change)
     : Type 0 where
   pub start : ℕ
-  pub is : change ≡ changes.Store moment object start (length bytes)
+  pub is : change ≡ changes.Store moment object start (length bytes) None
   pub least : IsLeastPlace library.objects library.blocks (blocks_of (length bytes)) start
   pub applies : applied change library ≡ Some (after change library)
 

@@ -2,6 +2,7 @@
 use Rattle.std.specs.Prelude.{◌≡◌, ℕ, true, List, [], ◌∷◌, IsTrue, Some, None, is_some, map}
 use Rattle.media_rows.specs.declared.change.Change.TheVariants as changes
 use Rattle.media_rows.specs.declared.command.Command.{Command}
+use Rattle.media_rows.specs.declared.object.Digest.{Digest}
 use Rattle.media_rows.specs.declared.part.Part.{Part}
 use Rattle.media_rows.specs.declared.refusal.Refusal.{Refusal}
 use Rattle.media_rows.specs.declared.refusal.Refusal.TheVariants as refusals
@@ -49,6 +50,10 @@ SourcesHaveTheirParts =
 
 -- ---- the table of refusals
 
+-- a digest of zeros
+abbrev pub no_digest : Digest
+no_digest = record { high = 0; low = 0 }
+
 -- each refusal once, in the order of their numbers
 abbrev pub all_refusals : List Refusal
 all_refusals =
@@ -60,15 +65,16 @@ all_refusals =
     ∷ refusals.Deleting ∷ refusals.ReadOnly ∷ refusals.SourceFormat ∷ refusals.FlowChanged
     ∷ refusals.CollectsItself ∷ refusals.CollectedMissing 0 ∷ refusals.IdTaken []
     ∷ refusals.OtherBytes
-    ∷ refusals.NoObject [] ∷ refusals.Overlap None ∷ refusals.JournalFull ∷ refusals.MediaFull ∷ []
+    ∷ refusals.NoObject [] ∷ refusals.Overlap None ∷ refusals.JournalFull ∷ refusals.MediaFull
+    ∷ refusals.ObjectDamaged no_digest no_digest ∷ []
 
--- numbers run from 1 to 32, names are distinct, and statuses are these, in the order of the numbers
+-- numbers run from 1 to 33, names are distinct, and statuses are these, in the order of the numbers
 pub record RefusalsAreTabled : Type 0 where
   pub numbers : map refusal_number all_refusals
       ≡ 1 ∷ 2 ∷ 3 ∷ 4 ∷ 5 ∷ 6 ∷ 7 ∷ 8 ∷ 9 ∷ 10 ∷ 11 ∷ 12 ∷ 13 ∷ 14 ∷ 15 ∷ 16 ∷ 17 ∷ 18 ∷ 19
-      ∷ 20 ∷ 21 ∷ 22 ∷ 23 ∷ 24 ∷ 25 ∷ 26 ∷ 27 ∷ 28 ∷ 29 ∷ 30 ∷ 31 ∷ 32 ∷ []
+      ∷ 20 ∷ 21 ∷ 22 ∷ 23 ∷ 24 ∷ 25 ∷ 26 ∷ 27 ∷ 28 ∷ 29 ∷ 30 ∷ 31 ∷ 32 ∷ 33 ∷ []
   pub statuses : map refusal_status all_refusals
       ≡ 400 ∷ 400 ∷ 411 ∷ 413 ∷ 415 ∷ 404 ∷ 405 ∷ 400 ∷ 400 ∷ 400 ∷ 400 ∷ 400 ∷ 400 ∷ 400
       ∷ 400 ∷ 404 ∷ 404 ∷ 404 ∷ 404 ∷ 404 ∷ 409 ∷ 403 ∷ 400 ∷ 400 ∷ 400 ∷ 400 ∷ 409 ∷ 409
-      ∷ 400 ∷ 400 ∷ 507 ∷ 507 ∷ []
+      ∷ 400 ∷ 400 ∷ 507 ∷ 507 ∷ 410 ∷ []
   pub names : are_distinct_texts (map refusal_name all_refusals) ≡ true

@@ -1,11 +1,12 @@
 -- Extents and the blocks that they leave free, as an object comes, is stored or goes.
-use Rattle.std.proofs.Common.{◌≡◌, inl, inr, ℕ, zero, suc, ◌+◌, ◌-◌, ◌<◌, ◌≤◌, nat_lt, nat_le, Bool, true, false, not, ◌&&◌, ◌||◌, List, [], ◌∷◌, ◌++◌, map, refl, sym, ap, ap₂, ◌∙◌, arith}
+use Rattle.std.proofs.Common.{◌≡◌, Option, inl, inr, ℕ, zero, suc, ◌+◌, ◌-◌, ◌<◌, ◌≤◌, nat_lt, nat_le, Bool, true, false, not, ◌&&◌, ◌||◌, List, [], ◌∷◌, ◌++◌, map, refl, sym, ap, ap₂, ◌∙◌, arith}
 use Rattle.std.specs.Prelude.{◌==◌}
 use Rattle.std.specs.List.{list_all, sum, sum_by}
 use Rattle.std.proofs.lemmas.Bool.{and_from, and_parts, le-leb, leb-true, lt-ltb, not_from_false, or_left, or_right, or_cases}
 use Rattle.std.proofs.lemmas.Bool.Decides.{nat_tests}
 use Rattle.std.proofs.lemmas.List.Folds.{list_all-map}
 use Rattle.std.proofs.lemmas.List.Sums.{sum-map, sum_by-append, sum_by-cons}
+use Rattle.media_rows.specs.declared.object.Digest.{Digest}
 use Rattle.media_rows.specs.declared.object.ObjectRow.{ObjectRow}
 use Rattle.media_rows.specs.declared.object.ObjectState.{ObjectState}
 use Rattle.media_rows.specs.declared.object.ObjectState.TheVariants.{Allocated, Stored}
@@ -34,9 +35,9 @@ sizes_amid f s b =
 
 pub apart_turns : (s t : ObjectState) → are_states_apart s t ≡ are_states_apart t s
 apart_turns Allocated Allocated = refl
-apart_turns Allocated (Stored start size) = refl
-apart_turns (Stored start size) Allocated = refl
-apart_turns (Stored start size) (Stored other n) = by (nat_le (start + blocks_of size) other) (nat_le (other + blocks_of n) start)
+apart_turns Allocated (Stored start size digest) = refl
+apart_turns (Stored start size digest) Allocated = refl
+apart_turns (Stored start size digest) (Stored other n other_digest) = by (nat_le (start + blocks_of size) other) (nat_le (other + blocks_of n) start)
   where
     by : (p q : Bool) → (p || q) ≡ (q || p)
     by true true = refl
@@ -44,9 +45,9 @@ apart_turns (Stored start size) (Stored other n) = by (nat_le (start + blocks_of
     by false true = refl
     by false false = refl
 
-pub clear_apart : (start size : ℕ) (s : ObjectState) → is_clear_of start (blocks_of size) s ≡ are_states_apart (Stored start size) s
-clear_apart start size Allocated = refl
-clear_apart start size (Stored other n) = refl
+pub clear_apart : (start size : ℕ) (digest : Option Digest) (s : ObjectState) → is_clear_of start (blocks_of size) s ≡ are_states_apart (Stored start size digest) s
+clear_apart start size digest Allocated = refl
+clear_apart start size digest (Stored other n other_digest) = refl
 
 -- a block is clear of an extent that doesn't have it
 has_or_clear : (start count block : ℕ) → are_apart block 1 start count ≡ not (has_block start count block)
@@ -59,10 +60,10 @@ has_or_clear start count block = by (nat_le start block) (nat_lt block (start + 
     by false q ep eq = grind (arith, nat_tests)
 
 -- a block of one extent is clear of one that lies apart
-clear_one : (start size block : ℕ) (s : ObjectState) → has_block start (blocks_of size) block ≡ true → are_states_apart (Stored start size) s ≡ true
+clear_one : (start size : ℕ) (digest : Option Digest) (block : ℕ) (s : ObjectState) → has_block start (blocks_of size) block ≡ true → are_states_apart (Stored start size digest) s ≡ true
     → is_clear_of block 1 s ≡ true
-clear_one start size block Allocated has apart = refl
-clear_one start size block (Stored other n) has apart = by start (blocks_of size) other (blocks_of n) has apart
+clear_one start size digest block Allocated has apart = refl
+clear_one start size digest block (Stored other n other_digest) has apart = by start (blocks_of size) other (blocks_of n) has apart
   where
     by : (a b c d : ℕ) → (nat_le a block && nat_lt block (a + b)) ≡ true → (nat_le (a + b) c || nat_le (c + d) a) ≡ true
         → (nat_le (block + 1) c || nat_le (c + d) block) ≡ true
@@ -73,13 +74,13 @@ clear_one start size block (Stored other n) has apart = by start (blocks_of size
           (le-leb (c + d) block (let low = (and_parts (nat_le a block) (nat_lt block (a + b)) h).0 in grind (arith, nat_tests)))
     ]
 
-all_clear_one : (start size block : ℕ) (states : List ObjectState) → has_block start (blocks_of size) block ≡ true
-    → list_all (are_states_apart (Stored start size)) states ≡ true → list_all (is_clear_of block 1) states ≡ true
-all_clear_one start size block [] has apart = refl
-all_clear_one start size block (s ∷ states) has apart =
-    let parts = and_parts (are_states_apart (Stored start size) s) (list_all (are_states_apart (Stored start size)) states) apart in
-    and_from (is_clear_of block 1 s) (list_all (is_clear_of block 1) states) (clear_one start size block s has parts.0)
-    (all_clear_one start size block states has parts.1)
+all_clear_one : (start size : ℕ) (digest : Option Digest) (block : ℕ) (states : List ObjectState) → has_block start (blocks_of size) block ≡ true
+    → list_all (are_states_apart (Stored start size digest)) states ≡ true → list_all (is_clear_of block 1) states ≡ true
+all_clear_one start size digest block [] has apart = refl
+all_clear_one start size digest block (s ∷ states) has apart =
+    let parts = and_parts (are_states_apart (Stored start size digest) s) (list_all (are_states_apart (Stored start size digest)) states) apart in
+    and_from (is_clear_of block 1 s) (list_all (is_clear_of block 1) states) (clear_one start size digest block s has parts.0)
+    (all_clear_one start size digest block states has parts.1)
 
 pub same_all : {X : Type 0} (p q : X → Bool) → ((x : X) → p x ≡ q x) → (xs : List X) → list_all p xs ≡ list_all q xs
 same_all p q same [] = refl
@@ -133,23 +134,23 @@ without_empty f b area bytes h = record {
 
 -- ---- an extent that is taken
 
-pub with_extent : (f b : List ObjectState) (start size : ℕ) (area new : Area) (bytes : ℕ) → AreHeld (f ++ b) area bytes
-    → list_all (is_clear_of start (blocks_of size)) (f ++ b) ≡ true → is_extent_good area.blocks (Stored start size) ≡ true
-    → IsPlaceTaken start (blocks_of size) area new → AreHeld (f ++ Stored start size ∷ b) new (bytes + size)
-with_extent f b start size area new bytes h clear good taken = record {
+pub with_extent : (f b : List ObjectState) (start size : ℕ) (digest : Option Digest) (area new : Area) (bytes : ℕ) → AreHeld (f ++ b) area bytes
+    → list_all (is_clear_of start (blocks_of size)) (f ++ b) ≡ true → is_extent_good area.blocks (Stored start size digest) ≡ true
+    → IsPlaceTaken start (blocks_of size) area new → AreHeld (f ++ Stored start size digest ∷ b) new (bytes + size)
+with_extent f b start size digest area new bytes h clear good taken = record {
   free = λ block. taken.free block ∙ ap (λ r. r && not (has_block start (blocks_of size) block)) (h.free block)
       ∙ turned (nat_le (block + 1) area.blocks) (list_all (is_clear_of block 1) (f ++ b)) (not (has_block start (blocks_of size) block))
       ∙ ap (λ r. nat_le (block + 1) area.blocks && (r && list_all (is_clear_of block 1) (f ++ b)))
       (sym (has_or_clear start (blocks_of size) block))
-      ∙ ap (λ r. nat_le (block + 1) area.blocks && r) (sym (all_amid (is_clear_of block 1) f (Stored start size) b))
-      ∙ ap (λ n. nat_le (block + 1) n && list_all (is_clear_of block 1) (f ++ Stored start size ∷ b)) (sym taken.blocks);
-  inside = ap (λ n. list_all (is_extent_good n) (f ++ Stored start size ∷ b)) taken.blocks
-      ∙ all_amid (is_extent_good area.blocks) f (Stored start size) b
-      ∙ and_from (is_extent_good area.blocks (Stored start size)) (list_all (is_extent_good area.blocks) (f ++ b)) good h.inside;
-  apart = pairs_amid are_states_apart apart_turns f (Stored start size) b
-      ∙ and_from (list_all (are_states_apart (Stored start size)) (f ++ b)) (each_pair are_states_apart (f ++ b))
-      (sym (same_all (is_clear_of start (blocks_of size)) (are_states_apart (Stored start size)) (clear_apart start size) (f ++ b)) ∙ clear) h.apart;
-  counted = ap (λ n. n + size) h.counted ∙ plus (sum (map stored_size (f ++ b))) ∙ sym (sizes_amid f (Stored start size) b);
+      ∙ ap (λ r. nat_le (block + 1) area.blocks && r) (sym (all_amid (is_clear_of block 1) f (Stored start size digest) b))
+      ∙ ap (λ n. nat_le (block + 1) n && list_all (is_clear_of block 1) (f ++ Stored start size digest ∷ b)) (sym taken.blocks);
+  inside = ap (λ n. list_all (is_extent_good n) (f ++ Stored start size digest ∷ b)) taken.blocks
+      ∙ all_amid (is_extent_good area.blocks) f (Stored start size digest) b
+      ∙ and_from (is_extent_good area.blocks (Stored start size digest)) (list_all (is_extent_good area.blocks) (f ++ b)) good h.inside;
+  apart = pairs_amid are_states_apart apart_turns f (Stored start size digest) b
+      ∙ and_from (list_all (are_states_apart (Stored start size digest)) (f ++ b)) (each_pair are_states_apart (f ++ b))
+      (sym (same_all (is_clear_of start (blocks_of size)) (are_states_apart (Stored start size digest)) (clear_apart start size digest) (f ++ b)) ∙ clear) h.apart;
+  counted = ap (λ n. n + size) h.counted ∙ plus (sum (map stored_size (f ++ b))) ∙ sym (sizes_amid f (Stored start size digest) b);
 }
   where
     turned : (a l r : Bool) → ((a && l) && r) ≡ (a && (r && l))
@@ -164,24 +165,24 @@ with_extent f b start size area new bytes h clear good taken = record {
 
 -- ---- an extent that is given back
 
-pub without_extent : (f b : List ObjectState) (start size : ℕ) (area new : Area) (bytes : ℕ) → AreHeld (f ++ Stored start size ∷ b) area bytes
+pub without_extent : (f b : List ObjectState) (start size : ℕ) (digest : Option Digest) (area new : Area) (bytes : ℕ) → AreHeld (f ++ Stored start size digest ∷ b) area bytes
     → GivesBlocks start (blocks_of size) area new → AreHeld (f ++ b) new (bytes - size)
-without_extent f b start size area new bytes h given =
-    let pairs = and_parts (list_all (are_states_apart (Stored start size)) (f ++ b)) (each_pair are_states_apart (f ++ b))
-    (sym (pairs_amid are_states_apart apart_turns f (Stored start size) b) ∙ h.apart) in
-    let inside = and_parts (is_extent_good area.blocks (Stored start size)) (list_all (is_extent_good area.blocks) (f ++ b))
-    (sym (all_amid (is_extent_good area.blocks) f (Stored start size) b) ∙ h.inside) in
+without_extent f b start size digest area new bytes h given =
+    let pairs = and_parts (list_all (are_states_apart (Stored start size digest)) (f ++ b)) (each_pair are_states_apart (f ++ b))
+    (sym (pairs_amid are_states_apart apart_turns f (Stored start size digest) b) ∙ h.apart) in
+    let inside = and_parts (is_extent_good area.blocks (Stored start size digest)) (list_all (is_extent_good area.blocks) (f ++ b))
+    (sym (all_amid (is_extent_good area.blocks) f (Stored start size digest) b) ∙ h.inside) in
     record {
       free = λ block. given.free block ∙ ap (λ r. r || has_block start (blocks_of size) block)
-          (h.free block ∙ ap (λ r. nat_le (block + 1) area.blocks && r) (all_amid (is_clear_of block 1) f (Stored start size) b
+          (h.free block ∙ ap (λ r. nat_le (block + 1) area.blocks && r) (all_amid (is_clear_of block 1) f (Stored start size digest) b
           ∙ ap (λ r. r && list_all (is_clear_of block 1) (f ++ b)) (has_or_clear start (blocks_of size) block)))
           ∙ by (has_block start (blocks_of size) block) (nat_le (block + 1) area.blocks) (list_all (is_clear_of block 1) (f ++ b))
           (λ has. within block (and_parts (nat_le (start + blocks_of size) area.blocks) (nat_lt 0 size || (start == 0)) inside.0).0 has)
-          (λ has. all_clear_one start size block (f ++ b) has pairs.0)
+          (λ has. all_clear_one start size digest block (f ++ b) has pairs.0)
           ∙ ap (λ n. nat_le (block + 1) n && list_all (is_clear_of block 1) (f ++ b)) (sym given.blocks);
       inside = ap (λ n. list_all (is_extent_good n) (f ++ b)) given.blocks ∙ inside.1;
       apart = pairs.1;
-      counted = minus (sum (map stored_size (f ++ b))) (h.counted ∙ sizes_amid f (Stored start size) b);
+      counted = minus (sum (map stored_size (f ++ b))) (h.counted ∙ sizes_amid f (Stored start size digest) b);
     }
   where
     by : (has le all : Bool) → (has ≡ true → le ≡ true) → (has ≡ true → all ≡ true) → ((le && (not has && all)) || has) ≡ (le && all)
@@ -206,7 +207,7 @@ without_extent f b start size area new bytes h given =
 clear_within : (start count block : ℕ) (s : ObjectState) → is_clear_of start count s ≡ true → start ≤ block → block < start + count
     → is_clear_of block 1 s ≡ true
 clear_within start count block Allocated clear low high = refl
-clear_within start count block (Stored other size) clear low high = by (blocks_of size) clear
+clear_within start count block (Stored other size other_digest) clear low high = by (blocks_of size) clear
   where
     by : (n : ℕ) → (nat_le (start + count) other || nat_le (other + n) start) ≡ true → (nat_le (block + 1) other || nat_le (other + n) block) ≡ true
     by n k = elim (or_cases (nat_le (start + count) other) (nat_le (other + n) start) k) [
@@ -233,15 +234,15 @@ may_take states area bytes start count h le clear = each_from (is_free_block are
     fits block high = le-leb (block + 1) area.blocks (let all = leb-true (start + count) area.blocks le in omega (arith, all, high))
 
 -- the blocks of an extent may be given back
-pub may_give : (f b : List ObjectState) (start size : ℕ) (area : Area) (bytes : ℕ) → AreHeld (f ++ Stored start size ∷ b) area bytes
+pub may_give : (f b : List ObjectState) (start size : ℕ) (digest : Option Digest) (area : Area) (bytes : ℕ) → AreHeld (f ++ Stored start size digest ∷ b) area bytes
     → (start + blocks_of size ≤ area.blocks) × (is_taken_place area.holes (blocks_of size) start ≡ true)
-may_give f b start size area bytes h =
-    let inside = and_parts (is_extent_good area.blocks (Stored start size)) (list_all (is_extent_good area.blocks) (f ++ b))
-    (sym (all_amid (is_extent_good area.blocks) f (Stored start size) b) ∙ h.inside) in
+may_give f b start size digest area bytes h =
+    let inside = and_parts (is_extent_good area.blocks (Stored start size digest)) (list_all (is_extent_good area.blocks) (f ++ b))
+    (sym (all_amid (is_extent_good area.blocks) f (Stored start size digest) b) ∙ h.inside) in
     let fits = (and_parts (nat_le (start + blocks_of size) area.blocks) (nat_lt 0 size || (start == 0)) inside.0).0 in (
       leb-true (start + blocks_of size) area.blocks fits,
       each_from (λ block. not (is_free_block area.holes block)) (blocks_of size) start (λ block low high. not_from_false (is_free_block area.holes block)
-          (h.free block ∙ ap (λ r. nat_le (block + 1) area.blocks && r) (all_amid (is_clear_of block 1) f (Stored start size) b
+          (h.free block ∙ ap (λ r. nat_le (block + 1) area.blocks && r) (all_amid (is_clear_of block 1) f (Stored start size digest) b
           ∙ ap (λ r. r && list_all (is_clear_of block 1) (f ++ b)) (has_or_clear start (blocks_of size) block
           ∙ ap not (has block low high))) ∙ none (nat_le (block + 1) area.blocks))),
     )

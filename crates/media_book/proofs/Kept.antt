@@ -4,6 +4,7 @@ use Rattle.std.specs.Prelude.{◌==◌, is_some}
 use Rattle.std.specs.List.{list_all}
 use Rattle.std.proofs.lemmas.Bool.{and_from, and_parts}
 use Rattle.std.proofs.lemmas.List.Folds.{list_all-append, list_all-map}
+use Rattle.media_rows.specs.declared.object.Digest.{Digest}
 use Rattle.media_rows.specs.declared.object.Extent.{Extent}
 use Rattle.media_rows.specs.declared.object.ObjectRow.{ObjectRow}
 use Rattle.media_rows.specs.declared.object.ObjectState.{ObjectState}
@@ -87,7 +88,7 @@ new_seen segments kept area id serial moment =
 pub record IsRoom (objects : List ObjectRow) (area : Area) (extent : Extent) : Type 0 where
   pub fits : nat_le (extent.start + blocks_of extent.length) area.blocks ≡ true
   pub clear : list_all (is_clear_of extent.start (blocks_of extent.length)) (object_states objects) ≡ true
-  pub good : is_extent_good area.blocks (Stored extent.start extent.length) ≡ true
+  pub good : is_extent_good area.blocks (Stored extent.start extent.length None) ≡ true
 
 pub room_of : (segments : List SegmentRow) (kept : List Kept) (area : Area) (extent : Extent) → can_take (media_seen segments kept area) extent ≡ true
     → IsRoom (objects_in kept) area extent
@@ -113,31 +114,31 @@ clear_others p (s ∷ f) b e =
     let parts = and_parts (p s) (list_all p (f ++ Allocated ∷ b)) e in
     and_from (p s) (list_all p (f ++ b)) parts.0 (clear_others p f b parts.1)
 
-pub stored_is : ObjectsChange → (segments : List SegmentRow) (kept : List Kept) (area new : Area) (bytes : ℕ) (id : List ℕ) (extent : Extent) (moment : ℕ)
+pub stored_is : ObjectsChange → (segments : List SegmentRow) (kept : List Kept) (area new : Area) (bytes : ℕ) (id : List ℕ) (extent : Extent) (digest : Option Digest) (moment : ℕ)
     → IsMedia segments kept area bytes → are_object_ids_distinct (objects_in kept) ≡ true → keep_refusal (object_of id (objects_in kept)) ≡ None
     → IsRoom (objects_in kept) area extent → IsPlaceTaken extent.start (blocks_of extent.length) area new
-    → IsMedia segments (changed_at id (stored_at extent moment) kept) new (bytes + extent.length)
-stored_is changes segments kept area new bytes id extent moment was distinct free room taken =
-    let objects = stored_objects id extent moment kept in
-    let fill = filled id extent.start extent.length moment (objects_in kept) distinct free in
+    → IsMedia segments (changed_at id (stored_at extent digest moment) kept) new (bytes + extent.length)
+stored_is changes segments kept area new bytes id extent digest moment was distinct free room taken =
+    let objects = stored_objects id extent digest moment kept in
+    let fill = filled id extent.start extent.length digest moment (objects_in kept) distinct free in
     let bare = without_empty fill.front fill.back area bytes (subst (λ l. AreHeld l area bytes) fill.was was.held) in
     let clear = clear_others (is_clear_of extent.start (blocks_of extent.length)) fill.front fill.back
     (subst (λ l. list_all (is_clear_of extent.start (blocks_of extent.length)) l ≡ true) fill.was room.clear) in
     record {
-      tied = changes segments id (stored_at extent moment) kept (λ k. refl) (λ k. refl) was.tied;
+      tied = changes segments id (stored_at extent digest moment) kept (λ k. refl) (λ k. refl) was.tied;
       named = ap (λ l. are_references_good l segments) objects
-          ∙ good_still (objects_in kept) (with_object id (stored_row extent.start extent.length moment) (objects_in kept))
-          (stored_after id extent.start extent.length moment (objects_in kept)) segments was.named;
+          ∙ good_still (objects_in kept) (with_object id (stored_row extent.start extent.length digest moment) (objects_in kept))
+          (stored_after id extent.start extent.length digest moment (objects_in kept)) segments was.named;
       held = subst (λ l. AreHeld l new (bytes + extent.length)) (sym (ap object_states objects ∙ fill.is))
-          (with_extent fill.front fill.back extent.start extent.length area new bytes bare clear room.good taken);
+          (with_extent fill.front fill.back extent.start extent.length digest area new bytes bare clear room.good taken);
       rising = was.rising;
     }
 
-pub stored_seen : (segments : List SegmentRow) (kept : List Kept) (area new : Area) (id : List ℕ) (extent : Extent) (moment : ℕ)
+pub stored_seen : (segments : List SegmentRow) (kept : List Kept) (area new : Area) (id : List ℕ) (extent : Extent) (digest : Option Digest) (moment : ℕ)
     → IsPlaceTaken extent.start (blocks_of extent.length) area new
-    → media_seen segments (changed_at id (stored_at extent moment) kept) new ≡ with_stored id extent moment (media_seen segments kept area)
-stored_seen segments kept area new id extent moment taken =
-    ap₂ (λ n l. record { blocks = n; segments = segments; objects = l }) taken.blocks (stored_objects id extent moment kept)
+    → media_seen segments (changed_at id (stored_at extent digest moment) kept) new ≡ with_stored id extent digest moment (media_seen segments kept area)
+stored_seen segments kept area new id extent digest moment taken =
+    ap₂ (λ n l. record { blocks = n; segments = segments; objects = l }) taken.blocks (stored_objects id extent digest moment kept)
 
 -- ---- a segment that comes
 

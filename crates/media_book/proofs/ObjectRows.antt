@@ -5,6 +5,7 @@ use Rattle.std.specs.List.{list_all}
 use Rattle.std.proofs.lemmas.Bool.{and_from, and_parts}
 use Rattle.std.proofs.lemmas.Bool.Decides.{nat_tests}
 use Rattle.std.specs.Cmp.Lexicographic.{bytes_decides}
+use Rattle.media_rows.specs.declared.object.Digest.{Digest}
 use Rattle.media_rows.specs.declared.object.Extent.{Extent}
 use Rattle.media_rows.specs.declared.object.ObjectRow.{ObjectRow}
 use Rattle.media_rows.specs.declared.object.ObjectState.{ObjectState}
@@ -48,16 +49,16 @@ pub new_objects : (id : List ℕ) (serial moment : ℕ) (kept : List Kept)
 new_objects id serial moment [] = refl
 new_objects id serial moment (k ∷ ks) = ap (λ l. k.row ∷ l) (new_objects id serial moment ks)
 
-pub stored_objects : (id : List ℕ) (extent : Extent) (moment : ℕ) (kept : List Kept)
-    → objects_in (changed_at id (stored_at extent moment) kept) ≡ with_object id (stored_row extent.start extent.length moment) (objects_in kept)
-stored_objects id extent moment [] = refl
-stored_objects id extent moment (k ∷ ks) = by (bytes_eq k.row.id id) (stored_objects id extent moment ks)
+pub stored_objects : (id : List ℕ) (extent : Extent) (digest : Option Digest) (moment : ℕ) (kept : List Kept)
+    → objects_in (changed_at id (stored_at extent digest moment) kept) ≡ with_object id (stored_row extent.start extent.length digest moment) (objects_in kept)
+stored_objects id extent digest moment [] = refl
+stored_objects id extent digest moment (k ∷ ks) = by (bytes_eq k.row.id id) (stored_objects id extent digest moment ks)
   where
-    by : (p : Bool) → objects_in (changed_at id (stored_at extent moment) ks) ≡ with_object id (stored_row extent.start extent.length moment) (objects_in ks)
-        → (cond p (stored_at extent moment k) k).row ∷ objects_in (changed_at id (stored_at extent moment) ks)
-        ≡ cond p (stored_row extent.start extent.length moment k.row) k.row
-        ∷ with_object id (stored_row extent.start extent.length moment) (objects_in ks)
-    by true rest = ap (λ l. stored_row extent.start extent.length moment k.row ∷ l) rest
+    by : (p : Bool) → objects_in (changed_at id (stored_at extent digest moment) ks) ≡ with_object id (stored_row extent.start extent.length digest moment) (objects_in ks)
+        → (cond p (stored_at extent digest moment k) k).row ∷ objects_in (changed_at id (stored_at extent digest moment) ks)
+        ≡ cond p (stored_row extent.start extent.length digest moment k.row) k.row
+        ∷ with_object id (stored_row extent.start extent.length digest moment) (objects_in ks)
+    by true rest = ap (λ l. stored_row extent.start extent.length digest moment k.row ∷ l) rest
     by false rest = ap (λ l. k.row ∷ l) rest
 
 -- ---- what segments name is kept
@@ -102,15 +103,15 @@ stored_behind more (row ∷ rows) id e = by (bytes_eq row.id id) e (stored_behin
     by true held rest = held
     by false held rest = rest held
 
-pub stored_after : (at : List ℕ) (start size moment : ℕ) (objects : List ObjectRow) (id : List ℕ) → is_stored_object objects id ≡ true
-    → is_stored_object (with_object at (stored_row start size moment) objects) id ≡ true
-stored_after at start size moment [] id e = absurd (grind (arith, e))
-stored_after at start size moment (row ∷ rows) id e =
-    by (bytes_eq row.id at) (bytes_eq row.id id) refl e (stored_after at start size moment rows id)
+pub stored_after : (at : List ℕ) (start size : ℕ) (digest : Option Digest) (moment : ℕ) (objects : List ObjectRow) (id : List ℕ) → is_stored_object objects id ≡ true
+    → is_stored_object (with_object at (stored_row start size digest moment) objects) id ≡ true
+stored_after at start size digest moment [] id e = absurd (grind (arith, e))
+stored_after at start size digest moment (row ∷ rows) id e =
+    by (bytes_eq row.id at) (bytes_eq row.id id) refl e (stored_after at start size digest moment rows id)
   where
     by : (q p : Bool) → bytes_eq row.id id ≡ p → is_stored_row (cond p (Some row) (object_of id rows)) ≡ true
-        → (is_stored_object rows id ≡ true → is_stored_object (with_object at (stored_row start size moment) rows) id ≡ true)
-        → is_stored_object (cond q (stored_row start size moment row) row ∷ with_object at (stored_row start size moment) rows) id ≡ true
+        → (is_stored_object rows id ≡ true → is_stored_object (with_object at (stored_row start size digest moment) rows) id ≡ true)
+        → is_stored_object (cond q (stored_row start size digest moment row) row ∷ with_object at (stored_row start size digest moment) rows) id ≡ true
     by true true ep held rest = rw ep refl
     by true false ep held rest = rw ep (rest held)
     by false true ep held rest = rw ep held
@@ -123,25 +124,25 @@ states_append [] b = refl
 states_append (row ∷ a) b = ap (λ l. row.state ∷ l) (states_append a b)
 
 -- the states of objects of which an allocated one is stored
-pub record IsFilled (start size : ℕ) (objects next : List ObjectRow) : Type 0 where
+pub record IsFilled (start size : ℕ) (digest : Option Digest) (objects next : List ObjectRow) : Type 0 where
   pub front : List ObjectState
   pub back : List ObjectState
   pub was : object_states objects ≡ front ++ Allocated ∷ back
-  pub is : object_states next ≡ front ++ Stored start size ∷ back
+  pub is : object_states next ≡ front ++ Stored start size digest ∷ back
 
-pub filled : (id : List ℕ) (start size moment : ℕ) (objects : List ObjectRow) → are_object_ids_distinct objects ≡ true
-    → keep_refusal (object_of id objects) ≡ None → IsFilled start size objects (with_object id (stored_row start size moment) objects)
-filled id start size moment [] distinct free = absurd (grind (arith, free))
-filled id start size moment (row ∷ rows) distinct free =
+pub filled : (id : List ℕ) (start size : ℕ) (digest : Option Digest) (moment : ℕ) (objects : List ObjectRow) → are_object_ids_distinct objects ≡ true
+    → keep_refusal (object_of id objects) ≡ None → IsFilled start size digest objects (with_object id (stored_row start size digest moment) objects)
+filled id start size digest moment [] distinct free = absurd (grind (arith, free))
+filled id start size digest moment (row ∷ rows) distinct free =
     let parts = and_parts (list_all (λ other. not (bytes_eq row.id other)) (map (λ r. r.id) rows)) (are_object_ids_distinct rows) distinct in
-    by (bytes_eq row.id id) refl free parts.0 (λ e. filled id start size moment rows parts.1 e)
+    by (bytes_eq row.id id) refl free parts.0 (λ e. filled id start size digest moment rows parts.1 e)
   where
     others : (rs : List ObjectRow) → row.id ≡ id → list_all (λ other. not (bytes_eq row.id other)) (map (λ r. r.id) rs) ≡ true
-        → with_object id (stored_row start size moment) rs ≡ rs
+        → with_object id (stored_row start size digest moment) rs ≡ rs
     others [] same e = refl
     others (r ∷ rs) same e =
         let both = and_parts (not (bytes_eq row.id r.id)) (list_all (λ other. not (bytes_eq row.id other)) (map (λ x. x.id) rs)) e in
-        ap₂ (λ (b : Bool) (l : List ObjectRow). cond b (stored_row start size moment r) r ∷ l)
+        ap₂ (λ (b : Bool) (l : List ObjectRow). cond b (stored_row start size digest moment r) r ∷ l)
         (bytes_turned r.id id ∙ ap (λ i. bytes_eq i r.id) (sym same) ∙ un (bytes_eq row.id r.id) both.0) (others rs same both.1)
       where
         un : (b : Bool) → not b ≡ true → b ≡ false
@@ -150,17 +151,17 @@ filled id start size moment (row ∷ rows) distinct free =
 
     state_is : (s : ObjectState) → keep_state s ≡ None → s ≡ Allocated
     state_is Allocated e = refl
-    state_is (Stored a b) e = absurd (grind (arith, e))
+    state_is (Stored a b digest) e = absurd (grind (arith, e))
 
     by : (p : Bool) → bytes_eq row.id id ≡ p → keep_refusal (cond p (Some row) (object_of id rows)) ≡ None
         → list_all (λ other. not (bytes_eq row.id other)) (map (λ r. r.id) rows) ≡ true
-        → (keep_refusal (object_of id rows) ≡ None → IsFilled start size rows (with_object id (stored_row start size moment) rows))
-        → IsFilled start size (row ∷ rows) (cond p (stored_row start size moment row) row ∷ with_object id (stored_row start size moment) rows)
+        → (keep_refusal (object_of id rows) ≡ None → IsFilled start size digest rows (with_object id (stored_row start size digest moment) rows))
+        → IsFilled start size digest (row ∷ rows) (cond p (stored_row start size digest moment row) row ∷ with_object id (stored_row start size digest moment) rows)
     by true e held apart rest = record {
       front = [];
       back = object_states rows;
       was = ap (λ s. s ∷ object_states rows) (state_is row.state held);
-      is = ap (λ l. Stored start size ∷ object_states l) (others rows (same_id row.id id e) apart);
+      is = ap (λ l. Stored start size digest ∷ object_states l) (others rows (same_id row.id id e) apart);
     }
     by false e held apart rest =
         let r = rest held in

@@ -7,6 +7,7 @@ use Rattle.std.proofs.lemmas.Bool.Decides.{nat_tests}
 use Rattle.std.proofs.lemmas.List.Folds.{list_all-append}
 use Rattle.time_range.specs.declared.ranges.Span.{Span}
 use Rattle.time_range.specs.Points.{high_of, low_of}
+use Rattle.media_rows.specs.declared.object.Digest.{Digest}
 use Rattle.media_rows.specs.declared.object.Extent.{Extent}
 use Rattle.media_rows.specs.declared.object.ObjectRow.{ObjectRow}
 use Rattle.media_rows.specs.declared.object.ObjectState.{ObjectState}
@@ -96,16 +97,16 @@ holds_is blocks front Allocated = and_true (list_all (λ (r : ObjectRow). are_st
   where
     bare : (s : ObjectState) → are_states_apart s Allocated ≡ true
     bare Allocated = refl
-    bare (Stored start size) = refl
+    bare (Stored start size digest) = refl
 
     all : (rows : List ObjectRow) → list_all (λ (r : ObjectRow). are_states_apart r.state Allocated) rows ≡ true
     all [] = refl
     all (r ∷ rows) =
         and_from (are_states_apart r.state Allocated) (list_all (λ (x : ObjectRow). are_states_apart x.state Allocated) rows) (bare r.state) (all rows)
-holds_is blocks front (Stored start size) =
+holds_is blocks front (Stored start size digest) =
     ap (λ b. b && (nat_le (start + blocks_of size) blocks && (nat_lt 0 size || (start == 0))))
-    (same_all (λ (r : ObjectRow). are_states_apart r.state (Stored start size)) (λ (r : ObjectRow). is_clear_of start (blocks_of size) r.state)
-    (λ r. apart_turns r.state (Stored start size) ∙ sym (clear_apart start size r.state)) front)
+    (same_all (λ (r : ObjectRow). are_states_apart r.state (Stored start size digest)) (λ (r : ObjectRow). is_clear_of start (blocks_of size) r.state)
+    (λ r. apart_turns r.state (Stored start size digest) ∙ sym (clear_apart start size digest r.state)) front)
     ∙ placed (list_all (λ (r : ObjectRow). is_clear_of start (blocks_of size) r.state) front) (nat_le (start + blocks_of size) blocks)
     (nat_lt 0 size || (start == 0))
   where
@@ -393,19 +394,19 @@ found_last (o ∷ objects) row serial moment new = by (bytes_eq o.id row.id) new
     by true e rest = absurd (grind (arith, e))
     by false e rest = rest e
 
-pub stored_last : (objects : List ObjectRow) (row : ObjectRow) (start size : ℕ) → row.state ≡ Stored start size → is_some (object_of row.id objects) ≡ false
-    → with_object row.id (stored_row start size row.idle_since) (objects ++ allocated_rows row.serial row.idle_since (row.id ∷ [])) ≡ objects ++ row ∷ []
-stored_last [] row start size is new =
+pub stored_last : (objects : List ObjectRow) (row : ObjectRow) (start size : ℕ) (digest : Option Digest) → row.state ≡ Stored start size digest → is_some (object_of row.id objects) ≡ false
+    → with_object row.id (stored_row start size digest row.idle_since) (objects ++ allocated_rows row.serial row.idle_since (row.id ∷ [])) ≡ objects ++ row ∷ []
+stored_last [] row start size digest is new =
     rw (same_bytes row.id row.id refl)
     (ap (λ s. record { id = row.id; serial = row.serial; state = s; idle_since = row.idle_since } ∷ []) (sym is))
-stored_last (o ∷ objects) row start size is new = by (bytes_eq o.id row.id) new (stored_last objects row start size is)
+stored_last (o ∷ objects) row start size digest is new = by (bytes_eq o.id row.id) new (stored_last objects row start size digest is)
   where
     by : (b : Bool) → is_some (cond b (Some o) (object_of row.id objects)) ≡ false
         → (is_some (object_of row.id objects) ≡ false
-        → with_object row.id (stored_row start size row.idle_since) (objects ++ allocated_rows row.serial row.idle_since (row.id ∷ []))
+        → with_object row.id (stored_row start size digest row.idle_since) (objects ++ allocated_rows row.serial row.idle_since (row.id ∷ []))
         ≡ objects ++ row ∷ [])
-        → cond b (stored_row start size row.idle_since o) o
-        ∷ with_object row.id (stored_row start size row.idle_since) (objects ++ allocated_rows row.serial row.idle_since (row.id ∷ []))
+        → cond b (stored_row start size digest row.idle_since o) o
+        ∷ with_object row.id (stored_row start size digest row.idle_since) (objects ++ allocated_rows row.serial row.idle_since (row.id ∷ []))
         ≡ o ∷ objects ++ row ∷ []
     by true e rest = absurd (grind (arith, e))
     by false e rest = ap (λ l. o ∷ l) (rest e)
@@ -425,7 +426,7 @@ no_blocks objects blocks start = by (start == 0) (nat_lt 0 0) refl refl
   where
     clear : start ≡ 0 → (s : ObjectState) → is_clear_of start 0 s ≡ true
     clear at_start Allocated = refl
-    clear at_start (Stored other size) =
+    clear at_start (Stored other size digest) =
         or_left (nat_le (start + 0) other) (nat_le (other + blocks_of size) start) (le-leb (start + 0) other (omega (arith, at_start)))
 
     fits : start ≡ 0 → nat_le (start + 0) blocks ≡ true
@@ -518,16 +519,16 @@ media_are_good library good =
 
 -- ---- an object with its bytes
 
-pub held_last : (media bare : Media) (row : ObjectRow) (start size : ℕ) → row.state ≡ Stored start size
+pub held_last : (media bare : Media) (row : ObjectRow) (start size : ℕ) (digest : Option Digest) → row.state ≡ Stored start size digest
     → is_some (object_of row.id media.objects) ≡ false → bare ≡ with_allocated row.serial row.idle_since (row.id ∷ []) media
     → can_take media (record { start = start; length = size }) ≡ true
-    → Some (with_stored row.id (record { start = start; length = size }) row.idle_since bare)
+    → Some (with_stored row.id (record { start = start; length = size }) digest row.idle_since bare)
     ≡ media_if (can_hold media row.state) (with_objects (row ∷ []) media)
-held_last media bare row start size is new came can =
-    if_good (can_hold media row.state) (with_stored row.id (record { start = start; length = size }) row.idle_since bare) (with_objects (row ∷ []) media)
+held_last media bare row start size digest is new came can =
+    if_good (can_hold media row.state) (with_stored row.id (record { start = start; length = size }) digest row.idle_since bare) (with_objects (row ∷ []) media)
     (ap (can_hold media) is ∙ can)
-    (ap (with_stored row.id (record { start = start; length = size }) row.idle_since) came
-    ∙ ap (λ l. record { blocks = media.blocks; segments = media.segments; objects = l }) (stored_last media.objects row start size is new))
+    (ap (with_stored row.id (record { start = start; length = size }) digest row.idle_since) came
+    ∙ ap (λ l. record { blocks = media.blocks; segments = media.segments; objects = l }) (stored_last media.objects row start size digest is new))
 
 -- a place of no bytes
 pub none_taken : (media : Media) (extent : Extent) → extent.length ≡ 0 → (extent.start == 0) ≡ can_take media extent

@@ -3,6 +3,7 @@ use Rattle.std.proofs.Common.{◌≡◌, inl, inr, ℕ, ◌+◌, ◌≤◌, nat_
 use Rattle.std.specs.Prelude.{◌==◌}
 use Rattle.std.specs.List.{AllByRecursion, list_all, list_any, sum}
 use Rattle.std.proofs.lemmas.Bool.{and_parts}
+use Rattle.media_rows.specs.declared.object.Digest.{Digest}
 use Rattle.media_rows.specs.declared.object.ObjectRow.{ObjectRow}
 use Rattle.media_rows.specs.declared.object.ObjectState.{ObjectState}
 use Rattle.media_rows.specs.declared.object.ObjectState.TheVariants.{Allocated, Stored}
@@ -32,12 +33,12 @@ object_serial row = row.serial
 may_lose : (f : List ObjectState) (s : ObjectState) (b : List ObjectState) (area : Area) (bytes : ℕ) → AreHeld (f ++ s ∷ b) area bytes
     → MayLose s area bytes
 may_lose f Allocated b area bytes h = tt
-may_lose f (Stored start size) b area bytes h =
-    let give = may_give f b start size area bytes h in
+may_lose f (Stored start size digest) b area bytes h =
+    let give = may_give f b start size digest area bytes h in
     record {
       inside = give.0;
       taken = give.1;
-      counted = fits (sum (map stored_size (f ++ b))) (h.counted ∙ sizes_amid f (Stored start size) b);
+      counted = fits (sum (map stored_size (f ++ b))) (h.counted ∙ sizes_amid f (Stored start size digest) b);
     }
   where
     fits : (n : ℕ) → bytes ≡ size + n → size ≤ bytes
@@ -49,8 +50,8 @@ lost_held f Allocated b area new bytes after h lost = (
   subst (λ a. AreHeld (f ++ b) a after) (sym lost.0) (subst (AreHeld (f ++ b) area) (sym lost.1) (without_empty f b area bytes h)),
   ap (λ a. a.blocks) lost.0,
 )
-lost_held f (Stored start size) b area new bytes after h lost = (
-  subst (AreHeld (f ++ b) new) (sym lost.counted) (without_extent f b start size area new bytes h lost.given),
+lost_held f (Stored start size digest) b area new bytes after h lost = (
+  subst (AreHeld (f ++ b) new) (sym lost.counted) (without_extent f b start size digest area new bytes h lost.given),
   lost.given.blocks,
 )
 

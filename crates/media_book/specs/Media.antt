@@ -2,6 +2,7 @@
 -- own rules.
 use Rattle.std.specs.Prelude.{◌≡◌, ℕ, ◌==◌, nat_lt, List, [], ◌++◌, Bool, ◌&&◌, ◌||◌, IsTrue, Contains, Option, Some, None, if◌then◌else◌, is_some, map}
 use Rattle.std.specs.List.{AllByRecursion, list_all, sum}
+use Rattle.media_rows.specs.declared.object.Digest.{Digest}
 use Rattle.media_rows.specs.declared.object.Extent.{Extent}
 use Rattle.media_rows.specs.declared.object.ObjectRow.{ObjectRow}
 use Rattle.media_rows.specs.declared.object.ObjectState.{ObjectState}
@@ -85,10 +86,10 @@ abbrev pub with_allocated : ℕ → ℕ → List (List ℕ) → Media → Media
 with_allocated serial moment ids media =
     record media { objects = media.objects ++ allocated_rows serial moment ids }
 
--- an object has its bytes at a place from now on
-abbrev pub with_stored : List ℕ → Extent → ℕ → Media → Media
-with_stored id extent moment media = record media {
-  objects = with_object id (stored_row extent.start extent.length moment) media.objects;
+-- an object has its bytes at a place from now on, and their digest where one is kept
+abbrev pub with_stored : List ℕ → Extent → Option Digest → ℕ → Media → Media
+with_stored id extent digest moment media = record media {
+  objects = with_object id (stored_row extent.start extent.length digest moment) media.objects;
 }
 
 -- the segments of a post come, with rising serials from this one on
@@ -115,7 +116,7 @@ swept moment media = record media {
 -- how many bytes an object in this state has
 abbrev pub stored_size : ObjectState → ℕ
 stored_size Allocated = 0
-stored_size (Stored start size) = size
+stored_size (Stored start size digest) = size
 
 -- the bytes of all objects
 abbrev pub stored_bytes : List ObjectRow → ℕ

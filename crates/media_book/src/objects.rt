@@ -8,7 +8,7 @@ ghost use Rattle.media_book.specs.Media.{allocation_refusal, are_objects_below, 
 
 use crate::MediaBook;
 use disk_trait::{Memory, Text};
-use media_rows::{BookFault, Extent};
+use media_rows::{BookFault, Digest, Extent};
 use object_blobs::BLOCK;
 use reference_laws::{objects_change, objects_come};
 use std::alloc::Global;
@@ -73,23 +73,24 @@ impl MediaBook {
         self.space.is_free(extent.start, blocks_of(extent.length))
     }
 
-    /// Notes that an object has its bytes, at a place whose blocks are free, and is idle since now. It is refused
-    /// as `UnknownObject` where there is no such object, and as `OtherBytes` where it has its bytes already. A
-    /// number of all bytes that passes a `u64` is want of memory.
+    /// Notes that an object has its bytes, at a place whose blocks are free and with their digest where one is
+    /// kept, and is idle since now. It is refused as `UnknownObject` where there is no such object, and as
+    /// `OtherBytes` where it has its bytes already. A number of all bytes that passes a `u64` is want of memory.
     pub fn store(
         &self,
         alloc: Global,
         id: &Text,
         extent: Extent,
+        digest: Option<Digest>,
         now: u64,
     ) -> Result<MediaBook, BookFault>
         requires place { IsTrue (can_take self.now extent) }
         ensures { IsChange (keep_refusal (object_of id.now self.now.objects))
-            (with_stored id.now extent now self.now) result }
+            (with_stored id.now extent digest now self.now) result }
     {
         objects_change();
         self.objects.is_in_order();
-        match self.objects.mark_stored(alloc, id, extent, now) {
+        match self.objects.mark_stored(alloc, id, extent, digest, now) {
             Ok(objects) => Ok(MediaBook {
                 segments: self.segments.share()?,
                 objects,

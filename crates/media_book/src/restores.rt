@@ -9,7 +9,7 @@ ghost use Rattle.media_book.specs.Within.Restoring.{can_come, can_follow, can_ho
 
 use crate::MediaBook;
 use disk_trait::{Duplicate, Memory};
-use media_rows::{BookFault, Extent, ObjectRow, ObjectState, SegmentRow};
+use media_rows::{BookFault, Digest, Extent, ObjectRow, ObjectState, SegmentRow};
 use std::alloc::Global;
 use time_range::TimeRange;
 
@@ -92,6 +92,7 @@ impl MediaBook {
             ObjectState::Stored {
                 start_block,
                 length,
+                digest,
             } => {
                 let extent = Extent {
                     start: start_block,
@@ -100,7 +101,7 @@ impl MediaBook {
                 if !self.takes(extent) {
                     return Ok(None);
                 }
-                stored(alloc, &bare, row, extent)
+                stored(alloc, &bare, row, extent, digest)
             }
         }
     }
@@ -159,13 +160,14 @@ fn stored(
     bare: &MediaBook,
     row: &ObjectRow,
     extent: Extent,
+    digest: Option<Digest>,
 ) -> Result<Option<MediaBook>, Memory>
     requires place { IsTrue (can_take bare.now extent) }
     requires bare { keep_refusal (object_of row.now.id bare.now.objects) ≡ None }
     ensures { IfOk result (λ media. media
-        ≡ Some (with_stored row.now.id extent row.now.idle_since bare.now)) }
+        ≡ Some (with_stored row.now.id extent digest row.now.idle_since bare.now)) }
 {
-    match bare.store(alloc, &row.id, extent, row.idle_since) {
+    match bare.store(alloc, &row.id, extent, digest, row.idle_since) {
         Ok(next) => Ok(Some(next)),
         Err(BookFault::Refused(_)) => unreachable!(),
         Err(BookFault::Memory) => Err(Memory),

@@ -86,6 +86,7 @@ fn without_bytes(
         ObjectState::Stored {
             start_block,
             length,
+            ..
         } => Ok(Room {
             space: space.give(alloc, start_block, blocks_of(length))?,
             bytes: bytes - length,

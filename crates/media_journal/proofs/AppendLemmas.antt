@@ -86,14 +86,15 @@ module _ (image payload : List ℕ) (gate : ℕ) (fits : gate + (6 + length payl
       gate-frame_text payload)
 
 -- the half has one record more
-half_more : (image : List ℕ) (start end gate : ℕ) (rows : List ℕ) (records : List Record) (payload : List ℕ) → end ≤ length image
-    → gate + (6 + length payload) ≤ end → length payload < 2 ^ 32 → HasHalf image start end gate rows records
-    → HasHalf (recorded image gate payload) start end (gate + (length payload + 5)) rows (records ++ record { offset = gate; payload = payload } ∷ [])
-half_more image start end gate rows records payload within room short h =
+half_more : (image : List ℕ) (start end gate form : ℕ) (rows : List ℕ) (records : List Record) (payload : List ℕ) → end ≤ length image
+    → gate + (6 + length payload) ≤ end → length payload < 2 ^ 32 → HasHalf image start end gate form rows records
+    → HasHalf (recorded image gate payload) start end (gate + (length payload + 5)) form rows (records ++ record { offset = gate; payload = payload } ∷ [])
+half_more image start end gate form rows records payload within room short h =
     let fits : gate + (6 + length payload) ≤ length image = omega arith in
     let bound : start + (8 + length rows) ≤ gate = chain_bounds image _ records gate h.chain in
     let place : length payload + 5 ≡ 5 + length payload = omega arith in
     record {
+      is = h.is;
       text = recorded-before image payload gate fits start (8 + length rows) bound ∙ h.text;
       few = h.few;
       chain =
@@ -124,7 +125,7 @@ gives_more image p held payload within room short g =
           id = g.half.header.id;
         };
         sizes = rw size g.half.sizes;
-        half = half_more image _ _ p.gate held.rows held.records payload (omega (arith, g.half.room)) (omega (arith, g.half.room)) short g.half.half;
+        half = half_more image _ _ p.gate held.form held.rows held.records payload (omega (arith, g.half.room)) (omega (arith, g.half.room)) short g.half.half;
         room = omega (arith, g.half.room);
         blocks = g.half.blocks;
         half_blocks = g.half.half_blocks;

@@ -5,6 +5,7 @@ use Rattle.std.proofs.Math.Nat.{add-div_right}
 use Rattle.std.proofs.Common.{ne_eqb}
 use Rattle.std.proofs.lemmas.List.{places, same_lists}
 use Rattle.std.specs.Prelude.{if◌then◌else◌}
+use Rattle.disk_trait.specs.Forms.{form_in_use}
 use Rattle.disk_trait.specs.Numbers.{u64_bytes}
 use Rattle.disk_trait.proofs.NumberLemmas.{length-u64_bytes}
 use Rattle.disk_trait.specs.Device.{Device, IsDevice, Left, may_leave, read_with}
@@ -13,7 +14,7 @@ use Rattle.disk_trait.proofs.Theorems.{elapses_weaker}
 use Rattle.disk_trait.proofs.TornLemmas.{bytes_before, bytes_behind, torn-overwritten, torn_itself}
 use Rattle.disk_trait.proofs.OverwriteLemmas.{bytes_at-written, get_or-bytes_at, get_or-written, length-overwritten}
 use Rattle.media_journal.specs.declared.checkpoint.TheConstants.{ROW_PIECE}
-use Rattle.media_journal.specs.File.{HasHalf, active_start, rows_text}
+use Rattle.media_journal.specs.File.{HasHalf, active_start, half_number, rows_text}
 use Rattle.media_journal.specs.Formatting.{half_text}
 use Rattle.media_journal.specs.Journal.{Contents, Gives, HasInHalf, Position}
 use Rattle.media_journal.specs.JournalMoments.{EachGives}
@@ -54,6 +55,7 @@ module _ (at n : ℕ) (image other : List ℕ) (torn : Torn at n image other) wh
         };
         sizes = rw torn.same_length h.sizes;
         half = record {
+          is = h.half.is;
           text = same_bytes p.start (8 + length held.rows) (outside p.start p.gate p.start (8 + length held.rows) place (omega arith) (omega arith)) ∙
               h.half.text;
           few = h.half.few;
@@ -153,14 +155,14 @@ row_writes-more n more =
     let one = add-div_right (n - ROW_PIECE) {k = ROW_PIECE} (omega arith) in
     omega (arith, one, ap (λ (k : ℕ). k / ROW_PIECE) whole)
 
--- the length, the rows and the closed gate make a half
+-- the form and the length, the rows and the closed gate make a half
 pub half_written : (image rows : List ℕ) (start : ℕ) → start + (9 + length rows) ≤ length image
-    → overwritten (start + 8 + length rows) (0 ∷ []) (overwritten (start + 8) rows (overwritten start (u64_bytes (length rows)) image))
+    → overwritten (start + 8 + length rows) (0 ∷ []) (overwritten (start + 8) rows (overwritten start (u64_bytes (half_number form_in_use (length rows))) image))
     ≡ overwritten start (half_text rows) image
 unfolding half_text rows_text
 half_written image rows start fits =
-    let size = length-u64_bytes (length rows) in
-    let text = u64_bytes (length rows) in
+    let size = length-u64_bytes (half_number form_in_use (length rows)) in
+    let text = u64_bytes (half_number form_in_use (length rows)) in
     let long = length-append text rows in
     let first : start + 8 ≡ start + length text = omega arith in
     let second : start + 8 + length rows ≡ start + length (text ++ rows) = omega arith in
@@ -173,12 +175,13 @@ half_written image rows start fits =
 shut : (n : ℕ) → n ≡ 0 → n ≡ 1 → ⊥
 shut n zero one = omega arith
 
-half_made : (image rows : List ℕ) (start size : ℕ) → start + (9 + length rows) ≤ length image → 9 + length rows ≤ size → length rows < 2 ^ 64
-    → HasHalf (overwritten start (half_text rows) image) start (start + size) (start + (8 + length rows)) rows []
+half_made : (image rows : List ℕ) (start size : ℕ) → start + (9 + length rows) ≤ length image → 9 + length rows ≤ size → length rows < 2 ^ 56
+    → HasHalf (overwritten start (half_text rows) image) start (start + size) (start + (8 + length rows)) form_in_use rows []
 half_made image rows start size within fits few =
     let inside : start + length (half_text rows) ≤ length image = omega (arith, length-half_text rows) in
     let none : start + 0 ≡ start = omega arith in
     record {
+      is = inl refl;
       text = rw none at (bytes_at-written start (half_text rows) image inside 0 (8 + length rows) (omega (arith, length-half_text rows))) ∙ front-half_text
           rows;
       few = few;
@@ -190,7 +193,7 @@ half_made image rows start size within fits few =
 -- ---- what a checkpoint leaves
 
 -- a journal that an image gives, and rows that fit the other half
-module _ (p : Position) (rows : List ℕ) (held : Contents) (some : 1 ≤ p.half) (fits : 9 + length rows ≤ 4096 * p.half) (few : length rows < 2 ^ 64) where
+module _ (p : Position) (rows : List ℕ) (held : Contents) (some : 1 ≤ p.half) (fits : 9 + length rows ≤ 4096 * p.half) (few : length rows < 2 ^ 56) where
   abbrev half : List ℕ
   half = half_text rows
 
@@ -329,7 +332,7 @@ checkpoint_left old new p rows held sound shows time =
 
 -- ---- the same of the place that the code found
 
-module _ (p : Position) (start : ℕ) (rows : List ℕ) (is : start ≡ other_start p) (fits : 9 + length rows ≤ 4096 * p.half) (few : length rows < 2 ^ 64) where
+module _ (p : Position) (start : ℕ) (rows : List ℕ) (is : start ≡ other_start p) (fits : 9 + length rows ≤ 4096 * p.half) (few : length rows < 2 ^ 56) where
   pub content_there : (seen after : List ℕ) (held : Contents) → start + (9 + length rows) ≤ length seen
       → after ≡ overwritten 4096 (selector_for start ∷ []) (overwritten start (half_text rows) seen) → Gives seen p held
       → Gives after (after_checkpoint p (length rows)) (with_rows rows held)

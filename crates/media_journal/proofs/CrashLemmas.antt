@@ -35,6 +35,7 @@ gives_kept image other p held size same closed g =
         };
         sizes = rw size g.half.sizes;
         half = record {
+          is = g.half.half.is;
           text = bytes_kept image other p.gate same _ _ behind ∙ g.half.half.text;
           few = g.half.half.few;
           chain = chain_kept image other _ held.records p.gate (bytes_kept image other p.gate same) g.half.half.chain;

@@ -1,15 +1,16 @@
 -- What formatting leaves in an image.
-use Rattle.std.proofs.Common.{◌≡◌, ◌<◌, ◌≤◌, ◌+◌, ◌^◌, ℕ, List, [], ◌∷◌, ◌++◌, length, take, get_or, refl, sym, ap, ◌∙◌, arith, length-append}
+use Rattle.std.proofs.Common.{◌≡◌, inl, ◌<◌, ◌≤◌, ◌+◌, ◌^◌, ℕ, List, [], ◌∷◌, ◌++◌, length, take, get_or, refl, sym, ap, ◌∙◌, arith, length-append}
 use Rattle.std.proofs.lemmas.List.{places}
 use Rattle.std.proofs.Math.Seq.{take-append_seam, take-length}
 use Rattle.disk_trait.specs.Calls.{bytes_at, overwritten}
+use Rattle.disk_trait.specs.Forms.{form_in_use}
 use Rattle.disk_trait.specs.Numbers.{u64_bytes, u128_bytes}
 use Rattle.disk_trait.proofs.NumberLemmas.{length-u64_bytes, length-u128_bytes}
 use Rattle.disk_trait.proofs.OverwriteLemmas.{length-overwritten, get_or-before, get_or-behind, get_or-written, bytes_at-before, bytes_at-behind, bytes_at-written, get_or-bytes_at}
 use Rattle.media_journal.specs.declared.header.Header.{Header}
 use Rattle.media_journal.specs.declared.format.Gate.{Gate}
 use Rattle.media_journal.specs.declared.format.Gate.TheVariants.{Store, Stray, Closed}
-use Rattle.media_journal.specs.File.{magic, header_text, rows_text, active_start, Reads, HasOpenHeader}
+use Rattle.media_journal.specs.File.{magic, header_text, half_number, rows_text, active_start, Reads, HasOpenHeader}
 use Rattle.media_journal.specs.Formatting.{FitsStore, GateIs, IsFormatted, half_text, with_store}
 use Rattle.media_journal.specs.JournalMoments.{IsNewStore}
 use Rattle.media_journal.proofs.HeaderLemmas.{length-magic, has_front, front_has}
@@ -37,21 +38,23 @@ length-header_text h =
       length-u128_bytes h.id,
     )
 
-length-rows_text : (rows : List ℕ) → length (rows_text rows) ≡ 8 + length rows
+length-rows_text : (form : ℕ) (rows : List ℕ) → length (rows_text form rows) ≡ 8 + length rows
 unfolding rows_text
-length-rows_text rows = omega (arith, length-append (u64_bytes (length rows)) rows, length-u64_bytes (length rows))
+length-rows_text form rows =
+    omega (arith, length-append (u64_bytes (half_number form (length rows))) rows, length-u64_bytes (half_number form (length rows)))
 
 pub length-half_text : (rows : List ℕ) → length (half_text rows) ≡ 9 + length rows
 unfolding half_text
-length-half_text rows = omega (arith, length-append (rows_text rows) (0 ∷ []), length-rows_text rows)
+length-half_text rows = omega (arith, length-append (rows_text form_in_use rows) (0 ∷ []), length-rows_text form_in_use rows)
 
-pub front-half_text : (rows : List ℕ) → bytes_at (half_text rows) 0 (8 + length rows) ≡ rows_text rows
+pub front-half_text : (rows : List ℕ) → bytes_at (half_text rows) 0 (8 + length rows) ≡ rows_text form_in_use rows
 unfolding half_text
-front-half_text rows = ap (λ n. take n (rows_text rows ++ 0 ∷ [])) (sym (length-rows_text rows)) ∙ take-append_seam (rows_text rows) (0 ∷ [])
+front-half_text rows =
+    ap (λ n. take n (rows_text form_in_use rows ++ 0 ∷ [])) (sym (length-rows_text form_in_use rows)) ∙ take-append_seam (rows_text form_in_use rows) (0 ∷ [])
 
 pub gate-half_text : (rows : List ℕ) → get_or (half_text rows) (8 + length rows) 0 ≡ 0
 unfolding half_text
-gate-half_text rows = let size = length-rows_text rows in grind (arith, places)
+gate-half_text rows = let size = length-rows_text form_in_use rows in grind (arith, places)
 
 -- a byte of 0 is a closed gate
 shut_gate : (n : ℕ) → n ≡ 0 → n ≡ 1 → ⊥
@@ -122,7 +125,7 @@ module _ (image : List ℕ) (h : Header) (rows : List ℕ) (fits : FitsStore h (
       ∙ get_or-before 8192 (half_text rows) with_selector half_fits 4096 0 (omega arith)
       ∙ get_or-written 4096 (0 ∷ []) with_header selector_fits 0 0 (omega arith)
 
-  rows_are : bytes_at formatted_image 8192 (8 + length rows) ≡ rows_text rows
+  rows_are : bytes_at formatted_image 8192 (8 + length rows) ≡ rows_text form_in_use rows
   rows_are =
       bytes_at-behind 40 (1 ∷ []) with_half gate_fits 8192 (8 + length rows) (omega arith)
       (omega (arith, half_fits, length-half_text rows, length-overwritten 8192 (half_text rows) with_selector half_fits))
@@ -139,7 +142,7 @@ module _ (image : List ℕ) (h : Header) (rows : List ℕ) (fits : FitsStore h (
   selector_formatted = selector_is
 
   -- it reads as the store that was asked for
-  pub formatted : h.id < 2 ^ 128 → Reads (with_store (header_text h) (half_text rows) image) h (8192 + (8 + length rows)) rows []
+  pub formatted : h.id < 2 ^ 128 → Reads (with_store (header_text h) (half_text rows) image) h (8192 + (8 + length rows)) form_in_use rows []
   formatted id =
       let start : active_start formatted_image h.half ≡ 8192 = rw selector_is refl in
       record {
@@ -152,6 +155,7 @@ module _ (image : List ℕ) (h : Header) (rows : List ℕ) (fits : FitsStore h (
         };
         sizes = rw length-formatted fits.sizes;
         half = rw start record {
+          is = inl refl;
           text = rows_are;
           few = omega (arith, fits.room, fits.sizes.half);
           chain = refl;
@@ -168,7 +172,7 @@ written_as header text half part seen now new header_is half_is same is =
 
 -- so does what formatting leaves of an image that had this length
 pub reads_formatted : (old new : List ℕ) (h : Header) (rows : List ℕ) → FitsStore h (length old) rows → h.id < 2 ^ 128
-    → IsFormatted (header_text h) (half_text rows) old new → Reads new h (8192 + (8 + length rows)) rows []
+    → IsFormatted (header_text h) (half_text rows) old new → Reads new h (8192 + (8 + length rows)) form_in_use rows []
 reads_formatted old new h rows fits id is = rw is (formatted old h rows fits id)
 
 pub is_new_store : (old new : List ℕ) (h : Header) (rows : List ℕ) → FitsStore h (length old) rows → h.id < 2 ^ 128

@@ -1,17 +1,17 @@
 -- What was read of an image decides what opening answers.
-use Rattle.std.proofs.Common.{◌≡◌, ◌≤◌, ◌+◌, ◌*◌, ℕ, List, length, take, Err, inl, inr, refl, sym, ap, ◌∙◌, subst, arith}
+use Rattle.std.proofs.Common.{◌≡◌, ◌≤◌, ◌+◌, ◌*◌, ◌⊎◌, ℕ, List, length, take, Err, inl, inr, refl, sym, ap, ◌∙◌, subst, arith}
 use Rattle.std.proofs.Math.Seq.{take-append_seam}
 use Rattle.disk_trait.specs.Calls.{bytes_at}
 use Rattle.disk_trait.proofs.OverwriteLemmas.{bytes_at-bytes_at}
 use Rattle.media_journal.specs.declared.header.Header.{Header}
 use Rattle.media_journal.specs.declared.record.Record.{Record}
 use Rattle.media_journal.specs.declared.fault.JournalFault.{JournalFault}
-use Rattle.media_journal.specs.declared.fault.JournalFault.TheVariants.{NotStore, Damaged, Disk, Memory}
-use Rattle.media_journal.specs.File.{magic, header_text, IsHeader, AreSizes, HasLongRows, Reads, IsUnreadable, active_start}
+use Rattle.media_journal.specs.declared.fault.JournalFault.TheVariants.{NotStore, Damaged, OldForm, Disk, Memory}
+use Rattle.media_journal.specs.File.{magic, header_text, IsHeader, AreSizes, HasOtherForm, HasLongRows, Reads, IsUnreadable, active_start}
 use Rattle.media_journal.specs.Within.Scan.{HalfAnswer}
-use Rattle.media_journal.specs.Opening.{IsStore, HasWrongSizes, HasWrongRows, DamagedAt, OpenAnswer}
+use Rattle.media_journal.specs.Opening.{IsStore, HasWrongSizes, HasWrongHalf, DamagedAt, OpenAnswer}
 use Rattle.media_journal.proofs.HeaderLemmas.{one_header, length-magic}
-use Rattle.media_journal.proofs.ReadingLemmas.{whole_reading, no_reading-long}
+use Rattle.media_journal.proofs.ReadingLemmas.{whole_reading, no_reading}
 
 -- an image with a header begins as a store does
 pub is_store : (image : List ℕ) (h : Header) → IsHeader image h → 20480 ≤ length image → IsStore image
@@ -28,8 +28,9 @@ is_store image h header size = record {
   };
 }
 
-pub reads_as_store : (image : List ℕ) (h : Header) (gate : ℕ) (rows : List ℕ) (records : List Record) → Reads image h gate rows records → IsStore image
-reads_as_store image h gate rows records reads =
+pub reads_as_store : (image : List ℕ) (h : Header) (gate form : ℕ) (rows : List ℕ) (records : List Record) → Reads image h gate form rows records
+    → IsStore image
+reads_as_store image h gate form rows records reads =
     is_store image h reads.header (omega (arith, reads.sizes.some_half, reads.sizes.fits, reads.sizes.within))
 
 -- numbers that the file can't have
@@ -42,27 +43,28 @@ pub open_fault : (image : List ℕ) (h : Header) (start : ℕ) (fault : JournalF
 open_fault image h start NotStore header size sizes place answer = absurd answer
 open_fault image h start (Damaged at) header size sizes place answer = (
   is_store image h header size,
-  inr (subst (λ (x : ℕ). HasWrongRows image x) (sym answer.0) record {
+  inr (subst (λ (x : ℕ). HasWrongHalf image x) (sym answer.0) record {
     header = h;
     is = header;
     sizes = sizes;
     active = place;
-    long = answer.1;
+    wrong = answer.1;
   }),
 )
+open_fault image h start OldForm header size sizes place answer = absurd answer
 open_fault image h start Disk header size sizes place answer = tt
 open_fault image h start Memory header size sizes place answer = tt
 
 -- a damaged image doesn't read
 unreadable-sizes : (image : List ℕ) → HasWrongSizes image → IsUnreadable image
-unreadable-sizes image damage other gate rows records reads =
+unreadable-sizes image damage other gate form rows records reads =
     damage.wrong (subst (λ (x : Header). AreSizes x (length image)) (one_header image other damage.header reads.header damage.is) reads.sizes)
 
-unreadable-rows : (image : List ℕ) (start : ℕ) → HasWrongRows image start → IsUnreadable image
-unreadable-rows image start damage other gate rows records reads =
-    let long = subst (λ (x : ℕ). HasLongRows image x (x + 4096 * damage.header.half)) damage.active damage.long in
-    no_reading-long image damage.header other gate rows records damage.is long (whole_reading image other gate rows records reads)
+unreadable-half : (image : List ℕ) (start : ℕ) → HasWrongHalf image start → IsUnreadable image
+unreadable-half image start damage other gate form rows records reads =
+    let wrong = subst (λ (x : ℕ). HasOtherForm image x ⊎ HasLongRows image x (x + 4096 * damage.header.half)) damage.active damage.wrong in
+    no_reading image damage.header other gate form rows records damage.is wrong (whole_reading image other gate form rows records reads)
 
 pub damaged_unreadable : (image : List ℕ) (at : ℕ) → DamagedAt image at → IsUnreadable image
 damaged_unreadable image at damage =
-    elim damage [ inl sizes ↦ unreadable-sizes image sizes.1 | inr rows ↦ unreadable-rows image at rows ]
+    elim damage [ inl sizes ↦ unreadable-sizes image sizes.1 | inr rows ↦ unreadable-half image at rows ]

@@ -3,6 +3,7 @@
 use Rattle.std.specs.Prelude.{◌≡◌, ◌+◌, ◌-◌, ◌*◌, ◌/◌, ◌⊎◌, ◌==◌, ℕ, Bool, true, false, List, [], ◌∷◌, length, if◌then◌else◌}
 use Rattle.disk_trait.specs.Device.{Left}
 use Rattle.disk_trait.specs.Calls.{Torn, overwritten}
+use Rattle.disk_trait.specs.Forms.{form_in_use}
 use Rattle.media_journal.specs.Formatting.{half_text}
 use Rattle.media_journal.specs.Journal.{Contents, Gives, HasInHalf, Position}
 
@@ -42,9 +43,9 @@ with_checkpoint p rows image =
     overwritten 4096 (selector_for (other_start p) ∷ [])
     (overwritten (other_start p) (half_text rows) image)
 
--- what a half holds after a checkpoint: these rows, and no record
+-- what a half holds after a checkpoint: these rows in the form in use, and no record
 abbrev pub with_rows : List ℕ → Contents → Contents
-with_rows rows held = record held { rows = rows; records = [] }
+with_rows rows held = record held { form = form_in_use; rows = rows; records = [] }
 
 -- only the other half, up to the closed gate behind n bytes of rows, and the selector may differ
 pub record WritesOther (p : Position) (n : ℕ) (old new : List ℕ) : Type 0 where

@@ -1,7 +1,8 @@
--- The file, store format 1: a header, a selector, two halves with rows and records, and media
--- blocks. Our own format. All numbers are big-endian, and a block has 4,096 bytes.
-use Rattle.std.specs.Prelude.{◌≡◌, ◌≢◌, ◌<◌, ◌≤◌, ◌+◌, ◌*◌, ◌%◌, ◌^◌, ◌==◌, ℕ, List, [], ◌∷◌, ◌++◌, length, slice_index, codes, Option, Some, None, if◌then◌else◌}
+-- The file: a header, a selector, two halves with rows and records, and media blocks. A half is of
+-- form 1 or of form 2. Our own format. All numbers are big-endian, and a block has 4,096 bytes.
+use Rattle.std.specs.Prelude.{◌≡◌, ◌≢◌, ◌<◌, ◌≤◌, ◌+◌, ◌*◌, ◌/◌, ◌%◌, ◌^◌, ◌==◌, ℕ, List, [], ◌∷◌, ◌++◌, length, slice_index, codes, Option, Some, None, if◌then◌else◌}
 use Rattle.disk_trait.specs.Calls.{bytes_at}
+use Rattle.disk_trait.specs.Forms.{IsForm}
 use Rattle.disk_trait.specs.Numbers.{u32_bytes, u64_bytes, u128_bytes}
 use Rattle.media_journal.specs.declared.header.Header.{Header}
 use Rattle.media_journal.specs.declared.record.Record.{Record}
@@ -54,9 +55,18 @@ abbrev pub active_start : List ℕ → ℕ → ℕ
 active_start image half =
     if slice_index image 4096 % 2 == 0 then 8192 else 8192 + 4096 * half
 
--- the rows of a half with their length before them
-unfoldable pub rows_text : List ℕ → List ℕ
-rows_text rows = u64_bytes (length rows) ++ rows
+-- the byte with which a half of a form begins: 0 in form 1, and 2 in form 2
+abbrev pub mark : ℕ → ℕ
+mark form = if form == 1 then 0 else 2
+
+-- the first eight bytes of a half as one number: the byte of its form, and in seven bytes the
+-- length of its rows
+abbrev pub half_number : ℕ → ℕ → ℕ
+half_number form size = mark form * 2 ^ 56 + size
+
+-- the rows of a half with its form and their length before them
+unfoldable pub rows_text : ℕ → List ℕ → List ℕ
+rows_text form rows = u64_bytes (half_number form (length rows)) ++ rows
 
 -- a record with its gate open: the gate, the length of the payload and the payload
 unfoldable pub record_text : List ℕ → List ℕ
@@ -74,29 +84,31 @@ AreRecords image from (r ∷ rs) to =
     (r.offset ≡ from) × IsRecordAt image from r.payload
     × AreRecords image (from + (5 + length r.payload)) rs to
 
--- A half that begins at one place and ends before another: its rows, its records, and the closed
--- gate that ends them. What lies behind that gate isn't read.
-pub record HasHalf (image : List ℕ) (start end gate : ℕ) (rows : List ℕ)
+-- A half that begins at one place and ends before another: its form, its rows, its records, and the
+-- closed gate that ends them. What lies behind that gate isn't read.
+pub record HasHalf (image : List ℕ) (start end gate form : ℕ) (rows : List ℕ)
     (records : List Record) : Type 0 where
-  pub text : bytes_at image start (8 + length rows) ≡ rows_text rows
-  pub few : length rows < 2 ^ 64
+  pub is : IsForm form
+  pub text : bytes_at image start (8 + length rows) ≡ rows_text form rows
+  pub few : length rows < 2 ^ 56
   pub chain : AreRecords image (start + (8 + length rows)) records gate
   pub closed : IsClosedGate image gate
   pub within : gate < end
 
--- the image reads as a store: its header, and the rows, records and closed gate of its active half
-pub record Reads (image : List ℕ) (h : Header) (gate : ℕ) (rows : List ℕ)
+-- the image reads as a store: its header, and the form, rows, records and closed gate of its active
+-- half
+pub record Reads (image : List ℕ) (h : Header) (gate form : ℕ) (rows : List ℕ)
     (records : List Record) : Type 0 where
   pub header : IsHeader image h
   pub sizes : AreSizes h (length image)
   pub half : HasHalf image (active_start image h.half)
-      (active_start image h.half + 4096 * h.half) gate rows records
+      (active_start image h.half + 4096 * h.half) gate form rows records
 
 -- the image doesn't read as a store
 abbrev pub IsUnreadable : List ℕ → Type 0
 IsUnreadable image =
-    (h : Header) (gate : ℕ) (rows : List ℕ) (records : List Record)
-    → Reads image h gate rows records → ⊥
+    (h : Header) (gate form : ℕ) (rows : List ℕ) (records : List Record)
+    → Reads image h gate form rows records → ⊥
 
 -- An open record stands at this place, and its end passes the half's end: no gate fits behind a
 -- payload of the length that it says.
@@ -104,29 +116,39 @@ pub record IsTornAt (image : List ℕ) (at end : ℕ) : Type 0 where
   pub gate : IsOpenGate image at
   pub passes : (n : ℕ) → n < 2 ^ 32 → bytes_at image (at + 1) 4 ≡ u32_bytes n → end < at + (6 + n)
 
--- A half that begins at one place and ends before another: its rows, its records, and the place of
--- the torn record behind them.
-pub record HasTornHalf (image : List ℕ) (start end at : ℕ) (rows : List ℕ)
+-- A half that begins at one place and ends before another: its form, its rows, its records, and the
+-- place of the torn record behind them.
+pub record HasTornHalf (image : List ℕ) (start end at form : ℕ) (rows : List ℕ)
     (records : List Record) : Type 0 where
-  pub text : bytes_at image start (8 + length rows) ≡ rows_text rows
-  pub few : length rows < 2 ^ 64
+  pub is : IsForm form
+  pub text : bytes_at image start (8 + length rows) ≡ rows_text form rows
+  pub few : length rows < 2 ^ 56
   pub chain : AreRecords image (start + (8 + length rows)) records at
   pub torn : IsTornAt image at end
   pub within : at < end
 
--- A half that begins at one place and ends before another: it says a length of its rows with which
--- no gate fits behind them.
+-- A half that begins here is of no form: the first of its eight bytes is that of none.
+pub record HasOtherForm (image : List ℕ) (start : ℕ) : Type 0 where
+  pub number : ℕ
+  pub short : number < 2 ^ 64
+  pub text : bytes_at image start 8 ≡ u64_bytes number
+  pub other : (form : ℕ) → IsForm form → number / 2 ^ 56 ≢ mark form
+
+-- A half that begins at one place and ends before another: it is of a form, and says a length of
+-- its rows with which no gate fits behind them.
 pub record HasLongRows (image : List ℕ) (start end : ℕ) : Type 0 where
+  pub form : ℕ
+  pub is : IsForm form
   pub size : ℕ
-  pub short : size < 2 ^ 64
-  pub text : bytes_at image start 8 ≡ u64_bytes size
+  pub short : size < 2 ^ 56
+  pub text : bytes_at image start 8 ≡ u64_bytes (half_number form size)
   pub passes : end < start + (9 + size)
 
--- the image reads as a store up to a torn record: its header, and the rows and records of its
+-- the image reads as a store up to a torn record: its header, and the form, rows and records of its
 -- active half before that place
-pub record ReadsTorn (image : List ℕ) (h : Header) (at : ℕ) (rows : List ℕ)
+pub record ReadsTorn (image : List ℕ) (h : Header) (at form : ℕ) (rows : List ℕ)
     (records : List Record) : Type 0 where
   pub header : IsHeader image h
   pub sizes : AreSizes h (length image)
   pub half : HasTornHalf image (active_start image h.half)
-      (active_start image h.half + 4096 * h.half) at rows records
+      (active_start image h.half + 4096 * h.half) at form rows records

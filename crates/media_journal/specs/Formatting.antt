@@ -1,6 +1,7 @@
 -- What formatting a device answers and leaves.
 use Rattle.std.specs.Prelude.{◌≡◌, ◌≤◌, ◌+◌, ◌*◌, ℕ, Bool, true, false, List, [], ◌∷◌, ◌++◌, length, Result, Ok, Err}
 use Rattle.disk_trait.specs.Calls.{overwritten}
+use Rattle.disk_trait.specs.Forms.{form_in_use}
 use Rattle.media_journal.specs.declared.header.Header.{Header}
 use Rattle.media_journal.specs.declared.format.Gate.{Gate}
 use Rattle.media_journal.specs.declared.format.Gate.TheVariants as gates
@@ -14,11 +15,11 @@ pub record FitsStore (h : Header) (size : ℕ) (rows : List ℕ) : Type 0 where
   pub room : length rows + 9 ≤ 4096 * h.half
 
 -- what formatting answers over an image, and the image that it leaves at Ok: the header, half A
--- active with the rows, and no record
+-- active in the form in use with the rows, and no record
 abbrev pub FormatAnswer : List ℕ → List ℕ → Header → List ℕ → Result (Unit {0}) FormatFault → Type 0
 FormatAnswer old new h rows (Ok _) =
     (¬ (HasOpenHeader old)) × FitsStore h (length old) rows
-    × Reads new h (8192 + (8 + length rows)) rows []
+    × Reads new h (8192 + (8 + length rows)) form_in_use rows []
 FormatAnswer old new h rows (Err AlreadyStore) = HasOpenHeader old
 FormatAnswer old new h rows (Err TooSmall) =
     (¬ (HasOpenHeader old)) × (¬ (FitsStore h (length old) rows))
@@ -49,10 +50,10 @@ GateIs image gates.Store = HasOpenHeader image
 GateIs image gates.Stray = IsStray image
 GateIs image gates.Closed = IsClosedGate image 40
 
--- the bytes of a half without a record: its rows with their length before them, and a closed gate
--- of 0
+-- the bytes of a half of the form in use without a record: its rows with its form and their length
+-- before them, and a closed gate of 0
 unfoldable pub half_text : List ℕ → List ℕ
-half_text rows = rows_text rows ++ 0 ∷ []
+half_text rows = rows_text form_in_use rows ++ 0 ∷ []
 
 -- The image with a store: the header's text, a selector of 0, half A, and the header's gate, which
 -- is opened last.

@@ -30,9 +30,10 @@ pub record IsPosition (p : Position) : Type 0 where
 abbrev pub IsWhole : Position → Type 0
 IsWhole p = p.gate + p.room ≡ p.start + 4096 * p.half
 
--- What a half of a store holds: the file's header, the half's rows, and its records.
+-- What a half of a store holds: the file's header, the half's form, its rows, and its records.
 pub record Contents : Type 0 where
   pub header : Header
+  pub form : ℕ
   pub rows : List ℕ
   pub records : List Record
 
@@ -41,8 +42,8 @@ pub record Contents : Type 0 where
 pub record HasInHalf (image : List ℕ) (p : Position) (held : Contents) : Type 0 where
   pub header : IsHeader image held.header
   pub sizes : AreSizes held.header (length image)
-  pub half : HasHalf image p.start (p.start + 4096 * held.header.half) p.gate held.rows
-      held.records
+  pub half : HasHalf image p.start (p.start + 4096 * held.header.half) p.gate held.form
+      held.rows held.records
   pub room : p.gate + p.room ≡ p.start + 4096 * held.header.half
   pub blocks : p.blocks ≡ held.header.blocks
   pub half_blocks : p.half ≡ held.header.half

@@ -2,6 +2,7 @@
 use Rattle.std.specs.Prelude.{◌≡◌, ◌+◌, ◌-◌, ◌⊎◌, ℕ, Bool, true, false, List, [], ◌∷◌, ◌++◌, drop, length, slice_index, Result, Ok, Err}
 use Rattle.disk_trait.specs.Device.{Device, Left, may_leave}
 use Rattle.disk_trait.specs.Calls.{LeavesOnly, Torn, Unchanged, bytes_at}
+use Rattle.disk_trait.specs.Forms.{form_in_use}
 use Rattle.media_journal.specs.declared.header.Header.{Header}
 use Rattle.media_journal.specs.declared.fault.FormatFault.{FormatFault}
 use Rattle.media_journal.specs.declared.fault.FormatFault.TheVariants.{AlreadyStore, TooSmall, Disk, Memory}
@@ -49,10 +50,10 @@ pub record IsAtRest (d : Device) : Type 0 where
   pub shows : d.shows ≡ true
   pub settled : LeavesOnly d.seen d
 
--- the image is the store that was asked for: its header, half A active with these rows, and no
--- record
+-- the image is the store that was asked for: its header, half A active in the form in use with
+-- these rows, and no record
 pub record IsNewStore (image : List ℕ) (h : Header) (rows : List ℕ) : Type 0 where
-  pub reads : Reads image h (8192 + (8 + length rows)) rows []
+  pub reads : Reads image h (8192 + (8 + length rows)) form_in_use rows []
   pub selector : slice_index image 4096 ≡ 0
 
 -- what formatting may have done so far: nothing was told, and the image is no store or the new one

@@ -8,6 +8,7 @@ ghost use Rattle.media_journal.specs.JournalMoments.{EachGives};
 ghost use Rattle.media_journal.specs.Checkpoint.{CheckpointEnds, KeepsOrSwitches, WritesOther, after_checkpoint, checkpoint_calls, other_of, row_writes, selector_for, with_checkpoint, with_rows};
 ghost use Rattle.media_journal.specs.Within.Steps.{SyncedWriteEnds, WithinWrites, WritesEnd};
 
+use crate::form::half_number;
 use crate::header::{BLOCK, HALVES, MOST_HALF, SELECTOR};
 use crate::write::write_synced;
 use crate::{AppendFault, Journal};
@@ -18,7 +19,8 @@ use disk_trait::{Disk, Failed};
 const ROW_PIECE: usize = 1_048_576;
 
 impl Journal {
-    /// Writes these rows into the half that isn't the journal's, and makes it the journal's: the rows stand
+    /// Writes these rows into the half that isn't the journal's, in the form in use, and makes it the
+    /// journal's: the rows stand
     /// for all that the journal had, and no record follows them. The half is synced before the selector
     /// names it, and the selector before the call answers. `Full` comes exactly where the rows' length plus
     /// 9 exceeds the bytes of a half. After `Disk` the journal must be opened again.
@@ -113,6 +115,7 @@ fn switch_half<D: Disk>(disk: &mut D, start: u64, rows: &[u8]) -> Result<(), Fai
     requires device { start + (9 + length rows.now) ≤ (D.device disk.old).size }
     requires place { HALVES ≤ start }
     requires small { start < 2 ^ 62 }
+    requires few { length rows.now < 2 ^ 56 }
     ensures calls { DiskCalls (is_ok result) (D.device disk.old) (D.device disk.new) }
     ensures few_calls { (D.device disk.new).moment
         ≤ (D.device disk.old).moment + checkpoint_calls (length rows.now) }
@@ -141,6 +144,7 @@ fn switch_half<D: Disk>(disk: &mut D, start: u64, rows: &[u8]) -> Result<(), Fai
 fn write_half<D: Disk>(disk: &mut D, start: u64, rows: &[u8]) -> Result<(), Failed>
     requires device { start + (9 + length rows.now) ≤ (D.device disk.old).size }
     requires small { start < 2 ^ 62 }
+    requires few { length rows.now < 2 ^ 56 }
     ensures calls { DiskCalls (is_ok result) (D.device disk.old) (D.device disk.new) }
     ensures few_calls { (D.device disk.new).moment
         ≤ (D.device disk.old).moment + (3 + row_writes (length rows.now)) }
@@ -161,10 +165,11 @@ fn write_half<D: Disk>(disk: &mut D, start: u64, rows: &[u8]) -> Result<(), Fail
     disk.sync()
 }
 
-/// Writes the parts of a half in a row: the length of the rows, the rows, and a closed gate.
+/// Writes the parts of a half in a row: its form and the length of the rows, the rows, and a closed gate.
 fn write_parts<D: Disk>(disk: &mut D, start: u64, rows: &[u8]) -> Result<(), Failed>
     requires device { start + (9 + length rows.now) ≤ (D.device disk.old).size }
     requires small { start < 2 ^ 62 }
+    requires few { length rows.now < 2 ^ 56 }
     ensures calls { DiskCalls (is_ok result) (D.device disk.old) (D.device disk.new) }
     ensures few_calls { (D.device disk.new).moment
         ≤ (D.device disk.old).moment + (2 + row_writes (length rows.now)) }
@@ -178,7 +183,7 @@ fn write_parts<D: Disk>(disk: &mut D, start: u64, rows: &[u8]) -> Result<(), Fai
         (TornWrite start (9 + length rows.now)) (D.device disk.old) (D.device disk.new) }
 {
     let size = rows.len() as u64;
-    disk.write_at(start, &u64_bytes(size))?;
+    disk.write_at(start, &u64_bytes(half_number(size)))?;
     write_rows(disk, start + 8, rows)?;
     disk.write_at(start + 8 + size, &[0])
 }

@@ -24,6 +24,8 @@ pub enum JournalFault {
     NotStore,
     /// The file is no store from this offset on, in bytes.
     Damaged(u64),
+    /// The file is a store of another form than the one in use. `open_journal` never answers this.
+    OldForm,
     /// A call of the device failed.
     Disk,
     /// There was no memory.

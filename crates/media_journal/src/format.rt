@@ -7,6 +7,7 @@ ghost use Rattle.media_journal.specs.Formatting.{FitsStore, FormatAnswer, GateIs
 ghost use Rattle.media_journal.specs.JournalMoments.{FormattingEnds, IsAtRest, NoneOrNew, WritesStore};
 ghost use Rattle.media_journal.specs.Within.Steps.{KeepsGate, LeavesNone, NoneOrFormatted, StoreEnds};
 
+use crate::form::half_number;
 use crate::header::{BLOCK, HALVES, HEADER, MOST_BLOCKS, MOST_HALF, SELECTOR, is_open, magic};
 use crate::write::write_synced;
 use crate::{FormatFault, Header};
@@ -27,8 +28,8 @@ enum Gate {
     Closed,
 }
 
-/// Makes a store of a device: `blocks` blocks with `half` of them a half, the id, these rows and no
-/// record. `AlreadyStore` comes exactly where its header is an open one, and otherwise `TooSmall`
+/// Makes a store of a device: `blocks` blocks with `half` of them a half, the id, and in the form in use
+/// these rows and no record. `AlreadyStore` comes exactly where its header is an open one, and otherwise `TooSmall`
 /// exactly where the numbers don't fit the device or the rows a half.
 pub fn format_device<D: Disk>(
     alloc: Global,
@@ -191,7 +192,7 @@ fn half_bytes(alloc: Global, rows: &[u8]) -> Result<Vec<u8>, Memory>
     ensures len { IfOk result (λ bytes. length bytes.items ≡ 9 + length rows.now) }
 {
     let mut bytes = Vec::with_capacity(alloc, rows.len() + 9)?;
-    bytes.extend_from_slice(&u64_bytes(rows.len() as u64))?;
+    bytes.extend_from_slice(&u64_bytes(half_number(rows.len() as u64)))?;
     bytes.extend_from_slice(rows)?;
     bytes.push(0)?;
     Ok(bytes)

@@ -5,6 +5,7 @@
 
 mod checkpoint;
 mod fault;
+mod form;
 mod format;
 mod frame;
 mod header;

@@ -1,6 +1,7 @@
 //! Opening the journal of a store.
 ghost use Rattle.std.specs.Prelude.{◌≡◌, ◌≤◌, ◌<◌, ◌+◌, ◌*◌, ℕ, List, true, length, is_ok, IfOk};
 ghost use Rattle.disk_trait.specs.Calls.{DiskReads};
+ghost use Rattle.disk_trait.specs.Forms.{IsForm};
 ghost use Rattle.media_journal.specs.Answers.{not_disk};
 ghost use Rattle.media_journal.specs.File.{active_start};
 ghost use Rattle.media_journal.specs.Journal.{IsPosition};
@@ -21,6 +22,8 @@ const SHORTEST: u64 = 5 * BLOCK;
 #[derive(Drop)]
 pub struct Opened {
     pub journal: Journal,
+    /// The form of the active half: 1 or 2.
+    pub form: u8,
     pub rows: Text,
     /// The records in order, those before the torn one where there is one.
     pub found: RecordList,
@@ -35,11 +38,11 @@ pub struct Opened {
     pub rows_at: u64,
 }
 
-/// Opens the journal of a device. `NotStore` comes exactly where the device has fewer than 20,480 bytes
-/// or no open header. `Damaged` comes with 8 exactly where the header's numbers are none that the file may
-/// have, and with the offset of the active half exactly where that half has no room for its rows and a
-/// gate. An open record whose end passes the half is no fault here: `Opened` says where it stands. What
-/// rows and payloads mean isn't looked at.
+/// Opens the journal of a device. `NotStore` comes exactly where the device has fewer than 20,480 bytes or
+/// no open header. `Damaged` comes with 8 exactly where the header's numbers are none that the file may
+/// have, and with the offset of the active half exactly where that half is of neither form, or has no room
+/// for its rows and a gate. Halves of both forms are read. An open record whose end passes the half is no
+/// fault here: `Opened` says where it stands. What rows and payloads mean isn't looked at.
 ///
 /// The half is read in pieces of 64 KiB up to the one in which its records end, and beside such a piece
 /// only the rows and payloads that are answered are kept. Both are the code's, and no clause says them.
@@ -51,6 +54,7 @@ pub fn open_journal<D: Disk>(alloc: Global, disk: &mut D) -> Result<Opened, Jour
     ensures half { IfOk result (λ o. o.journal.half ≡ o.half) }
     ensures position { IfOk result (λ o. IsPosition o.journal) }
     ensures whole { IfOk result (λ o. WholeUnlessTorn o.torn o.journal) }
+    ensures form { IfOk result (λ o. IsForm o.form) }
     ensures answer { (D.device disk.old).shows ≡ true → OpenAnswer (D.device disk.old).seen result }
 {
     let size = disk.len();
@@ -94,14 +98,16 @@ fn assembled(header: Header, start: u64, half: Half) -> Opened
     requires fits { 2 * header.half + 3 ≤ header.blocks }
     requires behind { start ≤ half.chain.gate }
     requires within { half.chain.gate < start + BLOCK * header.half }
+    requires form { IsForm half.form }
     ensures header { header_of result ≡ header }
     ensures blocks { result.journal.blocks ≡ header.blocks }
     ensures half { result.journal.half ≡ header.half }
     ensures position { IsPosition result.journal }
     ensures whole { WholeUnlessTorn result.torn result.journal }
+    ensures form { IsForm result.form }
     ensures opened { (image : List ℕ) → IsReadHalf image header start half → IsOpened image result }
 {
-    let Half { rows, chain } = half;
+    let Half { form, rows, chain } = half;
     let end = start + BLOCK * header.half;
     Opened {
         journal: Journal {
@@ -111,6 +117,7 @@ fn assembled(header: Header, start: u64, half: Half) -> Opened
             gate: chain.gate,
             room: if chain.torn { 0 } else { end - chain.gate },
         },
+        form,
         rows,
         found: chain.records,
         torn: chain.torn.then_some(chain.gate),

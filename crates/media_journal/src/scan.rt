@@ -1,6 +1,7 @@
 //! The records of a half, read one after another up to the closed gate.
 ghost use Rattle.std.specs.Prelude.{◌≡◌, ◌<◌, ◌≤◌, ◌+◌, ◌^◌, ◌↔◌, true, is_ok, length, IfOk, IsTrue, OnOk};
 ghost use Rattle.disk_trait.specs.Calls.{DiskReads, bytes_at};
+ghost use Rattle.disk_trait.specs.Forms.{IsForm};
 ghost use Rattle.disk_trait.specs.Numbers.{u32_bytes, u64_bytes};
 ghost use Rattle.media_journal.specs.Answers.{not_disk, read_ok};
 ghost use Rattle.media_journal.specs.File.{IsOpenGate};
@@ -8,6 +9,7 @@ ghost use Rattle.media_journal.specs.Within.Scan.{FoundAt, EndsBefore, HalfAnswe
 ghost use Rattle.media_journal.specs.Within.Window.{IsPieceOn};
 
 use crate::fault::HalfFault;
+use crate::form::{FORM_PLACE, form_of};
 use crate::window::Window;
 use crate::{JournalFault, Record, RecordList};
 use disk_trait::numbers::{read_u32, read_u64};
@@ -33,15 +35,16 @@ pub(crate) struct Chain {
     pub(crate) torn: bool,
 }
 
-/// The rows of a half and the records behind them.
+/// The form of a half, its rows and the records behind them.
 #[derive(Drop)]
 pub(crate) struct Half {
+    pub(crate) form: u8,
     pub(crate) rows: Text,
     pub(crate) chain: Chain,
 }
 
-/// Reads the half between these places: `Damaged` at its start where the rows don't fit it. It is read in
-/// pieces of 64 KiB, up to the one in which the records end.
+/// Reads the half between these places: `Damaged` at its start where it is of no form, or the rows don't
+/// fit it. It is read in pieces of 64 KiB, up to the one in which the records end.
 pub(crate) fn read_half<D: Disk>(
     alloc: Global,
     disk: &mut D,
@@ -53,33 +56,38 @@ pub(crate) fn read_half<D: Disk>(
     ensures reads { DiskReads (not_disk result) (D.device disk.old) (D.device disk.new) }
     ensures behind { IfOk result (λ half. start ≤ half.chain.gate) }
     ensures within { IfOk result (λ half. half.chain.gate < end) }
+    ensures form { IfOk result (λ half. IsForm half.form) }
     ensures half { (D.device disk.old).shows ≡ true
         → HalfAnswer (D.device disk.old).seen start end result }
 {
     let mut window = Window::new(alloc, end)?;
-    let length = read_rows_length(disk, &mut window, start)?;
+    let number = read_number(disk, &mut window, start)?;
+    let Some(form) = form_of(number) else {
+        return Err(JournalFault::Damaged(start));
+    };
+    let length = number % FORM_PLACE;
     if length > end - start - 9 {
         return Err(JournalFault::Damaged(start));
     }
     let rows = read_text(alloc, disk, &mut window, start + 8, length)?;
     let chain = read_chain(alloc, disk, &mut window, start + 8 + length)?;
-    Ok(Half { rows, chain })
+    Ok(Half { form, rows, chain })
 }
 
-/// The length of a half's rows, from the eight bytes at its start.
-fn read_rows_length<D: Disk>(disk: &mut D, window: &mut Window, start: u64) -> Result<u64, Failed>
+/// The number in the eight bytes at a half's start.
+fn read_number<D: Disk>(disk: &mut D, window: &mut Window, start: u64) -> Result<u64, Failed>
     requires within { start + 8 ≤ window.old.end }
     requires piece { IsPieceOn (D.device disk.old) window.old }
     ensures reads { DiskReads (is_ok result) (D.device disk.old) (D.device disk.new) }
     ensures end { window.new.end ≡ window.old.end }
     ensures piece { OnOk result (IsPieceOn (D.device disk.new) window.new) }
-    ensures short { IfOk result (λ length. length < 2 ^ 64) }
-    ensures length { (D.device disk.old).shows ≡ true
-        → IfOk result (λ length. u64_bytes length ≡ bytes_at (D.device disk.old).seen start 8) }
+    ensures short { IfOk result (λ number. number < 2 ^ 64) }
+    ensures number { (D.device disk.old).shows ≡ true
+        → IfOk result (λ number. u64_bytes number ≡ bytes_at (D.device disk.old).seen start 8) }
 {
-    let mut length = [0u8; 8];
-    window.read_at(disk, start, &mut length)?;
-    Ok(read_u64(&length))
+    let mut bytes = [0u8; 8];
+    window.read_at(disk, start, &mut bytes)?;
+    Ok(read_u64(&bytes))
 }
 
 /// Reads the records from one place of a half on.

@@ -26,12 +26,12 @@ use Rattle.media_rows.specs.Catalog.{flow_of, put_refusal, set_refusal, set_sour
 use Rattle.media_rows.specs.Ids.{id_text}
 use Rattle.media_rows.specs.Library.{Library}
 use Rattle.media_rows.specs.Lists.{has_text, numbers_below, or_else}
-use Rattle.media_rows.specs.Objects.{object_of, is_stored_object, free_place, blocks_of, bytes_of}
+use Rattle.media_rows.specs.Objects.{object_of, is_stored_object, kept_digest, free_place, blocks_of, bytes_of}
 use Rattle.media_rows.specs.Outbox.{hook_of}
 use Rattle.media_rows.specs.Ranges.{eternity}
 use Rattle.media_rows.specs.Refusals.{when, first_refusal}
 use Rattle.media_rows.specs.Requests.{step_size, is_deleting, asked_row}
-use Rattle.media_rows.specs.Segments.{segments_of, overlapping, covered, posted}
+use Rattle.media_rows.specs.Segments.{segments_of, overlapping, covered, posted, as_list}
 use Rattle.media_rows.specs.Views.{asked}
 
 -- ---- refusals
@@ -118,7 +118,7 @@ posts_refusal library flow posts = first_refusal (refusals_behind library flow [
 -- Bytes are stored once: a stored object takes none. A PUT of equal bytes asks for no storing.
 abbrev pub keep_state : ObjectState → Option Refusal
 keep_state Allocated = None
-keep_state (Stored start size) = Some refusals.OtherBytes
+keep_state (Stored start size digest) = Some refusals.OtherBytes
 
 -- the refusal to store an object: it isn't kept, or it is stored already
 abbrev pub keep_refusal : Option ObjectRow → Option Refusal
@@ -144,10 +144,10 @@ refusal_of library (commands.DropFlow flow) = change_refusal library flow
 refusal_of library (commands.Allocate flow want) =
     or_else (change_refusal library flow)
     (taken_refusal (first_taken (is_taken library want) [] (wanted_ids library want)))
-refusal_of library (commands.Keep object start size) =
+refusal_of library (commands.Keep object start size digest) =
     keep_refusal (object_of object library.objects)
 refusal_of library (commands.AddSegments flow posts) =
-    or_else (change_refusal library flow) (posts_refusal library flow posts)
+    or_else (change_refusal library flow) (posts_refusal library flow posts.segments)
 refusal_of library (commands.CutSegments flow range) = change_refusal library flow
 refusal_of library (commands.PutHook hook) = None
 refusal_of library (commands.DropHook url) = None
@@ -221,10 +221,10 @@ accepted library (commands.DropFlow flow) moment = accepted_drop library flow mo
 accepted library (commands.Allocate flow want) moment =
     let ids = wanted_ids library want in
     changed (replies.CreatedObjects ids) (changes.Allocate moment flow ids)
-accepted library (commands.Keep object start size) moment =
-    changed replies.Created (changes.Store moment object start size)
+accepted library (commands.Keep object start size digest) moment =
+    changed replies.Created (changes.Store moment object start size (kept_digest digest))
 accepted library (commands.AddSegments flow posts) moment =
-    changed replies.Created (changes.AddSegments moment flow posts)
+    changed replies.Created (changes.AddSegments moment flow (as_list posts))
 accepted library (commands.CutSegments flow range) moment =
     accepted_cut library flow range moment
 accepted library (commands.PutHook hook) moment =
@@ -247,11 +247,12 @@ answer library command moment =
 
 -- ---- media, whose bytes stand beside the library
 
--- an allocated object takes the bytes at the least free place, if there is one
+-- An allocated object takes the bytes at the least free place, if there is one. No digest of them
+-- is kept, since stores are written in form 1.
 abbrev pub placed_put : Option ℕ → List ℕ → ℕ → ℕ → Outcome
 placed_put None object size moment = unchanged (replies.Refused refusals.MediaFull)
 placed_put (Some start) object size moment =
-    changed replies.Created (changes.Store moment object start size)
+    changed replies.Created (changes.Store moment object start size None)
 
 -- a stored object takes equal bytes and changes nothing
 abbrev pub stored_put : Bool → Outcome
@@ -261,7 +262,7 @@ stored_put same = unchanged (if same then replies.Done else replies.Refused refu
 -- one does
 abbrev pub put_by_state : ObjectState → Outcome → Outcome → Outcome
 put_by_state Allocated first again = first
-put_by_state (Stored start size) first again = again
+put_by_state (Stored start size digest) first again = again
 
 -- the same of an object that may be missing, whose bytes are refused
 abbrev pub put_answer_by : Option ObjectRow → Outcome → Outcome → Outcome
@@ -279,7 +280,7 @@ put_media_answer library held object bytes moment =
 -- the length of an object's bytes, where they are stored; an allocated object has none to give
 abbrev pub media_answer : ObjectState → Reply
 media_answer Allocated = replies.Refused refusals.UnknownObject
-media_answer (Stored start size) = replies.Media size
+media_answer (Stored start size digest) = replies.Media size
 
 -- the same of an object that may be missing, where one that isn't kept is as unknown as one without
 -- bytes

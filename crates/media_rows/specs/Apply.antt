@@ -9,14 +9,14 @@ use Rattle.media_rows.specs.Good.{is_good}
 use Rattle.media_rows.specs.Library.{Library, last_serial}
 use Rattle.media_rows.specs.Moments.{is_moment}
 use Rattle.media_rows.specs.Objects.{object_of, is_free, blocks_of, swept_objects}
-use Rattle.media_rows.specs.Outbox.{hook_of}
+use Rattle.media_rows.specs.Outbox.{hook_of, waits_first}
 use Rattle.media_rows.specs.Requests.{step_size, first_unfinished}
 use Rattle.media_rows.specs.Segments.{segments_of, covered}
 
 -- Nothing refuses the change: the refusals of its command don't stand, and it removes as many
 -- segments as its kind does. Ids that the store made stand in an allocation like others, so there
 -- an id is taken only where a kept object has it or the list repeats it. A step is refused where
--- there is none.
+-- there is none, and a delivery where the event isn't the first that waits for its hook.
 abbrev pub is_allowed : Library → Change → Bool
 is_allowed library (changes.PutFlow moment body) =
     is_none (refusal_of library (commands.PutFlow body))
@@ -29,7 +29,7 @@ is_allowed library (changes.DropFlow moment flow) =
     && nat_le (length (segments_of flow library.segments)) step_size
 is_allowed library (changes.Allocate moment flow ids) =
     is_none (change_refusal library flow) && is_none (first_taken (is_kept_object library) [] ids)
-is_allowed library (changes.Store moment object start size) =
+is_allowed library (changes.Store moment object start size digest) =
     is_none (keep_refusal (object_of object library.objects))
     && is_free library.objects library.blocks (blocks_of size) start
 is_allowed library (changes.AddSegments moment flow posts) =
@@ -45,6 +45,7 @@ is_allowed library (changes.SweepStep moment) =
     nat_lt 0 (length (swept_objects library.segments library.objects moment))
 is_allowed library (changes.PutHook moment hook) = true
 is_allowed library (changes.DropHook moment url) = is_some (hook_of url library.outbox.hooks)
+is_allowed library (changes.Delivered moment event) = waits_first event library.outbox.events
 
 -- a change applies: it is allowed at a moment, and leaves a good library
 abbrev pub applies : Library → Change → Bool

@@ -8,6 +8,7 @@ use Rattle.media_rows.specs.declared.event.Happened.{Happened}
 use Rattle.media_rows.specs.declared.event.EventKind.TheVariants.{SourceUpdated}
 use Rattle.media_rows.specs.declared.flow.FlowBody.{FlowBody}
 use Rattle.media_rows.specs.declared.hook.Hook.{Hook}
+use Rattle.media_rows.specs.declared.object.Digest.{Digest}
 use Rattle.media_rows.specs.declared.part.Part.{Part}
 use Rattle.media_rows.specs.declared.request.DeleteRow.{DeleteRow}
 use Rattle.media_rows.specs.declared.request.Deletion.{Deletion}
@@ -17,7 +18,7 @@ use Rattle.media_rows.specs.Catalog.{after_put, after_set, after_set_source, aft
 use Rattle.media_rows.specs.Events.{put_events, set_events, source_event, added_events, removed_events, drop_events}
 use Rattle.media_rows.specs.Library.{Library, with_happened}
 use Rattle.media_rows.specs.Objects.{allocated_rows, stored_row, with_object, idled, swept_objects, without_objects}
-use Rattle.media_rows.specs.Outbox.{after_put_hook, after_drop_hook}
+use Rattle.media_rows.specs.Outbox.{after_put_hook, after_drop_hook, after_delivered}
 use Rattle.media_rows.specs.Requests.{asked_row, first_unfinished, removed_by_step, is_finished_by_step, after_step, after_end}
 use Rattle.media_rows.specs.Segments.{segments_of, covered, posted, without_segments}
 
@@ -74,11 +75,11 @@ after_allocate moment ids library = record library {
   next_serial = library.next_serial + length ids;
 }
 
--- an allocated object has its bytes at a place from now on
-abbrev pub after_store : ℕ → List ℕ → ℕ → ℕ → Library → Library
-after_store moment object start size library =
+-- an allocated object has its bytes at a place from now on, and their digest where one is kept
+abbrev pub after_store : ℕ → List ℕ → ℕ → ℕ → Option Digest → Library → Library
+after_store moment object start size digest library =
     record library {
-      objects = with_object object (stored_row start size moment) library.objects;
+      objects = with_object object (stored_row start size digest moment) library.objects;
     }
 
 -- the rows of a post, with rising serials in its order
@@ -137,7 +138,7 @@ after_step_of (Some request) moment library = after_request_step moment request 
 abbrev pub after_delete_step : ℕ → Library → Library
 after_delete_step moment library = after_step_of (first_unfinished library.requests) moment library
 
--- ---- a sweep, and hooks
+-- ---- a sweep, hooks, and deliveries
 
 -- the first objects that are due go
 abbrev pub after_sweep : ℕ → Library → Library
@@ -156,6 +157,10 @@ after_hook hook library = record library {
 abbrev pub without_hook : List ℕ → Library → Library
 without_hook url library = record library { outbox = after_drop_hook url library.outbox }
 
+-- an event was delivered, and waits no longer
+abbrev pub without_event : ℕ → Library → Library
+without_event event library = record library { outbox = after_delivered event library.outbox }
+
 -- ---- what each change makes happen
 
 -- a step makes happen what the going of its segments does, and where the flow goes, what that does
@@ -171,7 +176,7 @@ step_events None library = []
 step_events (Some request) library = request_step_events request library
 
 -- What a change makes happen in a library, in order: to flows, to their segments and to sources. Of
--- objects, of requests that are made and of hooks no event tells.
+-- objects, of requests that are made, of hooks and of deliveries no event tells.
 abbrev pub happened_in : Change → Library → List Happened
 happened_in (changes.PutFlow moment flow) library = put_events library.catalog flow
 happened_in (changes.SetFlow moment flow part) library = set_events library.catalog flow
@@ -179,9 +184,9 @@ happened_in (changes.SetSource moment source part) library = source_event Source
 happened_in (changes.DropFlow moment flow) library =
     drop_events library.catalog flow (segments_of flow library.segments)
 happened_in (changes.Allocate moment flow objects) library = []
-happened_in (changes.Store moment object start size) library = []
-happened_in (changes.AddSegments moment flow segments) library =
-    added_events library.catalog flow (added_rows flow segments library)
+happened_in (changes.Store moment object start size digest) library = []
+happened_in (changes.AddSegments moment flow posts) library =
+    added_events library.catalog flow (added_rows flow posts.segments library)
 happened_in (changes.CutSegments moment flow range) library =
     removed_events library.catalog flow (covered library.segments flow range)
 happened_in (changes.AskDelete moment flow range delete_flow) library = []
@@ -190,6 +195,7 @@ happened_in (changes.DeleteStep moment) library =
 happened_in (changes.SweepStep moment) library = []
 happened_in (changes.PutHook moment hook) library = []
 happened_in (changes.DropHook moment url) library = []
+happened_in (changes.Delivered moment event) library = []
 
 -- ---- all together
 
@@ -201,10 +207,10 @@ with_change (changes.SetSource moment source part) library =
     after_set_source_part moment source part library
 with_change (changes.DropFlow moment flow) library = after_drop_flow moment flow library
 with_change (changes.Allocate moment flow objects) library = after_allocate moment objects library
-with_change (changes.Store moment object start size) library =
-    after_store moment object start size library
-with_change (changes.AddSegments moment flow segments) library =
-    after_add moment flow segments library
+with_change (changes.Store moment object start size digest) library =
+    after_store moment object start size digest library
+with_change (changes.AddSegments moment flow posts) library =
+    after_add moment flow posts.segments library
 with_change (changes.CutSegments moment flow range) library = after_cut moment flow range library
 with_change (changes.AskDelete moment flow range delete_flow) library =
     after_ask moment (record { flow = flow; range = range; delete_flow = delete_flow }) library
@@ -212,6 +218,7 @@ with_change (changes.DeleteStep moment) library = after_delete_step moment libra
 with_change (changes.SweepStep moment) library = after_sweep moment library
 with_change (changes.PutHook moment hook) library = after_hook hook library
 with_change (changes.DropHook moment url) library = without_hook url library
+with_change (changes.Delivered moment event) library = without_event event library
 
 -- the moment of a change
 abbrev pub moment_of : Change → ℕ
@@ -220,14 +227,15 @@ moment_of (changes.SetFlow moment flow part) = moment
 moment_of (changes.SetSource moment source part) = moment
 moment_of (changes.DropFlow moment flow) = moment
 moment_of (changes.Allocate moment flow objects) = moment
-moment_of (changes.Store moment object start size) = moment
-moment_of (changes.AddSegments moment flow segments) = moment
+moment_of (changes.Store moment object start size digest) = moment
+moment_of (changes.AddSegments moment flow posts) = moment
 moment_of (changes.CutSegments moment flow range) = moment
 moment_of (changes.AskDelete moment flow range delete_flow) = moment
 moment_of (changes.DeleteStep moment) = moment
 moment_of (changes.SweepStep moment) = moment
 moment_of (changes.PutHook moment hook) = moment
 moment_of (changes.DropHook moment url) = moment
+moment_of (changes.Delivered moment event) = moment
 
 -- what a change makes of a library: its rows, and then its events with the serials behind theirs
 abbrev pub after : Change → Library → Library

@@ -54,14 +54,14 @@ are_references_good objects segments =
 -- an extent lies within the media blocks, and one without bytes begins at block 0
 abbrev pub is_extent_good : ℕ → ObjectState → Bool
 is_extent_good blocks Allocated = true
-is_extent_good blocks (Stored start size) =
+is_extent_good blocks (Stored start size digest) =
     nat_le (start + blocks_of size) blocks && (nat_lt 0 size || (start == 0))
 
 -- two states have no block in common
 abbrev pub are_states_apart : ObjectState → ObjectState → Bool
 are_states_apart Allocated other = true
-are_states_apart (Stored start size) Allocated = true
-are_states_apart (Stored start size) (Stored other_start other_size) =
+are_states_apart (Stored start size digest) Allocated = true
+are_states_apart (Stored start size digest) (Stored other_start other_size other_digest) =
     are_apart start (blocks_of size) other_start (blocks_of other_size)
 
 -- extents of stored objects are disjoint and lie within the media blocks

@@ -1,5 +1,6 @@
 pub mod Formats
 pub mod Ids
+pub mod Digests
 pub mod Moments
 pub mod Essence
 pub mod Lists

@@ -44,7 +44,7 @@ is_good_question library (gets object) = true
 
 -- the bytes of the object of an id after a change: those that came for it, or those that it had
 abbrev pub bytes_after : Change → List ℕ → Archive → List ℕ → List ℕ
-bytes_after (changes.Store moment object start size) came archive id =
+bytes_after (changes.Store moment object start size digest) came archive id =
     if bytes_eq id object then came else bytes_of id archive.library.objects archive.held
 bytes_after other came archive id = bytes_of id archive.library.objects archive.held
 
@@ -57,5 +57,5 @@ archive_after change came archive = record {
 
 -- the bytes that came have the length that the change names, if it stores an object
 abbrev pub fits_bytes : Change → List ℕ → Bool
-fits_bytes (changes.Store moment object start size) came = length came == size
+fits_bytes (changes.Store moment object start size digest) came = length came == size
 fits_bytes other came = true

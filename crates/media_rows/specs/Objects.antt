@@ -2,6 +2,8 @@
 -- swept, and what each change of them makes. Our own rules.
 use Rattle.std.specs.Prelude.{ℕ, ◌+◌, ◌-◌, ◌/◌, ◌==◌, nat_lt, nat_le, List, [], ◌∷◌, Bool, true, false, not, ◌&&◌, ◌||◌, Option, Some, None, if◌then◌else◌, filter, map, find, take, length, bytes_eq}
 use Rattle.std.specs.List.{list_any, list_all}
+use Rattle.disk_trait.specs.Forms.{form_in_use}
+use Rattle.media_rows.specs.declared.object.Digest.{Digest}
 use Rattle.media_rows.specs.declared.object.ObjectRow.{ObjectRow}
 use Rattle.media_rows.specs.declared.object.ObjectState.{ObjectState}
 use Rattle.media_rows.specs.declared.object.ObjectState.TheVariants.{Allocated, Stored}
@@ -17,7 +19,7 @@ object_of id objects = find (λ row. bytes_eq row.id id) objects
 -- an object in this state has its bytes
 abbrev pub is_stored : ObjectState → Bool
 is_stored Allocated = false
-is_stored (Stored start size) = true
+is_stored (Stored start size digest) = true
 
 -- the object is kept, and its bytes are stored
 abbrev pub is_stored_row : Option ObjectRow → Bool
@@ -65,7 +67,7 @@ are_apart start count other_start other_count =
 -- no stored object has a block of this place
 abbrev pub is_clear_of : ℕ → ℕ → ObjectState → Bool
 is_clear_of start count Allocated = true
-is_clear_of start count (Stored other_start size) =
+is_clear_of start count (Stored other_start size digest) =
     are_apart start count other_start (blocks_of size)
 
 -- the place lies within the media blocks and is free
@@ -88,9 +90,15 @@ allocated_rows serial moment (id ∷ later) =
     record { id = id; serial = serial; state = Allocated; idle_since = moment }
     ∷ allocated_rows (serial + 1) moment later
 
--- an object with its bytes at a place, idle since this moment
-abbrev pub stored_row : ℕ → ℕ → ℕ → ObjectRow → ObjectRow
-stored_row start size moment row = record row { state = Stored start size; idle_since = moment }
+-- the digest that is kept of an object's bytes: one in form 2, and none in form 1
+abbrev pub kept_digest : Digest → Option Digest
+kept_digest digest = if form_in_use == 2 then Some digest else None
+
+-- an object with its bytes at a place, idle since this moment, and with their digest where one is
+-- kept
+abbrev pub stored_row : ℕ → ℕ → Option Digest → ℕ → ObjectRow → ObjectRow
+stored_row start size digest moment row =
+    record row { state = Stored start size digest; idle_since = moment }
 
 -- the objects once the one of an id was changed in this way; all others stay
 abbrev pub with_object : List ℕ → (ObjectRow → ObjectRow) → List ObjectRow → List ObjectRow
@@ -146,7 +154,7 @@ without_objects gone objects =
 -- a stored object's bytes have its length, and one that isn't stored has none
 abbrev pub fits_state : ObjectState → List ℕ → Bool
 fits_state Allocated bytes = length bytes == 0
-fits_state (Stored start size) bytes = length bytes == size
+fits_state (Stored start size digest) bytes = length bytes == size
 
 -- these are the bytes of these objects, one list for each
 abbrev pub are_bytes_of : List ObjectRow → List (List ℕ) → Bool

@@ -1,7 +1,7 @@
 -- The outbox: webhooks and the events that wait for them, each by rising serial. Our own profile of
 -- the Time-addressable Media Store.
 use Rattle.std.specs.Prelude.{ℕ, ◌+◌, ◌==◌, nat_le, List, [], ◌∷◌, ◌++◌, Bool, true, false, not, ◌&&◌, ◌||◌, Option, Some, None, filter, map, find, length, bytes_eq}
-use Rattle.std.specs.List.{list_any}
+use Rattle.std.specs.List.{list_any, list_all}
 use Rattle.media_rows.specs.declared.event.EventKind.{EventKind}
 use Rattle.media_rows.specs.declared.event.EventKind.TheVariants.{FlowCreated, FlowUpdated, FlowDeleted, SegmentsAdded, SegmentsDeleted, SourceCreated, SourceUpdated, SourceDeleted}
 use Rattle.media_rows.specs.declared.event.EventRow.{EventRow}
@@ -31,6 +31,16 @@ hook_of url hooks = find (has_url url) hooks
 -- the events that wait for the hook of a serial
 abbrev pub waiting_for : ℕ → List EventRow → List EventRow
 waiting_for hook events = filter (λ row. row.hook == hook) events
+
+-- no event that waits for the same hook has a lower serial
+abbrev pub is_least_waiting : List EventRow → EventRow → Bool
+is_least_waiting events row =
+    list_all (λ other. nat_le row.serial other.serial) (waiting_for row.hook events)
+
+-- the event of a serial waits, and it is the one of least serial of its hook
+abbrev pub waits_first : ℕ → List EventRow → Bool
+waits_first event events =
+    list_any (λ row. (row.serial == event) && is_least_waiting events row) events
 
 -- the number of events that wait for the hook of a serial
 abbrev pub waiting_count : ℕ → List EventRow → ℕ
@@ -149,3 +159,10 @@ after_put_hook hook serial outbox =
     (after_drop_hook hook.url outbox) {
       hooks = (after_drop_hook hook.url outbox).hooks ++ hook_row hook serial ∷ [];
     }
+
+-- ---- events that were delivered
+
+-- the outbox without the event of a serial
+abbrev pub after_delivered : ℕ → Outbox → Outbox
+after_delivered event outbox =
+    record outbox { events = filter (λ row. not (row.serial == event)) outbox.events }

@@ -40,6 +40,7 @@ refusal_number (refusals.NoObject object) = 29
 refusal_number (refusals.Overlap range) = 30
 refusal_number refusals.JournalFull = 31
 refusal_number refusals.MediaFull = 32
+refusal_number (refusals.ObjectDamaged kept found) = 33
 
 -- the status with which a refusal is answered
 abbrev pub refusal_status : Refusal → ℕ
@@ -75,6 +76,7 @@ refusal_status (refusals.NoObject object) = 400
 refusal_status (refusals.Overlap range) = 400
 refusal_status refusals.JournalFull = 507
 refusal_status refusals.MediaFull = 507
+refusal_status (refusals.ObjectDamaged kept found) = 410
 
 -- a refusal's name, as the `type` of the answer's body
 abbrev pub refusal_name : Refusal → List ℕ
@@ -110,3 +112,4 @@ refusal_name (refusals.NoObject object) = codes "NoObject"
 refusal_name (refusals.Overlap range) = codes "Overlap"
 refusal_name refusals.JournalFull = codes "JournalFull"
 refusal_name refusals.MediaFull = codes "MediaFull"
+refusal_name (refusals.ObjectDamaged kept found) = codes "ObjectDamaged"

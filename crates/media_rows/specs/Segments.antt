@@ -4,6 +4,7 @@ use Rattle.std.specs.Prelude.{ℕ, ◌+◌, ◌==◌, nat_lt, ℤ, pos, int_lt, 
 use Rattle.std.specs.List.{list_any}
 use Rattle.time_range.specs.Points.{low_of}
 use Rattle.time_range.specs.declared.ranges.Span.{Span}
+use Rattle.media_rows.specs.declared.segment.PostList.{PostList}
 use Rattle.media_rows.specs.declared.segment.Segment.{Segment}
 use Rattle.media_rows.specs.declared.segment.SegmentRow.{SegmentRow}
 use Rattle.media_rows.specs.Lists.{in_order}
@@ -66,3 +67,11 @@ abbrev pub posted : ℕ → ℕ → List Segment → List SegmentRow
 posted flow serial [] = []
 posted flow serial (segment ∷ later) =
     record { flow = flow; serial = serial; segment = segment } ∷ posted flow (serial + 1) later
+
+-- a post of these segments as a list
+abbrev pub list_post : List Segment → PostList
+list_post segments = record { single = false; segments = segments }
+
+-- the same segments as a list, however they were posted
+abbrev pub as_list : PostList → PostList
+as_list posts = list_post posts.segments

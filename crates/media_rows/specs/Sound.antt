@@ -67,7 +67,7 @@ is_least_place library start size =
 -- an object in this state takes bytes at a place that passes, and none once it is stored
 abbrev pub may_take : ObjectState → Bool → Bool
 may_take Allocated at_place = at_place
-may_take (Stored start size) at_place = false
+may_take (Stored start size digest) at_place = false
 
 -- the same of an object that may be missing, which nothing is asked of
 abbrev pub may_keep : Option ObjectRow → Bool → Bool
@@ -82,9 +82,9 @@ is_good_command library (commands.SetFlow flow part) = is_part_good part
 is_good_command library (commands.SetSource source part) = is_part_good part
 is_good_command library (commands.DropFlow flow) = true
 is_good_command library (commands.Allocate flow want) = is_want_good want
-is_good_command library (commands.Keep object start size) =
+is_good_command library (commands.Keep object start size digest) =
     may_keep (object_of object library.objects) (is_least_place library start size)
-is_good_command library (commands.AddSegments flow posts) = are_posts_good posts
+is_good_command library (commands.AddSegments flow posts) = are_posts_good posts.segments
 is_good_command library (commands.CutSegments flow range) = true
 is_good_command library (commands.PutHook hook) = is_new_hook_good hook
 is_good_command library (commands.DropHook url) = true
@@ -100,8 +100,8 @@ has_good_values (changes.SetFlow moment flow part) = is_part_good part
 has_good_values (changes.SetSource moment source part) = is_part_good part
 has_good_values (changes.DropFlow moment flow) = true
 has_good_values (changes.Allocate moment flow ids) = list_all is_object_id ids
-has_good_values (changes.Store moment object start size) = nat_lt 0 size || (start == 0)
-has_good_values (changes.AddSegments moment flow posts) = are_posts_good posts
+has_good_values (changes.Store moment object start size digest) = nat_lt 0 size || (start == 0)
+has_good_values (changes.AddSegments moment flow posts) = are_posts_good posts.segments
 has_good_values (changes.CutSegments moment flow range) = true
 has_good_values (changes.AskDelete moment flow range delete_flow) =
     not delete_flow || is_eternity range
@@ -109,6 +109,7 @@ has_good_values (changes.DeleteStep moment) = true
 has_good_values (changes.SweepStep moment) = true
 has_good_values (changes.PutHook moment hook) = is_new_hook_good hook
 has_good_values (changes.DropHook moment url) = true
+has_good_values (changes.Delivered moment event) = true
 
 -- a change at a moment brings good values, and the serials don't end with it
 abbrev pub is_sound : Library → Change → Bool

@@ -1,6 +1,7 @@
 //! Changes: what a journal's record says of the library.
 use crate::flow::FlowBody;
 use crate::hook::Hook;
+use crate::object::Digest;
 use crate::part::Part;
 use crate::segment::PostList;
 use disk_trait::{Text, TextList};
@@ -32,12 +33,15 @@ pub enum Change {
         flow: u128,
         objects: TextList,
     },
+    /// The digest is missing exactly in what was read from a store of form 1.
     Store {
         moment: u64,
         object: Text,
         start_block: u64,
         length: u64,
+        digest: Option<Digest>,
     },
+    /// The segments stand in a list whose `single` is false.
     AddSegments {
         moment: u64,
         flow: u128,
@@ -67,5 +71,10 @@ pub enum Change {
     DropHook {
         moment: u64,
         url: Text,
+    },
+    /// The event of this serial was delivered to its hook.
+    Delivered {
+        moment: u64,
+        event: u64,
     },
 }

@@ -1,6 +1,7 @@
 //! Commands: what is asked of the library.
 use crate::flow::{FlowBody, FormatKind};
 use crate::hook::Hook;
+use crate::object::Digest;
 use crate::part::{Part, PartName};
 use crate::segment::PostList;
 use disk_trait::{Listed, Text, TextList};
@@ -84,11 +85,12 @@ pub enum Command {
     SetSource(u128, Part),
     DropFlow(u128),
     Allocate(u128, Want),
-    /// The storing of an object's bytes, `length` of them from this media block on.
+    /// The storing of an object's bytes, `length` of them from this media block on, with their digest.
     Keep {
         object: Text,
         start_block: u64,
         length: u64,
+        digest: Digest,
     },
     AddSegments(u128, PostList),
     CutSegments(u128, TimeRange),

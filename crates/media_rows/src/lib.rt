@@ -4,6 +4,7 @@
 
 mod change;
 mod command;
+mod digests;
 mod essence;
 mod event;
 mod flow;
@@ -26,18 +27,21 @@ pub use crate::change::Change;
 pub use crate::command::{
     Command, FlowFilter, Page, Query, SegmentFilter, SourceFilter, TagTest, TagTests, Want,
 };
+pub use crate::digests::print_digest;
 pub use crate::essence::{holds_float, is_essence};
 pub use crate::event::{EventKind, EventList, EventRow, EventRowList, Happened, HappenedList};
 pub use crate::flow::{FlowBody, FlowList, FlowRow, FormatKind, Member, MemberList, Tag, TagList};
 pub use crate::hook::{Hook, HookList, HookRow};
 pub use crate::ids::{is_object_id, print_id, read_id};
 pub use crate::moments::moment_text;
-pub use crate::object::{Extent, ObjectList, ObjectRow, ObjectState};
+pub use crate::object::{Digest, Extent, ObjectList, ObjectRow, ObjectState};
 pub use crate::order::{text_before, texts_have_an_order};
 pub use crate::part::{Part, PartName};
 pub use crate::ranges::{range_covers, range_hull, range_overlaps};
 pub use crate::refusal::{ApplyFault, BookFault, Refusal};
-pub use crate::reply::{FlowShown, FlowShownList, HookShown, HookShownList, Reply, View};
+pub use crate::reply::{
+    FailedList, FailedSegment, FlowShown, FlowShownList, HookShown, HookShownList, Reply, View,
+};
 pub use crate::request::{DeleteList, DeleteRow, DeleteStatus, Deletion};
 pub use crate::row::{Row, RowList};
 pub use crate::segment::{PostList, Segment, SegmentList, SegmentRow};

@@ -3,11 +3,13 @@
 ghost use Rattle.std.specs.Prelude.{◌≡◌};
 ghost use Rattle.media_rows.specs.RefusalTable.{refusal_number, refusal_status};
 
+use crate::object::Digest;
 use disk_trait::{Memory, Text};
 use time_range::TimeRange;
 
 /// A refusal, with its detail where it has one: the name of a member, a query's name, a part, the id
-/// of a flow or an object, or the range of a kept segment.
+/// of a flow or an object, the range of a kept segment, or the digest that is kept of an object's bytes
+/// and the one that was found.
 #[derive(Drop)]
 pub enum Refusal {
     BadHead,
@@ -42,10 +44,11 @@ pub enum Refusal {
     Overlap(TimeRange),
     JournalFull,
     MediaFull,
+    ObjectDamaged { kept: Digest, found: Digest },
 }
 
 impl Refusal {
-    /// The number of the refusal: 1 to 32.
+    /// The number of the refusal: 1 to 33.
     pub fn number(&self) -> u8
         ensures { result ≡ refusal_number self.now }
     {
@@ -82,6 +85,7 @@ impl Refusal {
             Refusal::Overlap(_) => 30,
             Refusal::JournalFull => 31,
             Refusal::MediaFull => 32,
+            Refusal::ObjectDamaged { .. } => 33,
         }
     }
 
@@ -99,6 +103,7 @@ impl Refusal {
             | Refusal::NotSet(_) => 404,
             Refusal::NoMethod => 405,
             Refusal::Deleting | Refusal::IdTaken(_) | Refusal::OtherBytes => 409,
+            Refusal::ObjectDamaged { .. } => 410,
             Refusal::LengthRequired => 411,
             Refusal::TooLarge => 413,
             Refusal::Coding => 415,

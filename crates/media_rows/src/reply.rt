@@ -7,7 +7,7 @@ use crate::refusal::Refusal;
 use crate::request::{DeleteList, DeleteRow};
 use crate::segment::SegmentList;
 use crate::source::{IdList, SourceList, SourceRow};
-use disk_trait::{Listed, TextList};
+use disk_trait::{Listed, Text, TextList};
 use time_range::TimeRange;
 
 /// A flow as it is shown: with the hull of its segments.
@@ -47,6 +47,16 @@ pub enum View {
     AllTags(TagList),
 }
 
+/// A segment of a post that isn't kept: why, the object that it names, and its range.
+#[derive(Drop)]
+pub struct FailedSegment {
+    pub refusal: Refusal,
+    pub object: Text,
+    pub range: TimeRange,
+}
+
+pub type FailedList = Listed<FailedSegment>;
+
 /// The answer to a command.
 #[derive(Drop)]
 pub enum Reply {
@@ -58,4 +68,6 @@ pub enum Reply {
     /// A media object of this length, whose bytes follow.
     Media(u64),
     Refused(Refusal),
+    /// Some segments of a post were kept, and not these, which stand in its order.
+    Partly(FailedList),
 }

@@ -1,4 +1,7 @@
 //! Segments: which object holds a flow's media over a timerange.
+ghost use Rattle.std.specs.Prelude.{◌≡◌, ◌∷◌, ◌++◌, [], IfOk, OnErr, OnOk};
+ghost use Rattle.media_rows.specs.Segments.{as_list};
+
 use disk_trait::{Duplicate, Listed, Memory, Text};
 use std::alloc::Global;
 use time_range::{TimeRange, Ts};
@@ -15,8 +18,51 @@ pub struct Segment {
     pub key_frames: Option<u64>,
 }
 
-/// The segments of one post, in its order.
-pub type PostList = Listed<Segment>;
+/// The segments of one post, in its order. It is single where its body was one object and no list.
+#[derive(Drop)]
+pub struct PostList {
+    pub single: bool,
+    pub segments: Listed<Segment>,
+}
+
+impl PostList {
+    /// A post without segments.
+    pub fn new(alloc: Global, single: bool) -> PostList
+        ensures single { result.single ≡ single }
+        ensures segments { result.segments ≡ [] }
+    {
+        PostList {
+            single,
+            segments: Listed::new(alloc),
+        }
+    }
+
+    /// Adds a segment at the end, or drops it where there is no memory.
+    pub fn push(&mut self, segment: Segment) -> Result<(), Memory>
+        ensures single { self.new.single ≡ self.old.single }
+        ensures ok { OnOk result (self.new.segments ≡ self.old.segments ++ segment ∷ []) }
+        ensures err { OnErr result (self.new.segments ≡ self.old.segments) }
+    {
+        self.segments.push(segment)
+    }
+
+    /// The segments in order.
+    pub fn items(&self) -> &[Segment]
+        ensures { result.now ≡ self.now.segments }
+    {
+        self.segments.items()
+    }
+
+    /// The same segments as a list, as a change has them.
+    pub fn to_list(&self, alloc: Global) -> Result<PostList, Memory>
+        ensures { IfOk result (λ posts. posts ≡ as_list self.now) }
+    {
+        Ok(PostList {
+            single: false,
+            segments: self.segments.duplicate(alloc)?,
+        })
+    }
+}
 
 /// A kept segment, with its flow and its serial.
 #[derive(Drop)]

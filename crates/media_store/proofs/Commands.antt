@@ -68,7 +68,7 @@ none_stored library (commands.PutHook hook) moment is =
     answered (refusal_of library (commands.PutHook hook)) (accepted library (commands.PutHook hook) moment) refl
 none_stored library (commands.DropHook url) moment is =
     answered (refusal_of library (commands.DropHook url)) (accepted library (commands.DropHook url) moment) (none_unhooked library url moment)
-none_stored library (commands.Keep object start size) moment is = absurd cc
+none_stored library (commands.Keep object start size digest) moment is = absurd cc
 none_stored library (commands.Ask query) moment is =
     answered (refusal_of library (commands.Ask query)) (accepted library (commands.Ask query) moment) refl
 
@@ -89,7 +89,7 @@ none_came (changes.SetFlow moment flow part) is = refl
 none_came (changes.SetSource moment source part) is = refl
 none_came (changes.DropFlow moment flow) is = refl
 none_came (changes.Allocate moment flow ids) is = refl
-none_came (changes.Store moment object start size) is = absurd cc
+none_came (changes.Store moment object start size digest) is = absurd cc
 none_came (changes.AddSegments moment flow posts) is = refl
 none_came (changes.CutSegments moment flow range) is = refl
 none_came (changes.AskDelete moment flow range delete_flow) is = refl
@@ -97,6 +97,7 @@ none_came (changes.DeleteStep moment) is = refl
 none_came (changes.SweepStep moment) is = refl
 none_came (changes.PutHook moment hook) is = refl
 none_came (changes.DropHook moment url) is = refl
+none_came (changes.Delivered moment event) is = refl
 
 pub none_stand : (image : List ℕ) (area : ℕ) (change : Change) → stores (Some change) ≡ false → StandsThere image area change []
 none_stand image area (changes.PutFlow moment flow) is = tt
@@ -104,7 +105,7 @@ none_stand image area (changes.SetFlow moment flow part) is = tt
 none_stand image area (changes.SetSource moment source part) is = tt
 none_stand image area (changes.DropFlow moment flow) is = tt
 none_stand image area (changes.Allocate moment flow ids) is = tt
-none_stand image area (changes.Store moment object start size) is = absurd cc
+none_stand image area (changes.Store moment object start size digest) is = absurd cc
 none_stand image area (changes.AddSegments moment flow posts) is = tt
 none_stand image area (changes.CutSegments moment flow range) is = tt
 none_stand image area (changes.AskDelete moment flow range delete_flow) is = tt
@@ -112,3 +113,4 @@ none_stand image area (changes.DeleteStep moment) is = tt
 none_stand image area (changes.SweepStep moment) is = tt
 none_stand image area (changes.PutHook moment hook) is = tt
 none_stand image area (changes.DropHook moment url) is = tt
+none_stand image area (changes.Delivered moment event) is = tt

@@ -1,5 +1,6 @@
 -- A change that is written makes the archive after it, whose bytes are there.
 use Rattle.std.proofs.Common.{◌≡◌, ◌≤◌, ◌+◌, ◌*◌, ℕ, Bool, true, List, length, Option, Some, None, sym, ap, subst, ◌∙◌, arith}
+use Rattle.disk_trait.specs.Forms.{form_in_use}
 use Rattle.media_rows.specs.declared.change.Change.{Change}
 use Rattle.media_rows.specs.Apply.{applied}
 use Rattle.media_rows.specs.Changes.{after}
@@ -32,7 +33,7 @@ pub image_bytes : (d : Device) (kept : StoreView) (held : List (List ℕ)) (chan
 image_bytes d kept held change came next left agrees could made fits there =
     let area = media_start kept.journal.half in
     let gives = agrees.gives.gives left could in
-    let good = libraries_are_good agrees.header agrees.text agrees.records kept.library agrees.makes in
+    let good = libraries_are_good form_in_use agrees.header agrees.text agrees.records kept.library agrees.makes in
     let sound = applied_is_sound kept.library change next made in
     let sizes = gives.half.sizes in
     let has : media_start kept.journal.half + 4096 * kept.library.blocks ≤ length left.image =
@@ -79,17 +80,17 @@ rows_are kept change (Some text) first = first.text
 
 -- the step of a plan's record
 pub step_is : (kept : StoreView) (change : Change) (planned : Planned) (payload : List ℕ) → MakesChange (journal_of kept) change planned
-    → planned.frame ≡ Some payload → StepOf payload kept.library planned.next
+    → planned.frame ≡ Some payload → StepOf form_in_use payload kept.library planned.next
 step_is kept change planned payload makes is =
     let same : makes.payload ≡ payload = cc in
-    record { change = change; spells = subst (λ (bytes : List ℕ). SpellsChange bytes change) same makes.spells; made = makes.made }
+    record { change = change; spells = subst (λ (bytes : List ℕ). SpellsChange form_in_use bytes change) same makes.spells; made = makes.made }
 
 -- a plan whose record was written makes its change
 pub commit_makes : (ok : Bool) (old new : Device) (kept : StoreView) (held : List (List ℕ)) (change : Change) (came : List ℕ) (planned : Planned)
     (payload : List ℕ) (journal : Position) → planned.frame ≡ Some payload → kept.journal ≡ journal → AgreesWith old kept held
     → MakesChange (journal_of kept) change planned → fits_bytes change came ≡ true → CameThere old kept change came
     → ((k : StoreView) (h : List (List ℕ)) (next : Library) (next_held : List (List ℕ)) → AgreesWith old k h → k.journal ≡ journal
-    → AreRowsOf planned.rows k.library → StepOf payload k.library next → HoldsEach old (media_start k.journal.half) next.objects next_held
+    → AreRowsOf planned.rows k.library → StepOf form_in_use payload k.library next → HoldsEach old (media_start k.journal.half) next.objects next_held
     → Carries ok (kept_state k h).archive (kept_written k planned.rows next payload) next_held old new)
     → ChangesStore ok change came kept (kept_by kept planned) held old new
 commit_makes ok old new kept held change came planned payload journal is same agrees makes fits there carries =

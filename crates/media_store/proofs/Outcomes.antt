@@ -2,6 +2,7 @@
 use Rattle.std.proofs.Common.{◌≡◌, ℕ, Bool, true, false, cond, List, [], Option, None, Some, Result, Ok, Err, is_ok, refl, sym, ap, subst, ◌∙◌}
 use Rattle.std.specs.Prelude.{IfSome, OnOk}
 use Rattle.std.proofs.lemmas.Bool.{false≢true}
+use Rattle.disk_trait.specs.Forms.{form_in_use}
 use Rattle.media_rows.specs.declared.change.Change.{Change}
 use Rattle.media_rows.specs.declared.refusal.Refusal.TheVariants.{JournalFull}
 use Rattle.media_rows.specs.declared.reply.Reply.TheVariants.{Done, Refused}
@@ -73,7 +74,7 @@ pub one_made : (journal : State) (a b : Change) (planned : Planned) → MakesCha
 one_made journal a b planned first second =
     let both : Some first.payload ≡ Some second.payload = sym first.frame ∙ second.frame in
     let same : second.payload ≡ first.payload = cc in
-    one_change first.payload a b first.spells (subst (λ (bytes : List ℕ). SpellsChange bytes b) same second.spells)
+    one_change form_in_use first.payload a b first.spells (subst (λ (bytes : List ℕ). SpellsChange form_in_use bytes b) same second.spells)
 
 pub one_step : (journal : State) (a b : Option Change) (planned : Planned) → MakesStep journal a planned → MakesStep journal b planned → a ≡ b
 one_step journal None None planned first second = refl

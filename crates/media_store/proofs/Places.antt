@@ -26,7 +26,7 @@ extent_within library extent good is =
     (list_all (λ row. is_extent_good library.blocks row.state) library.objects) good.extents in
     let one = list_all-In (λ (row : ObjectRow). is_extent_good library.blocks row.state) library.objects parts.1 is.row
     (In-from_Contains library.objects is.row is.kept) in
-    let stored : is_extent_good library.blocks (Stored extent.start extent.length) ≡ true =
+    let stored : is_extent_good library.blocks (Stored extent.start extent.length is.digest) ≡ true =
     ap (is_extent_good library.blocks) (sym is.stored) ∙ one in
     let within = and_parts (nat_le (extent.start + blocks_of extent.length) library.blocks) (nat_lt 0 extent.length || (extent.start == 0)) stored in
     grind (arith, nat_tests)

@@ -1,5 +1,6 @@
 -- What is known of a plan: its library has the file's media blocks, its record what fits, and what is kept behind it.
 use Rattle.std.proofs.Common.{◌≡◌, ◌+◌, ◌-◌, ◌*◌, ℕ, Bool, cond, List, length, Option, Some, None, refl, sym, ap, ap₂, subst, ◌∙◌, arith}
+use Rattle.disk_trait.specs.Forms.{form_in_use}
 use Rattle.media_rows.specs.declared.change.Change.{Change}
 use Rattle.media_rows.specs.Changes.{after}
 use Rattle.media_rows.specs.Library.{Library}
@@ -26,7 +27,7 @@ step_blocks journal (Some change) planned makes =
 -- ---- what is kept behind a change
 
 -- the bytes of a record's payload are those of its change
-payload_size : (payload : List ℕ) (change : Change) → SpellsChange payload change → length payload ≡ change_size change
+payload_size : (payload : List ℕ) (change : Change) → SpellsChange form_in_use payload change → length payload ≡ change_size change
 payload_size payload change spells = ap length spells.whole
 
 -- a library in a journal
@@ -34,7 +35,7 @@ abbrev state_with : ℕ → Library → ℕ → State
 state_with half library room = record { library = library; room = room; half = half }
 
 pub next_is : (kept : StoreView) (change : Change) (rows : Option (List ℕ)) (next : Library) (payload : List ℕ)
-    → ComesFirst (journal_of kept) change rows → SpellsChange payload change → next ≡ after change kept.library
+    → ComesFirst (journal_of kept) change rows → SpellsChange form_in_use payload change → next ≡ after change kept.library
     → IsAfterChange kept change (kept_written kept rows next payload)
 next_is kept change None next payload first spells is =
     let size = payload_size payload change spells in
@@ -56,7 +57,7 @@ next_is kept change (Some text) next payload first spells is =
 -- ---- the bytes that are handed
 
 pub bytes_are : (kept : StoreView) (change : Change) (rows : Option (List ℕ)) (payload : List ℕ) → ComesFirst (journal_of kept) change rows
-    → SpellsChange payload change → written_bytes rows payload ≡ bytes_of_change (journal_of kept) change
+    → SpellsChange form_in_use payload change → written_bytes rows payload ≡ bytes_of_change (journal_of kept) change
 bytes_are kept change None payload first spells =
     let size = payload_size payload change spells in
     let none : cond (fits_room (journal_of kept) change) 0 (snapshot_size kept.library + 10) ≡ 0 =

@@ -34,6 +34,7 @@ pub stored_extent : (library : Library) (object : List â„•) (extent : Extent) â†
 stored_extent library object extent is = record {
   row = is.row;
   kept = Contains-from_In library.objects is.row (find-In _ library.objects is.row is.kept).0;
+  digest = is.digest;
   stored = is.stored;
 }
 

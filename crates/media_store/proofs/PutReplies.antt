@@ -46,7 +46,7 @@ again false = record { refused = refl; made = tt }
 
 by_state : (state : ObjectState) (first second : Outcome) → MayPut first → MayPut second → MayPut (put_by_state state first second)
 by_state Allocated first second h k = h
-by_state (Stored start size) first second h k = k
+by_state (Stored start size digest) first second h k = k
 
 by_row : (row : Option ObjectRow) (first second : Outcome) → MayPut first → MayPut second → MayPut (put_answer_by row first second)
 by_row None first second h k = record { refused = refl; made = tt }

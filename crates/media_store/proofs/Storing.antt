@@ -27,7 +27,7 @@ use Rattle.media_store.specs.Within.{StoresAt}
 
 pub stored_there : (image : List ℕ) (area : ℕ) (change : Change) (extent : Extent) → StoresAt extent change
     → StandsThere image area change (extent_bytes area extent image)
-stored_there image area (changes.Store moment object start size) extent is =
+stored_there image area (changes.Store moment object start size digest) extent is =
     ap₂ (λ (s n : ℕ). extent_bytes area (record { start = s; length = n }) image) (sym is.0) (sym is.1)
 stored_there image area (changes.PutFlow moment flow) extent is = absurd is
 stored_there image area (changes.SetFlow moment flow part) extent is = absurd is
@@ -41,6 +41,7 @@ stored_there image area (changes.DeleteStep moment) extent is = absurd is
 stored_there image area (changes.SweepStep moment) extent is = absurd is
 stored_there image area (changes.PutHook moment hook) extent is = absurd is
 stored_there image area (changes.DropHook moment url) extent is = absurd is
+stored_there image area (changes.Delivered moment event) extent is = absurd is
 
 pub extent_length : (image : List ℕ) (area : ℕ) (extent : Extent) → extent_start area extent + extent.length ≤ length image
     → length (extent_bytes area extent image) ≡ extent.length
@@ -50,7 +51,7 @@ extent_length image area extent there =
 
 pub fits_there : (image : List ℕ) (area : ℕ) (change : Change) (extent : Extent) → extent_start area extent + extent.length ≤ length image
     → StoresAt extent change → fits_bytes change (extent_bytes area extent image) ≡ true
-fits_there image area (changes.Store moment object start size) extent there is =
+fits_there image area (changes.Store moment object start size digest) extent there is =
     eq-eqb (length (extent_bytes area extent image)) size (extent_length image area extent there ∙ sym is.1)
 fits_there image area (changes.PutFlow moment flow) extent there is = absurd is
 fits_there image area (changes.SetFlow moment flow part) extent there is = absurd is
@@ -64,6 +65,7 @@ fits_there image area (changes.DeleteStep moment) extent there is = absurd is
 fits_there image area (changes.SweepStep moment) extent there is = absurd is
 fits_there image area (changes.PutHook moment hook) extent there is = absurd is
 fits_there image area (changes.DropHook moment url) extent there is = absurd is
+fits_there image area (changes.Delivered moment event) extent there is = absurd is
 
 -- ---- a sync before a change
 

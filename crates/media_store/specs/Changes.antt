@@ -22,7 +22,7 @@ use Rattle.media_store.specs.Stores.{archive_of, journal_of}
 -- whether a change, if there is one, stores an object
 abbrev pub stores : Option Change → Bool
 stores None = false
-stores (Some (changes.Store moment object start size)) = true
+stores (Some (changes.Store moment object start size digest)) = true
 stores (Some other) = false
 
 -- A plan can be committed to a store: it makes a change of the store's own library, in the journal
@@ -116,7 +116,7 @@ bytes_if journal (Some change) = bytes_of_change journal change
 
 -- whether a command comes with the bytes of an object, which go by a put
 abbrev pub brings_bytes : Command → Bool
-brings_bytes (commands.Keep object start size) = true
+brings_bytes (commands.Keep object start size digest) = true
 brings_bytes other = false
 
 -- what a command makes of a store at a moment

@@ -199,7 +199,7 @@ end_handed (Some put) = handed_at_end put.plan
 
 -- the change that stores a put's object at this extent
 abbrev pub put_change : PutSeen → Extent → Change
-put_change put extent = changes.Store put.moment put.object extent.start extent.length
+put_change put extent = changes.Store put.moment put.object extent.start extent.length None
 
 -- What the end of a put makes of a store: its object is stored, for which the bytes came that a
 -- read gives at the extent. Behind a put that writes nothing what is kept stays.

@@ -61,7 +61,7 @@ OpensAs image (Err fault) = StoreAnswer image (Err fault)
 -- where the bytes of an object in this state lie, if it has some
 abbrev pub extent_in : ObjectState → Option Extent
 extent_in Allocated = None
-extent_in (Stored start size) = Some (record { start = start; length = size })
+extent_in (Stored start size digest) = Some (record { start = start; length = size })
 
 -- where the bytes of an object lie, if it is kept and stored
 abbrev pub extent_of : Option ObjectRow → Option Extent

@@ -39,7 +39,7 @@ TakesAt area (Write extent planned) piece at same still before after =
 
 -- a change stores an object at this extent
 abbrev pub StoresAt : Extent → Change → Type 0
-StoresAt extent (changes.Store moment object start size) =
+StoresAt extent (changes.Store moment object start size digest) =
     (start ≡ extent.start) × (size ≡ extent.length)
 StoresAt extent other = ⊥
 

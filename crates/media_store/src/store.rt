@@ -90,6 +90,7 @@ impl Store {
             ObjectState::Stored {
                 start_block,
                 length,
+                ..
             } => Some(Extent {
                 start: start_block,
                 length,

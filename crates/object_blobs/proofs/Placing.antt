@@ -124,13 +124,13 @@ found_free area count start e = by (count == 0) refl e
 clear_run : (blocks start count : ℕ) (state : ObjectState) → is_extent_good blocks state ≡ true → 0 < count
     → ((block : ℕ) → start ≤ block → block < start + count → is_clear_of block 1 state ≡ true) → is_clear_of start count state ≡ true
 clear_run blocks start count Allocated good some h = refl
-clear_run blocks start count (Stored from size) good some h = by (cases_lt from (start + count)) (cases_lt start (from + blocks_of size))
+clear_run blocks start count (Stored from size digest) good some h = by (cases_lt from (start + count)) (cases_lt start (from + blocks_of size))
   where
     filled : (nat_lt 0 size ≡ true) ⊎ ((from == 0) ≡ true)
     filled = or_cases (nat_lt 0 size) (from == 0) (and_parts (nat_le (from + blocks_of size) blocks) (nat_lt 0 size || (from == 0)) good).1
 
     by : (from < start + count) ⊎ (start + count ≤ from) → (start < from + blocks_of size) ⊎ (from + blocks_of size ≤ start)
-        → is_clear_of start count (Stored from size) ≡ true
+        → is_clear_of start count (Stored from size digest) ≡ true
     by (inr le) other = or_left _ _ (le-leb (start + count) from le)
     by (inl lt) (inr le) = or_right _ _ (le-leb (from + blocks_of size) start le)
     by (inl lt) (inl after) = absurd (meets (cases_lt start from) filled)
@@ -155,7 +155,7 @@ all_clear blocks start count (row ∷ rows) good some h =
 clear_block : (start count block : ℕ) (state : ObjectState) → start ≤ block → block < start + count → is_clear_of start count state ≡ true
     → is_clear_of block 1 state ≡ true
 clear_block start count block Allocated l e h = refl
-clear_block start count block (Stored from size) l e h = elim (or_cases (nat_le (start + count) from) (nat_le (from + blocks_of size) start) h) [
+clear_block start count block (Stored from size digest) l e h = elim (or_cases (nat_le (start + count) from) (nat_le (from + blocks_of size) start) h) [
   | inl before ↦ or_left _ _ (le-leb (block + 1) from (omega (arith, leb-true (start + count) from before)))
   | inr behind ↦ or_right _ _ (le-leb (from + blocks_of size) block (omega (arith, leb-true (from + blocks_of size) start behind)))
 ]

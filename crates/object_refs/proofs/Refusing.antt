@@ -41,7 +41,7 @@ keep_stored id kept k e stored = ap keep_refusal (object_is id kept ∙ ap (opti
   where
     by : (state : ObjectState) → is_stored state ≡ true → keep_state state ≡ Some OtherBytes
     by Allocated f = absurd (grind (arith, f))
-    by (Stored start size) f = refl
+    by (Stored start size digest) f = refl
 
 pub keep_allocated : (id : List ℕ) (kept : List Kept) (k : Kept) → kept_of id kept ≡ Some k → is_stored k.row.state ≡ false
     → keep_refusal (object_of id (objects_in kept)) ≡ None
@@ -49,7 +49,7 @@ keep_allocated id kept k e stored = ap keep_refusal (object_is id kept ∙ ap (o
   where
     by : (state : ObjectState) → is_stored state ≡ false → keep_state state ≡ None
     by Allocated f = refl
-    by (Stored start size) f = absurd (grind (arith, f))
+    by (Stored start size digest) f = absurd (grind (arith, f))
 
 -- ---- referring
 

@@ -2,6 +2,7 @@
 -- Our own rules.
 use Rattle.std.specs.Prelude.{ℕ, ◌==◌, pos, nat_lt, List, [], ◌∷◌, ◌++◌, Bool, Option, None, if◌then◌else◌, bytes_eq, filter, find, map, not}
 use Rattle.std.specs.List.{list_all, list_any}
+use Rattle.media_rows.specs.declared.object.Digest.{Digest}
 use Rattle.media_rows.specs.declared.object.Extent.{Extent}
 use Rattle.media_rows.specs.declared.object.ObjectRow.{ObjectRow}
 use Rattle.media_rows.specs.declared.segment.SegmentRow.{SegmentRow}
@@ -67,10 +68,10 @@ with_new id serial moment kept = kept ++ unreferred (allocated_rows serial momen
 abbrev pub changed_at : List ℕ → (Kept → Kept) → List Kept → List Kept
 changed_at id change kept = map (λ k. if bytes_eq k.row.id id then change k else k) kept
 
--- an object with its bytes at a place, idle since this moment
-abbrev pub stored_at : Extent → ℕ → Kept → Kept
-stored_at extent moment k =
-    record { row = stored_row extent.start extent.length moment k.row; flows = k.flows }
+-- an object with its bytes at a place, with their digest where one is kept, idle since this moment
+abbrev pub stored_at : Extent → Option Digest → ℕ → Kept → Kept
+stored_at extent digest moment k =
+    record { row = stored_row extent.start extent.length digest moment k.row; flows = k.flows }
 
 -- an object with one reference of a flow more
 abbrev pub referred : ℕ → Kept → Kept

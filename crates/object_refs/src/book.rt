@@ -18,7 +18,7 @@ use crate::names::{NameTable, id_number};
 use crate::restores::{gathered, referred_by};
 use disk_trait::{Duplicate, Memory, Text};
 use media_rows::{
-    ApplyFault, BookFault, Extent, IdList, ObjectList, ObjectRow, Refusal, SegmentList,
+    ApplyFault, BookFault, Digest, Extent, IdList, ObjectList, ObjectRow, Refusal, SegmentList,
 };
 use shared_tree::Version;
 use std::alloc::Global;
@@ -130,17 +130,18 @@ impl ObjectBook {
         Ok(self.with_new(alloc, id, number, serial, now)?)
     }
 
-    /// Notes that an object has its bytes, at this place, and is idle since now. It is refused as
-    /// `UnknownObject` where there is no such object, and as `OtherBytes` where it has its bytes already.
+    /// Notes that an object has its bytes, at this place and with this digest where one is kept, and is idle
+    /// since now. It is refused as `UnknownObject` where there is no such object, and as `OtherBytes` where it has its bytes already.
     pub fn mark_stored(
         &self,
         alloc: Global,
         id: &Text,
         extent: Extent,
+        digest: Option<Digest>,
         now: u64,
     ) -> Result<ObjectBook, BookFault>
         ensures { IsChange (keep_refusal (object_of id.now (objects_in self.now)))
-            (changed_at id.now (stored_at extent now) self.now) result }
+            (changed_at id.now (stored_at extent digest now) self.now) result }
     {
         let Some(old) = self.kept(id) else {
             return Err(BookFault::Refused(Refusal::UnknownObject));
@@ -148,7 +149,7 @@ impl ObjectBook {
         if is_stored(old.row.state) {
             return Err(BookFault::Refused(Refusal::OtherBytes));
         }
-        let new = stored_kept(alloc, old, extent, now)?;
+        let new = stored_kept(alloc, old, extent, digest, now)?;
         Ok(self.with_kept(alloc, old, new)?)
     }
 

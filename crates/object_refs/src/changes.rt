@@ -12,7 +12,7 @@ use crate::flows::FlowCounts;
 use crate::kept::Kept;
 use crate::keys::{with_value, without_value};
 use disk_trait::{Duplicate, Memory, Text};
-use media_rows::{Extent, ObjectRow, ObjectState};
+use media_rows::{Digest, Extent, ObjectRow, ObjectState};
 use shared_tree::Version;
 use std::alloc::Global;
 
@@ -130,14 +130,15 @@ pub(crate) fn is_stored(state: ObjectState) -> bool
     }
 }
 
-/// An object with its bytes at a place.
+/// An object with its bytes at a place, with their digest where one is kept.
 pub(crate) fn stored_kept(
     alloc: Global,
     old: &Kept,
     extent: Extent,
+    digest: Option<Digest>,
     now: u64,
 ) -> Result<Kept, Memory>
-    ensures { IfOk result (λ kept. kept ≡ stored_at extent now old.now) }
+    ensures { IfOk result (λ kept. kept ≡ stored_at extent digest now old.now) }
 {
     Ok(Kept {
         row: ObjectRow {
@@ -146,6 +147,7 @@ pub(crate) fn stored_kept(
             state: ObjectState::Stored {
                 start_block: extent.start,
                 length: extent.length,
+                digest,
             },
             idle_since: now,
         },

@@ -90,7 +90,7 @@ allocated library flow ids taken outcome forms e =
 
 keep_state_by : (state : ObjectState) → Told (keep_state state)
 keep_state_by Allocated = refused.none
-keep_state_by (Stored start size) = refused.some refusals.OtherBytes refl
+keep_state_by (Stored start size digest) = refused.some refusals.OtherBytes refl
 
 keep_by : (row : Option ObjectRow) → Told (keep_refusal row)
 keep_by None = refused.some refusals.UnknownObject refl
@@ -175,9 +175,9 @@ answers_have_texts library (commands.DropFlow flow) moment good at fine few = by
 answers_have_texts library (commands.Allocate flow want) moment good at fine few =
     let forms = wanted_are_ids library want (serials_end library good) fine few in
     allocated library flow (wanted_ids library want) (is_taken library want) _ forms forms
-answers_have_texts library (commands.Keep object start size) moment good at fine few = by_refusal _ _ (keep_by (object_of object library.objects)) refl
+answers_have_texts library (commands.Keep object start size digest) moment good at fine few = by_refusal _ _ (keep_by (object_of object library.objects)) refl
 answers_have_texts library (commands.AddSegments flow posts) moment good at fine few =
-    by_refusal _ _ (refused.either _ _ (refused.of_change library flow) (refused.of_posts library flow posts (posted_ids posts fine))) refl
+    by_refusal _ _ (refused.either _ _ (refused.of_change library flow) (refused.of_posts library flow posts.segments (posted_ids posts.segments fine))) refl
 answers_have_texts library (commands.CutSegments flow range) moment good at fine few =
     by_refusal _ _ (refused.of_change library flow) (cut library flow range moment at)
 answers_have_texts library (commands.PutHook hook) moment good at fine few = created (is_some (hook_of hook.url library.outbox.hooks))

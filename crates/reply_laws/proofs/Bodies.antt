@@ -23,7 +23,7 @@ use Rattle.json_bodies.specs.Hook.{address, events, ids, hook_from, hook_in}
 use Rattle.json_bodies.specs.Part.{part_from, part_in}
 use Rattle.json_bodies.specs.Kinds.{counted_items, object_id_value, tag_rule, collection}
 use Rattle.json_bodies.specs.Rules.{◌>>=◌, breach_of, named_result, some_of, optional_member, required, absent_or, if_required, number_from, ranged, id, text, truth, whole, longest_text, longest_description, last_whole}
-use Rattle.json_bodies.specs.Segments.{object_id, bounded, offset, duration, whole_number, samples_of, segment_of, segments_from, segments_in_items, post_items, segments_in}
+use Rattle.json_bodies.specs.Segments.{object_id, bounded, offset, duration, whole_number, samples_of, segment_of, segments_from, post_of, segments_in_items, post_items, segments_in}
 use Rattle.json_bodies.specs.Storage.{most_objects, usual_objects, count_in, want_from, want_of, want_in}
 use Rattle.reply_laws.specs.Asks.{is_few}
 
@@ -164,7 +164,8 @@ posted (Some values) = segments values
 
 pub of_segments : (body : List ℕ) → Reads Any (segments_in body)
 of_segments body =
-    chain (value_in body) (λ value. segments_in_items (post_items value)) (value_of (json_in body)) (λ value _. posted (post_items value))
+    chain (value_in body) post_of (value_of (json_in body))
+    (λ value _. chain (segments_in_items (post_items value)) _ (posted (post_items value)) (λ segments _. gives tt))
 
 -- ---- storage
 

@@ -29,7 +29,7 @@ again false = record { is = refl }
 
 by_state : (state : ObjectState) (first second : Outcome) → Printed first → Printed second → Printed (put_by_state state first second)
 by_state Allocated first second h k = h
-by_state (Stored start size) first second h k = k
+by_state (Stored start size digest) first second h k = k
 
 by_row : (row : Option ObjectRow) (first second : Outcome) → Printed first → Printed second → Printed (put_answer_by row first second)
 by_row None first second h k = record { is = refl }
@@ -37,7 +37,7 @@ by_row (Some row) first second h k = by_state row.state first second h k
 
 given_state : (state : ObjectState) → has_reply_texts (media_answer state) ≡ true
 given_state Allocated = refl
-given_state (Stored start size) = refl
+given_state (Stored start size digest) = refl
 
 given : (row : Option ObjectRow) → has_reply_texts (media_reply row) ≡ true
 given None = refl

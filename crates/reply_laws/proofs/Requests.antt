@@ -174,7 +174,7 @@ of_put other path body = of_method
 of_post : (route : Route) (path body : List ℕ) → Reads IsGood (post_asked route path body)
 of_post routes.Hooks path body = chain (hook_in body) _ (of_hook body) (λ hook _. hooked hook hook.events)
 of_post routes.Segments path body = chain (flow_at path) _ (flow path)
-    (λ id _. chain (segments_in body) _ (of_segments body) (λ posts _. gives (λ library e. record { good = good_posts posts e; few = refl })))
+    (λ id _. chain (segments_in body) _ (of_segments body) (λ posts _. gives (λ library e. record { good = good_posts posts.segments e; few = refl })))
 of_post routes.Storage path body = chain (flow_at path) _ (flow path)
     (λ id _. chain {P = AreFew} (want_in body) _ (of_storage body) (λ want few. gives (λ library e. record { good = e; few = few })))
 of_post other path body = of_method

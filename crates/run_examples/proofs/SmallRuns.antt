@@ -1,7 +1,7 @@
 -- A store that was made in memory, and a run over it.
 use Rattle.std.proofs.Common.{◌≡◌, ℕ, true, List, [], refl, arith}
 use Rattle.site_edge.specs.MemorySite.{SiteState, site_device}
-use Rattle.format_command.specs.Ends.{FormatMoments, IsMade}
+use Rattle.store_commands.specs.FormatEnds.{FormatMoments, IsMade}
 use Rattle.store_commands.specs.Beginning.{BeginsFrom}
 use Rattle.tams_outcomes.specs.declared.outcome.RunOutcome.TheVariants.{Formatted}
 use Rattle.site_edge.specs.ListClock.{Listing, listing_given, listing_tells}

@@ -12,8 +12,8 @@ use Rattle.site_edge.specs.MemorySite.SiteLeaves.{now, earlier, ending}
 use Rattle.store_states.specs.States.{StandsFor}
 use Rattle.store_commands.specs.Beginning.{BeginsFrom}
 use Rattle.tams_outcomes.specs.Touching.{IsSettled}
-use Rattle.format_command.specs.Formatting.{empty_rows}
-use Rattle.format_command.specs.Fresh.{FreshFilesStand}
+use Rattle.store_commands.specs.Formatting.{empty_rows}
+use Rattle.store_commands.specs.Fresh.{FreshFilesStand}
 use Rattle.run_examples.specs.Premises.{PremisesAreMet, small_file, small_header, small_site, small_start}
 use Rattle.tams_words.specs.Worked.{WordsAsWorked, worked_path}
 

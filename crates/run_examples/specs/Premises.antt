@@ -6,8 +6,8 @@ use Rattle.media_journal.specs.declared.header.Header.{Header}
 use Rattle.site_edge.specs.ListClock.{listing_given, listing_tells, not_begun}
 use Rattle.site_edge.specs.MemorySite.{fresh_site, site_device}
 use Rattle.store_states.specs.States.{StandsFor, StoreState}
-use Rattle.format_command.specs.Formatting.{formatted_state}
-use Rattle.format_command.specs.Fresh.{fresh_file}
+use Rattle.store_commands.specs.Formatting.{formatted_state}
+use Rattle.store_commands.specs.Fresh.{fresh_file}
 use Rattle.tams_top.specs.Laws.{IsReplayFrom, IsServeFrom, IsWorkFrom}
 use Rattle.tams_words.specs.Worked.{replay_line, serve_line, work_line, worked_base}
 

@@ -1,7 +1,7 @@
 //! Laws of runs over a small store. Each function does nothing but call laws that it needs.
 ghost use Rattle.run_examples.specs.Premises.{PremisesAreMet};
 
-use format_command::fresh_files_stand;
+use store_commands::fresh_files_stand;
 use tams_words::words_as_worked;
 
 /// An image, a site and a clock meet each premise of a run of `replay`, `serve` and `work`.

@@ -7,9 +7,9 @@ ghost use Rattle.run_examples.specs.Premises.{small_start};
 ghost use Rattle.run_examples.specs.Runs.{IsSmallRun};
 
 use disk_trait::{Memory, MemoryDisk, NumberList, TextList};
-use format_command::format;
 use site_edge::{ListClock, MemorySink, MemorySite, PeerList};
 use std::alloc::Global;
+use store_commands::format;
 use tams_outcomes::RunOutcome;
 
 /// The bytes of the store's five blocks.

@@ -13,27 +13,27 @@ use Rattle.change_codec.proofs.RowLaws.{row_lawful}
 use Rattle.snapshot_rows.specs.Texts.{Continues, DamageIsNoText, IsDamagedAt, IsOneList, IsOnePlace, SpellsRows, text_of_rows}
 use Rattle.snapshot_rows.proofs.Lists.{one_list, some_byte}
 
-abbrev all_fit : List Row → Type 0
-all_fit rows = AllByRecursion row_spelling.meaning.fits rows
+abbrev all_fit : ℕ → List Row → Type 0
+all_fit form rows = AllByRecursion (row_spelling form).meaning.fits rows
 
 -- other rows are some rows and further ones, which the bytes behind begin with
-record Extends (some other : List Row) (behind rest : List ℕ) : Type 0 where
+record Extends (form : ℕ) (some other : List Row) (behind rest : List ℕ) : Type 0 where
   row : Row
   more : List Row
   longer : other ≡ some ++ row ∷ more
-  fits : row_spelling.meaning.fits row
-  begins : behind ≡ row_spelling.meaning.spell row ++ (text_of_rows more ++ rest)
+  fits : (row_spelling form).meaning.fits row
+  begins : behind ≡ (row_spelling form).meaning.spell row ++ (text_of_rows form more ++ rest)
 
 -- one of two fronts of the same bytes
-abbrev Compares : List Row → List Row → List ℕ → List ℕ → Type 0
-Compares some other behind rest = (some ≡ other) ⊎ (Extends some other behind rest ⊎ Extends other some rest behind)
+abbrev Compares : ℕ → List Row → List Row → List ℕ → List ℕ → Type 0
+Compares form some other behind rest = (some ≡ other) ⊎ (Extends form some other behind rest ⊎ Extends form other some rest behind)
 
-first_of : (row : Row) (rows : List Row) (behind : List ℕ) → row_spelling.meaning.fits row
-    → SpellsFirst row_spelling.meaning (text_of_rows (row ∷ rows) ++ behind) row (text_of_rows rows ++ behind)
-first_of row rows behind fits = record { fits = fits; parts = append_assoc (row_spelling.meaning.spell row) (text_of_rows rows) behind }
+first_of : (form : ℕ) (row : Row) (rows : List Row) (behind : List ℕ) → (row_spelling form).meaning.fits row
+    → SpellsFirst (row_spelling form).meaning (text_of_rows form (row ∷ rows) ++ behind) row (text_of_rows form rows ++ behind)
+first_of form row rows behind fits = record { fits = fits; parts = append_assoc ((row_spelling form).meaning.spell row) (text_of_rows form rows) behind }
 
-longer_by : (row : Row) (some other : List Row) (behind rest : List ℕ) → Extends some other behind rest → Extends (row ∷ some) (row ∷ other) behind rest
-longer_by row some other behind rest e = record {
+longer_by : (form : ℕ) (row : Row) (some other : List Row) (behind rest : List ℕ) → Extends form some other behind rest → Extends form (row ∷ some) (row ∷ other) behind rest
+longer_by form row some other behind rest e = record {
   row = e.row;
   more = e.more;
   longer = ap (λ (rows : List Row). row ∷ rows) e.longer;
@@ -41,39 +41,39 @@ longer_by row some other behind rest e = record {
   begins = e.begins;
 }
 
-behind_same : (row other : Row) (some others : List Row) (behind rest : List ℕ) → row ≡ other → Compares some others behind rest
-    → Compares (row ∷ some) (other ∷ others) behind rest
-behind_same row other some others behind rest same now = subst (λ (r : Row). Compares (row ∷ some) (r ∷ others) behind rest) same (elim now [
+behind_same : (form : ℕ) (row other : Row) (some others : List Row) (behind rest : List ℕ) → row ≡ other → Compares form some others behind rest
+    → Compares form (row ∷ some) (other ∷ others) behind rest
+behind_same form row other some others behind rest same now = subst (λ (r : Row). Compares form (row ∷ some) (r ∷ others) behind rest) same (elim now [
   | inl is ↦ inl (ap (λ (rows : List Row). row ∷ rows) is)
   | inr one ↦ elim one [
-    | inl e ↦ inr (inl (longer_by row some others behind rest e))
-    | inr e ↦ inr (inr (longer_by row others some rest behind e))
+    | inl e ↦ inr (inl (longer_by form row some others behind rest e))
+    | inr e ↦ inr (inr (longer_by form row others some rest behind e))
   ]
 ])
 
-compare : (some others : List Row) (behind rest : List ℕ) → all_fit some → all_fit others → text_of_rows some ++ behind ≡ text_of_rows others ++ rest
-    → Compares some others behind rest
-compare [] [] behind rest fit fits is = inl refl
-compare [] (other ∷ others) behind rest fit (fits, more) is = inr (inl record {
+compare : (form : ℕ) (some others : List Row) (behind rest : List ℕ) → all_fit form some → all_fit form others → text_of_rows form some ++ behind ≡ text_of_rows form others ++ rest
+    → Compares form some others behind rest
+compare form [] [] behind rest fit fits is = inl refl
+compare form [] (other ∷ others) behind rest fit (fits, more) is = inr (inl record {
   row = other;
   more = others;
   longer = refl;
   fits = fits;
-  begins = is ∙ append_assoc (row_spelling.meaning.spell other) (text_of_rows others) rest;
+  begins = is ∙ append_assoc ((row_spelling form).meaning.spell other) (text_of_rows form others) rest;
 })
-compare (row ∷ some) [] behind rest (fit, more) fits is = inr (inr record {
+compare form (row ∷ some) [] behind rest (fit, more) fits is = inr (inr record {
   row = row;
   more = some;
   longer = refl;
   fits = fit;
-  begins = sym is ∙ append_assoc (row_spelling.meaning.spell row) (text_of_rows some) behind;
+  begins = sym is ∙ append_assoc ((row_spelling form).meaning.spell row) (text_of_rows form some) behind;
 })
-compare (row ∷ some) (other ∷ others) behind rest (fit, more) (fits, most) is =
-    let text = text_of_rows (row ∷ some) ++ behind in
-    let first = one_front row_spelling row_lawful text row other (text_of_rows some ++ behind) (text_of_rows others ++ rest)
-    (first_of row some behind fit)
-    (subst (λ (bytes : List ℕ). SpellsFirst row_spelling.meaning bytes other (text_of_rows others ++ rest)) (sym is) (first_of other others rest fits)) in
-    behind_same row other some others behind rest first.0 (compare some others behind rest more most first.1)
+compare form (row ∷ some) (other ∷ others) behind rest (fit, more) (fits, most) is =
+    let text = text_of_rows form (row ∷ some) ++ behind in
+    let first = one_front (row_spelling form) (row_lawful form) text row other (text_of_rows form some ++ behind) (text_of_rows form others ++ rest)
+    (first_of form row some behind fit)
+    (subst (λ (bytes : List ℕ). SpellsFirst (row_spelling form).meaning bytes other (text_of_rows form others ++ rest)) (sym is) (first_of form other others rest fits)) in
+    behind_same form row other some others behind rest first.0 (compare form some others behind rest more most first.1)
 
 -- ---- the front of rows in their order
 
@@ -90,10 +90,10 @@ rising_front (x ∷ xs) ys rising =
     and_from (list_all (row_before x) xs) (rises row_before xs) (all_front (row_before x) xs ys parts.0) (rising_front xs ys parts.1)
 
 -- rows in their order that extend a front continue it
-continued : (some other : List Row) (behind rest : List ℕ) → Extends some other behind rest → rises row_before other ≡ true → Continues some behind
-continued some other behind rest e rising = record {
+continued : (form : ℕ) (some other : List Row) (behind rest : List ℕ) → Extends form some other behind rest → rises row_before other ≡ true → Continues form some behind
+continued form some other behind rest e rising = record {
   row = e.row;
-  later = text_of_rows e.more ++ rest;
+  later = text_of_rows form e.more ++ rest;
   begins = record { fits = e.fits; parts = e.begins };
   rising = rising_front (some ++ e.row ∷ []) e.more
       (ap (rises row_before) (append_assoc some (e.row ∷ []) e.more) ∙ ap (rises row_before) (sym e.longer) ∙ rising);
@@ -102,21 +102,21 @@ continued some other behind rest e rising = record {
 -- ---- the laws
 
 pub is_one_list : IsOneList
-is_one_list text some other first second = sym (one_list some other text first.fit second.fit first.spelled second.spelled)
+is_one_list form text some other first second = sym (one_list form some other text first.fit second.fit first.spelled second.spelled)
 
-same_text : (text : List ℕ) (some other : ℕ) (a : IsDamagedAt text some) (b : IsDamagedAt text other)
-    → text_of_rows a.front ++ a.behind ≡ text_of_rows b.front ++ b.behind
-same_text text some other a b =
+same_text : (form : ℕ) (text : List ℕ) (some other : ℕ) (a : IsDamagedAt form text some) (b : IsDamagedAt form text other)
+    → text_of_rows form a.front ++ a.behind ≡ text_of_rows form b.front ++ b.behind
+same_text form text some other a b =
     ap (λ (front : List ℕ). front ++ a.behind) (sym a.rows.spelled) ∙ sym a.parts ∙ b.parts ∙ ap (λ (front : List ℕ). front ++ b.behind) b.rows.spelled
 
 pub is_one_place : IsOnePlace
-is_one_place text some other a b = elim (compare a.front b.front a.behind b.behind a.rows.fit b.rows.fit (same_text text some other a b)) [
+is_one_place form text some other a b = elim (compare form a.front b.front a.behind b.behind a.rows.fit b.rows.fit (same_text form text some other a b)) [
   | inl same ↦
-      let fronts : a.before ≡ b.before = a.rows.spelled ∙ ap text_of_rows same ∙ sym b.rows.spelled in
+      let fronts : a.before ≡ b.before = a.rows.spelled ∙ ap (text_of_rows form) same ∙ sym b.rows.spelled in
       b.place ∙ ap length (sym fronts) ∙ sym a.place
   | inr one ↦ elim one [
-    | inl e ↦ absurd (a.none (continued a.front b.front a.behind b.behind e b.rows.rising))
-    | inr e ↦ absurd (b.none (continued b.front a.front b.behind a.behind e a.rows.rising))
+    | inl e ↦ absurd (a.none (continued form a.front b.front a.behind b.behind e b.rows.rising))
+    | inr e ↦ absurd (b.none (continued form b.front a.front b.behind a.behind e a.rows.rising))
   ]
 ]
 
@@ -125,16 +125,16 @@ no_bytes [] some is = absurd (omega (arith, some))
 no_bytes (byte ∷ bytes) some is = cc
 
 pub damage_is_no_text : DamageIsNoText
-damage_is_no_text text at rows damaged spells =
-    let same : text_of_rows damaged.front ++ damaged.behind ≡ text_of_rows rows ++ [] =
-    ap (λ (front : List ℕ). front ++ damaged.behind) (sym damaged.rows.spelled) ∙ sym damaged.parts ∙ spells.spelled ∙ sym (append-nil (text_of_rows rows)) in
-    elim (compare damaged.front rows damaged.behind [] damaged.rows.fit spells.fit same) [
+damage_is_no_text form text at rows damaged spells =
+    let same : text_of_rows form damaged.front ++ damaged.behind ≡ text_of_rows form rows ++ [] =
+    ap (λ (front : List ℕ). front ++ damaged.behind) (sym damaged.rows.spelled) ∙ sym damaged.parts ∙ spells.spelled ∙ sym (append-nil (text_of_rows form rows)) in
+    elim (compare form damaged.front rows damaged.behind [] damaged.rows.fit spells.fit same) [
       | inl is ↦
-          let fronts : text_of_rows rows ++ damaged.behind ≡ text_of_rows rows ++ [] =
-          ap (λ (front : List Row). text_of_rows front ++ damaged.behind) (sym is) ∙ same in
-          no_bytes damaged.behind damaged.some (append_cancel_left (text_of_rows rows) damaged.behind [] fronts)
+          let fronts : text_of_rows form rows ++ damaged.behind ≡ text_of_rows form rows ++ [] =
+          ap (λ (front : List Row). text_of_rows form front ++ damaged.behind) (sym is) ∙ same in
+          no_bytes damaged.behind damaged.some (append_cancel_left (text_of_rows form rows) damaged.behind [] fronts)
       | inr one ↦ elim one [
-        | inl e ↦ damaged.none (continued damaged.front rows damaged.behind [] e spells.rising)
-        | inr e ↦ some_byte e.row (text_of_rows e.more ++ damaged.behind) (sym e.begins)
+        | inl e ↦ damaged.none (continued form damaged.front rows damaged.behind [] e spells.rising)
+        | inr e ↦ some_byte form e.row (text_of_rows form e.more ++ damaged.behind) (sym e.begins)
       ]
     ]

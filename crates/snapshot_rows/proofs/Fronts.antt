@@ -16,62 +16,62 @@ use Rattle.snapshot_rows.proofs.Lists.{some_byte}
 use Rattle.snapshot_rows.proofs.Orders.{behind_rising, last_place, rises_behind}
 
 -- bytes that begin with a row's spelling, by its length
-pub begins_by_length : (bytes : List ℕ) (row : Row) (later : List ℕ) → SpellsFirst row_spelling.meaning bytes row later
-    → BeginsWithRow bytes row (length (row_spelling.meaning.spell row))
-begins_by_length bytes row later first = record {
+pub begins_by_length : (form : ℕ) (bytes : List ℕ) (row : Row) (later : List ℕ) → SpellsFirst (row_spelling form).meaning bytes row later
+    → BeginsWithRow form bytes row (length ((row_spelling form).meaning.spell row))
+begins_by_length form bytes row later first = record {
   rest = later;
   begins = first;
-  place = sym (length-append (row_spelling.meaning.spell row) later) ∙ ap length (sym first.parts);
+  place = sym (length-append ((row_spelling form).meaning.spell row) later) ∙ ap length (sym first.parts);
 }
 
-taken_is : (bytes : List ℕ) (row : Row) (taken : ℕ) → BeginsWithRow bytes row taken → taken ≡ length (row_spelling.meaning.spell row)
-taken_is bytes row taken begins =
-    let whole : length bytes ≡ length (row_spelling.meaning.spell row) + length begins.rest =
-    ap length begins.begins.parts ∙ length-append (row_spelling.meaning.spell row) begins.rest in
+taken_is : (form : ℕ) (bytes : List ℕ) (row : Row) (taken : ℕ) → BeginsWithRow form bytes row taken → taken ≡ length ((row_spelling form).meaning.spell row)
+taken_is form bytes row taken begins =
+    let whole : length bytes ≡ length ((row_spelling form).meaning.spell row) + length begins.rest =
+    ap length begins.begins.parts ∙ length-append ((row_spelling form).meaning.spell row) begins.rest in
     omega (arith, whole, begins.place)
 
-pub taken_within : (bytes : List ℕ) (row : Row) (taken : ℕ) → BeginsWithRow bytes row taken → taken ≤ length bytes
-taken_within bytes row taken begins = omega (arith, begins.place)
+pub taken_within : (form : ℕ) (bytes : List ℕ) (row : Row) (taken : ℕ) → BeginsWithRow form bytes row taken → taken ≤ length bytes
+taken_within form bytes row taken begins = omega (arith, begins.place)
 
-pub taken_some : (bytes : List ℕ) (row : Row) (taken : ℕ) → BeginsWithRow bytes row taken → 0 < taken
-taken_some bytes row taken begins = by_length (row_spelling.meaning.spell row) refl
+pub taken_some : (form : ℕ) (bytes : List ℕ) (row : Row) (taken : ℕ) → BeginsWithRow form bytes row taken → 0 < taken
+taken_some form bytes row taken begins = by_length ((row_spelling form).meaning.spell row) refl
   where
-    by_length : (spelling : List ℕ) → row_spelling.meaning.spell row ≡ spelling → 0 < taken
-    by_length [] is = absurd (some_byte row [] (append-nil (row_spelling.meaning.spell row) ∙ is))
+    by_length : (spelling : List ℕ) → (row_spelling form).meaning.spell row ≡ spelling → 0 < taken
+    by_length [] is = absurd (some_byte form row [] (append-nil ((row_spelling form).meaning.spell row) ∙ is))
     by_length (byte ∷ rest) is =
-        let n : length (row_spelling.meaning.spell row) ≡ suc (length rest) = ap length is in
-        omega (arith, n, taken_is bytes row taken begins)
+        let n : length ((row_spelling form).meaning.spell row) ≡ suc (length rest) = ap length is in
+        omega (arith, n, taken_is form bytes row taken begins)
 
 -- the bytes that a row at the front takes
-taken_are : (bytes : List ℕ) (row : Row) (taken : ℕ) → BeginsWithRow bytes row taken → take taken bytes ≡ row_spelling.meaning.spell row
-taken_are bytes row taken begins =
-    ap (λ (n : ℕ). take n bytes) (taken_is bytes row taken begins)
-    ∙ ap (take (length (row_spelling.meaning.spell row))) begins.begins.parts
-    ∙ take-append_seam (row_spelling.meaning.spell row) begins.rest
+taken_are : (form : ℕ) (bytes : List ℕ) (row : Row) (taken : ℕ) → BeginsWithRow form bytes row taken → take taken bytes ≡ (row_spelling form).meaning.spell row
+taken_are form bytes row taken begins =
+    ap (λ (n : ℕ). take n bytes) (taken_is form bytes row taken begins)
+    ∙ ap (take (length ((row_spelling form).meaning.spell row))) begins.begins.parts
+    ∙ take-append_seam ((row_spelling form).meaning.spell row) begins.rest
 
-text_of_more : (rows : List Row) (row : Row) → text_of_rows (rows ++ row ∷ []) ≡ text_of_rows rows ++ row_spelling.meaning.spell row
-text_of_more [] row = append-nil (row_spelling.meaning.spell row)
-text_of_more (x ∷ rows) row =
-    ap (λ (text : List ℕ). row_spelling.meaning.spell x ++ text) (text_of_more rows row)
-    ∙ sym (append_assoc (row_spelling.meaning.spell x) (text_of_rows rows) (row_spelling.meaning.spell row))
+text_of_more : (form : ℕ) (rows : List Row) (row : Row) → text_of_rows form (rows ++ row ∷ []) ≡ text_of_rows form rows ++ (row_spelling form).meaning.spell row
+text_of_more form [] row = append-nil ((row_spelling form).meaning.spell row)
+text_of_more form (x ∷ rows) row =
+    ap (λ (text : List ℕ). (row_spelling form).meaning.spell x ++ text) (text_of_more form rows row)
+    ∙ sym (append_assoc ((row_spelling form).meaning.spell x) (text_of_rows form rows) ((row_spelling form).meaning.spell row))
 
-fit_more : (rows : List Row) (row : Row) → AllByRecursion row_spelling.meaning.fits rows → row_spelling.meaning.fits row
-    → AllByRecursion row_spelling.meaning.fits (rows ++ row ∷ [])
-fit_more [] row fit fits = (fits, tt)
-fit_more (x ∷ rows) row (fit, more) fits = (fit, fit_more rows row more fits)
+fit_more : (form : ℕ) (rows : List Row) (row : Row) → AllByRecursion (row_spelling form).meaning.fits rows → (row_spelling form).meaning.fits row
+    → AllByRecursion (row_spelling form).meaning.fits (rows ++ row ∷ [])
+fit_more form [] row fit fits = (fits, tt)
+fit_more form (x ∷ rows) row (fit, more) fits = (fit, fit_more form rows row more fits)
 
 -- the bytes from an offset on, as a part of the text
 pub rest_is : (text : List ℕ) (at : ℕ) → take (length text - at) (drop at text) ≡ drop at text
 rest_is text at = ap (λ (n : ℕ). take n (drop at text)) (sym (length-drop at text)) ∙ take-length (drop at text)
 
 -- one more row was read
-pub one_more : (text : List ℕ) (rows : List Row) (at : ℕ) (last : Option Place) (row : Row) (place : Place) (taken : ℕ) → IsFrontRead text rows at last
-    → BeginsWithRow (drop at text) row taken → IsPlaceOf place row → stands_behind last row ≡ true
-    → IsFrontRead text (rows ++ row ∷ []) (at + taken) (Some place)
-one_more text rows at last row place taken read begins is behind = record {
-  within = omega (arith, read.within, taken_within (drop at text) row taken begins, dropped);
+pub one_more : (form : ℕ) (text : List ℕ) (rows : List Row) (at : ℕ) (last : Option Place) (row : Row) (place : Place) (taken : ℕ) → IsFrontRead form text rows at last
+    → BeginsWithRow form (drop at text) row taken → IsPlaceOf place row → stands_behind last row ≡ true
+    → IsFrontRead form text (rows ++ row ∷ []) (at + taken) (Some place)
+one_more form text rows at last row place taken read begins is behind = record {
+  within = omega (arith, read.within, taken_within form (drop at text) row taken begins, dropped);
   front = record {
-    fit = fit_more rows row read.front.fit begins.begins.fits;
+    fit = fit_more form rows row read.front.fit begins.begins.fits;
     spelled = parts;
     rising = rises_behind rows row read.front.rising (read.place row ∙ behind);
   };
@@ -86,19 +86,19 @@ one_more text rows at last row place taken read begins is behind = record {
         let both = sym (length-append (take at text) (drop at text)) ∙ ap length (take-append-drop at text) in
         omega (arith, both, front_length)
 
-    parts : take (at + taken) text ≡ text_of_rows (rows ++ row ∷ [])
+    parts : take (at + taken) text ≡ text_of_rows form (rows ++ row ∷ [])
     parts =
         ap (λ (n : ℕ). take (n + taken) text) (sym front_length)
         ∙ ap (take (length (take at text) + taken)) (sym (take-append-drop at text))
         ∙ take-append-add (take at text) (drop at text) taken
-        ∙ ap (λ (bytes : List ℕ). take at text ++ bytes) (taken_are (drop at text) row taken begins)
-        ∙ ap (λ (front : List ℕ). front ++ row_spelling.meaning.spell row) read.front.spelled
-        ∙ sym (text_of_more rows row)
+        ∙ ap (λ (bytes : List ℕ). take at text ++ bytes) (taken_are form (drop at text) row taken begins)
+        ∙ ap (λ (front : List ℕ). front ++ (row_spelling form).meaning.spell row) read.front.spelled
+        ∙ sym (text_of_more form rows row)
 
 -- no further row was read
-pub none_more : (text : List ℕ) (rows : List Row) (at : ℕ) (last : Option Place) → IsFrontRead text rows at last → at < length text
-    → NoneFollows last (drop at text) → IsDamagedAt text at
-none_more text rows at last read before none = record {
+pub none_more : (form : ℕ) (text : List ℕ) (rows : List Row) (at : ℕ) (last : Option Place) → IsFrontRead form text rows at last → at < length text
+    → NoneFollows form last (drop at text) → IsDamagedAt form text at
+none_more form text rows at last read before none = record {
   front = rows;
   before = take at text;
   behind = drop at text;

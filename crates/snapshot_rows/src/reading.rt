@@ -1,5 +1,6 @@
 //! The rows that a text spells.
 ghost use Rattle.std.specs.Prelude.{◌≡◌, ◌≤◌, ◌<◌, ◌+◌, ℕ, List, length, drop, true, Some, None, IfOk, IfSome};
+ghost use Rattle.disk_trait.specs.Forms.{IsForm};
 ghost use Rattle.media_rows.specs.declared.row.Row.{Row};
 ghost use Rattle.change_codec.specs.Codec.{BeginsWithRow};
 ghost use Rattle.snapshot_rows.specs.Texts.{IsDamagedAt, OnDamaged, SpellsRows};
@@ -21,17 +22,18 @@ struct Found {
     place: Place,
 }
 
-/// The rows that a text spells one after another, in the order of a snapshot. `Damaged` names the offset of
-/// the first row that is no spelling, or that doesn't stand behind the row before it.
-pub fn read_rows(alloc: Global, bytes: &[u8]) -> Result<RowList, RowsFault>
-    ensures ok { IfOk result (SpellsRows bytes.now) }
-    ensures damaged { OnDamaged result (IsDamagedAt bytes.now) }
+/// The rows that a text spells in a form one after another, in the order of a snapshot. `Damaged` names the
+/// offset of the first row that is no spelling, or that doesn't stand behind the row before it.
+pub fn read_rows(alloc: Global, bytes: &[u8], form: u8) -> Result<RowList, RowsFault>
+    requires form { IsForm form }
+    ensures ok { IfOk result (SpellsRows form bytes.now) }
+    ensures damaged { OnDamaged result (IsDamagedAt form bytes.now) }
 {
     let mut rows = RowList::new(alloc);
     let mut last = None;
     let mut at = 0;
     'rows: while at < bytes.len() {
-        match next_row(alloc, &bytes[at..], &last)? {
+        match next_row(alloc, &bytes[at..], form, &last)? {
             Some(found) => {
                 at += found.taken;
                 last = Some(found.place);
@@ -44,15 +46,21 @@ pub fn read_rows(alloc: Global, bytes: &[u8]) -> Result<RowList, RowsFault>
 }
 
 /// The row at the front of these bytes, where one stands there that may follow the last row.
-fn next_row(alloc: Global, bytes: &[u8], last: &Option<Place>) -> Result<Option<Found>, Memory>
+fn next_row(
+    alloc: Global,
+    bytes: &[u8],
+    form: u8,
+    last: &Option<Place>,
+) -> Result<Option<Found>, Memory>
+    requires form { IsForm form }
     ensures begins { IfOk result (λ next. IfSome next
-        (λ found. BeginsWithRow bytes.now found.row found.taken)) }
+        (λ found. BeginsWithRow form bytes.now found.row found.taken)) }
     ensures place { IfOk result (λ next. IfSome next (λ found. IsPlaceOf found.place found.row)) }
     ensures behind { IfOk result (λ next. IfSome next
         (λ found. stands_behind last.now found.row ≡ true)) }
-    ensures none { IfOk result (λ next. next ≡ None → NoneFollows last.now bytes.now) }
+    ensures none { IfOk result (λ next. next ≡ None → NoneFollows form last.now bytes.now) }
 {
-    let (row, taken) = match decode_row(alloc, bytes) {
+    let (row, taken) = match decode_row(alloc, bytes, form) {
         Ok(found) => found,
         Err(CodecFault::Bad(_)) => return Ok(None),
         Err(CodecFault::Memory) => return Err(Memory),

@@ -1,2 +1,16 @@
 pub mod BeginningLemmas
 pub mod OpeningLemmas
+pub mod FormatEndLemmas
+pub mod FormattingLemmas
+mod FreshLemmas
+mod CheckLemmas
+pub mod CheckEndLemmas
+pub mod WorkEndLemmas
+mod TurnsLeft
+mod WorkingLemmas
+pub mod CompletenessLemmas
+pub mod ServeEndLemmas
+mod RunningLemmas
+mod ServedLemmas
+pub mod WorkloadEndLemmas
+mod WorkloadLemmas

@@ -1,2 +1,16 @@
 pub mod Beginning
 pub mod Opening
+pub mod Formatting
+pub mod FormatEnds
+pub mod Fresh
+pub mod CheckEnds
+pub mod Working
+pub mod WorkEnds
+pub mod Turning
+pub mod Histories
+pub mod Completeness
+pub mod ServeEnds
+pub mod Running
+pub mod Generating
+pub mod WorkloadEnds
+pub mod Standing

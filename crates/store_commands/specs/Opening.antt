@@ -5,11 +5,11 @@ use Rattle.media_journal.specs.declared.fault.JournalFault.{JournalFault}
 use Rattle.media_journal.specs.declared.fault.JournalFault.TheVariants as opening
 use Rattle.media_journal.specs.Opening.{IsStore}
 use Rattle.store_core.specs.declared.library.Counts.{Counts}
-use Rattle.store_opening.specs.Opening.{StoreDamagedAt}
+use Rattle.store_opening.specs.Opening.{StandsByOther, StoreDamagedAt}
 use Rattle.store_states.specs.States.{StandsFor, StoreState}
 use Rattle.tams_outcomes.specs.Touching.{Untouched}
 use Rattle.tams_outcomes.specs.declared.outcome.RunOutcome.{RunOutcome}
-use Rattle.tams_outcomes.specs.declared.outcome.RunOutcome.TheVariants.{Served, Cut, NotStore, Damaged, DiskFault, NoMemory, LinkFault}
+use Rattle.tams_outcomes.specs.declared.outcome.RunOutcome.TheVariants.{Served, Cut, NotStore, Damaged, OldForm, DiskFault, NoMemory, LinkFault}
 use Rattle.tams_outcomes.specs.declared.outcome.StoreCounts.{StoreCounts}
 
 -- the image stands for some state
@@ -24,6 +24,7 @@ StandsForNone image = (s : StoreState) → StandsFor image s → ⊥
 abbrev pub opening_outcome : JournalFault → RunOutcome
 opening_outcome opening.NotStore = NotStore
 opening_outcome (opening.Damaged at) = Damaged at
+opening_outcome opening.OldForm = OldForm
 opening_outcome opening.Disk = DiskFault
 opening_outcome opening.Memory = NoMemory
 
@@ -36,6 +37,10 @@ abbrev pub DamageFound : Device → Device → ℕ → Type 0
 DamageFound old new at =
     (old.shows ≡ true → IsStore old.seen × StoreDamagedAt old.seen at) × Untouched old new
 
+-- the file stands for a state in a form that isn't in use, and nothing was touched
+abbrev pub OtherFormFound : Device → Device → Type 0
+OtherFormFound old new = (old.shows ≡ true → StandsByOther old.seen) × Untouched old new
+
 -- the cause of each end of `replay` and `serve` in the file
 abbrev pub OpenedCause : Device → Device → RunOutcome → Type 0
 OpenedCause old new (Served requests changes skipped) = old.shows ≡ true → StandsForOne old.seen
@@ -43,6 +48,7 @@ OpenedCause old new Cut = old.shows ≡ true → StandsForOne old.seen
 OpenedCause old new LinkFault = old.shows ≡ true → StandsForOne old.seen
 OpenedCause old new NotStore = NoStoreFound old new
 OpenedCause old new (Damaged at) = DamageFound old new at
+OpenedCause old new OldForm = OtherFormFound old new
 OpenedCause old new DiskFault = Unit {0}
 OpenedCause old new NoMemory = Unit {0}
 OpenedCause old new _ = ⊥

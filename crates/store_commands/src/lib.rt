@@ -1,9 +1,22 @@
-//! What the commands that open a store share: how a run begins, and how it ends where the store couldn't be
-//! opened.
+//! The commands of a store: `format`, `check`, `work`, `replay` and `serve`, and `workload`, each with the record of
+//! its ends; and what those that open a store share.
 #![tactic(auto)]
 
+mod checking;
+mod formatting;
+mod generating;
+mod laws;
 mod opening;
 mod premises;
+mod serving;
+mod still_clock;
+mod working;
 
+pub use crate::checking::check;
+pub use crate::formatting::format;
+pub use crate::generating::workload;
+pub use crate::laws::fresh_files_stand;
 pub use crate::opening::{line_counts, opening_outcome};
 pub use crate::premises::site_over;
+pub use crate::serving::{replay, serve};
+pub use crate::working::work;

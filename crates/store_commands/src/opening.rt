@@ -13,6 +13,7 @@ pub fn opening_outcome(fault: JournalFault) -> RunOutcome
     match fault {
         JournalFault::NotStore => RunOutcome::NotStore,
         JournalFault::Damaged(at) => RunOutcome::Damaged(at),
+        JournalFault::OldForm => RunOutcome::OldForm,
         JournalFault::Disk => RunOutcome::DiskFault,
         JournalFault::Memory => RunOutcome::NoMemory,
     }

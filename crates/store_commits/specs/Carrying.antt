@@ -3,6 +3,7 @@
 -- same archive with another room in the journal, so moments are said by archives and not by states.
 -- Our own rules.
 use Rattle.std.specs.Prelude.{◌≡◌, ◌+◌, ◌*◌, ◌⊎◌, ℕ, Bool, true, false, List, length, Option, Some, None, IfSome}
+use Rattle.disk_trait.specs.Forms.{form_in_use}
 use Rattle.media_rows.specs.Library.{Library}
 use Rattle.media_rows.specs.Media.{Archive}
 use Rattle.disk_trait.specs.Calls.{Elapses}
@@ -50,7 +51,8 @@ pub record Carries (ok : Bool) (before : Archive) (next : StoreView) (held : Lis
 
 -- the rows of a checkpoint, if there are some, are those of the library
 abbrev pub AreRowsOf : Option (List ℕ) → Library → Type 0
-AreRowsOf rows library = IfSome rows (λ text. IsTextOf library.id library.blocks text library)
+AreRowsOf rows library =
+    IfSome rows (λ text. IsTextOf form_in_use library.id library.blocks text library)
 
 -- where the journal stands once the rows of a checkpoint were written, if there are some
 abbrev pub journal_for : Position → Option (List ℕ) → Position

@@ -1,6 +1,7 @@
 //! A change of a store as one step: the rows of a checkpoint where they are needed, and the record.
 ghost use Rattle.std.specs.Prelude.{◌≡◌, ◌≤◌, ◌+◌, ◌*◌, ℕ, true, List, length, is_ok, IfSome, OnOk};
 ghost use Rattle.std.specs.Option.{option_copied};
+ghost use Rattle.disk_trait.specs.Forms.{form_in_use};
 ghost use Rattle.media_rows.specs.declared.object.ObjectRow.{ObjectRow};
 ghost use Rattle.media_rows.specs.Library.{Library};
 ghost use Rattle.disk_trait.specs.Calls.{DiskCalls, LeavesOnly};
@@ -33,7 +34,7 @@ pub fn write_change<D: Disk>(
     ensures makes { (D.device disk.old).honest ≡ true → (D.device disk.old).shows ≡ true
         → (kept : StoreView) → (held : List (List ℕ)) → (next : Library) → (next_held : List (List ℕ))
         → AgreesWith (D.device disk.old) kept held → kept.journal ≡ journal.old
-        → AreRowsOf (option_copied rows.entry) kept.library → StepOf frame.now kept.library next
+        → AreRowsOf (option_copied rows.entry) kept.library → StepOf form_in_use frame.now kept.library next
         → HoldsEach (D.device disk.old) (media_start kept.journal.half) next.objects next_held
         → Carries (is_ok result) (kept_state kept held).archive
         (kept_written kept (option_copied rows.entry) next frame.now) next_held

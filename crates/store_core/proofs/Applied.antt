@@ -5,6 +5,7 @@ use Rattle.std.proofs.lemmas.Bool.{and_from, and_left, and_parts, and_right, le-
 use Rattle.media_rows.specs.declared.change.Change.{Change}
 use Rattle.media_rows.specs.declared.change.Change.TheVariants as changes
 use Rattle.media_rows.specs.declared.command.Command.TheVariants as commands
+use Rattle.media_rows.specs.declared.object.Digest.{Digest}
 use Rattle.media_rows.specs.declared.object.Extent.{Extent}
 use Rattle.media_rows.specs.declared.refusal.BookFault.{BookFault}
 use Rattle.media_rows.specs.declared.refusal.BookFault.TheVariants as books
@@ -18,7 +19,7 @@ use Rattle.media_rows.specs.Good.{Good, is_good}
 use Rattle.media_rows.specs.Library.{Library, last_serial}
 use Rattle.media_rows.specs.Lists.{rises}
 use Rattle.media_rows.specs.Moments.{is_moment}
-use Rattle.media_rows.specs.Objects.{blocks_of, is_free}
+use Rattle.media_rows.specs.Objects.{kept_digest, blocks_of, is_free}
 use Rattle.media_rows.specs.Refusals.{IsChange, Restores}
 use Rattle.media_rows.specs.Snapshot.{have_numbers, library_of, row_before}
 use Rattle.media_rows.specs.Sound.{has_good_values, is_good_command, is_sound}
@@ -121,13 +122,13 @@ restored_good tested id blocks rows good =
 -- ---- the place of an object
 
 -- an object that is to be kept, and isn't refused its bytes, has room at its place
-pub has_room : AnswersApply → AppliedIsSound → (library : Library) (object : List ℕ) (extent : Extent) (moment : ℕ) → Good library → IsReady library
-    → is_good_command library (commands.Keep object extent.start extent.length) ≡ true → is_moment moment ≡ true → HasRoom library object extent
-has_room apply sound library object extent moment good ready command at = λ free.
-    let store = changes.Store moment object extent.start extent.length in
+pub has_room : AnswersApply → AppliedIsSound → (library : Library) (object : List ℕ) (extent : Extent) (digest : Digest) (moment : ℕ) → Good library
+    → IsReady library → is_good_command library (commands.Keep object extent.start extent.length digest) ≡ true → is_moment moment ≡ true → HasRoom library object extent
+has_room apply sound library object extent digest moment good ready command at = λ free.
+    let store = changes.Store moment object extent.start extent.length (kept_digest digest) in
     let then : AppliesWithin library store = subst
     (λ refusal. IfSome (answer_by refusal (changed replies.Created store)).change (AppliesWithin library)) free
-    (apply library (commands.Keep object extent.start extent.length) moment good command at) in
+    (apply library (commands.Keep object extent.start extent.length digest) moment good command at) in
     let was = sound library store (after store library) (then (le-ltb last_serial library.next_serial ready.within)) in
     let allowed = and_parts _ (is_free library.objects library.blocks (blocks_of extent.length) extent.start) was.allowed in
     and_from (is_free library.objects library.blocks (blocks_of extent.length) extent.start) (nat_lt 0 extent.length || (extent.start == 0))

@@ -101,7 +101,7 @@ made_passes library (commands.SetFlow flow part) moment free = λ p. refl
 made_passes library (commands.SetSource source part) moment free = λ p. refl
 made_passes library (commands.DropFlow flow) moment free = drop_passes library flow moment
 made_passes library (commands.Allocate flow want) moment free = λ p. refl
-made_passes library (commands.Keep object start size) moment free = λ p. refl
+made_passes library (commands.Keep object start size digest) moment free = λ p. refl
 made_passes library (commands.AddSegments flow posts) moment free = λ p. refl
 made_passes library (commands.CutSegments flow range) moment free = cut_passes library flow range moment
 made_passes library (commands.PutHook hook) moment free = created_passes (is_some (hook_of hook.url library.outbox.hooks))
@@ -203,6 +203,7 @@ passed (replies.CreatedObjects ids) q p e = cc
 passed (replies.Accepted row) q p e = cc
 passed (replies.Shown view) q p e = cc
 passed (replies.Media size) q p e = cc
+passed (replies.Partly failed) q p e = cc
 
 -- what is prepared of a command
 pub command_applies : AnswersApply → (library : Library) (command : Command) (moment : ℕ) → Good library → is_good_command library command ≡ true

@@ -2,6 +2,7 @@
 use Rattle.std.proofs.Common.{ℕ, List, [], ◌∷◌, ◌++◌, map, inl, inr, sym, subst}
 use Rattle.std.specs.List.{AllByRecursion}
 use Rattle.time_range.specs.Points.{IsRange}
+use Rattle.disk_trait.specs.Forms.{form_in_use}
 use Rattle.media_rows.specs.declared.row.Row.{Row}
 use Rattle.media_rows.specs.declared.row.Row.TheVariants as rows
 use Rattle.media_rows.specs.declared.segment.SegmentRow.{SegmentRow}
@@ -21,27 +22,27 @@ use Rattle.library_laws.specs.RowLaws.{RowsRise}
 -- ---- the order of rows
 
 -- the range of a segment that has a spelling is one
-segment_ranges : (row : SegmentRow) → row_spelling.meaning.fits (rows.Segment row) → IsRange row.segment.range
+segment_ranges : (row : SegmentRow) → (row_spelling form_in_use).meaning.fits (rows.Segment row) → IsRange row.segment.range
 unfolding row_spelling segment_row_spelling segment_spelling range_spelling
 segment_ranges row fits = search
 
-each_ranges : (segments : List SegmentRow) → AllByRecursion row_spelling.meaning.fits (map rows.Segment segments) → (row : SegmentRow)
+each_ranges : (segments : List SegmentRow) → AllByRecursion (row_spelling form_in_use).meaning.fits (map rows.Segment segments) → (row : SegmentRow)
     → In row segments → IsRange row.segment.range
 each_ranges [] fits row here = absurd here
 each_ranges (first ∷ later) fits row (inl same) = subst (λ (r : SegmentRow). IsRange r.segment.range) (sym same) (segment_ranges first fits.0)
 each_ranges (first ∷ later) fits row (inr there) = each_ranges later fits.1 row there
 
-front_fits : (xs ys : List Row) → AllByRecursion row_spelling.meaning.fits (xs ++ ys) → AllByRecursion row_spelling.meaning.fits xs
+front_fits : (xs ys : List Row) → AllByRecursion (row_spelling form_in_use).meaning.fits (xs ++ ys) → AllByRecursion (row_spelling form_in_use).meaning.fits xs
 front_fits [] ys fits = tt
 front_fits (x ∷ xs) ys fits = (fits.0, front_fits xs ys fits.1)
 
-back_fits : (xs ys : List Row) → AllByRecursion row_spelling.meaning.fits (xs ++ ys) → AllByRecursion row_spelling.meaning.fits ys
+back_fits : (xs ys : List Row) → AllByRecursion (row_spelling form_in_use).meaning.fits (xs ++ ys) → AllByRecursion (row_spelling form_in_use).meaning.fits ys
 back_fits [] ys fits = fits
 back_fits (x ∷ xs) ys fits = back_fits xs ys fits.1
 
 -- the rows of a good library that were written as text are spelled by it in their order
 pub snapshot : RowsRise → (library : Library) → Good library → (text : List ℕ) → AddsRows [] (rows_of library) text
-    → SpellsRows text (rows_of library)
+    → SpellsRows form_in_use text (rows_of library)
 snapshot rise library good text written =
     let a = map rows.Source library.catalog.sources ++ map rows.Flow library.catalog.flows ++ map rows.Object library.objects in
     let s = map rows.Segment (in_order segment_row_before library.segments) in

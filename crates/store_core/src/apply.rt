@@ -16,7 +16,7 @@ use core_parts::{Cut, Parts, good_is_ready};
 use disk_trait::Text;
 use good_values::{has_good_values, is_moment};
 use library_laws::{applies_is_tested, good_is_tested};
-use media_rows::{ApplyFault, BookFault, Change, Deletion, Extent};
+use media_rows::{ApplyFault, BookFault, Change, Deletion, Digest, Extent};
 use std::alloc::Global;
 use time_range::TimeRange;
 
@@ -72,12 +72,13 @@ fn next_parts(alloc: Global, parts: &Parts, change: &Change) -> Result<Option<Pa
             object,
             start_block,
             length,
+            digest,
         } => {
             let extent = Extent {
                 start: *start_block,
                 length: *length,
             };
-            store(alloc, parts, object, extent, *moment)
+            store(alloc, parts, object, extent, *digest, *moment)
         }
         Change::AddSegments {
             moment,
@@ -106,6 +107,7 @@ fn next_parts(alloc: Global, parts: &Parts, change: &Change) -> Result<Option<Pa
         Change::SweepStep { moment } => sweep_step(alloc, parts, *moment),
         Change::PutHook { hook, .. } => Ok(parts.put_hook(alloc, hook)?),
         Change::DropHook { moment, url } => drop_hook(alloc, parts, url, *moment),
+        Change::Delivered { moment, event } => deliver(alloc, parts, *event, *moment),
     }
 }
 
@@ -132,17 +134,20 @@ fn store(
     parts: &Parts,
     object: &Text,
     extent: Extent,
+    digest: Option<Digest>,
     now: u64,
 ) -> Result<Option<Parts>, ApplyFault>
     requires ready { IsReady parts.now }
     requires start { IsTrue (nat_lt 0 extent.length || (extent.start == 0)) }
-    ensures { Restores (is_allowed parts.now (changes.Store now object.now extent.start extent.length))
-        (within_serials (after (changes.Store now object.now extent.start extent.length) parts.now)) result }
+    ensures { Restores
+        (is_allowed parts.now (changes.Store now object.now extent.start extent.length digest))
+        (within_serials
+        (after (changes.Store now object.now extent.start extent.length digest) parts.now)) result }
 {
     if !parts.media().takes(extent) {
         return Err(ApplyFault::Refused);
     }
-    without_reason(parts.store(alloc, object, extent, now))
+    without_reason(parts.store(alloc, object, extent, digest, now))
 }
 
 /// The segments that a range covers go, of which there are 1 to 32.
@@ -222,6 +227,18 @@ fn drop_hook(
         return Err(ApplyFault::Refused);
     }
     Ok(parts.drop_hook(alloc, url)?)
+}
+
+/// An event was delivered, if it is the first that waits for its hook.
+fn deliver(alloc: Global, parts: &Parts, event: u64, now: u64) -> Result<Option<Parts>, ApplyFault>
+    requires ready { IsReady parts.now }
+    ensures { Restores (is_allowed parts.now (changes.Delivered now event))
+        (within_serials (after (changes.Delivered now event) parts.now)) result }
+{
+    if !parts.registry().outbox().waits_first(event) {
+        return Err(ApplyFault::Refused);
+    }
+    Ok(parts.deliver(alloc, event)?)
 }
 
 /// What a change gives, where nothing refuses it.

@@ -14,7 +14,7 @@ use core_parts::{Cut, Parts, good_is_ready};
 use disk_trait::{Duplicate, Text};
 use library_laws::{answers_apply, applied_is_sound};
 use media_rows::{
-    BookFault, Change, Deletion, Extent, FlowBody, Hook, Part, PostList, Reply, Want,
+    BookFault, Change, Deletion, Digest, Extent, FlowBody, Hook, Part, PostList, Reply, Want,
 };
 use std::alloc::Global;
 use time_range::TimeRange;
@@ -161,23 +161,25 @@ pub(crate) fn keep(
     parts: &Parts,
     object: &Text,
     extent: Extent,
+    digest: Digest,
     now: u64,
 ) -> Result<Made, BookFault>
     requires good { Good parts.now }
-    requires place { IsTrue (is_good_command parts.now (commands.Keep object.now extent.start extent.length)) }
+    requires place { IsTrue (is_good_command parts.now (commands.Keep object.now extent.start extent.length digest)) }
     requires moment { IsTrue (is_moment now) }
-    ensures { MakesAnswer parts.now (commands.Keep object.now extent.start extent.length) now result }
+    ensures { MakesAnswer parts.now (commands.Keep object.now extent.start extent.length digest) now result }
 {
     good_is_ready();
     answers_apply();
     applied_is_sound();
-    match parts.store(alloc, object, extent, now) {
+    match parts.store(alloc, object, extent, digest.kept(), now) {
         Ok(next) => {
             let change = Change::Store {
                 moment: now,
                 object: object.duplicate(alloc)?,
                 start_block: extent.start,
                 length: extent.length,
+                digest: digest.kept(),
             };
             Ok(Made::changed(Reply::Created, change, next))
         }
@@ -194,12 +196,12 @@ pub(crate) fn add_segments(
     now: u64,
 ) -> Result<Made, BookFault>
     requires ready { IsReady parts.now }
-    requires bounded { IsTrue (are_posts_good posts.now) }
+    requires bounded { IsTrue (are_posts_good posts.now.segments) }
     ensures { MakesAnswer parts.now (commands.AddSegments flow posts.now) now result }
 {
     match parts.add(alloc, flow, posts.items(), now) {
         Ok(next) => {
-            let segments = posts.duplicate(alloc)?;
+            let segments = posts.to_list(alloc)?;
             Ok(Made::changed(
                 Reply::Created,
                 Change::AddSegments {

@@ -98,12 +98,13 @@ fn made(alloc: Global, parts: &Parts, command: &Command, now: u64) -> Result<Mad
             object,
             start_block,
             length,
+            digest,
         } => {
             let extent = Extent {
                 start: *start_block,
                 length: *length,
             };
-            keep(alloc, parts, object, extent, now)
+            keep(alloc, parts, object, extent, *digest, now)
         }
         Command::AddSegments(flow, posts) => add_segments(alloc, parts, *flow, posts, now),
         Command::CutSegments(flow, range) => cut_segments(alloc, parts, *flow, range, now),

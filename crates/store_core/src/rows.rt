@@ -2,6 +2,7 @@
 ghost use Rattle.std.specs.Prelude.{IfOk};
 ghost use Rattle.media_rows.specs.Refusals.{Restores};
 ghost use Rattle.media_rows.specs.Snapshot.{library_of, rows_of};
+ghost use Rattle.disk_trait.specs.Forms.{form_in_use};
 ghost use Rattle.snapshot_rows.specs.Texts.{SpellsRows};
 ghost use Rattle.core_restore.specs.Restored.{are_rows_of_good};
 
@@ -16,7 +17,7 @@ use std::alloc::Global;
 impl Core {
     /// The text of the library's rows in the order of a snapshot. A row that has no spelling is want of memory.
     pub fn rows(&self, alloc: Global) -> Result<Text, Memory>
-        ensures { IfOk result (λ text. SpellsRows text (rows_of self.now)) }
+        ensures { IfOk result (λ text. SpellsRows form_in_use text (rows_of self.now)) }
     {
         rows_rise();
         let text = snapshot_text(alloc, &self.parts)?;

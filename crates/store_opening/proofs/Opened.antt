@@ -1,17 +1,20 @@
 -- What was opened of an image decides what opening a store answers.
-use Rattle.std.proofs.Common.{◌≡◌, ◌<◌, ◌≤◌, ◌+◌, ◌-◌, ◌^◌, ℕ, false, List, Some, None, Err, inl, inr, arith}
+use Rattle.std.proofs.Common.{◌≡◌, ◌<◌, ◌≤◌, ◌+◌, ◌-◌, ◌^◌, ℕ, false, List, ◌*◌, Option, Some, None, Err, inl, inr, refl, ap, subst, ◌∙◌, arith}
+use Rattle.disk_trait.specs.Forms.{form_in_use}
 use Rattle.media_rows.specs.declared.row.Row.{Row}
 use Rattle.media_rows.specs.Library.{Library}
 use Rattle.snapshot_rows.specs.Texts.{IsDamagedAt, SpellsRows}
 use Rattle.media_journal.specs.declared.open.Opened.{Opened}
 use Rattle.media_journal.specs.declared.fault.JournalFault.{JournalFault}
 use Rattle.media_journal.specs.declared.fault.JournalFault.TheVariants as journal
-use Rattle.media_journal.specs.Opening.{IsOpened, OpenAnswer, header_of}
+use Rattle.media_journal.specs.Journal.{Gives}
+use Rattle.media_journal.specs.Opening.{IsOpened, OpenAnswer, contents_of, header_of}
+use Rattle.media_journal.proofs.ReadingLemmas.{gives_reads}
 use Rattle.core_restore.specs.Restored.{are_rows_of_good}
-use Rattle.store_states.specs.States.{Folds, IsSnapshot, blocks_before}
+use Rattle.store_states.specs.States.{Folds, IsSnapshot, Makes, StoreState, blocks_before, held_in, media_start}
 use Rattle.store_opening.specs.declared.fault.OpenFault.{OpenFault}
-use Rattle.store_opening.specs.declared.fault.OpenFault.TheVariants.{Damaged, Memory}
-use Rattle.store_opening.specs.Opening.{IsKept, IsRefusedAt, InJournal, InRow, InRows, InRecord, InTorn, StoreAnswer, StoreDamagedAt}
+use Rattle.store_opening.specs.declared.fault.OpenFault.TheVariants.{Damaged, OldForm, Memory}
+use Rattle.store_opening.specs.Opening.{IsKept, IsRefusedAt, InJournal, InRow, InRows, InRecord, InTorn, StandsByOther, StoreAnswer, StoreDamagedAt}
 use Rattle.store_opening.specs.Within.{RowsMakeNoLibrary, AtDamage, PartAnswer, opening_fault}
 use Rattle.store_opening.proofs.Halves.{opened_half, opened_torn, opened_whole, rows_within}
 use Rattle.store_opening.proofs.Texts.{row_within, text_of_none}
@@ -20,6 +23,7 @@ use Rattle.store_opening.proofs.Texts.{row_within, text_of_none}
 pub journal_fault : (image : List ℕ) (fault : JournalFault) → OpenAnswer image (Err fault) → StoreAnswer image (Err fault)
 journal_fault image journal.NotStore none = none
 journal_fault image (journal.Damaged at) damage = (damage.0, InJournal damage.1)
+journal_fault image journal.OldForm fault = absurd fault
 journal_fault image journal.Disk fault = tt
 journal_fault image journal.Memory fault = tt
 
@@ -27,47 +31,52 @@ journal_fault image journal.Memory fault = tt
 pub part_fault : (image : List ℕ) (o : Opened) (fault : OpenFault) → IsOpened image o → PartAnswer image (Err fault)
     → StoreAnswer image (Err (opening_fault fault))
 part_fault image o (Damaged at) is damage = (is.store, damage)
+part_fault image o OldForm is other = other
 part_fault image o Memory is damage = tt
 
 -- ---- rows
 
 -- a row is damaged
-pub damaged_row : (image : List ℕ) (o : Opened) (row at : ℕ) → IsOpened image o → IsDamagedAt o.rows row
+pub damaged_row : (image : List ℕ) (o : Opened) (row at : ℕ) → IsOpened image o → IsDamagedAt o.form o.rows row
     → (o.rows_at + row < 2 ^ 63 → at ≡ o.rows_at + row) → RowsMakeNoLibrary image at
 damaged_row image o row at is damaged place = inl record {
   header = header_of o;
+  form = o.form;
   text = o.rows;
   records = o.found;
   reads = opened_half image o is;
   row = row;
   damaged = damaged;
-  place = omega (arith, place (omega (arith, row_within o.rows row damaged, rows_within image o is)), is.rows_at);
+  place = omega (arith, place (omega (arith, row_within o.form o.rows row damaged, rows_within image o is)), is.rows_at);
 }
 
 -- the rows are others
 pub other_rows : (image : List ℕ) (o : Opened) (blocks : ℕ) (rows : List Row) (at : ℕ) → IsOpened image o → blocks ≡ o.blocks - blocks_before o.half
-    → SpellsRows o.rows rows → are_rows_of_good o.id blocks rows ≡ false → (8 ≤ o.rows_at → at + 8 ≡ o.rows_at) → RowsMakeNoLibrary image at
+    → SpellsRows o.form o.rows rows → are_rows_of_good o.id blocks rows ≡ false → (8 ≤ o.rows_at → at + 8 ≡ o.rows_at) → RowsMakeNoLibrary image at
 other_rows image o blocks rows at is count spells wrong place = inr record {
   header = header_of o;
+  form = o.form;
   text = o.rows;
   records = o.found;
   reads = opened_half image o is;
   rows = rows;
   spells = spells;
-  none = text_of_none o.id (o.blocks - blocks_before o.half) o.rows rows spells (rw (← count) wrong);
+  none = text_of_none o.form o.id (o.blocks - blocks_before o.half) o.rows rows spells (rw (← count) wrong);
   place = omega (arith, place (omega (arith, is.rows_at)), is.rows_at);
 }
 
 pub rows_fault : (image : List ℕ) (fault : OpenFault) → AtDamage {X = Library} (Err fault) (RowsMakeNoLibrary image) → PartAnswer image (Err fault)
 rows_fault image (Damaged at) wrong = elim wrong [ inl row ↦ InRow row | inr rows ↦ InRows rows ]
+rows_fault image OldForm wrong = absurd wrong
 rows_fault image Memory wrong = tt
 
 -- ---- records
 
-pub records_fault : (image : List ℕ) (o : Opened) (first : Library) (fault : OpenFault) → IsOpened image o → IsSnapshot (header_of o) o.rows first
-    → AtDamage {X = Library} (Err fault) (IsRefusedAt o.found first) → PartAnswer image (Err fault)
+pub records_fault : (image : List ℕ) (o : Opened) (first : Library) (fault : OpenFault) → IsOpened image o → IsSnapshot o.form (header_of o) o.rows first
+    → AtDamage {X = Library} (Err fault) (IsRefusedAt o.form o.found first) → PartAnswer image (Err fault)
 records_fault image o first (Damaged at) is snapshot refused = InRecord record {
   header = header_of o;
+  form = o.form;
   text = o.rows;
   records = o.found;
   reads = opened_half image o is;
@@ -75,12 +84,14 @@ records_fault image o first (Damaged at) is snapshot refused = InRecord record {
   snapshot = snapshot;
   refused = refused;
 }
+records_fault image o first OldForm is snapshot refused = absurd refused
 records_fault image o first Memory is snapshot refused = tt
 
 pub torn_record : (image : List ℕ) (o : Opened) (first library : Library) (at : ℕ) → o.torn ≡ Some at → IsOpened image o
-    → IsSnapshot (header_of o) o.rows first → Folds o.found first library → StoreDamagedAt image at
+    → IsSnapshot o.form (header_of o) o.rows first → Folds o.form o.found first library → StoreDamagedAt image at
 torn_record image o first library at torn is snapshot folds = InTorn record {
   header = header_of o;
+  form = o.form;
   text = o.rows;
   records = o.found;
   reads = opened_torn image o at torn is;
@@ -88,14 +99,50 @@ torn_record image o first library at torn is snapshot folds = InTorn record {
   makes = record { first = first; snapshot = snapshot; folds = folds };
 }
 
--- ---- what is kept
+-- ---- what is kept, and what is of another form
 
-pub is_kept : (image : List ℕ) (o : Opened) (first library : Library) → o.torn ≡ None → IsOpened image o → IsSnapshot (header_of o) o.rows first
-    → Folds o.found first library → IsKept image (record { library = library; journal = o.journal })
-is_kept image o first library whole is snapshot folds = record {
+pub is_kept : (image : List ℕ) (o : Opened) (first library : Library) → o.torn ≡ None → o.form ≡ form_in_use → IsOpened image o
+    → IsSnapshot o.form (header_of o) o.rows first → Folds o.form o.found first library
+    → IsKept image (record { library = library; journal = o.journal })
+is_kept image o first library whole form is snapshot folds = record {
   header = header_of o;
   text = o.rows;
   records = o.found;
-  gives = opened_whole image o whole is;
-  makes = record { first = first; snapshot = snapshot; folds = folds };
+  gives = subst (λ (form : ℕ). Gives image o.journal (record { header = header_of o; form = form; rows = o.rows; records = o.found })) form
+      (opened_whole image o whole is);
+  makes = subst (λ (form : ℕ). Makes form (header_of o) o.rows o.found library) form (record { first = first; snapshot = snapshot; folds = folds });
 }
+
+-- no record is torn
+pub untorn : (torn : Option ℕ) → ((at : ℕ) → torn ≡ Some at → ⊥) → torn ≡ None
+untorn None none = refl
+untorn (Some at) none = absurd (none at refl)
+
+-- the state that was opened
+abbrev state_of : List ℕ → Opened → Library → StoreState
+state_of image o library = record {
+  archive = record { library = library; held = held_in image (media_start o.half) library.objects };
+  room = o.journal.room;
+  half = 4096 * o.half;
+}
+
+pub is_other : (image : List ℕ) (o : Opened) (first library : Library) → o.torn ≡ None → (o.form ≡ form_in_use → ⊥) → IsOpened image o
+    → IsSnapshot o.form (header_of o) o.rows first → Folds o.form o.found first library → StandsByOther image
+is_other image o first library whole other is snapshot folds =
+    let gives = opened_whole image o whole is in
+    record {
+      form = o.form;
+      other = other;
+      state = state_of image o library;
+      stands = record {
+        header = header_of o;
+        gate = o.journal.gate;
+        text = o.rows;
+        records = o.found;
+        reads = gives_reads image o.journal (contents_of o) gives;
+        makes = record { first = first; snapshot = snapshot; folds = folds };
+        held = refl;
+        room = gives.half.room ∙ ap (λ start. start + 4096 * o.half) gives.active;
+        half = refl;
+      };
+    }

@@ -13,12 +13,12 @@ use Rattle.core_restore.specs.Restored.{are_rows_of_good}
 use Rattle.store_states.specs.States.{IsTextOf}
 
 -- rows that don't pass the test make no library
-pub text_of_none : (id blocks : ℕ) (text : List ℕ) (some : List Row) → SpellsRows text some → are_rows_of_good id blocks some ≡ false → (library : Library)
-    → IsTextOf id blocks text library → ⊥
-text_of_none id blocks text some spells wrong library is = false≢true (sym wrong ∙ passes)
+pub text_of_none : (form id blocks : ℕ) (text : List ℕ) (some : List Row) → SpellsRows form text some → are_rows_of_good id blocks some ≡ false
+    → (library : Library) → IsTextOf form id blocks text library → ⊥
+text_of_none form id blocks text some spells wrong library is = false≢true (sym wrong ∙ passes)
   where
     same : is.rows ≡ some
-    same = is_one_list text some is.rows spells is.spells
+    same = is_one_list form text some is.rows spells is.spells
 
     numbers : have_numbers some ≡ true
     numbers = ap have_numbers (sym same) ∙ is.numbered
@@ -31,7 +31,7 @@ text_of_none id blocks text some spells wrong library is = false≢true (sym wro
         (and_from (have_numbers some) (is_good (library_of id blocks some)) numbers good)
 
 -- a damaged row begins before the text's end
-pub row_within : (text : List ℕ) (row : ℕ) → IsDamagedAt text row → row < length text
-row_within text row damaged =
+pub row_within : (form : ℕ) (text : List ℕ) (row : ℕ) → IsDamagedAt form text row → row < length text
+row_within form text row damaged =
     let whole = ap length damaged.parts ∙ length-append damaged.before damaged.behind in
     omega (arith, whole, damaged.place, damaged.some)

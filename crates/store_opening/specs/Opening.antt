@@ -1,17 +1,18 @@
 -- What opening a store answers over an image of its file. Our own format.
-use Rattle.std.specs.Prelude.{◌≡◌, ◌+◌, ◌-◌, ℕ, List, ◌∷◌, ◌++◌, Result, Ok, Err}
+use Rattle.std.specs.Prelude.{◌≡◌, ◌≢◌, ◌+◌, ◌-◌, ℕ, List, ◌∷◌, ◌++◌, Result, Ok, Err}
+use Rattle.disk_trait.specs.Forms.{form_in_use}
 use Rattle.media_rows.specs.declared.row.Row.{Row}
 use Rattle.media_rows.specs.Library.{Library}
 use Rattle.snapshot_rows.specs.Texts.{IsDamagedAt, SpellsRows}
 use Rattle.media_journal.specs.declared.header.Header.{Header}
 use Rattle.media_journal.specs.declared.record.Record.{Record}
 use Rattle.media_journal.specs.declared.fault.JournalFault.{JournalFault}
-use Rattle.media_journal.specs.declared.fault.JournalFault.TheVariants.{NotStore, Damaged, Disk, Memory}
+use Rattle.media_journal.specs.declared.fault.JournalFault.TheVariants.{NotStore, Damaged, OldForm, Disk, Memory}
 use Rattle.media_journal.specs.File.{Reads, ReadsTorn, active_start}
 use Rattle.media_journal.specs.Journal.{Gives}
 use Rattle.media_journal.specs.Opening.{DamagedAt, IsStore}
 use Rattle.store_states.specs.Kept.{StoreView, half_of}
-use Rattle.store_states.specs.States.{Folds, IsSnapshot, Makes, StepOf, blocks_before, held_in, media_start}
+use Rattle.store_states.specs.States.{Folds, IsSnapshot, Makes, StandsBy, StepOf, StoreState, blocks_before, held_in, media_start}
 use Rattle.store_opening.specs.declared.opening.OpenedStore.{OpenedStore}
 
 -- ---- what is kept of an image
@@ -22,7 +23,7 @@ pub record IsKept (image : List ℕ) (kept : StoreView) : Type 0 where
   pub text : List ℕ
   pub records : List Record
   pub gives : Gives image kept.journal (half_of header text records)
-  pub makes : Makes header text records kept.library
+  pub makes : Makes form_in_use header text records kept.library
 
 -- what a store keeps that was opened
 abbrev pub view_of_opened : OpenedStore → StoreView
@@ -38,69 +39,77 @@ bytes_in_image image kept = held_in image (media_start kept.journal.half) kept.l
 
 -- ---- where an image is damaged
 
--- The image has this header, and these rows and whole records in its active half: a closed gate
--- stands behind them, or a torn record.
-pub data ReadsHalf (image : List ℕ) (header : Header) (text : List ℕ)
+-- The image has this header, and its active half this form, these rows, and these whole records: a
+-- closed gate stands behind them, or a torn record.
+pub data ReadsHalf (image : List ℕ) (header : Header) (form : ℕ) (text : List ℕ)
     (records : List Record) : Type 0 where
-  Closed : (gate : ℕ) → Reads image header gate text records → ReadsHalf image header text records
-  Torn : (at : ℕ) → ReadsTorn image header at text records → ReadsHalf image header text records
+  Closed : (gate : ℕ) → Reads image header gate form text records
+      → ReadsHalf image header form text records
+  Torn : (at : ℕ) → ReadsTorn image header at form text records
+      → ReadsHalf image header form text records
 
--- The place is that of the first row that is no spelling, or that isn't after the row before it.
+-- The place is that of the first row that is no spelling in the half's form, or that isn't after
+-- the row before it.
 pub record HasDamagedRow (image : List ℕ) (at : ℕ) : Type 0 where
   pub header : Header
+  pub form : ℕ
   pub text : List ℕ
   pub records : List Record
-  pub reads : ReadsHalf image header text records
+  pub reads : ReadsHalf image header form text records
   pub row : ℕ
-  pub damaged : IsDamagedAt text row
+  pub damaged : IsDamagedAt form text row
   pub place : at ≡ active_start image header.half + 8 + row
 
 -- The rows are spelled in their order, but aren't those of a good library. The place is the start
 -- of their half.
 pub record HasOtherRows (image : List ℕ) (at : ℕ) : Type 0 where
   pub header : Header
+  pub form : ℕ
   pub text : List ℕ
   pub records : List Record
-  pub reads : ReadsHalf image header text records
+  pub reads : ReadsHalf image header form text records
   pub rows : List Row
-  pub spells : SpellsRows text rows
-  pub none : (library : Library) → IsSnapshot header text library → ⊥
+  pub spells : SpellsRows form text rows
+  pub none : (library : Library) → IsSnapshot form header text library → ⊥
   pub place : at ≡ active_start image header.half
 
--- a payload makes nothing of a library: it is no change, or its change doesn't apply
-abbrev pub IsNoStep : List ℕ → Library → Type 0
-IsNoStep payload from = (next : Library) → StepOf payload from next → ⊥
+-- a payload makes nothing of a library: it is no change of a form, or its change doesn't apply
+abbrev pub IsNoStep : ℕ → List ℕ → Library → Type 0
+IsNoStep form payload from = (next : Library) → StepOf form payload from next → ⊥
 
--- Records before one make a library, of which that one makes nothing. The place is its gate's.
-pub record IsRefusedAt (records : List Record) (first : Library) (at : ℕ) : Type 0 where
+-- Records of a form before one make a library, of which that one makes nothing. The place is its
+-- gate's.
+pub record IsRefusedAt (form : ℕ) (records : List Record) (first : Library) (at : ℕ) : Type 0 where
   pub front : List Record
   pub refused : Record
   pub behind : List Record
   pub parts : records ≡ front ++ refused ∷ behind
   pub before : Library
-  pub folds : Folds front first before
-  pub none : IsNoStep refused.payload before
+  pub folds : Folds form front first before
+  pub none : IsNoStep form refused.payload before
   pub place : at ≡ refused.offset
 
 -- The rows are those of a good library, and the place is that of a record's gate which is the first
 -- that makes nothing.
 pub record HasRefusedRecord (image : List ℕ) (at : ℕ) : Type 0 where
   pub header : Header
+  pub form : ℕ
   pub text : List ℕ
   pub records : List Record
-  pub reads : ReadsHalf image header text records
+  pub reads : ReadsHalf image header form text records
   pub first : Library
-  pub snapshot : IsSnapshot header text first
-  pub refused : IsRefusedAt records first at
+  pub snapshot : IsSnapshot form header text first
+  pub refused : IsRefusedAt form records first at
 
 -- Rows and whole records make a library. The place is that of the torn record's gate behind them.
 pub record HasTornRecord (image : List ℕ) (at : ℕ) : Type 0 where
   pub header : Header
+  pub form : ℕ
   pub text : List ℕ
   pub records : List Record
-  pub reads : ReadsTorn image header at text records
+  pub reads : ReadsTorn image header at form text records
   pub library : Library
-  pub makes : Makes header text records library
+  pub makes : Makes form header text records library
 
 -- The offset at which the image of a store is damaged, from its start.
 pub data StoreDamagedAt (image : List ℕ) (at : ℕ) : Type 0 where
@@ -110,13 +119,24 @@ pub data StoreDamagedAt (image : List ℕ) (at : ℕ) : Type 0 where
   InRecord : HasRefusedRecord image at → StoreDamagedAt image at
   InTorn : HasTornRecord image at → StoreDamagedAt image at
 
+-- ---- where an image is of another form
+
+-- the image stands for a state by a half of a form that isn't in use
+pub record StandsByOther (image : List ℕ) : Type 0 where
+  pub form : ℕ
+  pub other : form ≢ form_in_use
+  pub state : StoreState
+  pub stands : StandsBy form image state
+
 -- ---- what is answered
 
 -- What opening answers over an image: the library and the journal that it has, `NotStore` where it
--- is no store, and `Damaged` with the offset at which it is damaged.
+-- is no store, `Damaged` with the offset at which it is damaged, and `OldForm` where it stands for
+-- a state by a half of a form that isn't in use.
 abbrev pub StoreAnswer : List ℕ → Result OpenedStore JournalFault → Type 0
 StoreAnswer image (Ok store) = IsKept image (view_of_opened store)
 StoreAnswer image (Err NotStore) = ¬ (IsStore image)
 StoreAnswer image (Err (Damaged at)) = IsStore image × StoreDamagedAt image at
+StoreAnswer image (Err OldForm) = StandsByOther image
 StoreAnswer image (Err Disk) = Unit {0}
 StoreAnswer image (Err Memory) = Unit {0}

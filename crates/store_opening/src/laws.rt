@@ -1,11 +1,12 @@
 //! Laws of what opening answers. Each function does nothing.
-ghost use Rattle.store_opening.specs.Laws.{DamagedStandsForNone, IsOneDamage, KeptStands};
+ghost use Rattle.store_opening.specs.Laws.{IsOneDamage, KeptStands, RefusedStandForNone};
 
 use media_journal::one_reading;
 
-/// An image that is damaged stands for no state, and that of a store is damaged at one place at most.
+/// An image that is damaged stands for no state, and that of a store is damaged at one place at most. One
+/// that stands for a state by a half of another form stands for none by one of the form in use.
 pub fn damaged_images_stand_for_none()
-    ensures none { DamagedStandsForNone }
+    ensures none { RefusedStandForNone }
     ensures place { IsOneDamage }
 {
     one_reading();

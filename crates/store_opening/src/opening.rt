@@ -1,6 +1,7 @@
 //! Opening a store.
 ghost use Rattle.std.specs.Prelude.{◌≡◌, ◌≤◌, ◌+◌, ◌*◌, ℕ, List, true, IfOk};
 ghost use Rattle.disk_trait.specs.Calls.{DiskReads};
+ghost use Rattle.disk_trait.specs.Forms.{IsForm};
 ghost use Rattle.media_journal.specs.Answers.{not_disk};
 ghost use Rattle.media_journal.specs.Journal.{IsWhole};
 ghost use Rattle.media_journal.specs.Opening.{IsOpened, WholeUnlessTorn};
@@ -10,7 +11,7 @@ ghost use Rattle.store_opening.specs.Within.{PartAnswer};
 use crate::fault::OpenFault;
 use crate::records::fold;
 use crate::rows::library_of_rows;
-use disk_trait::Disk;
+use disk_trait::{Disk, FORM_IN_USE};
 use media_journal::{BLOCK, Journal, JournalFault, Opened, open_journal};
 use std::alloc::Global;
 use store_core::Core;
@@ -30,9 +31,11 @@ impl OpenedStore {
 
 /// Opens the store of a device. `NotStore` comes exactly where the device has fewer than 20,480 bytes or
 /// no open header, and `Damaged` with the offset at which the file is damaged, in bytes: 8 for numbers
-/// that a file can't have, the start of the active half where its rows don't fit it or aren't those of a
-/// good library, the first row that is none or doesn't stand behind the row before it, or the gate of the
-/// first record whose end passes the half, whose payload is no change, or whose change doesn't apply.
+/// that a file can't have, the start of the active half where it is of neither form or its rows don't fit
+/// it or aren't those of a good library, the first row that is none or doesn't stand behind the row before
+/// it, or the gate of the first record whose end passes the half, whose payload is no change, or whose
+/// change doesn't apply. `OldForm` comes exactly where the file stands for a state by a half of a form that
+/// isn't in use: it is read, and may not be written behind.
 pub fn open_store<D: Disk>(alloc: Global, disk: &mut D) -> Result<OpenedStore, JournalFault>
     ensures reads { DiskReads (not_disk result) (D.device disk.old) (D.device disk.new) }
     ensures within { IfOk result (λ s. BLOCK * s.journal.blocks ≤ (D.device disk.new).size) }
@@ -52,6 +55,7 @@ fn store_of(alloc: Global, opened: Opened) -> Result<OpenedStore, OpenFault>
     requires whole { WholeUnlessTorn opened.torn opened.journal }
     requires blocks { opened.journal.blocks ≡ opened.blocks }
     requires half { opened.journal.half ≡ opened.half }
+    requires form { IsForm opened.form }
     ensures journal { IfOk result (λ s. s.journal ≡ opened.journal) }
     ensures whole { IfOk result (λ s. IsWhole s.journal) }
     ensures sizes { IfOk result (λ s. 2 * s.journal.half + 3 ≤ s.journal.blocks) }
@@ -60,10 +64,13 @@ fn store_of(alloc: Global, opened: Opened) -> Result<OpenedStore, OpenFault>
 {
     states_are_good();
     let first = library_of_rows(alloc, &opened)?;
-    let core = fold(alloc, opened.found.items(), first)?;
+    let core = fold(alloc, opened.found.items(), opened.form, first)?;
     // A torn record is named only where all records before it apply.
     if let Some(at) = opened.torn {
         return Err(OpenFault::Damaged(at));
+    }
+    if opened.form != FORM_IN_USE {
+        return Err(OpenFault::OldForm);
     }
     Ok(OpenedStore {
         core,

@@ -1,5 +1,6 @@
 //! The changes of a half's records, applied one after another.
 ghost use Rattle.std.specs.Prelude.{◌≡◌, IfOk};
+ghost use Rattle.disk_trait.specs.Forms.{IsForm};
 ghost use Rattle.store_states.specs.States.{Folds, StepOf};
 ghost use Rattle.store_opening.specs.Opening.{IsNoStep, IsRefusedAt};
 ghost use Rattle.store_opening.specs.Within.{AtDamage};
@@ -11,25 +12,32 @@ use media_rows::ApplyFault;
 use std::alloc::Global;
 use store_core::Core;
 
-/// The library that records make of this one, in their order.
-pub(crate) fn fold(alloc: Global, records: &[Record], first: Core) -> Result<Core, OpenFault>
-    ensures folded { IfOk result (Folds records.now first) }
-    ensures refused { AtDamage result (IsRefusedAt records.now first) }
+/// The library that records of a form make of this one, in their order.
+pub(crate) fn fold(
+    alloc: Global,
+    records: &[Record],
+    form: u8,
+    first: Core,
+) -> Result<Core, OpenFault>
+    requires form { IsForm form }
+    ensures folded { IfOk result (Folds form records.now first) }
+    ensures refused { AtDamage result (IsRefusedAt form records.now first) }
 {
     let mut library = first;
     for entry in records {
-        library = step(alloc, entry, &library)?;
+        library = step(alloc, entry, form, &library)?;
     }
     Ok(library)
 }
 
-/// The library that a record makes of this one.
-fn step(alloc: Global, entry: &Record, library: &Core) -> Result<Core, OpenFault>
-    ensures next { IfOk result (StepOf entry.now.payload library.now) }
-    ensures refused { AtDamage result (λ at. IsNoStep entry.now.payload library.now) }
+/// The library that a record of a form makes of this one.
+fn step(alloc: Global, entry: &Record, form: u8, library: &Core) -> Result<Core, OpenFault>
+    requires form { IsForm form }
+    ensures next { IfOk result (StepOf form entry.now.payload library.now) }
+    ensures refused { AtDamage result (λ at. IsNoStep form entry.now.payload library.now) }
     ensures place { AtDamage result (λ at. at ≡ entry.now.offset) }
 {
-    let change = match decode_change(alloc, entry.payload.bytes()) {
+    let change = match decode_change(alloc, entry.payload.bytes(), form) {
         Ok(change) => change,
         Err(CodecFault::Bad(_)) => return Err(OpenFault::Damaged(entry.offset)),
         Err(CodecFault::Memory) => return Err(OpenFault::Memory),

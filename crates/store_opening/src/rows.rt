@@ -1,5 +1,6 @@
 //! The library of a half's rows.
 ghost use Rattle.std.specs.Prelude.{◌≤◌, ◌+◌, ◌*◌, ℕ, List, IfOk};
+ghost use Rattle.disk_trait.specs.Forms.{IsForm};
 ghost use Rattle.media_journal.specs.Opening.{IsOpened, header_of};
 ghost use Rattle.store_states.specs.States.{IsSnapshot};
 ghost use Rattle.store_opening.specs.Within.{RowsMakeNoLibrary, AtDamage};
@@ -13,12 +14,13 @@ use store_core::Core;
 
 /// The library of the rows of what was opened.
 pub(crate) fn library_of_rows(alloc: Global, opened: &Opened) -> Result<Core, OpenFault>
-    requires { 2 * opened.now.half + 3 ≤ opened.now.blocks }
-    ensures ok { IfOk result (IsSnapshot (header_of opened.now) opened.now.rows) }
+    requires sizes { 2 * opened.now.half + 3 ≤ opened.now.blocks }
+    requires form { IsForm opened.now.form }
+    ensures ok { IfOk result (IsSnapshot opened.now.form (header_of opened.now) opened.now.rows) }
     ensures damaged { (image : List ℕ) → IsOpened image opened.now
         → AtDamage result (RowsMakeNoLibrary image) }
 {
-    let rows = match read_rows(alloc, opened.rows.bytes()) {
+    let rows = match read_rows(alloc, opened.rows.bytes(), opened.form) {
         Ok(rows) => rows,
         // Places of a file fit a u64, so that nothing is cut here or below.
         Err(RowsFault::Damaged(row)) => {

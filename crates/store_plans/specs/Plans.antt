@@ -2,8 +2,10 @@
 -- or a put of an object's bytes makes of it, the record of the change, and the rows of a checkpoint
 -- that must come first. Our own rules.
 use Rattle.std.specs.Prelude.{◌≡◌, ◌≤◌, ◌+◌, ◌*◌, ℕ, List, length, bytes_eq, Option, Some, None, IfSome, IsTrue, IsFalse}
+use Rattle.disk_trait.specs.Forms.{form_in_use}
 use Rattle.media_rows.specs.declared.change.Change.{Change}
 use Rattle.media_rows.specs.declared.change.Change.TheVariants as changes
+use Rattle.media_rows.specs.declared.object.Digest.{Digest}
 use Rattle.media_rows.specs.declared.object.Extent.{Extent}
 use Rattle.media_rows.specs.declared.object.ObjectRow.{ObjectRow}
 use Rattle.media_rows.specs.declared.object.ObjectState.TheVariants.{Stored}
@@ -40,7 +42,7 @@ journal_in library position = record {
 -- text of the library as it is.
 pub record IsCheckpoint (journal : State) (change : Change) (rows : List ℕ) : Type 0 where
   pub needed : IsFalse (fits_room journal change)
-  pub text : IsTextOf journal.library.id journal.library.blocks rows journal.library
+  pub text : IsTextOf form_in_use journal.library.id journal.library.blocks rows journal.library
   pub size : length rows ≡ snapshot_size journal.library
 
 -- what comes before a change: nothing exactly where its record fits the room
@@ -52,7 +54,7 @@ ComesFirst journal change (Some rows) = IsCheckpoint journal change rows
 pub record MakesChange (journal : State) (change : Change) (planned : Planned) : Type 0 where
   pub payload : List ℕ
   pub frame : planned.frame ≡ Some payload
-  pub spells : SpellsChange payload change
+  pub spells : SpellsChange form_in_use payload change
   pub made : applied change journal.library ≡ Some planned.next
   pub first : ComesFirst journal change planned.rows
 
@@ -139,7 +141,8 @@ IsPutPlan journal object size moment plan =
 pub record IsStoredAt (objects : List ObjectRow) (object : List ℕ) (extent : Extent) : Type 0 where
   pub row : ObjectRow
   pub kept : object_of object objects ≡ Some row
-  pub stored : row.state ≡ Stored extent.start extent.length
+  pub digest : Option Digest
+  pub stored : row.state ≡ Stored extent.start extent.length digest
 
 -- The extent is the least free place for so many bytes: it lies in the media blocks, and no stored
 -- object has a block of it. The plan stores the object there.
@@ -150,7 +153,8 @@ pub record TakesExtent (journal : State) (object : List ℕ) (size moment : ℕ)
       ≡ Some extent.start
   pub clear : is_clear journal.library.objects extent.start (blocks_of extent.length)
   pub within : extent.start + blocks_of extent.length ≤ journal.library.blocks
-  pub makes : MakesChange journal (changes.Store moment object extent.start extent.length) planned
+  pub makes :
+      MakesChange journal (changes.Store moment object extent.start extent.length None) planned
 
 -- the extent of a plan: that of the object's bytes, or the one that they take
 abbrev pub HasExtent : State → List ℕ → ℕ → ℕ → PutPlan → Type 0

@@ -1,5 +1,6 @@
 -- Words that the calls within this crate cite, and no other crate.
 use Rattle.std.specs.Prelude.{◌≡◌, ◌+◌, ℕ, nat_le, Bool, true, false, ◌||◌, List, length, Option, Some, None, IfSome, IsTrue, IsFalse}
+use Rattle.disk_trait.specs.Forms.{form_in_use}
 use Rattle.media_rows.specs.declared.change.Change.{Change}
 use Rattle.media_rows.specs.declared.change.Change.TheVariants as changes
 use Rattle.media_rows.specs.declared.object.Extent.{Extent}
@@ -34,7 +35,7 @@ has_place journal change = fits_room journal change || fits_behind_rows journal 
 -- the record of a change that has a place, and the rows before it
 pub record IsRecord (journal : State) (change : Change) (recorded : Recorded) : Type 0 where
   pub place : IsTrue (has_place journal change)
-  pub spells : SpellsChange recorded.frame change
+  pub spells : SpellsChange form_in_use recorded.frame change
   pub first : ComesFirst journal change recorded.rows
 
 -- there is none exactly where it has no place
@@ -52,7 +53,7 @@ pub record IsRecordBehind (journal : State) (payload : List ℕ) (recorded : Rec
   pub frame : recorded.frame ≡ payload
   pub text : List ℕ
   pub rows : recorded.rows ≡ Some text
-  pub snapshot : IsTextOf journal.library.id journal.library.blocks text journal.library
+  pub snapshot : IsTextOf form_in_use journal.library.id journal.library.blocks text journal.library
   pub size : length text ≡ snapshot_size journal.library
 
 -- there is none exactly where a half has no room for both
@@ -116,4 +117,4 @@ pub record IsAllocated (found : Option ObjectRow) : Type 0 where
 -- what is made of bytes that come for such an object
 abbrev pub storing : List ℕ → Extent → ℕ → Outcome
 storing object extent moment =
-    changed Created (changes.Store moment object extent.start extent.length)
+    changed Created (changes.Store moment object extent.start extent.length None)

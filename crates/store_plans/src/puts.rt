@@ -9,10 +9,13 @@ use crate::outcome::{Planned, fitted};
 use disk_trait::{Memory, Text};
 use library_laws::places_are_least;
 use media_journal::Journal;
-use media_rows::{BookFault, Command, Extent, ObjectState, Refusal};
+use media_rows::{BookFault, Command, Digest, Extent, ObjectState, Refusal};
 use object_blobs::BLOCK;
 use std::alloc::Global;
 use store_core::Core;
+
+/// What stands for the digest of an object's bytes, of which the form in use keeps none.
+const NO_DIGEST: Digest = Digest { high: 0, low: 0 };
 
 /// What a put of an object's bytes makes of a store: a refusal; the extent of an object that is stored already, whose bytes
 /// are to be compared; or the extent into which the bytes are to be written, and the plan of the change that stores them.
@@ -53,6 +56,7 @@ pub fn plan_put(
         ObjectState::Stored {
             start_block,
             length,
+            ..
         } => Ok(PutPlan::Kept(Extent {
             start: start_block,
             length,
@@ -109,6 +113,7 @@ fn plan_store(
         object: object.copy(alloc)?,
         start_block: extent.start,
         length: extent.length,
+        digest: NO_DIGEST,
     };
     match library.prepare(alloc, &command, now) {
         Ok(prepared) => fitted(alloc, library, journal, prepared),

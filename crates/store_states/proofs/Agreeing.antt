@@ -3,6 +3,7 @@ use Rattle.std.proofs.Common.{◌≡◌, ◌≤◌, ◌+◌, ◌*◌, ℕ, List,
 use Rattle.disk_trait.specs.Device.{Device, Left, may_leave}
 use Rattle.disk_trait.specs.Calls.{Elapses, TornWrite, Unchanged}
 use Rattle.disk_trait.proofs.Theorems.{elapses_weaker}
+use Rattle.disk_trait.specs.Forms.{form_in_use}
 use Rattle.media_journal.specs.declared.header.Header.{Header}
 use Rattle.media_journal.specs.declared.record.Record.{Record}
 use Rattle.media_journal.specs.File.{active_start}
@@ -15,7 +16,7 @@ use Rattle.store_states.specs.States.{Makes, StandsFor, StoreState, held_in, med
 use Rattle.store_states.proofs.Bytes.{clear_writes}
 
 -- an image that gives a journal what makes the library, and has the bytes, stands for the state
-pub image_stands : (kept : StoreView) (held : List (List ℕ)) (h : Header) (text : List ℕ) (records : List Record) → Makes h text records kept.library
+pub image_stands : (kept : StoreView) (held : List (List ℕ)) (h : Header) (text : List ℕ) (records : List Record) → Makes form_in_use h text records kept.library
     → (image : List ℕ) → Gives image kept.journal (half_of h text records)
     → held_in image (media_start h.half) kept.library.objects ≡ held → StandsFor image (kept_state kept held)
 image_stands kept held h text records makes image gives bytes = record {

@@ -4,6 +4,7 @@ use Rattle.std.proofs.Common.{◌≡◌, ◌≤◌, ◌+◌, ℕ, Bool, true, fa
 use Rattle.disk_trait.specs.Device.{Device, Left, may_leave}
 use Rattle.disk_trait.specs.Calls.{Elapses, Torn}
 use Rattle.disk_trait.proofs.Theorems.{elapses_weaker}
+use Rattle.disk_trait.specs.Forms.{form_in_use}
 use Rattle.media_rows.specs.Library.{Library}
 use Rattle.media_journal.specs.Journal.{Contents, Gives, after_append}
 use Rattle.media_journal.specs.JournalMoments.{AddsRecord, AppendEnds, KeepsOrAdds, with_payload}
@@ -15,7 +16,7 @@ use Rattle.store_states.proofs.Bytes.{early_writes}
 use Rattle.store_states.proofs.Folding.{fold_push}
 
 module _ (old : Device) (kept : StoreView) (held : List (List ℕ)) (agrees : AgreesWith old kept held) (payload : List ℕ) (next : Library)
-    (step : StepOf payload kept.library next) (next_held : List (List ℕ))
+    (step : StepOf form_in_use payload kept.library next) (next_held : List (List ℕ))
     (holds : HoldsEach old (media_start agrees.header.half) next.objects next_held) (fits : length payload + 6 ≤ kept.journal.room) where
   abbrev pub before : Contents
   before = half_of agrees.header agrees.text agrees.records
@@ -23,11 +24,11 @@ module _ (old : Device) (kept : StoreView) (held : List (List ℕ)) (agrees : Ag
   abbrev pub behind : Contents
   behind = with_payload kept.journal payload before
 
-  after_makes : Makes agrees.header agrees.text behind.records next
+  after_makes : Makes form_in_use agrees.header agrees.text behind.records next
   after_makes = record {
     first = agrees.makes.first;
     snapshot = agrees.makes.snapshot;
-    folds = fold_push agrees.records _ agrees.makes.first kept.library next agrees.makes.folds step;
+    folds = fold_push form_in_use agrees.records _ agrees.makes.first kept.library next agrees.makes.folds step;
   }
 
   module _ (q p : Left) (could : may_leave old q) (torn : Torn kept.journal.gate (length payload + 6) q.image p.image) where

@@ -3,6 +3,7 @@ use Rattle.std.proofs.Common.{◌≡◌, ◌≤◌, ◌+◌, ◌*◌, ◌==◌, 
 use Rattle.disk_trait.specs.Device.{Device, Left, may_leave}
 use Rattle.disk_trait.specs.Calls.{Elapses}
 use Rattle.disk_trait.proofs.Theorems.{elapses_weaker}
+use Rattle.disk_trait.specs.Forms.{form_in_use}
 use Rattle.media_journal.specs.Checkpoint.{CheckpointEnds, KeepsOrSwitches, WritesOther, after_checkpoint, other_start, with_rows}
 use Rattle.media_journal.specs.Journal.{Contents, Gives}
 use Rattle.store_states.specs.Kept.{AgreesWith, StoreView, MoveEnds, Moves, half_of, kept_checked, kept_state}
@@ -15,14 +16,14 @@ other_by half n true fits = omega (arith, fits)
 other_by half n false fits = omega (arith, fits)
 
 module _ (old : Device) (kept : StoreView) (held : List (List ℕ)) (agrees : AgreesWith old kept held) (rows : List ℕ)
-    (snapshot : IsSnapshot agrees.header rows kept.library) (fits : length rows + 9 ≤ 4096 * kept.journal.half) where
+    (snapshot : IsSnapshot form_in_use agrees.header rows kept.library) (fits : length rows + 9 ≤ 4096 * kept.journal.half) where
   abbrev pub before : Contents
   before = half_of agrees.header agrees.text agrees.records
 
   abbrev pub behind : Contents
   behind = with_rows rows before
 
-  after_makes : Makes agrees.header rows [] kept.library
+  after_makes : Makes form_in_use agrees.header rows [] kept.library
   after_makes = record { first = kept.library; snapshot = snapshot; folds = refl }
 
   module _ (q p : Left) (could : may_leave old q) (writes : WritesOther kept.journal (length rows) q.image p.image) where

@@ -1,5 +1,5 @@
 -- The bytes of a library's objects in an image, and those of the next one.
-use Rattle.std.proofs.Common.{◌≡◌, ◌≤◌, ◌+◌, ◌*◌, ◌/◌, ◌-◌, ℕ, Bool, true, false, cond, List, [], ◌∷◌, map, length, take, drop, refl, sym, ap, ap₂, subst, ◌∙◌, arith, inl, inr, nat_le, nat_eq, length-take, length-drop}
+use Rattle.std.proofs.Common.{◌≡◌, ◌≤◌, ◌+◌, ◌*◌, ◌/◌, ◌-◌, ℕ, Bool, true, false, cond, List, [], ◌∷◌, map, length, take, drop, Option, refl, sym, ap, ap₂, subst, ◌∙◌, arith, inl, inr, nat_le, nat_eq, length-take, length-drop}
 use Rattle.std.specs.Prelude.{bytes_eq, not, nat_lt, ◌==◌, ◌&&◌, ◌||◌}
 use Rattle.std.specs.List.{list_all}
 use Rattle.std.proofs.lemmas.Bool.{and_from, and_parts, not-true}
@@ -8,6 +8,7 @@ use Rattle.std.proofs.lemmas.List.{nil_from_length}
 use Rattle.disk_trait.specs.Calls.{bytes_at}
 use Rattle.media_rows.specs.declared.change.Change.{Change}
 use Rattle.media_rows.specs.declared.change.Change.TheVariants as changes
+use Rattle.media_rows.specs.declared.object.Digest.{Digest}
 use Rattle.media_rows.specs.declared.object.ObjectRow.{ObjectRow}
 use Rattle.media_rows.specs.declared.object.ObjectState.{ObjectState}
 use Rattle.media_rows.specs.declared.object.ObjectState.TheVariants.{Allocated, Stored}
@@ -50,7 +51,7 @@ own_held image area (first ∷ rows) row distinct (inr there) =
 state_length : (image : List ℕ) (area blocks : ℕ) (state : ObjectState) → area + 4096 * blocks ≤ length image → is_extent_good blocks state ≡ true
     → fits_state state (state_bytes image area state) ≡ true
 state_length image area blocks Allocated there good = refl
-state_length image area blocks (Stored start size) there good =
+state_length image area blocks (Stored start size digest) there good =
     let within = and_parts (nat_le (start + blocks_of size) blocks) (nat_lt 0 size || (start == 0)) good in
     let few : start + (size + 4095) / 4096 ≤ blocks = grind (arith, nat_tests) in
     let rest : length (drop (area + 4096 * start) image) ≡ length image - (area + 4096 * start) = length-drop (area + 4096 * start) image in
@@ -101,11 +102,11 @@ module _ (image : List ℕ) (area : ℕ) (library : Library) (change : Change) (
   unfolding archive bytes_then
   all_fit = bytes_fit archive change came good_archive allowed fits
 
-  came_now : (id : List ℕ) (moment start size : ℕ) → change ≡ changes.Store moment id start size
-      → state_bytes image area (Stored start size) ≡ bytes_then id
+  came_now : (id : List ℕ) (moment start size : ℕ) (digest : Option Digest) → change ≡ changes.Store moment id start size digest
+      → state_bytes image area (Stored start size digest) ≡ bytes_then id
   unfolding bytes_then
-  came_now id moment start size is =
-      let stood : came ≡ state_bytes image area (Stored start size) = subst (λ (c : Change). StandsThere image area c came) is stands in
+  came_now id moment start size digest is =
+      let stood : came ≡ state_bytes image area (Stored start size digest) = subst (λ (c : Change). StandsThere image area c came) is stands in
       sym stood ∙ sym (chosen (bytes_eq id id) came (bytes_of id archive.library.objects archive.held) (text_same id))
       ∙ sym (ap (λ (c : Change). bytes_after c came archive id) is)
 
@@ -122,8 +123,8 @@ module _ (image : List ℕ) (area : ℕ) (library : Library) (change : Change) (
       → state_bytes image area row.state ≡ bytes_then row.id
   by_origin row here stored (WasStored.before old was serial id state) =
       stored_before row old here (In-from_Contains library.objects old was) serial id state stored
-  by_origin row here stored (WasStored.now moment start size is state) =
-      ap (state_bytes image area) state ∙ came_now row.id moment start size is
+  by_origin row here stored (WasStored.now moment start size digest is state) =
+      ap (state_bytes image area) state ∙ came_now row.id moment start size digest is
 
   by_state : (state : ObjectState) (row : ObjectRow) → row.state ≡ state → In row (after change library).objects
       → state_bytes image area row.state ≡ bytes_then row.id
@@ -131,7 +132,7 @@ module _ (image : List ℕ) (area : ℕ) (library : Library) (change : Change) (
       let none : nat_eq (length (bytes_then row.id)) 0 ≡ true =
       ap (λ (s : ObjectState). fits_state s (bytes_then row.id)) (sym is) ∙ fits_along (after change library).objects bytes_then all_fit row here in
       ap (state_bytes image area) is ∙ no_bytes (bytes_then row.id) none
-  by_state (Stored start size) row is here =
+  by_state (Stored start size digest) row is here =
       let stored : is_stored row.state ≡ true = ap is_stored is in
       by_origin row here stored (stored_stay library change row (Contains-from_In (after change library).objects row here) stored)
 

@@ -1,6 +1,7 @@
 -- What a half's rows and records make is good, and so is each state for which an image stands.
 use Rattle.std.proofs.Common.{◌≡◌, ◌≤◌, ◌+◌, ◌-◌, ◌*◌, ℕ, Bool, true, false, cond, List, [], ◌∷◌, length, Some, None, refl, sym, ap, subst, ◌∙◌, arith, ◌&&◌}
 use Rattle.std.proofs.lemmas.Bool.{and_parts}
+use Rattle.disk_trait.specs.Forms.{form_in_use}
 use Rattle.media_rows.specs.declared.change.Change.{Change}
 use Rattle.media_rows.specs.declared.row.Row.{Row}
 use Rattle.media_rows.specs.declared.row.Row.TheVariants as rows
@@ -31,22 +32,22 @@ applied_by change from next true is made =
     ap is_good (sym same) ∙ (and_parts (is_moment (moment_of change) && is_allowed from change) (is_good (after change from)) is).1
 applied_by change from next false is made = cc
 
-step_good : (payload : List ℕ) (from next : Library) → StepOf payload from next → is_good next ≡ true
-step_good payload from next step = applied_by step.change from next (applies from step.change) refl step.made
+step_good : (form : ℕ) (payload : List ℕ) (from next : Library) → StepOf form payload from next → is_good next ≡ true
+step_good form payload from next step = applied_by step.change from next (applies from step.change) refl step.made
 
-step_under : (h : Header) (payload : List ℕ) (from next : Library) → StepOf payload from next → IsUnder h from → IsUnder h next
-step_under h payload from next step under =
+step_under : (form : ℕ) (h : Header) (payload : List ℕ) (from next : Library) → StepOf form payload from next → IsUnder h from → IsUnder h next
+step_under form h payload from next step under =
     let gives = (applied_is_sound from step.change next step.made).gives in
     let stays = store_stays from step.change in
     record { id = ap (λ (x : Library). x.id) gives ∙ stays.id ∙ under.id; blocks = ap (λ (x : Library). x.blocks) gives ∙ stays.blocks ∙ under.blocks }
 
 -- ---- records and rows
 
-folds_good : (h : Header) (records : List Record) (from to : Library) → is_good from ≡ true → IsUnder h from → Folds records from to
+folds_good : (form : ℕ) (h : Header) (records : List Record) (from to : Library) → is_good from ≡ true → IsUnder h from → Folds form records from to
     → (is_good to ≡ true) × IsUnder h to
-folds_good h [] from to good under e = (ap is_good e ∙ good, subst (λ (x : Library). IsUnder h x) (sym e) under)
-folds_good h (r ∷ records) from to good under folds =
-    folds_good h records folds.0 to (step_good r.payload from folds.0 folds.1) (step_under h r.payload from folds.0 folds.1 under) folds.2
+folds_good form h [] from to good under e = (ap is_good e ∙ good, subst (λ (x : Library). IsUnder h x) (sym e) under)
+folds_good form h (r ∷ records) from to good under folds =
+    folds_good form h records folds.0 to (step_good form r.payload from folds.0 folds.1) (step_under form h r.payload from folds.0 folds.1 under) folds.2
 
 one_under : (row : Row) (library : Library) → ((with_row row library).id ≡ library.id) × ((with_row row library).blocks ≡ library.blocks)
 one_under (rows.Source row) library = (refl, refl)
@@ -66,20 +67,20 @@ rows_under id blocks (row ∷ some) =
     (one.0 ∙ all.0, one.1 ∙ all.1)
 
 pub libraries_are_good : LibrariesAreGood
-libraries_are_good h text records library makes =
+libraries_are_good form h text records library makes =
     let first = rows_under h.id (h.blocks - blocks_before h.half) makes.snapshot.rows in
     let under : IsUnder h makes.first = record {
       id = ap (λ (x : Library). x.id) makes.snapshot.made ∙ first.0;
       blocks = ap (λ (x : Library). x.blocks) makes.snapshot.made ∙ first.1;
     } in
-    let made = folds_good h records makes.first library makes.snapshot.good under makes.folds in
+    let made = folds_good form h records makes.first library makes.snapshot.good under makes.folds in
     ((good_is_tested library).0 made.0, made.1)
 
 -- ---- states
 
 pub states_are_good : StatesAreGood
 states_are_good image s stands =
-    let library = libraries_are_good stands.header stands.text stands.records s.archive.library stands.makes in
+    let library = libraries_are_good form_in_use stands.header stands.text stands.records s.archive.library stands.makes in
     let sizes = stands.reads.sizes in
     let there : media_start stands.header.half + 4096 * s.archive.library.blocks ≤ length image =
     omega (arith, library.1.blocks, sizes.fits, sizes.within) in
@@ -92,9 +93,9 @@ states_are_good image s stands =
 -- ---- the text of what is kept
 
 -- the text of a library that a header's journal makes is one of that header
-pub text_under : (h : Header) (old rows : List ℕ) (records : List Record) (library : Library) → Makes h old records library
-    → IsTextOf library.id library.blocks rows library → IsSnapshot h rows library
+pub text_under : (h : Header) (old rows : List ℕ) (records : List Record) (library : Library) → Makes form_in_use h old records library
+    → IsTextOf form_in_use library.id library.blocks rows library → IsSnapshot form_in_use h rows library
 text_under h old rows records library makes text =
-    let under = (libraries_are_good h old records library makes).1 in
-    subst (λ (n : ℕ). IsTextOf n (h.blocks - blocks_before h.half) rows library) under.id
-    (subst (λ (n : ℕ). IsTextOf library.id n rows library) under.blocks text)
+    let under = (libraries_are_good form_in_use h old records library makes).1 in
+    subst (λ (n : ℕ). IsTextOf form_in_use n (h.blocks - blocks_before h.half) rows library) under.id
+    (subst (λ (n : ℕ). IsTextOf form_in_use library.id n rows library) under.blocks text)

@@ -6,7 +6,7 @@ use Rattle.media_journal.specs.declared.header.Header.{Header}
 use Rattle.snapshot_rows.proofs.Damage.{is_one_list}
 use Rattle.store_states.specs.States.{IsSnapshot, blocks_before}
 
-pub one_snapshot : (h : Header) (text : List ℕ) (a b : Library) → IsSnapshot h text a → IsSnapshot h text b → b ≡ a
-one_snapshot h text a b first second =
-    let same = is_one_list text first.rows second.rows first.spells second.spells in
+pub one_snapshot : (form : ℕ) (h : Header) (text : List ℕ) (a b : Library) → IsSnapshot form h text a → IsSnapshot form h text b → b ≡ a
+one_snapshot form h text a b first second =
+    let same = is_one_list form text first.rows second.rows first.spells second.spells in
     second.made ∙ ap (library_of h.id (h.blocks - blocks_before h.half)) same ∙ sym first.made

@@ -1,5 +1,6 @@
 -- An image stands for one state at most.
 use Rattle.std.proofs.Common.{◌≡◌, ◌+◌, ◌*◌, ℕ, List, refl, sym, ap, ap₂, ◌∙◌, arith, subst}
+use Rattle.disk_trait.specs.Forms.{form_in_use}
 use Rattle.media_rows.specs.Library.{Library}
 use Rattle.media_rows.specs.Media.{Archive}
 use Rattle.media_journal.specs.declared.header.Header.{Header}
@@ -11,10 +12,10 @@ use Rattle.store_states.specs.Laws.{IsOneState}
 use Rattle.store_states.proofs.Folding.{one_fold}
 use Rattle.store_states.proofs.Snapshots.{one_snapshot}
 
-pub one_making : (h : Header) (text : List ℕ) (records : List Record) (a b : Library) → Makes h text records a → Makes h text records b → b ≡ a
+pub one_making : (h : Header) (text : List ℕ) (records : List Record) (a b : Library) → Makes form_in_use h text records a → Makes form_in_use h text records b → b ≡ a
 one_making h text records a b first second =
-    let same : second.first ≡ first.first = one_snapshot h text first.first second.first first.snapshot second.snapshot in
-    one_fold records first.first a b first.folds (subst (λ (x : Library). Folds records x b) same second.folds)
+    let same : second.first ≡ first.first = one_snapshot form_in_use h text first.first second.first first.snapshot second.snapshot in
+    one_fold form_in_use records first.first a b first.folds (subst (λ (x : Library). Folds form_in_use records x b) same second.folds)
 
 abbrev archive_of : Library → List (List ℕ) → Archive
 archive_of library held = record { library = library; held = held }
@@ -39,17 +40,17 @@ same_state image h gate s other library held other_held room other_room half oth
 module _ (image : List ℕ) (s other : StoreState) (first : StandsFor image s) (second : StandsFor image other) where
   -- what the other state has, by the reading of the one
   record Same : Type 0 where
-    library : Makes first.header first.text first.records other.archive.library
+    library : Makes form_in_use first.header first.text first.records other.archive.library
     held : other.archive.held ≡ held_in image (media_start first.header.half) other.archive.library.objects
     room : first.gate + other.room ≡ active_start image first.header.half + 4096 * first.header.half
     half : other.half ≡ 4096 * first.header.half
 
   same_reading : Same
   same_reading =
-      let same = one_reading image first.header second.header first.gate second.gate first.text second.text first.records second.records
+      let same = one_reading image first.header second.header first.gate second.gate form_in_use form_in_use first.text second.text first.records second.records
       first.reads second.reads in
-      let makes : Makes first.header first.text first.records other.archive.library =
-      rw (← same.0, ← same.2, ← same.3) second.makes in
+      let makes : Makes form_in_use first.header first.text first.records other.archive.library =
+      rw (← same.0, ← same.3, ← same.4) second.makes in
       record {
         library = makes;
         held = rw (← same.0) second.held;

@@ -12,8 +12,8 @@ use Rattle.store_states.specs.States.{held_in, state_bytes}
 
 -- what comes for the storing of an object stands at its place in the image
 abbrev pub StandsThere : List ℕ → ℕ → Change → List ℕ → Type 0
-StandsThere image area (changes.Store moment object start size) came =
-    came ≡ state_bytes image area (Stored start size)
+StandsThere image area (changes.Store moment object start size digest) came =
+    came ≡ state_bytes image area (Stored start size digest)
 StandsThere image area other came = Unit {0}
 
 -- an archive of what an image has: the library, and the bytes of its objects there

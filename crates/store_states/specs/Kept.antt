@@ -1,6 +1,7 @@
 -- What a store keeps in memory, when it agrees with a device, and what a crash at a moment of a
 -- change may leave. Our own rules.
 use Rattle.std.specs.Prelude.{◌≡◌, ◌*◌, ◌⊎◌, ℕ, Bool, true, false, List}
+use Rattle.disk_trait.specs.Forms.{form_in_use}
 use Rattle.media_rows.specs.declared.object.ObjectRow.{ObjectRow}
 use Rattle.media_rows.specs.Library.{Library}
 use Rattle.disk_trait.specs.Device.{Device, Left, may_leave}
@@ -32,9 +33,10 @@ kept_after kept next n = record { library = next; journal = after_append kept.jo
 abbrev pub kept_checked : StoreView → ℕ → StoreView
 kept_checked kept n = record kept { journal = after_checkpoint kept.journal n }
 
--- what a half holds
+-- what a half of the form in use holds
 abbrev pub half_of : Header → List ℕ → List Record → Contents
-half_of header text records = record { header = header; rows = text; records = records }
+half_of header text records =
+    record { header = header; form = form_in_use; rows = text; records = records }
 
 -- each image that a crash now may leave has these bytes of these objects
 abbrev pub HoldsEach : Device → ℕ → List ObjectRow → List (List ℕ) → Type 0
@@ -49,7 +51,7 @@ pub record AgreesWith (d : Device) (kept : StoreView) (held : List (List ℕ)) :
   pub text : List ℕ
   pub records : List Record
   pub gives : EachGives d kept.journal (half_of header text records)
-  pub makes : Makes header text records kept.library
+  pub makes : Makes form_in_use header text records kept.library
   pub bytes : HoldsEach d (media_start header.half) kept.library.objects held
 
 -- so far the image stands for the state before a change or for the one after it, and nothing was

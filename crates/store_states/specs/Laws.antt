@@ -53,8 +53,8 @@ pub record IsUnder (h : Header) (library : Library) : Type 0 where
 -- the library of a half's rows and records is good, and is one of the file
 abbrev pub LibrariesAreGood : Type 0
 LibrariesAreGood =
-    (h : Header) (text : List ℕ) (records : List Record) (library : Library)
-    → Makes h text records library → Good library × IsUnder h library
+    (form : ℕ) (h : Header) (text : List ℕ) (records : List Record) (library : Library)
+    → Makes form h text records library → Good library × IsUnder h library
 
 -- a state for which an image stands is good: its library, and the lengths of its objects' bytes
 abbrev pub StatesAreGood : Type 0

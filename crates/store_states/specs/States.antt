@@ -2,6 +2,7 @@
 -- and records whose changes apply one after another, and each stored object's bytes are those at
 -- its extent. Our own format.
 use Rattle.std.specs.Prelude.{◌≡◌, ◌+◌, ◌-◌, ◌*◌, ℕ, List, [], ◌∷◌, map, Some, IsTrue}
+use Rattle.disk_trait.specs.Forms.{form_in_use}
 use Rattle.media_rows.specs.declared.change.Change.{Change}
 use Rattle.media_rows.specs.declared.object.ObjectRow.{ObjectRow}
 use Rattle.media_rows.specs.declared.object.ObjectState.{ObjectState}
@@ -33,7 +34,7 @@ media_start half = 4096 * blocks_before half
 -- extent, and none where it isn't stored
 abbrev pub state_bytes : List ℕ → ℕ → ObjectState → List ℕ
 state_bytes image area Allocated = []
-state_bytes image area (Stored start size) =
+state_bytes image area (Stored start size digest) =
     extent_bytes area (record { start = start; length = size }) image
 
 -- the bytes of objects, a list along them
@@ -42,39 +43,39 @@ held_in image area objects = map (λ row. state_bytes image area row.state) obje
 
 -- ---- rows
 
--- The text spells rows in their order, that of numbers among them, and they make the library, under
--- this id and with so many media blocks. It is good.
-pub record IsTextOf (id blocks : ℕ) (text : List ℕ) (library : Library) : Type 0 where
+-- The text spells rows of a form in their order, that of numbers among them, and they make the
+-- library, under this id and with so many media blocks. It is good.
+pub record IsTextOf (form id blocks : ℕ) (text : List ℕ) (library : Library) : Type 0 where
   pub rows : List Row
-  pub spells : SpellsRows text rows
+  pub spells : SpellsRows form text rows
   pub numbered : IsTrue (have_numbers rows)
   pub made : library ≡ library_of id blocks rows
   pub good : IsTrue (is_good library)
 
--- the text of a library under a header: its id, and the media blocks of its file
-abbrev pub IsSnapshot : Header → List ℕ → Library → Type 0
-IsSnapshot h = IsTextOf h.id (h.blocks - blocks_before h.half)
+-- the text of a library in a form, under a header: its id, and the media blocks of its file
+abbrev pub IsSnapshot : ℕ → Header → List ℕ → Library → Type 0
+IsSnapshot form h = IsTextOf form h.id (h.blocks - blocks_before h.half)
 
 -- ---- records
 
--- a payload is a change that makes one library of another
-pub record StepOf (payload : List ℕ) (from next : Library) : Type 0 where
+-- a payload is a change of a form that makes one library of another
+pub record StepOf (form : ℕ) (payload : List ℕ) (from next : Library) : Type 0 where
   pub change : Change
-  pub spells : SpellsChange payload change
+  pub spells : SpellsChange form payload change
   pub made : applied change from ≡ Some next
 
--- the payloads of records make one library of another, in their order
-abbrev pub Folds : List Record → Library → Library → Type 0
-Folds [] from to = to ≡ from
-Folds (r ∷ records) from to =
-    (next : Library) × StepOf r.payload from next × Folds records next to
+-- the payloads of records of a form make one library of another, in their order
+abbrev pub Folds : ℕ → List Record → Library → Library → Type 0
+Folds form [] from to = to ≡ from
+Folds form (r ∷ records) from to =
+    (next : Library) × StepOf form r.payload from next × Folds form records next to
 
--- a half's rows and records make a library
-pub record Makes (h : Header) (text : List ℕ) (records : List Record)
+-- the rows and records of a half of a form make a library
+pub record Makes (form : ℕ) (h : Header) (text : List ℕ) (records : List Record)
     (library : Library) : Type 0 where
   pub first : Library
-  pub snapshot : IsSnapshot h text first
-  pub folds : Folds records first library
+  pub snapshot : IsSnapshot form h text first
+  pub folds : Folds form records first library
 
 -- ---- states
 
@@ -85,14 +86,18 @@ pub record StoreState : Type 0 where
   pub room : ℕ
   pub half : ℕ
 
--- the image stands for a state
-pub record StandsFor (image : List ℕ) (s : StoreState) : Type 0 where
+-- the image stands for a state by a half of a form
+pub record StandsBy (form : ℕ) (image : List ℕ) (s : StoreState) : Type 0 where
   pub header : Header
   pub gate : ℕ
   pub text : List ℕ
   pub records : List Record
-  pub reads : Reads image header gate text records
-  pub makes : Makes header text records s.archive.library
+  pub reads : Reads image header gate form text records
+  pub makes : Makes form header text records s.archive.library
   pub held : s.archive.held ≡ held_in image (media_start header.half) s.archive.library.objects
   pub room : gate + s.room ≡ active_start image header.half + 4096 * header.half
   pub half : s.half ≡ 4096 * header.half
+
+-- the image stands for a state by a half of the form in use
+abbrev pub StandsFor : List ℕ → StoreState → Type 0
+StandsFor = StandsBy form_in_use

@@ -1,6 +1,6 @@
 -- Worked values, computed by hand for a store of 64 blocks with 8 of them a half: two blocks and
 -- two halves stand before the media blocks, of which there are 46.
-use Rattle.std.specs.Prelude.{◌≡◌, ◌-◌, ℕ, List, [], ◌∷◌, true, false}
+use Rattle.std.specs.Prelude.{◌≡◌, ◌-◌, ℕ, List, [], ◌∷◌, None, true, false}
 use Rattle.media_rows.specs.declared.object.ObjectRow.{ObjectRow}
 use Rattle.media_rows.specs.declared.object.ObjectState.{ObjectState}
 use Rattle.media_rows.specs.declared.object.ObjectState.TheVariants.{Allocated, Stored}
@@ -25,7 +25,7 @@ pub record PlacesAsWorked : Type 0 where
 -- media blocks begin behind one byte.
 pub record BytesAsWorked : Type 0 where
   pub some : held_in (9 ∷ 10 ∷ 11 ∷ 12 ∷ []) 1
-      (object_in (Stored 0 2) ∷ object_in Allocated ∷ object_in (Stored 0 3) ∷ [])
+      (object_in (Stored 0 2 None) ∷ object_in Allocated ∷ object_in (Stored 0 3 None) ∷ [])
       ≡ (10 ∷ 11 ∷ []) ∷ [] ∷ (10 ∷ 11 ∷ 12 ∷ []) ∷ []
 
 -- The row of numbers alone makes the empty library, and no rows have it not.

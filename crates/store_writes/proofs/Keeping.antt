@@ -1,5 +1,6 @@
 -- What is kept, over each call.
 use Rattle.std.proofs.Common.{◌≡◌, ◌≤◌, ◌+◌, ◌*◌, ◌∙◌, ◌==◌, ℕ, Bool, true, false, List, length, arith, subst, ap, inl, inr}
+use Rattle.disk_trait.specs.Forms.{form_in_use}
 use Rattle.media_rows.specs.declared.object.Extent.{Extent}
 use Rattle.media_rows.specs.declared.object.ObjectRow.{ObjectRow}
 use Rattle.media_rows.specs.Library.{Library}
@@ -48,7 +49,7 @@ free old new kept held area extent at n inside time agrees place clear =
 -- ---- records
 
 module _ (old new : Device) (kept : StoreView) (held : List (List ℕ)) (next : Library) (payload : List ℕ) (ok : Bool) (agrees : AgreesWith old kept held)
-    (step : StepOf payload kept.library next) (fits : length payload + 6 ≤ kept.journal.room)
+    (step : StepOf form_in_use payload kept.library next) (fits : length payload + 6 ≤ kept.journal.room)
     (time : (contents : Contents) → EachGives old kept.journal contents
     → Elapses (KeepsOrAdds kept.journal payload contents) (AppendEnds ok kept.journal payload contents) old new)
     (next_held : List (List ℕ)) (holds : HoldsEach old (media_start kept.journal.half) next.objects next_held) where
@@ -70,7 +71,7 @@ module _ (old new : Device) (kept : StoreView) (held : List (List ℕ)) (next : 
   }
 
 pub appended_at : (old new : Device) (kept : StoreView) (held : List (List ℕ)) (next : Library) (payload : List ℕ) (ok : Bool) (journal : Position)
-    → AgreesWith old kept held → StepOf payload kept.library next → (next_held : List (List ℕ))
+    → AgreesWith old kept held → StepOf form_in_use payload kept.library next → (next_held : List (List ℕ))
     → HoldsEach old (media_start kept.journal.half) next.objects next_held → kept.journal ≡ journal → length payload + 6 ≤ journal.room
     → ((contents : Contents) → EachGives old journal contents
     → Elapses (KeepsOrAdds journal payload contents) (AppendEnds ok journal payload contents) old new)
@@ -126,7 +127,7 @@ holds_settled d area objects settled = λ left could. ap (λ (image : List ℕ).
 -- ---- checkpoints
 
 pub checked : (old new : Device) (kept : StoreView) (held : List (List ℕ)) (rows : List ℕ) (ok : Bool) → AgreesWith old kept held
-    → IsTextOf kept.library.id kept.library.blocks rows kept.library → length rows + 9 ≤ 4096 * kept.journal.half
+    → IsTextOf form_in_use kept.library.id kept.library.blocks rows kept.library → length rows + 9 ≤ 4096 * kept.journal.half
     → ((contents : Contents) → EachGives old kept.journal contents
     → Elapses (KeepsOrSwitches kept.journal rows contents) (CheckpointEnds ok kept.journal rows contents) old new)
     → Advances ok (kept_state kept held) (kept_checked kept (length rows)) held old new
@@ -143,7 +144,7 @@ checked old new kept held rows ok agrees text fits time =
     }
 
 pub checked_at : (old new : Device) (kept : StoreView) (held : List (List ℕ)) (rows : List ℕ) (ok : Bool) (journal : Position) → AgreesWith old kept held
-    → IsTextOf kept.library.id kept.library.blocks rows kept.library → kept.journal ≡ journal → length rows + 9 ≤ 4096 * journal.half
+    → IsTextOf form_in_use kept.library.id kept.library.blocks rows kept.library → kept.journal ≡ journal → length rows + 9 ≤ 4096 * journal.half
     → ((contents : Contents) → EachGives old journal contents
     → Elapses (KeepsOrSwitches journal rows contents) (CheckpointEnds ok journal rows contents) old new)
     → Advances ok (kept_state kept held) (kept_checked kept (length rows)) held old new

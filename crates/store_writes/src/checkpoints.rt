@@ -1,5 +1,6 @@
 //! A checkpoint of the library that is kept.
 ghost use Rattle.std.specs.Prelude.{◌≡◌, ◌≤◌, ◌+◌, ◌*◌, ℕ, true, List, length, is_ok, OnOk, OnErr};
+ghost use Rattle.disk_trait.specs.Forms.{form_in_use};
 ghost use Rattle.disk_trait.specs.Calls.{DiskCalls, LeavesOnly};
 ghost use Rattle.media_journal.specs.Checkpoint.{after_checkpoint, checkpoint_calls};
 ghost use Rattle.media_journal.specs.Journal.{IsWhole};
@@ -24,7 +25,7 @@ pub fn checkpoint<D: Disk>(disk: &mut D, journal: &mut Journal, rows: &[u8]) -> 
     ensures makes { (D.device disk.old).honest ≡ true → (D.device disk.old).shows ≡ true
         → (kept : StoreView) → (held : List (List ℕ))
         → AgreesWith (D.device disk.old) kept held → kept.journal ≡ journal.old
-        → IsTextOf kept.library.id kept.library.blocks rows.now kept.library
+        → IsTextOf form_in_use kept.library.id kept.library.blocks rows.now kept.library
         → Advances (is_ok result) (kept_state kept held) (kept_checked kept (length rows.now)) held
         (D.device disk.old) (D.device disk.new) }
 

@@ -1,5 +1,6 @@
 //! Records of changes, appended to the journal.
 ghost use Rattle.std.specs.Prelude.{◌≡◌, ◌≤◌, ◌+◌, ◌*◌, ℕ, true, List, length, is_ok, OnOk, OnErr};
+ghost use Rattle.disk_trait.specs.Forms.{form_in_use};
 ghost use Rattle.media_rows.specs.Library.{Library};
 ghost use Rattle.disk_trait.specs.Calls.{DiskCalls, LeavesOnly};
 ghost use Rattle.media_journal.specs.Journal.{IsWhole, after_append};
@@ -25,7 +26,7 @@ pub fn append_change<D: Disk>(
     ensures makes { (D.device disk.old).honest ≡ true → (D.device disk.old).shows ≡ true
         → (kept : StoreView) → (held : List (List ℕ)) → (next : Library) → (next_held : List (List ℕ))
         → AgreesWith (D.device disk.old) kept held → kept.journal ≡ journal.old
-        → StepOf frame.now kept.library next
+        → StepOf form_in_use frame.now kept.library next
         → HoldsEach (D.device disk.old) (media_start kept.journal.half) next.objects next_held
         → Advances (is_ok result) (kept_state kept held) (kept_after kept next (length frame.now)) next_held
         (D.device disk.old) (D.device disk.new) }

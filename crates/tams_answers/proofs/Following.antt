@@ -42,7 +42,7 @@ by_state : (archive : Archive) (object : List ℕ) (image : List ℕ) (area : �
     → bytes_of object archive.library.objects archive.held ≡ state_bytes image area state
     → object_bytes archive (Ok (GetMedia object)) (media_answer state) ≡ following_bytes area (extent_in state) image
 by_state archive object image area Allocated e = refl
-by_state archive object image area (Stored start size) e = e
+by_state archive object image area (Stored start size digest) e = e
 
 by_row : (archive : Archive) (object : List ℕ) (image : List ℕ) (area : ℕ) (row : Option ObjectRow)
     → bytes_of object archive.library.objects archive.held ≡ row_bytes image area row

@@ -32,7 +32,7 @@ use Rattle.tams_answers.specs.Within.{PlansAsked, reply_at}
 -- ---- commands
 
 pub sent_brings_none : (command : Command) → is_sent (Run command) ≡ true → brings_bytes command ≡ false
-sent_brings_none (commands.Keep object start size) e = absurd (true≢false (sym e))
+sent_brings_none (commands.Keep object start size digest) e = absurd (true≢false (sym e))
 sent_brings_none other e = refl
 
 pub command_planned : (kept : StoreView) (command : Command) (moment : ℕ) (head_only : Bool) (planned : Planned) → AnswersHaveTexts → FittedHaveTexts
@@ -55,7 +55,7 @@ command_planned kept command moment head_only planned answers fits good at fine 
 
 replied_by : (state : ObjectState) → reply_at (extent_in state) ≡ media_answer state
 replied_by Allocated = refl
-replied_by (Stored start size) = refl
+replied_by (Stored start size digest) = refl
 
 -- the reply where the bytes of an object lie
 replied : (row : Option ObjectRow) → reply_at (extent_of row) ≡ media_reply row
@@ -65,7 +65,7 @@ replied (Some row) = replied_by row.state
 stands_by : (library : Library) (row : ObjectRow) (state : ObjectState) → Contains library.objects row → row.state ≡ state
     → IfSome (extent_in state) (IsExtent library)
 stands_by library row Allocated there is = tt
-stands_by library row (Stored start size) there is = record { row = row; kept = there; stored = is }
+stands_by library row (Stored start size digest) there is = record { row = row; kept = there; digest = digest; stored = is }
 
 -- what is found is the extent of a stored object
 stands : (library : Library) (object : List ℕ) (row : Option ObjectRow) → object_of object library.objects ≡ row

@@ -4,6 +4,7 @@ use Rattle.std.specs.Prelude.{◌==◌, bytes_eq, if◌then◌else◌}
 use Rattle.media_rows.specs.declared.change.Change.{Change}
 use Rattle.media_rows.specs.declared.change.Change.TheVariants as changes
 use Rattle.media_rows.specs.declared.event.Happened.{Happened}
+use Rattle.media_rows.specs.declared.object.Digest.{Digest}
 use Rattle.media_rows.specs.declared.object.ObjectRow.{ObjectRow}
 use Rattle.media_rows.specs.declared.request.DeleteRow.{DeleteRow}
 use Rattle.media_rows.specs.declared.segment.SegmentRow.{SegmentRow}
@@ -41,18 +42,18 @@ was_before_allocating library moment flow ids row here early =
       | inr new ↦ let late = allocated_late library.next_serial moment ids row new in absurd (omega (arith, early, late))
     ]
 
-same_serial : (start size moment : ℕ) (old : ObjectRow) (b : Bool) → (cond b (stored_row start size moment old) old).serial ≡ old.serial
-same_serial start size moment old true = refl
-same_serial start size moment old false = refl
+same_serial : (start size : ℕ) (digest : Option Digest) (moment : ℕ) (old : ObjectRow) (b : Bool) → (cond b (stored_row start size digest moment old) old).serial ≡ old.serial
+same_serial start size digest moment old true = refl
+same_serial start size digest moment old false = refl
 
-was_before_storing : (library : Library) (moment : ℕ) (object : List ℕ) (start size : ℕ) (row : ObjectRow)
-    → In row (after (changes.Store moment object start size) library).objects → is_stored row.state ≡ true → Was library row
-was_before_storing library moment object start size row here is =
-    let old = In-map (λ row. cond (bytes_eq row.id object) (stored_row start size moment row) row) library.objects row here in
+was_before_storing : (library : Library) (moment : ℕ) (object : List ℕ) (start size : ℕ) (digest : Option Digest) (row : ObjectRow)
+    → In row (after (changes.Store moment object start size digest) library).objects → is_stored row.state ≡ true → Was library row
+was_before_storing library moment object start size digest row here is =
+    let old = In-map (λ row. cond (bytes_eq row.id object) (stored_row start size digest moment row) row) library.objects row here in
     record {
       old = old.0;
       here = old.1;
-      serial = ap (λ (r : ObjectRow). r.serial) old.2 ∙ same_serial start size moment old.0 (bytes_eq old.0.id object);
+      serial = ap (λ (r : ObjectRow). r.serial) old.2 ∙ same_serial start size digest moment old.0 (bytes_eq old.0.id object);
       stays = λ e. is;
     }
 
@@ -62,8 +63,8 @@ by_origin library change row here early (kept old there serial id state) =
     record { old = old; here = there; serial = serial; stays = λ e. ap is_stored state ∙ e }
 by_origin library change row here early (made moment flow ids is among state) =
     was_before_allocating library moment flow ids row (subst (λ (c : Change). In row (after c library).objects) is here) early
-by_origin library change row here early (stored moment start size is state) =
-    was_before_storing library moment row.id start size row (subst (λ (c : Change). In row (after c library).objects) is here) (ap is_stored state)
+by_origin library change row here early (stored moment start size digest is state) =
+    was_before_storing library moment row.id start size digest row (subst (λ (c : Change). In row (after c library).objects) is here) (ap is_stored state)
 
 pub was : (library : Library) (change : Change) (row : ObjectRow) → In row (after change library).objects → row.serial < library.next_serial
     → Was library row
@@ -109,7 +110,7 @@ rows_rise library (changes.SetFlow moment flow part) = omega arith
 rows_rise library (changes.SetSource moment source part) = omega arith
 rows_rise library (changes.DropFlow moment flow) = omega arith
 rows_rise library (changes.Allocate moment flow ids) = omega arith
-rows_rise library (changes.Store moment object start size) = omega arith
+rows_rise library (changes.Store moment object start size digest) = omega arith
 rows_rise library (changes.AddSegments moment flow posts) = omega arith
 rows_rise library (changes.CutSegments moment flow range) =
     let gone : List SegmentRow = covered library.segments flow range in
@@ -119,6 +120,7 @@ rows_rise library (changes.DeleteStep moment) = let same = steps_same (first_unf
 rows_rise library (changes.SweepStep moment) = omega arith
 rows_rise library (changes.PutHook moment hook) = omega arith
 rows_rise library (changes.DropHook moment url) = omega arith
+rows_rise library (changes.Delivered moment event) = omega arith
 
 pub serials_rise : (library : Library) (change : Change) → library.next_serial ≤ (after change library).next_serial
 serials_rise library change =

@@ -5,6 +5,7 @@ use Rattle.http_wire.specs.Framing.{method_kind}
 use Rattle.http_wire.specs.Response.{body_unless}
 use Rattle.media_rows.specs.declared.change.Change.TheVariants as changes
 use Rattle.media_rows.specs.declared.reply.Reply.TheVariants.{Created}
+use Rattle.media_rows.specs.Segments.{as_list}
 use Rattle.run_history.specs.Machine.{MachineReply}
 use Rattle.store_states.specs.States.{StoreState}
 use Rattle.tams_http.specs.Answered.{response_to}
@@ -22,4 +23,4 @@ reply_with next bytes = record { bytes = bytes; change = Some next }
 pub posts_succeed : PostsSucceed
 posts_succeed base r moment s flow posts asked fine fits =
     let behind = nothing_behind (response_to (context_of s.archive.library.id base r) Created) (is_head_only (method_kind r.head.method)) in
-    rw (asked, fine, fits) (ap (reply_with (state_with_change s (changes.AddSegments moment flow posts) r.body)) behind)
+    rw (asked, fine, fits) (ap (reply_with (state_with_change s (changes.AddSegments moment flow (as_list posts)) r.body)) behind)

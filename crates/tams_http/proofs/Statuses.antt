@@ -50,3 +50,4 @@ known_status (refusals.NoObject detail) = at _ refl refl refl
 known_status (refusals.Overlap detail) = at _ refl refl refl
 known_status refusals.JournalFull = at _ refl refl refl
 known_status refusals.MediaFull = at _ refl refl refl
+known_status (refusals.ObjectDamaged kept found) = at _ refl refl refl

@@ -40,6 +40,7 @@ reply_status replies.Done = 204
 reply_status (replies.Shown view) = 200
 reply_status (replies.Media size) = 200
 reply_status (replies.Refused refusal) = refusal_status refusal
+reply_status (replies.Partly failed) = 200
 
 -- ---- fields
 
@@ -58,6 +59,7 @@ content_length replies.Done body = None
 content_length (replies.Shown view) body = Some (decimal (length body))
 content_length (replies.Media size) body = Some (decimal size)
 content_length (replies.Refused refusal) body = Some (decimal (length body))
+content_length (replies.Partly failed) body = Some (decimal (length body))
 
 -- the type of a body that has a byte
 abbrev pub json_type : List ℕ → Option (List ℕ)
@@ -73,6 +75,7 @@ content_type replies.Done body = json_type body
 content_type (replies.Shown view) body = json_type body
 content_type (replies.Media size) body = Some (codes "application/octet-stream")
 content_type (replies.Refused refusal) body = json_type body
+content_type (replies.Partly failed) body = json_type body
 
 -- the methods of the route that a target names
 abbrev pub allowed_at : List ℕ → Option (List ℕ)
@@ -91,6 +94,7 @@ allow replies.Done target = None
 allow (replies.Shown view) target = None
 allow (replies.Media size) target = None
 allow (replies.Refused refusal) target = if is_no_method refusal then allowed_at target else None
+allow (replies.Partly failed) target = None
 
 -- where a delete request is shown
 abbrev pub request_address : ℕ → List ℕ → ℕ → List ℕ
@@ -106,6 +110,7 @@ location replies.Done store base = None
 location (replies.Shown view) store base = None
 location (replies.Media size) store base = None
 location (replies.Refused refusal) store base = None
+location (replies.Partly failed) store base = None
 
 -- the text of an id by its key
 abbrev pub id_key_text : ℤ → List ℕ
@@ -136,6 +141,7 @@ next_key_text replies.Done = None
 next_key_text (replies.Shown view) = next_key_of view
 next_key_text (replies.Media size) = None
 next_key_text (replies.Refused refusal) = None
+next_key_text (replies.Partly failed) = None
 
 -- the address of the page behind a key, as a link to the next one (RFC 8288, section 3)
 abbrev pub next_link : List ℕ → List ℕ → List ℕ → List ℕ

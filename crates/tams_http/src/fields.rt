@@ -29,7 +29,7 @@ pub(crate) fn reply_status(reply: &Reply) -> u16
         Reply::Created | Reply::CreatedObjects(_) => 201,
         Reply::Accepted(_) => 202,
         Reply::Done => 204,
-        Reply::Shown(_) | Reply::Media(_) => 200,
+        Reply::Shown(_) | Reply::Media(_) | Reply::Partly(_) => 200,
         Reply::Refused(refusal) => refusal.status(),
     }
 }
@@ -75,7 +75,8 @@ pub(crate) fn content_length(
         | Reply::CreatedObjects(_)
         | Reply::Accepted(_)
         | Reply::Shown(_)
-        | Reply::Refused(_) => Ok(Some(number_text(alloc, body.len() as u64)?)),
+        | Reply::Refused(_)
+        | Reply::Partly(_) => Ok(Some(number_text(alloc, body.len() as u64)?)),
     }
 }
 
@@ -104,7 +105,8 @@ pub(crate) fn content_type(
         | Reply::Accepted(_)
         | Reply::Done
         | Reply::Shown(_)
-        | Reply::Refused(_) => json_type(alloc, body),
+        | Reply::Refused(_)
+        | Reply::Partly(_) => json_type(alloc, body),
     }
 }
 
@@ -146,7 +148,8 @@ pub(crate) fn allow(
         | Reply::Accepted(_)
         | Reply::Done
         | Reply::Shown(_)
-        | Reply::Media(_) => Ok(None),
+        | Reply::Media(_)
+        | Reply::Partly(_) => Ok(None),
     }
 }
 
@@ -176,7 +179,8 @@ pub(crate) fn location(
         | Reply::Done
         | Reply::Shown(_)
         | Reply::Media(_)
-        | Reply::Refused(_) => Ok(None),
+        | Reply::Refused(_)
+        | Reply::Partly(_) => Ok(None),
     }
 }
 
@@ -232,7 +236,8 @@ pub(crate) fn next_key_text(alloc: Global, reply: &Reply) -> Result<Option<Text>
         | Reply::Accepted(_)
         | Reply::Done
         | Reply::Media(_)
-        | Reply::Refused(_) => Ok(None),
+        | Reply::Refused(_)
+        | Reply::Partly(_) => Ok(None),
     }
 }
 

@@ -92,7 +92,7 @@ commands_take library (commands.DropFlow flow) moment came sent =
     (accepted_request library (record { flow = flow; range = eternity; delete_flow = true }) moment) refl refl)
 commands_take library (commands.Allocate flow want) moment came sent =
     refused_or came (refusal_of library (commands.Allocate flow want)) (accepted library (commands.Allocate flow want) moment) refl
-commands_take library (commands.Keep object start size) moment came sent = absurd (false≢true sent)
+commands_take library (commands.Keep object start size digest) moment came sent = absurd (false≢true sent)
 commands_take library (commands.AddSegments flow posts) moment came sent =
     refused_or came (refusal_of library (commands.AddSegments flow posts)) (accepted library (commands.AddSegments flow posts) moment) refl
 commands_take library (commands.CutSegments flow range) moment came sent =

@@ -103,7 +103,7 @@ turn_in moment s = turned_by s (turn s.archive.library moment)
 
 -- the bytes of the object that a change stores
 abbrev pub object_handed : Change → ℕ
-object_handed (changes.Store moment object start size) = size
+object_handed (changes.Store moment object start size digest) = size
 object_handed change = 0
 
 -- the bytes of a checkpoint before a change: where its record doesn't fit the room, the snapshot

@@ -28,7 +28,7 @@ RequestsAreOne = (n : ℕ) (text other rest other_rest : List ℕ) (r s : TamsRe
 
 -- a request keeps the bytes of an object by a media PUT alone
 abbrev pub is_sent : Ask → Bool
-is_sent (Run (commands.Keep object start size)) = false
+is_sent (Run (commands.Keep object start size digest)) = false
 is_sent _ = true
 
 abbrev pub RequestsSendBytes : Type 0

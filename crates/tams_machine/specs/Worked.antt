@@ -46,7 +46,7 @@ put_ask = Run (commands.PutFlow fitting_flow)
 
 -- an object of three bytes that no segment names, idle since the moment 100
 abbrev pub idle_object : ObjectRow
-idle_object = record { id = codes "a"; serial = 1; state = Stored 0 3; idle_since = 100 }
+idle_object = record { id = codes "a"; serial = 1; state = Stored 0 3 None; idle_since = 100 }
 
 -- the archive that keeps it alone
 abbrev pub idle_archive : Archive
@@ -61,7 +61,7 @@ idle_state = record { archive = idle_archive; room = 4075; half = 4096 }
 
 -- the storing of three bytes for it
 abbrev pub storing_change : Change
-storing_change = changes.Store 0 (codes "a") 0 3
+storing_change = changes.Store 0 (codes "a") 0 3 None
 
 -- a head of 19 bytes, and three bytes behind it
 abbrev pub cut_put : List ℕ

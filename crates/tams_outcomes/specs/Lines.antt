@@ -6,7 +6,7 @@ use Rattle.site_edge.specs.Sinks.{Puts}
 use Rattle.tams_outcomes.specs.declared.outcome.StoreCounts.{StoreCounts}
 use Rattle.tams_outcomes.specs.declared.outcome.WorkloadRun.{WorkloadRun}
 use Rattle.tams_outcomes.specs.declared.outcome.RunOutcome.{RunOutcome}
-use Rattle.tams_outcomes.specs.declared.outcome.RunOutcome.TheVariants.{Formatted, Checked, Worked, Served, Generated, Cut, BadWords, NotStore, AlreadyStore, TooSmall, Damaged, DiskFault, NoMemory, LinkFault}
+use Rattle.tams_outcomes.specs.declared.outcome.RunOutcome.TheVariants.{Formatted, Checked, Worked, Served, Generated, Cut, BadWords, NotStore, AlreadyStore, TooSmall, Damaged, OldForm, DiskFault, NoMemory, LinkFault}
 
 -- a number within a line
 abbrev pub numbered : List ℕ → ℕ → List ℕ → List ℕ
@@ -55,6 +55,7 @@ line_of NotStore = codes "not a store\n"
 line_of AlreadyStore = codes "already a store\n"
 line_of TooSmall = codes "too small\n"
 line_of (Damaged at) = numbered (codes "damaged at ") at (codes "\n")
+line_of OldForm = codes "old store\n"
 line_of DiskFault = codes "disk fault\n"
 line_of NoMemory = codes "no memory\n"
 line_of LinkFault = codes "link fault\n"

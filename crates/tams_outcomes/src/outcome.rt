@@ -60,6 +60,8 @@ pub enum RunOutcome {
     TooSmall,
     /// The file stands for no library from this offset on, in bytes.
     Damaged(u64),
+    /// The file stands for a library in a form that isn't in use.
+    OldForm,
     DiskFault,
     NoMemory,
     LinkFault,
@@ -82,7 +84,8 @@ impl RunOutcome {
             RunOutcome::NotStore
             | RunOutcome::AlreadyStore
             | RunOutcome::TooSmall
-            | RunOutcome::Damaged(_) => Status::Refused,
+            | RunOutcome::Damaged(_)
+            | RunOutcome::OldForm => Status::Refused,
             RunOutcome::DiskFault => Status::DiskFault,
             RunOutcome::NoMemory => Status::NoMemory,
             RunOutcome::LinkFault => Status::LinkFault,
@@ -121,6 +124,7 @@ impl RunOutcome {
             RunOutcome::NotStore => notes.put(b"not a store\n"),
             RunOutcome::AlreadyStore => notes.put(b"already a store\n"),
             RunOutcome::TooSmall => notes.put(b"too small\n"),
+            RunOutcome::OldForm => notes.put(b"old store\n"),
             RunOutcome::DiskFault => notes.put(b"disk fault\n"),
             RunOutcome::NoMemory => notes.put(b"no memory\n"),
             RunOutcome::LinkFault => notes.put(b"link fault\n"),

@@ -67,7 +67,7 @@ bare_size s (changes.SetFlow moment flow part) bare = omega arith
 bare_size s (changes.SetSource moment source part) bare = omega arith
 bare_size s (changes.DropFlow moment flow) bare = omega arith
 bare_size s (changes.Allocate moment flow ids) bare = omega arith
-bare_size s (changes.Store moment object start size) bare = absurd cc
+bare_size s (changes.Store moment object start size digest) bare = absurd cc
 bare_size s (changes.AddSegments moment flow posts) bare = omega arith
 bare_size s (changes.CutSegments moment flow range) bare = omega arith
 bare_size s (changes.AskDelete moment flow range delete_flow) bare = omega arith
@@ -75,6 +75,7 @@ bare_size s (changes.DeleteStep moment) bare = omega arith
 bare_size s (changes.SweepStep moment) bare = omega arith
 bare_size s (changes.PutHook moment hook) bare = omega arith
 bare_size s (changes.DropHook moment url) bare = omega arith
+bare_size s (changes.Delivered moment event) bare = omega arith
 
 pub handed_bare : (s : StoreState) (change : Option Change) → stores change ≡ false → handed_if s change ≡ bytes_if (journal_of_state s) change
 handed_bare s None bare = refl

@@ -34,7 +34,7 @@ pub keeps_id : (kept : StoreView) (object : List ℕ) (size moment : ℕ) (plan 
 keeps_id kept object size moment (Refused why) has = refl
 keeps_id kept object size moment (Kept extent) has = refl
 keeps_id kept object size moment (Write extent planned) has =
-    planned_id kept (Some (changes.Store moment object extent.start extent.length)) planned has.makes
+    planned_id kept (Some (changes.Store moment object extent.start extent.length None)) planned has.makes
 
 -- so it is of each put with its plan
 pub id_with : (kept : StoreView) (put begun : Option PutSeen) → plan_of put ≡ plan_of begun → IfSome begun (EndKeepsId kept) → IfSome put (EndKeepsId kept)

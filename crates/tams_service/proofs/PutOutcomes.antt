@@ -8,6 +8,7 @@ use Rattle.http_wire.specs.Framing.{method_kind}
 use Rattle.http_wire.specs.Response.{body_unless}
 use Rattle.media_rows.specs.declared.change.Change.{Change}
 use Rattle.media_rows.specs.declared.change.Change.TheVariants as changes
+use Rattle.media_rows.specs.declared.object.Digest.{Digest}
 use Rattle.media_rows.specs.declared.object.Extent.{Extent}
 use Rattle.media_rows.specs.declared.object.ObjectRow.{ObjectRow}
 use Rattle.media_rows.specs.declared.object.ObjectState.{ObjectState}
@@ -40,16 +41,16 @@ by_fit false change some = absurd (some refl)
 by_state : (journal : State) (state : ObjectState) (b : Bool) (object : List ℕ) (size moment start : ℕ)
     → (fitted journal (Rattle.media_rows.specs.Answer.put_by_state state (placed_put (Some start) object size moment) (stored_put b))).change ≢ None
     → (fitted journal (Rattle.media_rows.specs.Answer.put_by_state state (placed_put (Some start) object size moment) (stored_put b))).change
-    ≡ Some (changes.Store moment object start size)
+    ≡ Some (changes.Store moment object start size None)
 by_state journal Allocated b object size moment start some =
-    by_fit (fits journal (changes.Store moment object start size)) (changes.Store moment object start size) some
-by_state journal (Stored at n) b object size moment start some = absurd (some refl)
+    by_fit (fits journal (changes.Store moment object start size None)) (changes.Store moment object start size None) some
+by_state journal (Stored at n digest) b object size moment start some = absurd (some refl)
 
 -- Where there is a change, it stores the object at the place that is free.
 pub put_change : (journal : State) (row : Option ObjectRow) (b : Bool) (object : List ℕ) (size moment start : ℕ)
     → (fitted journal (put_answer_by row (placed_put (Some start) object size moment) (stored_put b))).change ≢ None
     → (fitted journal (put_answer_by row (placed_put (Some start) object size moment) (stored_put b))).change
-    ≡ Some (changes.Store moment object start size)
+    ≡ Some (changes.Store moment object start size None)
 put_change journal None b object size moment start some = absurd (some refl)
 put_change journal (Some row) b object size moment start some = by_state journal row.state b object size moment start some
 
@@ -71,13 +72,13 @@ stored_bytes image area objects held object extent has at =
     by_row None = []
     by_row (Some row) = state_bytes image area row.state
 
-own_length : (objects : List ObjectRow) (held : List (List ℕ)) (object : List ℕ) (row : ObjectRow) (start size : ℕ) → are_bytes_of objects held ≡ true
-    → object_of object objects ≡ Some row → row.state ≡ Stored start size → length (bytes_of object objects held) ≡ size
-own_length [] held object row start size fits is stored = absurd cc
-own_length (first ∷ rows) [] object row start size fits is stored = absurd (false≢true fits)
-own_length (first ∷ rows) (bytes ∷ more) object row start size fits is stored =
+own_length : (objects : List ObjectRow) (held : List (List ℕ)) (object : List ℕ) (row : ObjectRow) (start size : ℕ) (digest : Option Digest) → are_bytes_of objects held ≡ true
+    → object_of object objects ≡ Some row → row.state ≡ Stored start size digest → length (bytes_of object objects held) ≡ size
+own_length [] held object row start size digest fits is stored = absurd cc
+own_length (first ∷ rows) [] object row start size digest fits is stored = absurd (false≢true fits)
+own_length (first ∷ rows) (bytes ∷ more) object row start size digest fits is stored =
     let parts = and_parts (fits_state first.state bytes) (are_bytes_of rows more) fits in
-    by_test parts.0 (λ there. own_length rows more object row start size parts.1 there stored) (bytes_eq first.id object) is
+    by_test parts.0 (λ there. own_length rows more object row start size digest parts.1 there stored) (bytes_eq first.id object) is
   where
     by_test : fits_state first.state bytes ≡ true → (object_of object rows ≡ Some row → length (bytes_of object rows more) ≡ size) → (b : Bool)
         → (if b then Some first else object_of object rows) ≡ Some row → length (if b then bytes else bytes_of object rows more) ≡ size
@@ -90,7 +91,7 @@ own_length (first ∷ rows) (bytes ∷ more) object row start size fits is store
 pub stored_length : (archive : Archive) (object : List ℕ) (extent : Extent) → IsGoodArchive archive → IsStoredAt archive.library.objects object extent
     → length (bytes_in archive object) ≡ extent.length
 stored_length archive object extent good at =
-    own_length archive.library.objects archive.held object at.row extent.start extent.length good.held at.kept at.stored
+    own_length archive.library.objects archive.held object at.row extent.start extent.length at.digest good.held at.kept at.stored
 
 no_test : (test more : Bool) → (test ≡ true → ⊥) → (test && more) ≡ false
 no_test true more apart = absurd (apart refl)

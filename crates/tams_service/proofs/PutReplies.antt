@@ -195,7 +195,7 @@ module _ (p : RunPlace) (r : TamsRequest) (moment : ℕ) (store : StoreSeen) (d 
     -- They were written.
     module _ (extent : Extent) (planned : Planned) (is : put.plan ≡ Write extent planned) where
       abbrev pub change : Change
-      change = changes.Store moment full.object extent.start extent.length
+      change = changes.Store moment full.object extent.start extent.length None
 
       pub takes : TakesExtent journal full.object (length r.body) moment extent planned
       takes = subst (HasExtent journal full.object (length r.body) moment) is full.extent
@@ -222,7 +222,7 @@ module _ (p : RunPlace) (r : TamsRequest) (moment : ℕ) (store : StoreSeen) (d 
           ap (λ (o : Outcome). (fitted journal o).change) answered_is
           ∙ put_change journal (object_of full.object p.state.archive.library.objects) (bytes_eq (laws.bytes_in p.state.archive full.object) r.body)
           full.object (length r.body) moment extent.start (subst (λ (o : Outcome). (fitted journal o).change ≢ None) answered_is there)
-          ∙ ap (λ n. Some (changes.Store moment full.object extent.start n)) (sym takes.sized)
+          ∙ ap (λ n. Some (changes.Store moment full.object extent.start n None)) (sym takes.sized)
 
       -- the machine's change
       pub changes_so : (answer_in p.base r moment p.state).change ≡ Some (state_with_change p.state change r.body)

@@ -37,7 +37,7 @@ bare_archive (changes.SetFlow moment flow part) came archive is = refl
 bare_archive (changes.SetSource moment source part) came archive is = refl
 bare_archive (changes.DropFlow moment flow) came archive is = refl
 bare_archive (changes.Allocate moment flow ids) came archive is = refl
-bare_archive (changes.Store moment object start size) came archive is = absurd cc
+bare_archive (changes.Store moment object start size digest) came archive is = absurd cc
 bare_archive (changes.AddSegments moment flow posts) came archive is = refl
 bare_archive (changes.CutSegments moment flow range) came archive is = refl
 bare_archive (changes.AskDelete moment flow range delete_flow) came archive is = refl
@@ -45,6 +45,7 @@ bare_archive (changes.DeleteStep moment) came archive is = refl
 bare_archive (changes.SweepStep moment) came archive is = refl
 bare_archive (changes.PutHook moment hook) came archive is = refl
 bare_archive (changes.DropHook moment url) came archive is = refl
+bare_archive (changes.Delivered moment event) came archive is = refl
 
 -- ---- a turn
 

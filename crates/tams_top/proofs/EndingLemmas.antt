@@ -1,9 +1,9 @@
 -- The end of a run by what came of its words gives the ends of whatever command they spell.
 use Rattle.std.proofs.Common.{◌≡◌, ℕ, Bool, true, List, refl, sym, ap, subst, inl, inr}
 use Rattle.disk_trait.specs.Device.{IsDevice}
-use Rattle.check_command.proofs.EndLemmas.{check_starved}
-use Rattle.format_command.proofs.EndLemmas.{format_starved}
-use Rattle.serve_commands.proofs.EndLemmas.{replay_starved, serve_starved}
+use Rattle.store_commands.proofs.CheckEndLemmas.{check_starved}
+use Rattle.store_commands.proofs.FormatEndLemmas.{format_starved}
+use Rattle.store_commands.proofs.ServeEndLemmas.{replay_starved, serve_starved}
 use Rattle.tams_outcomes.specs.Lines.{line_of}
 use Rattle.tams_outcomes.specs.Statuses.{exit_of}
 use Rattle.tams_outcomes.specs.Touching.{Untouched}
@@ -15,8 +15,8 @@ use Rattle.tams_words.proofs.WordTheorems.{one_command}
 use Rattle.tams_words.specs.Words.{IsCommand, IsNoCommand}
 use Rattle.tams_words.specs.declared.words.Invocation.{Invocation}
 use Rattle.tams_words.specs.declared.words.Invocation.TheVariants.{Format, Check, Work, Replay, Serve, Workload}
-use Rattle.work_command.proofs.EndLemmas.{work_starved}
-use Rattle.workload_command.proofs.EndLemmas.{workload_starved}
+use Rattle.store_commands.proofs.WorkEndLemmas.{work_starved}
+use Rattle.store_commands.proofs.WorkloadEndLemmas.{workload_starved}
 
 -- the ends of a command are those of its words
 same_ends : (run : RunSeen) (o : RunOutcome) (command : Invocation) → EndsBy run.old run.new run.clock run.begun run.given o command

@@ -3,15 +3,15 @@ use Rattle.std.proofs.Common.{◌≡◌, ◌≢◌, ◌≤◌, ◌<◌, ◌⊎�
 use Rattle.disk_trait.specs.Device.{Link}
 use Rattle.disk_trait.specs.Calls.{Rose}
 use Rattle.media_journal.specs.declared.header.Header.{Header}
-use Rattle.store_opening.specs.Laws.{DamagedStandsForNone}
+use Rattle.store_opening.specs.Laws.{RefusedStandForNone}
 use Rattle.store_states.specs.States.{StoreState}
-use Rattle.check_command.proofs.EndLemmas.{check_only, check_refused, check_unlinked, check_words}
-use Rattle.check_command.specs.Ends.{CheckEnds}
-use Rattle.format_command.proofs.EndLemmas.{format_only, format_refused, format_unlinked, format_untouched, format_words}
-use Rattle.format_command.specs.Ends.{FormatEnds}
-use Rattle.serve_commands.proofs.EndLemmas.{peers_rose, replay_linked, replay_linked_only}
-use Rattle.serve_commands.specs.Ends.{ReplayEnds, ServeEnds}
-use Rattle.serve_commands.specs.Histories.{OnePeer}
+use Rattle.store_commands.proofs.CheckEndLemmas.{check_only, check_refused, check_unlinked, check_words}
+use Rattle.store_commands.specs.CheckEnds.{CheckEnds}
+use Rattle.store_commands.proofs.FormatEndLemmas.{format_only, format_refused, format_unlinked, format_untouched, format_words}
+use Rattle.store_commands.specs.FormatEnds.{FormatEnds}
+use Rattle.store_commands.proofs.ServeEndLemmas.{peers_rose, replay_linked, replay_linked_only}
+use Rattle.store_commands.specs.ServeEnds.{ReplayEnds, ServeEnds}
+use Rattle.store_commands.specs.Histories.{OnePeer}
 use Rattle.store_commands.proofs.OpeningLemmas.{opened_only, opened_refused, opened_words}
 use Rattle.store_commands.specs.Beginning.{beginning}
 use Rattle.tams_outcomes.proofs.ExitLemmas.{cut_by, disk_fault_by, exit_at_most, link_fault_by, no_memory_by}
@@ -27,9 +27,9 @@ use Rattle.tams_words.proofs.WordTheorems.{one_command}
 use Rattle.tams_words.specs.Words.{IsCommand, IsNoCommand}
 use Rattle.tams_words.specs.declared.words.Invocation.{Invocation}
 use Rattle.tams_words.specs.declared.words.Invocation.TheVariants.{Format, Check, Work, Replay, Serve, Workload}
-use Rattle.work_command.proofs.EndLemmas.{work_only, work_refused, work_unlinked, work_words}
-use Rattle.work_command.specs.Ends.{WorkEnds}
-use Rattle.workload_command.specs.Ends.{WorkloadEnds}
+use Rattle.store_commands.proofs.WorkEndLemmas.{work_only, work_refused, work_unlinked, work_words}
+use Rattle.store_commands.specs.WorkEnds.{WorkEnds}
+use Rattle.store_commands.specs.WorkloadEnds.{WorkloadEnds}
 
 -- the disk failed where no other end says so
 disk_failed : (o : RunOutcome) → no_disk_fault o ≡ false → exit_of o ≡ 3
@@ -54,7 +54,7 @@ module _ (run : RunSeen) (o : RunOutcome) where
   command_words (Serve path port base connections) ends s = opened_words run.old run.new o ends.causes.file s
   command_words (Workload number count) ends s = unless_workload 1 (λ e. omega (arith, e)) (λ e. omega (arith, e)) ends.0.completeness s
 
-  command_refused : DamagedStandsForNone → (command : Invocation) → CommandEnds command run o → exit_of o ≡ 2
+  command_refused : RefusedStandForNone → (command : Invocation) → CommandEnds command run o → exit_of o ≡ 2
       → Untouched run.old run.new × (run.old.shows ≡ true → RefusedFor run.old.seen command)
   command_refused damaged (Format path blocks half id) ends s =
       format_refused run.old run.new (record { blocks = blocks; half = half; id = id }) o ends.0.causes s
@@ -153,7 +153,7 @@ module _ (words : List (List ℕ)) (run : RunSeen) (status : ℕ) (ends : EndsBy
   ]
 
   -- a command that the file refuses
-  refused : DamagedStandsForNone → status ≡ 2 → Untouched run.old run.new × (run.given ≡ run.begun)
+  refused : RefusedStandForNone → status ≡ 2 → Untouched run.old run.new × (run.given ≡ run.begun)
       × ((command : Invocation) × IsCommand words command × (run.old.shows ≡ true → RefusedFor run.old.seen command))
   refused damaged s =
       let is = did 2 (λ e. omega (arith, e)) (λ e. omega (arith, e)) s in
@@ -161,7 +161,7 @@ module _ (words : List (List ℕ)) (run : RunSeen) (status : ℕ) (ends : EndsBy
       let cause = command_refused run o damaged is.0 end (by 2 s) in
       (cause.0, command_unread run o is.0 end (by 2 s), (is.0, is.1, cause.1))
 
-  pub refusals_are_told : DamagedStandsForNone → RefusalsAreTold words run status
+  pub refusals_are_told : RefusedStandForNone → RefusalsAreTold words run status
   refusals_are_told damaged = record {
     refused = refused damaged;
     refused_only = λ command is shows cause. rw ends.exit (command_only run o command (ends.command command is) shows cause);

@@ -3,9 +3,9 @@
 use Rattle.std.specs.Prelude.{◌≡◌, ◌⊎◌, ℕ, Bool, List}
 use Rattle.disk_trait.specs.Device.{Device}
 use Rattle.disk_trait.specs.Calls.{IsCounted}
-use Rattle.check_command.specs.Ends.{CheckEnds}
-use Rattle.format_command.specs.Ends.{FormatEnds}
-use Rattle.serve_commands.specs.Ends.{ReplayEnds, ServeEnds}
+use Rattle.store_commands.specs.CheckEnds.{CheckEnds}
+use Rattle.store_commands.specs.FormatEnds.{FormatEnds}
+use Rattle.store_commands.specs.ServeEnds.{ReplayEnds, ServeEnds}
 use Rattle.tams_outcomes.specs.Lines.{TakesPart, line_of}
 use Rattle.tams_outcomes.specs.Statuses.{exit_of, no_disk_fault}
 use Rattle.tams_outcomes.specs.Touching.{Untouched}
@@ -14,8 +14,8 @@ use Rattle.tams_outcomes.specs.declared.outcome.RunOutcome.TheVariants.{BadWords
 use Rattle.tams_words.specs.Words.{IsCommand, IsNoCommand}
 use Rattle.tams_words.specs.declared.words.Invocation.{Invocation}
 use Rattle.tams_words.specs.declared.words.Invocation.TheVariants.{Format, Check, Work, Replay, Serve, Workload}
-use Rattle.work_command.specs.Ends.{WorkEnds}
-use Rattle.workload_command.specs.Ends.{WorkloadEnds}
+use Rattle.store_commands.specs.WorkEnds.{WorkEnds}
+use Rattle.store_commands.specs.WorkloadEnds.{WorkloadEnds}
 
 -- what a run met and left of its notes: whether they tell, their count of faults, and their bytes
 pub record NotesSeen : Type 0 where

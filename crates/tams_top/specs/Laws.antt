@@ -4,10 +4,10 @@ use Rattle.disk_trait.specs.Calls.{Rose}
 use Rattle.disk_trait.specs.Device.{Device, Left}
 use Rattle.media_journal.specs.declared.header.Header.{Header}
 use Rattle.media_journal.specs.File.{HasOpenHeader}
-use Rattle.check_command.specs.Ends.{counts_in}
-use Rattle.format_command.specs.Formatting.{formatted_state}
-use Rattle.serve_commands.specs.Completeness.{AreServedWhole, IsServedWhole}
-use Rattle.serve_commands.specs.Histories.{OnePeer, Replayed, ServedAll}
+use Rattle.store_commands.specs.CheckEnds.{counts_in}
+use Rattle.store_commands.specs.Formatting.{formatted_state}
+use Rattle.store_commands.specs.Completeness.{AreServedWhole, IsServedWhole}
+use Rattle.store_commands.specs.Histories.{OnePeer, Replayed, ServedAll}
 use Rattle.store_commands.specs.Beginning.{BeginsFrom, beginning}
 use Rattle.store_states.specs.States.{StandsFor, StoreState}
 use Rattle.tams_outcomes.specs.Lines.{checked_line, generated_line}
@@ -21,8 +21,8 @@ use Rattle.tams_top.specs.Refusals.{RefusedFor}
 use Rattle.tams_words.specs.Words.{IsCommand, IsNoCommand}
 use Rattle.tams_words.specs.declared.words.Invocation.{Invocation}
 use Rattle.tams_words.specs.declared.words.Invocation.TheVariants.{Format, Check, Work, Replay, Serve, Workload}
-use Rattle.work_command.specs.Working.{WorkedOff}
-use Rattle.workload_command.specs.Generating.{IsWorkloadRun}
+use Rattle.store_commands.specs.Working.{WorkedOff}
+use Rattle.store_commands.specs.Generating.{IsWorkloadRun}
 
 -- What is said of each run from one device to another, by its words, by what it met and left, and
 -- by its status.

@@ -3,7 +3,7 @@ use Rattle.std.specs.Prelude.{◌⊎◌, ℕ, List, length}
 use Rattle.media_journal.specs.declared.header.Header.{Header}
 use Rattle.media_journal.specs.File.{HasOpenHeader}
 use Rattle.media_journal.specs.Formatting.{FitsStore}
-use Rattle.format_command.specs.Formatting.{empty_rows}
+use Rattle.store_commands.specs.Formatting.{empty_rows}
 use Rattle.store_commands.specs.Opening.{StandsForNone}
 use Rattle.tams_words.specs.declared.words.Invocation.{Invocation}
 use Rattle.tams_words.specs.declared.words.Invocation.TheVariants.{Format, Check, Work, Replay, Serve, Workload}

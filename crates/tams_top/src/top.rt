@@ -2,16 +2,12 @@
 ghost use Rattle.tams_top.specs.Ends.{EndsByWords};
 ghost use Rattle.tams_top.specs.Within.{EndsWithCause};
 
-use check_command::check;
 use disk_trait::{Memory, TextList};
-use format_command::format;
-use serve_commands::{replay, serve};
 use site_edge::{Caller, Clock, Sink};
 use std::alloc::Global;
+use store_commands::{check, format, replay, serve, work, workload};
 use tams_outcomes::RunOutcome;
 use tams_words::{Invocation, read_words};
-use work_command::work;
-use workload_command::workload;
 
 /// Does what the words ask for on this site, puts a line about it into the notes, and answers the status. It ends
 /// as the command does that its words spell, by the record of that command's ends, or as words that are none.

@@ -9,3 +9,4 @@ pub mod Posting
 mod Restoring
 mod StandardFacts
 mod Waiting
+mod Firsts

@@ -1,10 +1,9 @@
 -- Worked values of the crate's own definitions.
-use Rattle.std.proofs.Common.{◌≡◌, ℕ, [], ◌∷◌, None, Some, false, refl}
+use Rattle.std.proofs.Common.{◌≡◌, ℕ, [], ◌∷◌, None, Some, true, false, refl}
 use Rattle.media_rows.specs.declared.event.EventKind.TheVariants.{FlowCreated}
 use Rattle.media_rows.specs.declared.event.EventRow.{EventRow}
 use Rattle.media_rows.specs.declared.hook.HookRow.{HookRow}
-use Rattle.media_rows.specs.Outbox.{Outbox}
-use Rattle.webhook_outbox.specs.Delivered.{WaitsFirst, after_delivered}
+use Rattle.media_rows.specs.Outbox.{Outbox, after_delivered, waits_first}
 use Rattle.webhook_outbox.specs.Posting.{posted_within, shown_in}
 
 -- an event of hook 1
@@ -31,8 +30,11 @@ past_the_last : (made : Outbox) → posted_within both (record { outbox = made; 
 past_the_last made = refl
 
 -- the first event is delivered, and the other one waits
-first_is : WaitsFirst 2 both.events
-first_is = record { row = event 2; serial = refl; is = refl }
+first_is : waits_first 2 both.events ≡ true
+first_is = refl
+
+second_is_not : waits_first 3 both.events ≡ false
+second_is_not = refl
 
 one_left : (after_delivered 2 both).events ≡ event 3 ∷ []
 one_left = refl

@@ -1,20 +1,19 @@
 -- What waits for a hook, and what is left once an event was delivered.
-use Rattle.std.proofs.Common.{◌≡◌, ◌≤◌, nat_le, length, inl, inr, ℕ, ℤ, pos, negsuc, Bool, true, false, not, ◌||◌, List, [], ◌∷◌, ◌++◌, Option, Some, None, filter, option_map, refl, sym, ap, subst, ◌∙◌, arith}
+use Rattle.std.proofs.Common.{◌≡◌, ◌≤◌, nat_le, length, inl, inr, ℕ, ℤ, pos, negsuc, Bool, true, false, not, ◌&&◌, ◌||◌, List, [], ◌∷◌, ◌++◌, Option, Some, None, filter, option_map, refl, sym, ap, subst, ◌∙◌, arith}
 use Rattle.std.specs.Prelude.{◌==◌, IsTrue}
 use Rattle.std.specs.List.{AllByRecursion, list_any}
-use Rattle.std.proofs.lemmas.Bool.{eqb-true, le-leb, leb-true, ne_eqb, or_cases}
+use Rattle.std.proofs.lemmas.Bool.{eqb-true, false≢true, le-leb, leb-true, ne_eqb, or_cases}
 use Rattle.std.proofs.lemmas.Int.{ints}
 use Rattle.std.proofs.lemmas.List.Folds.{list_any-append}
 use Rattle.media_rows.specs.declared.event.EventRow.{EventRow}
 use Rattle.media_rows.specs.declared.hook.HookRow.{HookRow}
-use Rattle.media_rows.specs.Outbox.{most_waiting, waiting_for}
+use Rattle.media_rows.specs.Outbox.{after_delivered, is_least_waiting, most_waiting, waiting_for, waits_first}
 use Rattle.shared_tree.specs.Pairs.{IsRising, first, is_above, is_at, is_below, value_at, values, with_pair, without_key}
 use Rattle.shared_tree.specs.Rows.{IsKeyedBy}
 use Rattle.shared_tree.proofs.Counted.{all_append, all_kept, each_passes, rising_kept}
 use Rattle.shared_tree.proofs.Rising.{all_map, fewer, filter_all}
 use Rattle.shared_tree.proofs.Rows.{keyed_with, keyed_without, left_out_is, others_are, values_kept}
 use Rattle.webhook_outbox.specs.declared.outbox.Slot.{Slot}
-use Rattle.webhook_outbox.specs.Delivered.{WaitsFirst, after_delivered}
 use Rattle.webhook_outbox.specs.Within.Slots.{AreSlots, HasFailedWhenFull, event_key, has_slot, hook_serial, hooks_of, seen_outbox, is_for, slot_key}
 use Rattle.webhook_outbox.proofs.Found.{at_is, at_split, first_value, found_pair, kept_without, none_at, without_kept}
 
@@ -83,16 +82,21 @@ none_waiting hook slots events kept e = each events kept.hooked
 
 -- ---- an event that is delivered
 
-first_among : {X : Type 0} (xs : List X) (x : X) (P : X → Type 0) → first xs ≡ Some x → AllByRecursion P xs → P x
-first_among [] x P e h = absurd (grind (arith, e))
-first_among (y ∷ ys) x P e h = subst P (grind (arith, e)) h.0
+-- an event of whose serial none is isn't its hook's first
+pub none_first : (event : ℕ) (all rows : List EventRow) → AllByRecursion (λ row. row.serial ≡ event → ⊥) rows
+    → list_any (λ row. (row.serial == event) && is_least_waiting all row) rows ≡ true → ⊥
+none_first event all [] others e = false≢true e
+none_first event all (row ∷ rows) others e = by (row.serial == event) refl (none_first event all rows others.1) e
+  where
+    by : (b : Bool) → (row.serial == event) ≡ b → (list_any (λ row. (row.serial == event) && is_least_waiting all row) rows ≡ true → ⊥)
+        → ((b && is_least_waiting all row) || list_any (λ row. (row.serial == event) && is_least_waiting all row) rows) ≡ true → ⊥
+    by true at later is = others.0 (eqb-true row.serial event at)
+    by false at later is = later is
 
--- an event that is its hook's first waits
-pub event_is_there : (event : ℕ) (events : Events) → IsKeyedBy event_key events → WaitsFirst event (values events) → None ≡ value_at (pos event) events → ⊥
-event_is_there event events keyed is e =
-    let others = each events keyed (none_at (pos event) events (sym e)) in
-    first_among (waiting_for is.row.hook (values events)) is.row (λ row. row.serial ≡ event → ⊥) is.is
-    (all_kept (λ row. row.serial ≡ event → ⊥) (λ row. row.hook == is.row.hook) (values events) others) is.serial
+-- where nothing is at a serial's key, each event has another serial
+pub others_than : (event : ℕ) (events : Events) → IsKeyedBy event_key events → value_at (pos event) events ≡ None
+    → AllByRecursion (λ row. row.serial ≡ event → ⊥) (values events)
+others_than event events keyed e = each events keyed (none_at (pos event) events e)
   where
     each : (ps : Events) → IsKeyedBy event_key ps → AllByRecursion (λ p. is_at (pos event) p ≡ false) ps
         → AllByRecursion (λ row. row.serial ≡ event → ⊥) (values ps)
@@ -102,6 +106,11 @@ event_is_there event events keyed is e =
           grind (arith, here, n.0))),
       each ps k.1 n.1,
     )
+
+-- an event that is its hook's first waits
+pub event_is_there : (event : ℕ) (events : Events) → IsKeyedBy event_key events → IsTrue (waits_first event (values events))
+    → None ≡ value_at (pos event) events → ⊥
+event_is_there event events keyed is e = none_first event (values events) (values events) (others_than event events keyed (sym e)) is
 
 -- and its hook is kept
 pub hook_is_there : (event : ℕ) (row : EventRow) (slots : Slots) (events : Events) → AreSlots slots events → Some row ≡ value_at (pos event) events

@@ -1,11 +1,11 @@
 //! The outbox and its public calls.
 ghost use Rattle.std.specs.Prelude.{◌≡◌, [], ◌∷◌, IfOk, IfSome, IsTrue, map, option_copied};
-ghost use Rattle.media_rows.specs.Outbox.{after_drop_hook, after_post, after_put_hook, hook_of, hook_row, waiting_for, with_events};
+ghost use Rattle.media_rows.specs.Outbox.{after_delivered, after_drop_hook, after_post, after_put_hook, hook_of, hook_row, waiting_for, waits_first, with_events};
 ghost use Rattle.media_rows.specs.Good.{has_hook};
 ghost use Rattle.media_rows.specs.Refusals.{Restores};
 ghost use Rattle.media_rows.specs.Restoring.{can_restore_outbox, outbox_of};
 ghost use Rattle.shared_tree.specs.Pairs.{first};
-ghost use Rattle.webhook_outbox.specs.Delivered.{IsBehind, IsBehindHooks, WaitsFirst, after_delivered, counted};
+ghost use Rattle.webhook_outbox.specs.Delivered.{IsBehind, IsBehindHooks, counted};
 ghost use Rattle.webhook_outbox.specs.Ordered.{EventsRise, HooksRise, IsLeastFor};
 ghost use Rattle.webhook_outbox.specs.Within.Slots.{with_last_hook};
 ghost use Rattle.webhook_outbox.specs.Posting.{posted_within, shown_in};
@@ -159,6 +159,20 @@ impl Outbox {
         first_waiting(&slot.waiting)
     }
 
+    /// Whether an event of this serial waits, and is the first that waits for its hook.
+    pub fn waits_first(&self, event: u64) -> bool
+        ensures { result ≡ waits_first event self.now.events }
+    {
+        self.events.keys_rise();
+        let Some(row) = value_at(&self.events, event) else {
+            return false;
+        };
+        match self.first_of(row.hook) {
+            Some(first) => first.serial == event,
+            None => false,
+        }
+    }
+
     /// Adds a hook behind all hooks, in place of the one of its address, whose events go. The new one hasn't
     /// failed, and nothing waits for it.
     pub fn add_hook(&self, alloc: Global, hook: &Hook, serial: u64) -> Result<Outbox, Memory>
@@ -266,9 +280,9 @@ impl Outbox {
         })
     }
 
-    /// Leaves out an event, which is the first that waits for its hook.
+    /// Leaves out an event that was delivered, which is the first that waits for its hook.
     pub fn delivered(&self, alloc: Global, event: u64) -> Result<Outbox, Memory>
-        requires first { WaitsFirst event self.now.events }
+        requires first { IsTrue (waits_first event self.now.events) }
         ensures { IfOk result (λ outbox. outbox ≡ after_delivered event self.now) }
     {
         self.slots.keys_rise();

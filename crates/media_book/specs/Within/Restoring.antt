@@ -20,7 +20,7 @@ with_segments_behind rows media = record media { segments = media.segments ++ ro
 -- the blocks of an object in this state are free
 abbrev pub can_hold : Media → ObjectState → Bool
 can_hold media Allocated = true
-can_hold media (Stored start size) = can_take media (record { start = start; length = size })
+can_hold media (Stored start size digest) = can_take media (record { start = start; length = size })
 
 -- an object may come behind all others: its serial is above theirs, its id is new and its blocks
 -- are free

@@ -94,7 +94,7 @@ pub record MayFree (start size : ℕ) (area : Area) (bytes : ℕ) : Type 0 where
 -- what an object has may be given back
 abbrev pub MayLose : ObjectState → Area → ℕ → Type 0
 MayLose Allocated area bytes = Unit {0}
-MayLose (Stored start size) area bytes = MayFree start size area bytes
+MayLose (Stored start size digest) area bytes = MayFree start size area bytes
 
 -- the blocks of so many bytes were given back
 pub record IsFreed (start size : ℕ) (old new : Area) (before after : ℕ) : Type 0 where
@@ -104,7 +104,7 @@ pub record IsFreed (start size : ℕ) (old new : Area) (before after : ℕ) : Ty
 -- what an object has was given back
 abbrev pub IsLost : ObjectState → Area → Area → ℕ → ℕ → Type 0
 IsLost Allocated old new before after = (new ≡ old) × (after ≡ before)
-IsLost (Stored start size) old new before after = IsFreed start size old new before after
+IsLost (Stored start size digest) old new before after = IsFreed start size old new before after
 
 -- the blocks of some objects were given back, and those of others are left to be
 pub record Freeing (start : List ObjectRow) (blocks : ℕ) (area : Area) (bytes : ℕ)

@@ -1,13 +1,14 @@
 -- What a scan of a half finds, from one place on.
-use Rattle.std.specs.Prelude.{◌≡◌, ◌<◌, ◌+◌, ◌*◌, ℕ, Bool, true, false, List, length, Result, Ok, Err}
+use Rattle.std.specs.Prelude.{◌≡◌, ◌≢◌, ◌⊎◌, ◌<◌, ◌+◌, ◌*◌, ◌/◌, ◌^◌, ℕ, Bool, true, false, List, length, Option, Some, None, Result, Ok, Err}
+use Rattle.disk_trait.specs.Forms.{IsForm}
 use Rattle.media_journal.specs.declared.header.Header.{Header}
 use Rattle.media_journal.specs.declared.record.Record.{Record}
 use Rattle.media_journal.specs.declared.scan.AtPlace.{AtPlace}
 use Rattle.media_journal.specs.declared.scan.AtPlace.TheVariants.{Closed, Torn, Whole}
 use Rattle.media_journal.specs.declared.fault.JournalFault.{JournalFault}
-use Rattle.media_journal.specs.declared.fault.JournalFault.TheVariants.{NotStore, Damaged, Disk, Memory}
+use Rattle.media_journal.specs.declared.fault.JournalFault.TheVariants.{NotStore, Damaged, OldForm, Disk, Memory}
 use Rattle.media_journal.specs.declared.scan.Half.{Half}
-use Rattle.media_journal.specs.File.{IsClosedGate, IsTornAt, IsRecordAt, AreRecords, HasHalf, HasTornHalf, HasLongRows, IsHeader, AreSizes, active_start}
+use Rattle.media_journal.specs.File.{IsClosedGate, IsTornAt, IsRecordAt, AreRecords, HasHalf, HasTornHalf, HasOtherForm, HasLongRows, IsHeader, AreSizes, active_start, mark}
 use Rattle.media_journal.specs.Opening.{IsStore}
 
 -- what stands at this place of a half
@@ -35,16 +36,26 @@ pub record IsChain (image : List ℕ) (from end gate : ℕ) (torn : Bool)
   pub ends : EndsAt image gate end torn
 
 -- what was found between these places, where the records ended at a torn record or at a closed gate
-abbrev pub HalfFound : List ℕ → ℕ → ℕ → ℕ → List ℕ → List Record → Bool → Type 0
-HalfFound image start end gate rows records true = HasTornHalf image start end gate rows records
-HalfFound image start end gate rows records false = HasHalf image start end gate rows records
+abbrev pub HalfFound : List ℕ → ℕ → ℕ → ℕ → ℕ → List ℕ → List Record → Bool → Type 0
+HalfFound image start end gate form rows records true =
+    HasTornHalf image start end gate form rows records
+HalfFound image start end gate form rows records false =
+    HasHalf image start end gate form rows records
+
+-- the form that a half's first eight bytes say as one number, if they say one
+abbrev pub SaysForm : ℕ → Option ℕ → Type 0
+SaysForm number None = (form : ℕ) → IsForm form → number / 2 ^ 56 ≢ mark form
+SaysForm number (Some form) = IsForm form × (number / 2 ^ 56 ≡ mark form)
 
 -- what is read of a half
 abbrev pub HalfAnswer : List ℕ → ℕ → ℕ → Result Half JournalFault → Type 0
 HalfAnswer image start end (Ok half) =
-    HalfFound image start end half.chain.gate half.rows half.chain.records half.chain.torn
+    HalfFound image start end half.chain.gate half.form half.rows half.chain.records
+    half.chain.torn
 HalfAnswer image start end (Err NotStore) = ⊥
-HalfAnswer image start end (Err (Damaged at)) = (at ≡ start) × HasLongRows image start end
+HalfAnswer image start end (Err (Damaged at)) =
+    (at ≡ start) × (HasOtherForm image start ⊎ HasLongRows image start end)
+HalfAnswer image start end (Err OldForm) = ⊥
 HalfAnswer image start end (Err Disk) = Unit {0}
 HalfAnswer image start end (Err Memory) = Unit {0}
 
@@ -54,5 +65,5 @@ pub record IsReadHalf (image : List ℕ) (h : Header) (start : ℕ) (half : Half
   pub header : IsHeader image h
   pub sizes : AreSizes h (length image)
   pub start_is : start ≡ active_start image h.half
-  pub found : HalfFound image start (start + 4096 * h.half) half.chain.gate half.rows
+  pub found : HalfFound image start (start + 4096 * h.half) half.chain.gate half.form half.rows
       half.chain.records half.chain.torn

@@ -8,11 +8,11 @@ use Rattle.snapshot_rows.specs.declared.places.Place.{Place}
 use Rattle.snapshot_rows.specs.Texts.{SpellsRows}
 use Rattle.snapshot_rows.specs.Within.Places.{stands_behind}
 
--- no row that stands behind the place begins the bytes
-abbrev pub NoneFollows : Option Place → List ℕ → Type 0
-NoneFollows last bytes =
+-- no row of a form that stands behind the place begins the bytes
+abbrev pub NoneFollows : ℕ → Option Place → List ℕ → Type 0
+NoneFollows form last bytes =
     (row : Row) (later : List ℕ)
-    → SpellsFirst row_spelling.meaning bytes row later → stands_behind last row ≡ false
+    → SpellsFirst (row_spelling form).meaning bytes row later → stands_behind last row ≡ false
 
 -- a row stands behind the last of these rows
 abbrev pub is_behind_last : List Row → Row → Bool
@@ -25,8 +25,8 @@ abbrev pub IsLastPlace : Option Place → List Row → Type 0
 IsLastPlace last rows = (row : Row) → is_behind_last rows row ≡ stands_behind last row
 
 -- so many bytes of a text were read as these rows, of which the last has this place
-pub record IsFrontRead (text : List ℕ) (rows : List Row) (at : ℕ)
+pub record IsFrontRead (form : ℕ) (text : List ℕ) (rows : List Row) (at : ℕ)
     (last : Option Place) : Type 0 where
   pub within : at ≤ length text
-  pub front : SpellsRows (take at text) rows
+  pub front : SpellsRows form (take at text) rows
   pub place : IsLastPlace last rows

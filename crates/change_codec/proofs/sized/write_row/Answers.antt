@@ -1,3 +1,4 @@
+use Rattle.disk_trait.specs.Forms.{form_in_use}
 use Rattle.field_codec.proofs.Numbers.{u64_lawful}
 use Rattle.change_codec.proofs.RowLaws.{source_row_lawful, flow_row_lawful, object_row_lawful, segment_row_lawful, delete_row_lawful, hook_row_lawful, event_row_lawful}
 use Rattle.std.proofs.lemmas.Result.{IfOk-weaker}
@@ -11,7 +12,7 @@ pub write_sized-requires-in-Flow : goal.write_sized-requires-in-Flow
 write_sized-requires-in-Flow c = flow_row_lawful
 
 pub write_sized-requires-in-Object : goal.write_sized-requires-in-Object
-write_sized-requires-in-Object c = object_row_lawful
+write_sized-requires-in-Object c = object_row_lawful form_in_use
 
 pub write_sized-requires-in-Segment : goal.write_sized-requires-in-Segment
 write_sized-requires-in-Segment c = segment_row_lawful

@@ -4,4 +4,4 @@ use Rattle.core_measure.proofs.given.posts.Given as goal
 
 -- each segment so far is good
 abbrev pub invariant-loop-number : goal.invariant-loop-number
-invariant-loop-number l = IsTrue (are_posts_good l.posts)
+invariant-loop-number l = IsTrue (are_posts_good l.posts.segments)

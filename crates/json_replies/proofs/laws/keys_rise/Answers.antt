@@ -1,6 +1,6 @@
 -- The names of each object are compared one with another.
 use Rattle.std.proofs.Common.{refl}
-use Rattle.json_replies.specs.Replies.{refusal_members, service_members}
+use Rattle.json_replies.specs.Replies.{failed_members, partly_members, refusal_members, service_members}
 use Rattle.json_replies.specs.Rows.{source_members, flow_members, get_url_members, segment_members, object_members, put_url_members, allocated_members, storage_members, request_members, hook_members}
 use Rattle.json_replies.specs.Values.{collected_members}
 use Rattle.json_replies.proofs.Order.{keys_rise, tags_rise}
@@ -22,4 +22,6 @@ returns c = record {
   request = λ store row. keys_rise (request_members store row) refl;
   hook = λ shown. keys_rise (hook_members shown) refl;
   refusal = λ refusal. keys_rise (refusal_members refusal) refl;
+  failed = λ failed. keys_rise (failed_members failed) refl;
+  partly = λ failed. keys_rise (partly_members failed) refl;
 }

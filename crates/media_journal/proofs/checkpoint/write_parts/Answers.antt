@@ -28,4 +28,4 @@ returns-clause-written g c = λ shows.
     let half = half_written _ c.args.rows.now c.args.start (omega (arith, whole, c.requires.device)) in
     let shows_on = first.call.same.shows ∙ shows in
     let gate = c.write_at-2.ensures.written (second.calls.same.shows ∙ shows_on) in
-    on_ok_weaker c.write_at-2.result (λ seen. seen ∙ rw (second.written shows_on, first.written shows, c.u64_bytes.ensures) half) gate
+    on_ok_weaker c.write_at-2.result (λ seen. seen ∙ rw (second.written shows_on, first.written shows, c.u64_bytes.ensures, c.half_number.ensures) half) gate

@@ -9,7 +9,8 @@ returns c = record {
   whole = one_reading;
   torn = one_torn_reading;
   store = reads_as_store;
-  torn_or_whole = λ image h at rows records torn j gate other found whole. torn_or_whole image h j at gate rows other records found torn whole;
+  torn_or_whole = λ image h at form rows records torn j gate again other found whole.
+      torn_or_whole image h j at gate form again rows other records found torn whole;
   damaged = damaged_unreadable;
   answer = one_answer;
 }

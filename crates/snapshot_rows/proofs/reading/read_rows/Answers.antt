@@ -13,8 +13,8 @@ rows-smaller c =
       c.rows.invariant.within,
       c.rows-test.true,
       length-drop c.rows.at c.args.bytes.now,
-      taken_some rest c.in-Some.found.row c.in-Some.found.taken begins,
-      taken_within rest c.in-Some.found.row c.in-Some.found.taken begins,
+      taken_some c.args.form rest c.in-Some.found.row c.in-Some.found.taken begins,
+      taken_within c.args.form rest c.in-Some.found.row c.in-Some.found.taken begins,
     )
 
 pub rows-preserved : goal.rows-preserved
@@ -23,10 +23,10 @@ rows-preserved c =
     let place = rw c.in-Some.is at c.in_ok-found.ensures.place in
     let behind = rw c.in-Some.is at c.in_ok-found.ensures.behind in
     rw c.in_ok-push-in-Some.ensures.ok
-    (one_more c.args.bytes.now c.rows.rows c.rows.at c.rows.last c.in-Some.found.row c.in-Some.found.place c.in-Some.found.taken c.rows.invariant begins place
+    (one_more c.args.form c.args.bytes.now c.rows.rows c.rows.at c.rows.last c.in-Some.found.row c.in-Some.found.place c.in-Some.found.taken c.rows.invariant begins place
     behind)
 
 pub returns-in-None-clause-damaged : goal.returns-in-None-clause-damaged
 returns-in-None-clause-damaged c =
     let none = rw (c.in-None.is, rest_is c.args.bytes.now c.rows.at) at c.in_ok-found.ensures.none in
-    none_more c.args.bytes.now c.rows.rows c.rows.at c.rows.last c.rows.invariant c.rows-test.true (none refl)
+    none_more c.args.form c.args.bytes.now c.rows.rows c.rows.at c.rows.last c.rows.invariant c.rows-test.true (none refl)

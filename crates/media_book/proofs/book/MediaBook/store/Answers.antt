@@ -24,7 +24,7 @@ invariant_of-result-in-Ok c =
     media_same _ c.in_ok-share-in-Ok.field-0 _ (values c.objects.inside.rows) _ c.in_ok-take-in-Ok.field-0 _ c.in_ok-total-in-Ok.field-0
     c.in_ok-share-in-Ok.ensures (c.objects.view_is ∙ c.in-Ok.ensures.1) refl c.in_ok-total-in-Ok.ensures
     (stored_is c.objects_change.ensures c.self.inside.segments c.self.inside.objects c.self.inside.space c.in_ok-take-in-Ok.field-0 c.self.inside.bytes
-    c.args.id.now c.args.extent c.args.now c.self.invariant c.is_in_order.ensures.ids c.in-Ok.ensures.0 room taken)
+    c.args.id.now c.args.extent c.args.digest c.args.now c.self.invariant c.is_in_order.ensures.ids c.in-Ok.ensures.0 room taken)
 
 pub returns-in_ok-total-in-Ok : goal.returns-in_ok-total-in-Ok
 returns-in_ok-total-in-Ok c =
@@ -33,6 +33,6 @@ returns-in_ok-total-in-Ok c =
       ap (λ m. keep_refusal (object_of c.args.id.now m.objects)) (sym c.self.view_is) ∙ c.in-Ok.ensures.0,
       seen_same _ c.in_ok-share-in-Ok.field-0 _ (values c.objects.inside.rows) _ c.in_ok-take-in-Ok.field-0 _ c.in_ok-share-in-Ok.ensures
           (c.objects.view_is ∙ c.in-Ok.ensures.1) refl
-          (stored_seen c.self.inside.segments c.self.inside.objects c.self.inside.space c.in_ok-take-in-Ok.field-0 c.args.id.now c.args.extent c.args.now taken
-          ∙ ap (with_stored c.args.id.now c.args.extent c.args.now) c.self.view_is),
+          (stored_seen c.self.inside.segments c.self.inside.objects c.self.inside.space c.in_ok-take-in-Ok.field-0 c.args.id.now c.args.extent c.args.digest c.args.now taken
+          ∙ ap (with_stored c.args.id.now c.args.extent c.args.digest c.args.now) c.self.view_is),
     )

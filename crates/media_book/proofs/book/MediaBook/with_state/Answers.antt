@@ -20,5 +20,5 @@ returns-else-not-takes c =
     let can : can_take media (record { start = c.in-Stored.start_block; length = c.in-Stored.length }) ≡ true =
     let told = c.if-not-takes.false in let is = c.takes.ensures in grind (arith, told, is) in
     if_ok c.stored.result (λ next is. is
-    ∙ held_last media c.args.bare c.args.row.now c.in-Stored.start_block c.in-Stored.length c.in-Stored.is c.requires.new c.requires.bare can)
+    ∙ held_last media c.args.bare c.args.row.now c.in-Stored.start_block c.in-Stored.length c.in-Stored.digest c.in-Stored.is c.requires.new c.requires.bare can)
     c.stored.ensures

@@ -17,6 +17,6 @@ pub returns : goal.returns
 returns c =
     let found = sym c.in-Some.ensures in (
       keep_allocated c.args.id.now c.args.self.now c.in-Some.old.now found (sym c.is_stored.ensures ∙ c.if-is_stored.false),
-      changed_by c.args.id.now c.args.self.now c.in_ok-with_kept.field-0 c.in-Some.old.now (stored_at c.args.extent c.args.now) found
-          (c.in_ok-with_kept.ensures (stored_at c.args.extent c.args.now) c.in_ok-new.ensures),
+      changed_by c.args.id.now c.args.self.now c.in_ok-with_kept.field-0 c.in-Some.old.now (stored_at c.args.extent c.args.digest c.args.now) found
+          (c.in_ok-with_kept.ensures (stored_at c.args.extent c.args.digest c.args.now) c.in_ok-new.ensures),
     )

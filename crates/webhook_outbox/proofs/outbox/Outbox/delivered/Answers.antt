@@ -1,6 +1,6 @@
 use Rattle.std.proofs.Common.{sym, ap, subst, ◌∙◌}
-use Rattle.media_rows.specs.Outbox.{Outbox}
-use Rattle.webhook_outbox.specs.Delivered.{WaitsFirst, after_delivered}
+use Rattle.std.specs.Prelude.{IsTrue}
+use Rattle.media_rows.specs.Outbox.{Outbox, after_delivered, waits_first}
 use Rattle.webhook_outbox.specs.Within.Slots.{AreSlots}
 use Rattle.webhook_outbox.proofs.Waiting.{Delivers, delivered_is, delivered_slots, event_is_there, hook_is_there}
 use Rattle.webhook_outbox.proofs.outbox.Outbox.delivered.Goals as goal
@@ -8,7 +8,7 @@ use Rattle.webhook_outbox.proofs.outbox.Outbox.delivered.Goals as goal
 -- the event waits
 pub unreachable-requires : goal.unreachable-requires
 unreachable-requires c =
-    event_is_there c.args.event c.self.inside.events c.self.invariant.events_keyed (subst (λ (o : Outbox). WaitsFirst c.args.event o.events)
+    event_is_there c.args.event c.self.inside.events c.self.invariant.events_keyed (subst (λ (o : Outbox). IsTrue (waits_first c.args.event o.events))
     (sym c.self.view_is)
     c.requires.first) c.in_default.ensures
 

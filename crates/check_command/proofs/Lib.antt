@@ -1,2 +1,0 @@
-mod CheckLemmas
-pub mod EndLemmas

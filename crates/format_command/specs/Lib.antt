@@ -1,3 +1,0 @@
-pub mod Formatting
-pub mod Ends
-pub mod Fresh

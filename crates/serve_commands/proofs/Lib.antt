@@ -1,4 +1,0 @@
-pub mod CompletenessLemmas
-pub mod EndLemmas
-mod RunningLemmas
-mod ServedLemmas

@@ -1,4 +1,0 @@
-pub mod Histories
-pub mod Completeness
-pub mod Ends
-pub mod Running

@@ -1,3 +1,0 @@
-pub mod EndLemmas
-mod TurnsLeft
-mod WorkingLemmas

@@ -1,6 +1,0 @@
-use Rattle.work_command.proofs.EndLemmas.{work_ends}
-use Rattle.work_command.proofs.working.work.Goals as goal
-
--- What its end says is put together.
-pub returns-clause-ends : goal.returns-clause-ends
-returns-clause-ends g c = work_ends _ _ _ _ _ c.open_and_turn.result c.open_and_turn.ensures.disk c.open_and_turn.ensures.ends

@@ -1,3 +1,0 @@
-pub mod Working
-pub mod Ends
-pub mod Turning

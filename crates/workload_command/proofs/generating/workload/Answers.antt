@@ -1,6 +1,0 @@
-use Rattle.workload_command.proofs.EndLemmas.{workload_ends}
-use Rattle.workload_command.proofs.generating.workload.Goals as goal
-
--- What its end says is put together.
-pub returns : goal.returns
-returns c = workload_ends c.args.number c.args.count c.run_generated.result c.run_generated.ensures

@@ -1,6 +1,0 @@
-use Rattle.workload_command.proofs.WorkloadLemmas.{lasts_zeros}
-use Rattle.workload_command.proofs.still_clock.StillClockClock.now.Goals as goal
-
-pub returns-clause-lasts : goal.returns-clause-lasts
-returns-clause-lasts c =
-    lasts_zeros c.args.self.now.calls c.checked_add-self.result (rw c.unwrap_or-calls.ensures at c.checked_add-self.ensures)

@@ -1,3 +1,0 @@
-pub mod Generating
-pub mod Ends
-pub mod Standing
