@@ -49,7 +49,9 @@ fn posted(alloc: Global, outbox: &Outbox, happened: &HappenedList) -> Result<Pos
 /// The number of events once the first one was delivered.
 fn after_delivery(alloc: Global, outbox: &Outbox) -> Result<u64, Memory> {
     match outbox.first_of(1) {
-        Some(row) if row.hook == 1 => Ok(outbox.delivered(alloc, row.serial)?.event_count()),
+        Some(row) if outbox.waits_first(row.serial) => {
+            Ok(outbox.delivered(alloc, row.serial)?.event_count())
+        }
         _ => Ok(outbox.event_count()),
     }
 }
