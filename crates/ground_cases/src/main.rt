@@ -6,7 +6,9 @@ mod digits;
 mod ranges;
 mod texts;
 
-use crate::bytes::{print_change, print_row, print_rows};
+use crate::bytes::{
+    print_change, print_change_of_form_2, print_row, print_row_of_form_2, print_rows,
+};
 use crate::ranges::{print_pair, print_range_read, print_shift, print_timestamp};
 use crate::texts::{print_essence, print_id_read, print_moment, print_object_id};
 use std::io;
@@ -38,6 +40,8 @@ fn print_answer<R: Print + AllocGlobal>(rt: &R, word: &str, rest: &str) -> io::R
         "essence" => print_essence(rt, rest),
         "change" => print_change(rt, rest),
         "row" => print_row(rt, rest),
+        "change-2" => print_change_of_form_2(rt, rest),
+        "row-2" => print_row_of_form_2(rt, rest),
         "rows" => print_rows(rt, rest),
         _ => println!(rt; "no such word"),
     }
