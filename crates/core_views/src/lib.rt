@@ -1,4 +1,4 @@
-//! What asking commands show of sources and flows, of delete requests and of hooks, each computed from
+//! What queries show of sources and flows, of delete requests and of hooks, each computed from
 //! the book that keeps them. What needs segments or objects is left to the callers.
 #![tactic(auto)]
 

@@ -126,7 +126,7 @@ service_members store =
     ∷ always (codes "type") (string_value (codes "tams-profile-1"))
     ∷ []
 
--- what an asking command shows, for the store's id and the base of its addresses
+-- what a query shows, for the store's id and the base of its addresses
 abbrev pub view_value : ℕ → List ℕ → View → List Token
 view_value store base views.Root = list_tokens string_value root_names
 view_value store base views.Service = object_tokens (service_members store)

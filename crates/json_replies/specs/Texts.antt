@@ -65,7 +65,7 @@ has_shown_texts (parts.Collection members) = list_all is_member_text members
 has_shown_texts (parts.MaxBitRate rate) = true
 has_shown_texts (parts.AvgBitRate rate) = true
 
--- of what an asking command shows
+-- of what a query shows
 abbrev pub has_view_texts : View → Bool
 has_view_texts views.Root = true
 has_view_texts views.Service = true

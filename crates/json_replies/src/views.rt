@@ -1,4 +1,4 @@
-//! What asking commands show.
+//! What queries show.
 ghost use Rattle.std.specs.Prelude.{◌≡◌, OnOk};
 ghost use Rattle.json_replies.specs.Replies.{root_names, service_members, view_value};
 ghost use Rattle.json_replies.specs.Shapes.{Appends, list_tokens, object_tokens, string_value};

@@ -28,7 +28,7 @@ pub struct HookShown {
 
 pub type HookShownList = Listed<HookShown>;
 
-/// What an asking command shows. An `Option<i128>` is the key behind which the next page begins, and
+/// What a query shows. An `Option<i128>` is the key behind which the next page begins, and
 /// is there exactly where there is a next page.
 #[derive(Drop)]
 pub enum View {

@@ -4,7 +4,7 @@ ghost use Rattle.std.specs.Io.{ReadsAtMost};
 ghost use Rattle.site_edge.specs.Files.{file_site_device, file_site_device_is_sound};
 
 use crate::fault::{count_fault, counted};
-use crate::streams::has_room;
+use crate::streams::{has_room, most_bytes};
 use crate::{Caller, LinkFailed, Site, StoreFile};
 use disk_trait::{Disk, Failed};
 use libc::types::pollfd;
@@ -27,6 +27,8 @@ pub struct FileSite {
     file: StoreFile,
     input: Stdin,
     output: Stdout,
+    /// How many bytes the process might have in a file when the site was made.
+    most: u64,
     link_faults: u64,
     peer: Peer,
 }
@@ -52,6 +54,7 @@ impl FileSite {
             file,
             input,
             output,
+            most: most_bytes(),
             link_faults: 0,
             peer: Peer::Awaited,
         }
@@ -111,7 +114,7 @@ impl Site for FileSite {
     }
 
     fn say(&mut self, bytes: &[u8]) -> Result<(), LinkFailed> {
-        let answer = write_within_limit(self.output, bytes);
+        let answer = write_within_limit(self.output, self.most, bytes);
         counted(answer, &mut self.link_faults, LinkFailed)
     }
 
@@ -130,9 +133,9 @@ impl Caller for FileSite {
     }
 }
 
-/// Hands these bytes to the system, unless the output is a file that may not get so long.
-fn write_within_limit(output: Stdout, bytes: &[u8]) -> io::Result<()> {
-    if !has_room(libc::STDOUT_FILENO, bytes.len()) {
+/// Hands these bytes to the system, unless the output is a file that would get longer than `most` bytes.
+fn write_within_limit(output: Stdout, most: u64, bytes: &[u8]) -> io::Result<()> {
+    if !has_room(libc::STDOUT_FILENO, bytes.len(), most) {
         return Err(io::Error::from(ErrorKind::FileTooLarge));
     }
     output.write_all(bytes)

@@ -3,7 +3,7 @@ ghost use Rattle.std.specs.Prelude.{◌≡◌, [], false, is_ok};
 ghost use Rattle.disk_trait.specs.Calls.{IsCounted};
 
 use crate::fault::counted;
-use crate::streams::has_room;
+use crate::streams::{has_room, most_bytes};
 use crate::{Aside, Sink, SinkFailed};
 use std::io;
 use std::io::{ErrorKind, Stderr, Stdout};
@@ -123,10 +123,10 @@ impl Sink for HostSink {
 /// Hands these bytes to the system, if there are any, unless the stream is a file that may not get so long.
 fn write(stream: Stream, bytes: &[u8]) -> io::Result<()> {
     match stream {
-        Stream::Output(output) if has_room(libc::STDOUT_FILENO, bytes.len()) => {
+        Stream::Output(output) if has_room(libc::STDOUT_FILENO, bytes.len(), most_bytes()) => {
             output.write_all(bytes)
         }
-        Stream::Error(error) if has_room(libc::STDERR_FILENO, bytes.len()) => {
+        Stream::Error(error) if has_room(libc::STDERR_FILENO, bytes.len(), most_bytes()) => {
             error.write_all(bytes)
         }
         Stream::Nowhere => Ok(()),

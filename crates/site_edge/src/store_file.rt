@@ -5,7 +5,7 @@ ghost use Rattle.site_edge.specs.Files.{IsStandard, IsOwn, untouched, file_devic
 
 use crate::fault::counted;
 use crate::progress::Progress;
-use crate::streams::{STREAMS, is_of, may_reach};
+use crate::streams::{STREAMS, is_of, most_bytes};
 use crate::{Aside, FileFailed};
 use disk_trait::{Disk, Failed, Text};
 use std::fs::{File, OpenOptions, TryLockError};
@@ -28,6 +28,8 @@ const STRETCH: u64 = 524_288;
 pub struct StoreFile {
     file: File,
     size: u64,
+    /// How many bytes the process might have in a file when this one was opened.
+    most: u64,
     faults: u64,
     progress: Option<Progress>,
 }
@@ -95,6 +97,7 @@ impl StoreFile {
         Ok(StoreFile {
             file,
             size,
+            most: most_bytes(),
             faults: 0,
             progress: None,
         })
@@ -140,7 +143,7 @@ impl Disk for StoreFile {
     }
 
     fn write_at(&mut self, at: u64, bytes: &[u8]) -> Result<(), Failed> {
-        let answer = write_within_limit(&self.file, at, bytes);
+        let answer = write_within_limit(&self.file, self.most, at, bytes);
         begin_writing(&self.file, at, bytes.len() as u64);
         if let Some(progress) = &mut self.progress {
             progress.write(bytes.len());
@@ -154,9 +157,9 @@ impl Disk for StoreFile {
     }
 }
 
-/// Writes these bytes, unless the process may not write files of that length.
-fn write_within_limit(file: &File, at: u64, bytes: &[u8]) -> io::Result<()> {
-    if !may_reach(at.saturating_add(bytes.len() as u64)) {
+/// Writes these bytes, unless they end behind the most bytes that the file may have.
+fn write_within_limit(file: &File, most: u64, at: u64, bytes: &[u8]) -> io::Result<()> {
+    if at.saturating_add(bytes.len() as u64) > most {
         return Err(io::Error::from(ErrorKind::FileTooLarge));
     }
     file.write_all_at(bytes, at)
@@ -164,7 +167,7 @@ fn write_within_limit(file: &File, at: u64, bytes: &[u8]) -> io::Result<()> {
 
 /// Makes the file this long, unless the process may not have files of that length.
 fn lengthen(file: &File, length: u64) -> io::Result<()> {
-    if !may_reach(length) {
+    if length > most_bytes() {
         return Err(io::Error::from_raw_os_error(libc::EFBIG));
     }
     file.set_len(length)

@@ -85,16 +85,10 @@ pub(crate) fn is_open(descriptor: i32) -> bool {
     asked[0].revents & POLLNVAL == 0
 }
 
-/// Whether a file may have this many bytes. A write behind the limit of the process raises SIGXFSZ, which ends it
-/// (setrlimit(2)), and the kit has no call by which a signal is ignored. So none is made there.
-pub(crate) fn may_reach(length: u64) -> bool {
-    length <= most_bytes()
-}
-
-/// Whether so many bytes can be put to a stream within that limit: from the place on where it stands, and from the end
-/// of its file on, since it can't be asked whether it only appends. One that has no place, as a pipe, has room.
-pub(crate) fn has_room(descriptor: i32, count: usize) -> bool {
-    let most = most_bytes();
+/// Whether so many bytes can be put to a stream where a file may have `most` bytes: from the place on where it stands,
+/// and from the end of its file on, since it can't be asked whether it only appends. One that has no place, as a pipe,
+/// has room.
+pub(crate) fn has_room(descriptor: i32, count: usize, most: u64) -> bool {
     if most == u64::MAX {
         return true;
     }
@@ -108,7 +102,9 @@ pub(crate) fn has_room(descriptor: i32, count: usize) -> bool {
     furthest.saturating_add(count as u64) <= most
 }
 
-fn most_bytes() -> u64 {
+/// How many bytes a file may have that this process writes. A write behind that limit raises SIGXFSZ, which ends it
+/// (setrlimit(2)), and the kit has no call by which a signal is ignored. So none is made there.
+pub(crate) fn most_bytes() -> u64 {
     let mut limit = rlimit {
         rlim_cur: u64::MAX,
         rlim_max: u64::MAX,
