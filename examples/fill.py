@@ -20,8 +20,10 @@ from tams_client import Failure, run
 
 BLOCK, MAGIC, HEADER = 4_096, b'TAMSST01', 41
 LARGEST_HALF, LARGEST_STORE = 65_536, 1_073_741_824
-# what stands before a half's rows, and what a record has before its payload: its gate and a length
+# what stands before a half's rows: a byte with its form, 0 or 2, and their length in 7; and what a record has before its
+# payload: its gate and a length
 LENGTH, GATE, LENGTH_OF_RECORD = 8, 1, 4
+FORMS = (0, 2)
 OPEN = 1
 # so many times a half is read that changes under the reading
 READINGS = 9
@@ -57,9 +59,9 @@ def read_once(view, half):
     where it isn't the same behind the reading as before it."""
     turned = view[BLOCK] & 1
     start = (2 + turned * half) * BLOCK
-    rows = number_at(view, start, LENGTH)
-    found = records_of(view, start + LENGTH + rows, start + half * BLOCK)
-    if not found or view[BLOCK] & 1 != turned or number_at(view, start, LENGTH) != rows:
+    rows = number_at(view, start + 1, LENGTH - 1)
+    found = view[start] in FORMS and records_of(view, start + LENGTH + rows, start + half * BLOCK)
+    if not found or view[BLOCK] & 1 != turned or number_at(view, start + 1, LENGTH - 1) != rows:
         return None
     return 'AB'[turned], rows, found[0], found[1] - start
 

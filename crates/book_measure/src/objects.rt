@@ -37,8 +37,8 @@ fn id_of(alloc: Global, number: u64) -> Result<Text, Memory> {
 
 /// The book with an object more; one that is refused finds no memory.
 fn allocated(alloc: Global, book: &ObjectBook, id: &Text, serial: u64) -> Result<ObjectBook, Memory>
-    requires { IsTrue (are_below serial book.now) }
-    ensures { IfOk result (λ next. IsTrue (are_below (serial + 1) next)) }
+    requires { IsTrue (are_below serial book.now.kept) }
+    ensures { IfOk result (λ next. IsTrue (are_below (serial + 1) next.kept)) }
 {
     match book.allocate(alloc, id, serial, 0) {
         Ok(next) => Ok(next),
@@ -60,7 +60,7 @@ fn stored(alloc: Global, book: &ObjectBook, id: &Text) -> Result<ObjectBook, Mem
 
 /// The book with a reference to an object; one that is refused finds no memory.
 fn referred(alloc: Global, book: &ObjectBook, id: &Text, flow: u128) -> Result<ObjectBook, Memory>
-    ensures { IfOk result (λ next. IsTrue (refers (references_in next) id.now flow)) }
+    ensures { IfOk result (λ next. IsTrue (refers (references_in next.kept) id.now flow)) }
 {
     match book.refer(alloc, id, flow) {
         Ok(next) => Ok(next),
@@ -73,8 +73,8 @@ fn let_go(book: ObjectBook) {}
 
 /// The book with the object of the next serial.
 fn with_next(alloc: Global, book: ObjectBook, serial: u64) -> Result<ObjectBook, Memory>
-    requires { IsTrue (are_below serial book) }
-    ensures { IfOk result (λ next. IsTrue (are_below (serial + 1) next)) }
+    requires { IsTrue (are_below serial book.kept) }
+    ensures { IfOk result (λ next. IsTrue (are_below (serial + 1) next.kept)) }
 {
     let made = match id_of(alloc, serial) {
         Ok(id) => allocated(alloc, &book, &id, serial),
@@ -86,7 +86,7 @@ fn with_next(alloc: Global, book: ObjectBook, serial: u64) -> Result<ObjectBook,
 
 /// A book of so many objects, which have no bytes yet.
 fn bare_book(alloc: Global, size: u64) -> Result<ObjectBook, Memory>
-    ensures { IfOk result (λ book. IsTrue (are_below size book)) }
+    ensures { IfOk result (λ book. IsTrue (are_below size book.kept)) }
 {
     let mut book = ObjectBook::empty();
     for serial in 0..size {
@@ -124,7 +124,7 @@ fn serial_of(row: Option<&ObjectRow>) -> u64 {
 
 /// How many objects there are beside a new one, whose id is of its own.
 fn after_allocate(alloc: Global, book: &ObjectBook, size: u64, place: u64) -> Result<u64, Memory>
-    requires { IsTrue (are_below size book.now) }
+    requires { IsTrue (are_below size book.now.kept) }
 {
     let id = id_of(alloc, size.wrapping_add(place))?;
     Ok(allocated(alloc, book, &id, size)?.object_count())
@@ -150,7 +150,7 @@ fn answer(
     size: u64,
     place: u64,
 ) -> Result<u64, Memory>
-    requires { IsTrue (are_below size book.now) }
+    requires { IsTrue (are_below size book.now.kept) }
 {
     match call {
         BookCall::Allocate => after_allocate(alloc, book, size, place),

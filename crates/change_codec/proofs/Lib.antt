@@ -9,3 +9,4 @@ mod SizedLemmas
 pub mod CodecLemmas
 pub mod Fitting
 pub mod Asking
+pub mod DigestLemmas

@@ -4,3 +4,4 @@ pub mod Rows
 pub mod Codec
 pub mod Fitting
 pub mod WorkedFitting
+pub mod Digests

@@ -3,6 +3,7 @@
 #![tactic(auto)]
 
 mod changes;
+mod digests;
 mod field;
 mod flows;
 mod laws;
@@ -17,6 +18,7 @@ mod writable;
 mod writable_changes;
 
 pub use crate::changes::moment_of;
+pub use crate::digests::{DIGEST_BYTES, digest_bytes, digests_are_last, digests_have_halves};
 pub use crate::laws::{
     change_faults_have_one_place, changes_begin_with_their_kinds, changes_have_one_spelling,
     fits_as_worked, row_faults_have_one_place, rows_are_no_prefixes, rows_begin_with_their_kinds,

@@ -34,7 +34,7 @@ fn taken(made: Result<Prepared, BookFault>) -> Result<Prepared, Stop> {
 
 /// What a command makes of a library.
 fn prepared(alloc: Global, core: &Core, command: Command, now: u64) -> Result<Prepared, Stop>
-    requires good { IsTrue (is_good_command core.now command) }
+    requires good { IsTrue (is_good_command core.now.library command) }
     requires moment { IsTrue (is_moment now) }
 {
     let made = core.prepare(alloc, &command, now);
@@ -124,7 +124,7 @@ pub(crate) fn allocate_named(
 
 /// Whether an object is kept with its bytes.
 fn is_stored(core: &Core, object: &Text) -> bool
-    ensures { result ≡ is_stored_row (object_of object.now core.now.objects) }
+    ensures { result ≡ is_stored_row (object_of object.now core.now.library.objects) }
 {
     match core.object(object) {
         None => false,

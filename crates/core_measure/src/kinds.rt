@@ -170,7 +170,7 @@ pub(crate) fn base_of(site: &Measured<'_>, kind: ChangeKind) -> Result<Core, Sto
         let made = commands::drop_flow(site.alloc, site.base, 0, NOW)?;
         return Ok(made.core);
     }
-    Ok(site.base.share()?)
+    Ok(site.base.share(site.alloc)?)
 }
 
 /// Becomes what was prepared, and goes.
@@ -200,7 +200,7 @@ pub(crate) fn changed(
     kind: ChangeKind,
     place: u64,
 ) -> Result<(), Stop> {
-    installed(base.share(), prepared(site, base, kind, place)?)
+    installed(base.share(site.alloc), prepared(site, base, kind, place)?)
 }
 
 /// Prepares a kind of change so often, each time on the same library, and installs one in ten.

@@ -10,8 +10,8 @@ ghost use Rattle.media_rows.specs.Segments.{covered, segments_of};
 ghost use Rattle.media_book.specs.Media.{AreSome};
 ghost use Rattle.core_registry.specs.Going.{hull_if_any};
 ghost use Rattle.core_parts.specs.Conditions.{IsReady};
-ghost use Rattle.core_parts.specs.Cuts.{cut_of};
-ghost use Rattle.core_parts.specs.Parts.{within_serials};
+ghost use Rattle.core_parts.specs.Cuts.{cut_of, given_cut};
+ghost use Rattle.core_parts.specs.Parts.{given_library, only_library, within_serials};
 ghost use Rattle.core_parts.specs.Within.{after_going};
 
 use crate::Parts;
@@ -39,8 +39,8 @@ impl Parts {
         range: &TimeRange,
         now: u64,
     ) -> Result<Cut, BookFault>
-        requires ready { IsReady self.now }
-        ensures { IsChange (change_refusal self.now flow) (cut_of self.now flow range.now now) result }
+        requires ready { IsReady self.now.library }
+        ensures { IsChange (change_refusal self.now.library flow) (cut_of self.now.library flow range.now now) (given_cut result) }
     {
         let refusal = self.registry.change_refusal(flow);
         if let Some(why) = refusal {
@@ -60,9 +60,9 @@ impl Parts {
 
     /// Whether a range covers more segments of a flow than go at once.
     pub fn covers_many(&self, alloc: Global, flow: u128, range: &TimeRange) -> Result<bool, Memory>
-        requires ready { IsReady self.now }
+        requires ready { IsReady self.now.library }
         ensures { IfOk result (λ many. many
-            ≡ nat_lt step_size (length (covered self.now.segments flow range.now))) }
+            ≡ nat_lt step_size (length (covered self.now.library.segments flow range.now))) }
     {
         let covered = self
             .media
@@ -73,9 +73,9 @@ impl Parts {
     /// A flow goes with all its segments.
     #[tactic(auto, using(crate::proofs::Changed::ending))]
     pub fn drop_flow(&self, alloc: Global, flow: u128, now: u64) -> Result<Option<Parts>, BookFault>
-        requires ready { IsReady self.now }
-        ensures { IsChange (change_refusal self.now flow)
-            (within_serials (after (changes.DropFlow now flow) self.now)) result }
+        requires ready { IsReady self.now.library }
+        ensures { IsChange (change_refusal self.now.library flow)
+            (within_serials (after (changes.DropFlow now flow) self.now.library)) (given_library result) }
     {
         going_is_told();
         let refusal = self.registry.change_refusal(flow);
@@ -85,7 +85,7 @@ impl Parts {
         let hull = self.hull_if_any(flow);
         let media = self.media.remove_flow(alloc, flow, now)?;
         let registry = self.registry.lose_flow(alloc, flow, &hull, now)?;
-        Ok(self.with_both(alloc, media, registry)?)
+        Ok(self.with_both(media, registry))
     }
 
     /// Makes a delete request. It takes the next serial.
@@ -95,17 +95,17 @@ impl Parts {
         asked: &Deletion,
         now: u64,
     ) -> Result<Option<Parts>, BookFault>
-        requires ready { IsReady self.now }
-        ensures { IsChange (change_refusal self.now asked.now.flow)
+        requires ready { IsReady self.now.library }
+        ensures { IsChange (change_refusal self.now.library asked.now.flow)
             (within_serials (after (changes.AskDelete now asked.now.flow asked.now.range
-            asked.now.delete_flow) self.now)) result }
+            asked.now.delete_flow) self.now.library)) (given_library result) }
     {
         let refusal = self.registry.change_refusal(asked.flow);
         if let Some(why) = refusal {
             return Err(BookFault::Refused(why));
         }
         let registry = self.registry.ask_delete(alloc, asked, now)?;
-        Ok(self.with_registry(registry)?)
+        Ok(self.with_registry(alloc, registry)?)
     }
 
     /// The library without these segments of a kept flow.
@@ -116,23 +116,23 @@ impl Parts {
         rows: &[SegmentRow],
         now: u64,
     ) -> Result<Option<Parts>, Memory>
-        requires ready { IsReady self.now }
-        requires kept { no_flow_refusal self.now.catalog flow ≡ None }
-        requires some { AreSome rows.now self.now.segments }
+        requires ready { IsReady self.now.library }
+        requires kept { no_flow_refusal self.now.library.catalog flow ≡ None }
+        requires some { AreSome rows.now self.now.library.segments }
         ensures { IfOk result
-            (λ next. next ≡ within_serials (after_going flow rows.now now self.now)) }
+            (λ next. only_library next ≡ within_serials (after_going flow rows.now now self.now.library)) }
     {
         going_is_told();
         let media = self.media.remove(alloc, rows, now)?;
         let registry = self
             .registry
             .lose_segments(alloc, flow, &hull_if_any(rows), now)?;
-        self.with_both(alloc, media, registry)
+        Ok(self.with_both(media, registry))
     }
 
     /// The least range that covers all segments of a flow, where it has any.
     fn hull_if_any(&self, flow: u128) -> Option<TimeRange>
-        ensures { result ≡ hull_if_any (segments_of flow self.now.segments) }
+        ensures { result ≡ hull_if_any (segments_of flow self.now.library.segments) }
     {
         if self.media.flow_len(flow) == 0 {
             None

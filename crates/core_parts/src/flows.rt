@@ -5,7 +5,7 @@ ghost use Rattle.media_rows.specs.Answer.{refusal_of};
 ghost use Rattle.media_rows.specs.Changes.{after};
 ghost use Rattle.media_rows.specs.Refusals.{IsChange};
 ghost use Rattle.core_parts.specs.Conditions.{IsReady};
-ghost use Rattle.core_parts.specs.Parts.{within_serials};
+ghost use Rattle.core_parts.specs.Parts.{given_library, within_serials};
 
 use crate::Parts;
 use media_rows::{BookFault, FlowBody, Part};
@@ -19,12 +19,12 @@ impl Parts {
         body: &FlowBody,
         now: u64,
     ) -> Result<Option<Parts>, BookFault>
-        requires ready { IsReady self.now }
-        ensures { IsChange (refusal_of self.now (commands.PutFlow body.now))
-            (within_serials (after (changes.PutFlow now body.now) self.now)) result }
+        requires ready { IsReady self.now.library }
+        ensures { IsChange (refusal_of self.now.library (commands.PutFlow body.now))
+            (within_serials (after (changes.PutFlow now body.now) self.now.library)) (given_library result) }
     {
         match self.registry.put_flow(alloc, body, now) {
-            Ok(registry) => Ok(self.with_registry(registry)?),
+            Ok(registry) => Ok(self.with_registry(alloc, registry)?),
             Err(fault) => Err(fault),
         }
     }
@@ -37,12 +37,12 @@ impl Parts {
         part: &Part,
         now: u64,
     ) -> Result<Option<Parts>, BookFault>
-        requires ready { IsReady self.now }
-        ensures { IsChange (refusal_of self.now (commands.SetFlow flow part.now))
-            (within_serials (after (changes.SetFlow now flow part.now) self.now)) result }
+        requires ready { IsReady self.now.library }
+        ensures { IsChange (refusal_of self.now.library (commands.SetFlow flow part.now))
+            (within_serials (after (changes.SetFlow now flow part.now) self.now.library)) (given_library result) }
     {
         match self.registry.set_flow(alloc, flow, part, now) {
-            Ok(registry) => Ok(self.with_registry(registry)?),
+            Ok(registry) => Ok(self.with_registry(alloc, registry)?),
             Err(fault) => Err(fault),
         }
     }
@@ -55,12 +55,12 @@ impl Parts {
         part: &Part,
         now: u64,
     ) -> Result<Option<Parts>, BookFault>
-        requires ready { IsReady self.now }
-        ensures { IsChange (refusal_of self.now (commands.SetSource source part.now))
-            (within_serials (after (changes.SetSource now source part.now) self.now)) result }
+        requires ready { IsReady self.now.library }
+        ensures { IsChange (refusal_of self.now.library (commands.SetSource source part.now))
+            (within_serials (after (changes.SetSource now source part.now) self.now.library)) (given_library result) }
     {
         match self.registry.set_source(alloc, source, part, now) {
-            Ok(registry) => Ok(self.with_registry(registry)?),
+            Ok(registry) => Ok(self.with_registry(alloc, registry)?),
             Err(fault) => Err(fault),
         }
     }

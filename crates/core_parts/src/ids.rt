@@ -8,7 +8,7 @@ ghost use Rattle.media_rows.specs.Changes.{after};
 ghost use Rattle.media_rows.specs.Lists.{numbers_below};
 ghost use Rattle.media_rows.specs.Refusals.{IsChange};
 ghost use Rattle.core_parts.specs.Conditions.{IsReady};
-ghost use Rattle.core_parts.specs.Parts.{within_serials};
+ghost use Rattle.core_parts.specs.Parts.{given_library, within_serials};
 ghost use Rattle.core_parts.specs.Within.{front_length};
 
 use crate::Parts;
@@ -21,7 +21,7 @@ impl Parts {
     /// The ids of an allocation: the store's own for the next serials, or those that a client names. A serial that
     /// passes a `u64` is want of memory.
     pub fn wanted_ids(&self, alloc: Global, want: &Want) -> Result<TextList, Memory>
-        ensures { IfOk result (λ ids. ids ≡ wanted_ids self.now want.now) }
+        ensures { IfOk result (λ ids. ids ≡ wanted_ids self.now.library want.now) }
     {
         match want {
             Want::Count(count) => made_ids(alloc, self.id, self.registry.next_serial(), *count),
@@ -38,10 +38,10 @@ impl Parts {
         ids: &[Text],
         now: u64,
     ) -> Result<Option<Parts>, BookFault>
-        requires ready { IsReady self.now }
-        requires ids { ids.now ≡ wanted_ids self.now want.now }
-        ensures { IsChange (refusal_of self.now (commands.Allocate flow want.now))
-            (within_serials (after (changes.Allocate now flow ids.now) self.now)) result }
+        requires ready { IsReady self.now.library }
+        requires ids { ids.now ≡ wanted_ids self.now.library want.now }
+        ensures { IsChange (refusal_of self.now.library (commands.Allocate flow want.now))
+            (within_serials (after (changes.Allocate now flow ids.now) self.now.library)) (given_library result) }
     {
         match want {
             Want::Count(_) => self.allocate(alloc, flow, ids, now),
@@ -57,9 +57,9 @@ impl Parts {
         ids: &[Text],
         now: u64,
     ) -> Result<Option<Parts>, BookFault>
-        requires ready { IsReady self.now }
-        ensures { IsChange (refusal_of self.now (commands.Allocate flow (Named ids.now)))
-            (within_serials (after (changes.Allocate now flow ids.now) self.now)) result }
+        requires ready { IsReady self.now.library }
+        ensures { IsChange (refusal_of self.now.library (commands.Allocate flow (Named ids.now)))
+            (within_serials (after (changes.Allocate now flow ids.now) self.now.library)) (given_library result) }
     {
         let prefix = made_prefix(alloc, self.id)?;
         let front = front_length(prefix.bytes(), ids);

@@ -1,5 +1,6 @@
 //! Objects that come and are stored, and segments that come.
-ghost use Rattle.std.specs.Prelude.{◌≡◌, IsTrue};
+ghost use Rattle.std.specs.Prelude.{◌≡◌, IfOk, IsTrue};
+ghost use Rattle.media_book.specs.Media.{media_of, serial_in};
 ghost use Rattle.media_rows.specs.declared.change.Change.TheVariants as changes;
 ghost use Rattle.media_rows.specs.declared.command.Command.TheVariants as commands;
 ghost use Rattle.media_rows.specs.Answer.{keep_refusal, refusal_of};
@@ -9,7 +10,7 @@ ghost use Rattle.media_rows.specs.Refusals.{IsChange};
 ghost use Rattle.media_rows.specs.Segments.{list_post};
 ghost use Rattle.media_rows.specs.Sound.{are_posts_good};
 ghost use Rattle.core_parts.specs.Conditions.{HasRoom, IsReady, allocate_refusal};
-ghost use Rattle.core_parts.specs.Parts.{within_serials};
+ghost use Rattle.core_parts.specs.Parts.{apart_in, given_library, within_serials};
 
 use crate::Parts;
 use disk_trait::Text;
@@ -27,9 +28,9 @@ impl Parts {
         ids: &[Text],
         now: u64,
     ) -> Result<Option<Parts>, BookFault>
-        requires ready { IsReady self.now }
-        ensures { IsChange (allocate_refusal self.now flow ids.now)
-            (within_serials (after (changes.Allocate now flow ids.now) self.now)) result }
+        requires ready { IsReady self.now.library }
+        ensures { IsChange (allocate_refusal self.now.library flow ids.now)
+            (within_serials (after (changes.Allocate now flow ids.now) self.now.library)) (given_library result) }
     {
         let refusal = self.registry.change_refusal(flow);
         if let Some(why) = refusal {
@@ -43,7 +44,7 @@ impl Parts {
         match self.media.allocate(alloc, ids, serial, now) {
             Ok(media) => {
                 let registry = self.registry.take_serials(count)?;
-                Ok(self.with_both(alloc, media, registry)?)
+                Ok(self.with_both(media, registry))
             }
             Err(fault) => Err(fault),
         }
@@ -59,25 +60,28 @@ impl Parts {
         digest: Option<Digest>,
         now: u64,
     ) -> Result<Option<Parts>, BookFault>
-        requires ready { IsReady self.now }
-        requires room { HasRoom self.now object.now extent }
-        ensures { IsChange (keep_refusal (object_of object.now self.now.objects))
+        requires ready { IsReady self.now.library }
+        requires room { HasRoom self.now.library object.now extent }
+        ensures library { IsChange (keep_refusal (object_of object.now self.now.library.objects))
             (within_serials (after
-            (changes.Store now object.now extent.start extent.length digest) self.now)) result }
+            (changes.Store now object.now extent.start extent.length digest) self.now.library))
+            (given_library result) }
+        ensures apart { IfOk result
+            (λ next. apart_in next ≡ serial_in object.now (media_of self.now.library)) }
     {
         let refusal = self.keep_refusal(object);
         if let Some(why) = refusal {
             return Err(BookFault::Refused(why));
         }
         match self.media.store(alloc, object, extent, digest, now) {
-            Ok(media) => Ok(self.with_both(alloc, media, Some(self.registry.share()?))?),
+            Ok(media) => Ok(Some(Parts::of(self.id, media, self.registry.share()?))),
             Err(fault) => Err(fault),
         }
     }
 
     /// Why an object isn't to get bytes: it isn't kept, or has its bytes already.
     pub fn keep_refusal(&self, object: &Text) -> Option<Refusal>
-        ensures { result ≡ keep_refusal (object_of object.now self.now.objects) }
+        ensures { result ≡ keep_refusal (object_of object.now self.now.library.objects) }
     {
         match self.media.object(object) {
             None => Some(Refusal::UnknownObject),
@@ -97,10 +101,10 @@ impl Parts {
         posts: &[Segment],
         now: u64,
     ) -> Result<Option<Parts>, BookFault>
-        requires ready { IsReady self.now }
+        requires ready { IsReady self.now.library }
         requires bounded { IsTrue (are_posts_good posts.now) }
-        ensures { IsChange (refusal_of self.now (commands.AddSegments flow (list_post posts.now)))
-            (within_serials (after (changes.AddSegments now flow (list_post posts.now)) self.now)) result }
+        ensures { IsChange (refusal_of self.now.library (commands.AddSegments flow (list_post posts.now)))
+            (within_serials (after (changes.AddSegments now flow (list_post posts.now)) self.now.library)) (given_library result) }
     {
         posts_are_refused_alike();
         let refusal = self.registry.change_refusal(flow);
@@ -114,7 +118,7 @@ impl Parts {
         match self.media.add(alloc, flow, posts, serial) {
             Ok(media) => {
                 let registry = self.registry.add_segments(alloc, flow, posts, now)?;
-                Ok(self.with_both(alloc, media, registry)?)
+                Ok(self.with_both(media, registry))
             }
             Err(fault) => Err(fault),
         }

@@ -8,7 +8,7 @@ ghost use Rattle.media_rows.specs.Requests.{first_unfinished};
 ghost use Rattle.core_registry.specs.Registry.{within};
 ghost use Rattle.webhook_outbox.specs.Delivered.{IsBehind};
 ghost use Rattle.core_parts.specs.Conditions.{IsReady};
-ghost use Rattle.core_parts.specs.Parts.{within_serials};
+ghost use Rattle.core_parts.specs.Parts.{only_library, within_serials};
 ghost use Rattle.core_parts.specs.Within.{lost_by};
 
 use crate::Parts;
@@ -22,10 +22,10 @@ impl Parts {
     /// Works off the delete request that is due by one step: its first segments go, and its flow with the last
     /// of them where the request deletes it.
     pub fn delete_step(&self, alloc: Global, now: u64) -> Result<Option<Parts>, Memory>
-        requires ready { IsReady self.now }
-        requires due { IsTrue (is_some (first_unfinished self.now.requests)) }
+        requires ready { IsReady self.now.library }
+        requires due { IsTrue (is_some (first_unfinished self.now.library.requests)) }
         ensures { IfOk result
-            (λ next. next ≡ within_serials (after (changes.DeleteStep now) self.now)) }
+            (λ next. only_library next ≡ within_serials (after (changes.DeleteStep now) self.now.library)) }
     {
         going_is_told();
         going_flows_forget();
@@ -42,8 +42,7 @@ impl Parts {
         let stepped = self.registry.with_requests(alloc, book)?;
         let gone = finished && request.delete_flow;
         let registry = lost(alloc, &stepped, request.flow, &hull, gone, now)?;
-        let next = self.with_both(alloc, media, registry)?;
-        Ok(next)
+        Ok(self.with_both(media, registry))
     }
 }
 

@@ -18,8 +18,8 @@ use time_range::TimeRange;
 
 /// A flow with its hull, or `NoFlow`.
 pub(crate) fn flow_view(alloc: Global, parts: &Parts, id: u128) -> Result<View, BookFault>
-    ensures { IsShown (kept_or NoFlow (λ row. Ok (views.Flow (shown_flow parts.now.segments row)))
-        (flow_of id parts.now.catalog.flows)) result }
+    ensures { IsShown (kept_or NoFlow (λ row. Ok (views.Flow (shown_flow parts.now.library.segments row)))
+        (flow_of id parts.now.library.catalog.flows)) result }
 {
     match parts.registry().catalog().flow(id) {
         None => Err(BookFault::Refused(Refusal::NoFlow)),
@@ -36,8 +36,8 @@ pub(crate) fn flows_view(
     range: &Option<TimeRange>,
     page: &Page,
 ) -> Result<View, Memory>
-    ensures { IfOk result (λ view. view ≡ shown_flows parts.now page.now
-        (listed_flows parts.now wanted.now range.now)) }
+    ensures { IfOk result (λ view. view ≡ shown_flows parts.now.library page.now
+        (listed_flows parts.now.library wanted.now range.now)) }
 {
     let media = parts.media();
     let listed = parts
@@ -57,7 +57,7 @@ fn met_flows<'a>(
     range: &Option<TimeRange>,
 ) -> Result<Vec<&'a FlowRow>, Memory>
     ensures { IfOk result (λ met. values_of met.items
-        ≡ filter (passes_range media.now.segments range.now) (values_of rows.now)) }
+        ≡ filter (passes_range media.now.media.segments range.now) (values_of rows.now)) }
 {
     let mut met = Vec::new(alloc);
     for row in rows {
@@ -76,7 +76,7 @@ fn is_met(
     range: &Option<TimeRange>,
 ) -> Result<bool, Memory>
     ensures { IfOk result
-        (λ met. met ≡ passes_range media.now.segments range.now row.now) }
+        (λ met. met ≡ passes_range media.now.media.segments range.now row.now) }
 {
     match range {
         None => Ok(true),
@@ -92,7 +92,7 @@ fn flow_page(
     limit: u64,
 ) -> Result<View, Memory>
     ensures { IfOk result (λ view. view
-        ≡ views.Flows (map (shown_flow media.now.segments) (take limit (values_of rows.now)))
+        ≡ views.Flows (map (shown_flow media.now.media.segments) (take limit (values_of rows.now)))
         (key_behind flow_key limit (values_of rows.now))) }
 {
     let page = first_rows(rows, limit);
@@ -105,7 +105,7 @@ fn flow_page(
 
 /// A flow with the hull of its segments.
 fn shown(alloc: Global, media: &MediaBook, row: &FlowRow) -> Result<FlowShown, Memory>
-    ensures { IfOk result (λ shown. shown ≡ shown_flow media.now.segments row.now) }
+    ensures { IfOk result (λ shown. shown ≡ shown_flow media.now.media.segments row.now) }
 {
     Ok(FlowShown {
         row: row.duplicate(alloc)?,

@@ -22,8 +22,8 @@ pub(crate) fn segments_view(
     page: &Page,
 ) -> Result<View, BookFault>
     ensures { IsShown (kept_or NoFlow (λ row. Ok (shown_segments page.now
-        (overlapping parts.now.segments flow wanted.now.range wanted.now.object)))
-        (flow_of flow parts.now.catalog.flows)) result }
+        (overlapping parts.now.library.segments flow wanted.now.range wanted.now.object)))
+        (flow_of flow parts.now.library.catalog.flows)) result }
 {
     match parts.registry().catalog().flow(flow) {
         None => Err(BookFault::Refused(Refusal::NoFlow)),
@@ -33,8 +33,8 @@ pub(crate) fn segments_view(
 
 /// An object with the flows whose segments name it, or `UnknownObject`.
 pub(crate) fn object_view(alloc: Global, parts: &Parts, id: &Text) -> Result<View, BookFault>
-    ensures { IsShown (kept_or UnknownObject (λ row. Ok (shown_object parts.now row))
-        (object_of id.now parts.now.objects)) result }
+    ensures { IsShown (kept_or UnknownObject (λ row. Ok (shown_object parts.now.library row))
+        (object_of id.now parts.now.library.objects)) result }
 {
     match parts.media().shown_object(alloc, id)? {
         None => Err(BookFault::Refused(Refusal::UnknownObject)),

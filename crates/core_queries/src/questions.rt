@@ -15,14 +15,14 @@ use std::alloc::Global;
 
 /// Answers a question: by what it shows of the library, or by its refusal.
 pub fn query(alloc: Global, parts: &Parts, question: &Query) -> Result<Reply, BookFault>
-    ensures { IsReply (asked parts.now question.now) result }
+    ensures { IsReply (asked parts.now.library question.now) result }
 {
     Ok(Reply::Shown(view_of(alloc, parts, question)?))
 }
 
 /// What it shows.
 fn view_of(alloc: Global, parts: &Parts, question: &Query) -> Result<View, BookFault>
-    ensures { IsShown (asked parts.now question.now) result }
+    ensures { IsShown (asked parts.now.library question.now) result }
 {
     let registry = parts.registry();
     let catalog = registry.catalog();

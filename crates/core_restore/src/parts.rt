@@ -3,7 +3,8 @@ ghost use Rattle.std.specs.Prelude.{◌≡◌, IfOk, IsTrue, Some};
 ghost use Rattle.media_rows.specs.Good.{is_good, rises_by};
 ghost use Rattle.media_rows.specs.Refusals.{Restores};
 ghost use Rattle.media_rows.specs.Snapshot.{library_of};
-ghost use Rattle.media_book.specs.Media.{are_media_good, media_of};
+ghost use Rattle.media_book.specs.Media.{are_media_good, given_media, media_of};
+ghost use Rattle.core_parts.specs.Parts.{given_parts};
 ghost use Rattle.core_rows.specs.Kinds.{kinds_of, library_of_kinds};
 ghost use Rattle.core_restore.specs.Restored.{are_rows_of_good};
 ghost use Rattle.core_restore.specs.Within.{AreInOrder, is_rest_good, library_from_kinds};
@@ -27,7 +28,7 @@ pub fn parts_of_rows(
     blocks: u64,
     rows: RowList,
 ) -> Result<Parts, ApplyFault>
-    ensures { Restores (are_rows_of_good id blocks rows) (library_of id blocks rows) result }
+    ensures { Restores (are_rows_of_good id blocks rows) (library_of id blocks rows) (given_parts result) }
 {
     kinds_make_the_library();
     if !do_rise(rows.items()) {
@@ -58,7 +59,7 @@ fn parts_of_kinds(
     requires order { AreInOrder kinds }
     requires next { kinds.next_serial ≡ Some next_serial }
     ensures { Restores (is_good (library_of_kinds id blocks kinds))
-        (library_of_kinds id blocks kinds) result }
+        (library_of_kinds id blocks kinds) (given_parts result) }
 {
     kinds.segments = by_serial(alloc, &kinds.segments)?;
     parts_of_lists(alloc, id, blocks, kinds, next_serial)
@@ -74,7 +75,7 @@ fn parts_of_lists(
 ) -> Result<Parts, ApplyFault>
     requires order { AreInOrder kinds }
     ensures { Restores (is_good (library_from_kinds id blocks next_serial kinds))
-        (library_from_kinds id blocks next_serial kinds) result }
+        (library_from_kinds id blocks next_serial kinds) (given_parts result) }
 {
     media_are_good();
     if !are_values_good(alloc, &kinds, next_serial)? {
@@ -96,9 +97,9 @@ fn with_rest(
 ) -> Result<Parts, ApplyFault>
     requires order { AreInOrder kinds }
     requires rising { IsTrue (rises_by (λ row. row.serial) kinds.segments) }
-    requires media { media ≡ media_of (library_from_kinds 0 media.blocks 0 kinds) }
-    ensures { let library = library_from_kinds id media.blocks next_serial kinds in
-        Restores (is_rest_good library) library result }
+    requires media { media.media ≡ media_of (library_from_kinds 0 media.media.blocks 0 kinds) }
+    ensures { let library = library_from_kinds id media.media.blocks next_serial kinds in
+        Restores (is_rest_good library) library (given_parts result) }
 {
     let rows = RegistryRows {
         sources: kinds.sources,
@@ -113,7 +114,7 @@ fn with_rest(
             if !are_tied(alloc, registry.catalog(), segments, rows.requests.items())? {
                 return Err(ApplyFault::Refused);
             }
-            Ok(Parts::of(alloc, id, media, registry)?)
+            Ok(Parts::of(id, media, registry))
         }
         Err(fault) => Err(fault),
     }
@@ -122,7 +123,7 @@ fn with_rest(
 /// The media of rows.
 fn media_of(alloc: Global, blocks: u64, kinds: &Kinds) -> Result<MediaBook, ApplyFault>
     ensures { let media = media_of (library_from_kinds 0 blocks 0 kinds.now) in
-        Restores (are_media_good media) media result }
+        Restores (are_media_good media) media (given_media result) }
 {
     match MediaBook::from_rows(alloc, blocks, kinds.segments.items(), kinds.objects.items())? {
         Some(media) => Ok(media),

@@ -17,7 +17,7 @@ use std::alloc::Global;
 /// The text of all rows of a library: by kind, then sources and flows by id, segments by flow and first point, all
 /// else by serial, and the next serial last. A row that has no spelling is want of memory.
 pub fn snapshot_text(alloc: Global, parts: &Parts) -> Result<Text, Memory>
-    ensures { IfOk result (AddsRows [] (rows_of parts.now)) }
+    ensures { IfOk result (AddsRows [] (rows_of parts.now.library)) }
 {
     let mut text = Text::new(alloc);
     append_catalog(alloc, parts.registry().catalog(), &mut text)?;
@@ -40,8 +40,8 @@ fn append_catalog(alloc: Global, catalog: &FlowBook, text: &mut Text) -> Result<
 /// Adds the text of objects and of segments.
 fn append_media(alloc: Global, media: &MediaBook, text: &mut Text) -> Result<(), Memory>
     ensures { OnOk result (AddsRows text.old
-        (map rows.Object media.now.objects
-        ++ map rows.Segment (in_order segment_row_before media.now.segments)) text.new) }
+        (map rows.Object media.now.media.objects
+        ++ map rows.Segment (in_order segment_row_before media.now.media.segments)) text.new) }
 {
     let objects = media.object_rows(alloc)?;
     append_rows(alloc, objects.items(), text)?;

@@ -37,12 +37,13 @@ pub(crate) fn objects_without(
     now: u64,
 ) -> Result<ObjectBook, Memory>
     requires flow { IsTrue (are_of flow rows.now) }
-    requires references { HasReferences flow rows.now objects.now }
-    ensures book { IfOk result (λ next. next ≡ released_by now rows.now objects.now) }
-    ensures idle { IfOk result (λ next. objects_in next
-        ≡ idled (references_in objects.now) (references_in next) now (objects_in objects.now)) }
+    requires references { HasReferences flow rows.now objects.now.kept }
+    ensures book { IfOk result (λ next. next.kept ≡ released_by now rows.now objects.now.kept) }
+    ensures idle { IfOk result (λ next. objects_in next.kept
+        ≡ idled (references_in objects.now.kept) (references_in next.kept) now
+        (objects_in objects.now.kept)) }
 {
-    let mut next = objects.share()?;
+    let mut next = objects.share(alloc)?;
     for row in rows {
         next.is_in_order();
         next = released(alloc, &next, row, now)?;
@@ -58,11 +59,12 @@ fn released(
     now: u64,
 ) -> Result<ObjectBook, Memory>
     requires there { IsTrue
-        (refers (references_in objects.now) row.now.segment.object row.now.flow) }
-    ensures book { IfOk result (λ next. next
-        ≡ changed_at row.now.segment.object (released_at row.now.flow now) objects.now) }
-    ensures idle { IfOk result (λ next. objects_in next
-        ≡ idled (references_in objects.now) (references_in next) now (objects_in objects.now)) }
+        (refers (references_in objects.now.kept) row.now.segment.object row.now.flow) }
+    ensures book { IfOk result (λ next. next.kept
+        ≡ changed_at row.now.segment.object (released_at row.now.flow now) objects.now.kept) }
+    ensures idle { IfOk result (λ next. objects_in next.kept
+        ≡ idled (references_in objects.now.kept) (references_in next.kept) now
+        (objects_in objects.now.kept)) }
 {
     objects.unrefer(alloc, &row.segment.object, row.flow, now)
 }

@@ -80,7 +80,7 @@ impl DeleteBook {
         requires due { IsTrue (is_some (first_unfinished self.now)) }
         requires flow { OfDue self.now (λ request. AreOfFlow request.flow index.now) }
         requires references { OfDue self.now
-            (λ request. HasReferences request.flow index.now objects.now) }
+            (λ request. HasReferences request.flow index.now objects.now.kept) }
 
         // which segments go, and whether they are the last ones
         ensures removed { IfOk result (λ step. OfDue self.now
@@ -95,10 +95,10 @@ impl DeleteBook {
         ensures index { IfOk result
             (λ step. step.index ≡ without_segments step.removed index.now) }
         ensures objects { IfOk result
-            (λ step. step.objects ≡ released_by now step.removed objects.now) }
-        ensures idle { IfOk result (λ step. objects_in step.objects
-            ≡ idled (references_in objects.now) (references_in step.objects) now
-            (objects_in objects.now)) }
+            (λ step. step.objects.kept ≡ released_by now step.removed objects.now.kept) }
+        ensures idle { IfOk result (λ step. objects_in step.objects.kept
+            ≡ idled (references_in objects.now.kept) (references_in step.objects.kept) now
+            (objects_in objects.now.kept)) }
     {
         let Some(request) = self.first_due() else {
             unreachable!()

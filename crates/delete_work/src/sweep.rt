@@ -23,16 +23,16 @@ pub struct Swept {
 /// moment since which they are, and then by serial.
 pub fn sweep_step(alloc: Global, objects: &ObjectBook, now: u64) -> Result<Swept, Memory>
     ensures gone { IfOk result (λ swept. swept.gone
-        ≡ swept_objects (references_in objects.now) (objects_in objects.now) now) }
+        ≡ swept_objects (references_in objects.now.kept) (objects_in objects.now.kept) now) }
     ensures few { IfOk result (λ swept. length swept.gone ≤ sweep_size) }
     ensures left { IfOk result
-        (λ swept. swept.objects ≡ without_swept swept.gone objects.now) }
-    ensures rows { IfOk result (λ swept. objects_in swept.objects
-        ≡ without_objects swept.gone (objects_in objects.now)) }
+        (λ swept. swept.objects.kept ≡ without_swept swept.gone objects.now.kept) }
+    ensures rows { IfOk result (λ swept. objects_in swept.objects.kept
+        ≡ without_objects swept.gone (objects_in objects.now.kept)) }
     ensures references { IfOk result
-        (λ swept. references_in swept.objects ≡ references_in objects.now) }
+        (λ swept. references_in swept.objects.kept ≡ references_in objects.now.kept) }
 {
-    let mut left = objects.share()?;
+    let mut left = objects.share(alloc)?;
     let mut gone = ObjectList::new(alloc);
     for _taken in 0..SWEEP_SIZE {
         left.is_in_order();

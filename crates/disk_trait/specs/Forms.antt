@@ -8,4 +8,4 @@ IsForm form = (form ≡ 1) ⊎ (form ≡ 2)
 
 -- the form in which the file is written
 abbrev pub form_in_use : ℕ
-form_in_use = 1
+form_in_use = 2

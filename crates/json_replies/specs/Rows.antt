@@ -2,7 +2,7 @@
 -- each, by rising name in byte order. Our own profile of the Time-addressable Media Store.
 use Rattle.std.specs.Prelude.{ℕ, List, [], ◌∷◌, ◌++◌, Option, Some, None, codes, decimal}
 use Rattle.json.specs.Token.{Token}
-use Rattle.media_rows.specs.Objects.{is_stored}
+use Rattle.media_rows.specs.Objects.{digest_in_state, is_stored}
 use Rattle.media_rows.specs.Ids.{id_text}
 use Rattle.media_rows.specs.declared.flow.FlowRow.{FlowRow}
 use Rattle.media_rows.specs.declared.object.ObjectRow.{ObjectRow}
@@ -16,7 +16,7 @@ use Rattle.media_rows.specs.declared.segment.SegmentRow.{SegmentRow}
 use Rattle.media_rows.specs.declared.source.SourceRow.{SourceRow}
 use Rattle.json_replies.specs.Addresses.{media_address}
 use Rattle.json_replies.specs.Shapes.{string_value, number_value, truth_value, list_tokens, object_tokens, ObjectMember, always, where_set, where_any}
-use Rattle.json_replies.specs.Values.{id_value, moment_value, stamp_value, range_value, format_value, event_value, status_value, hook_status_value, kept_value, tags_value, collection_value}
+use Rattle.json_replies.specs.Values.{id_value, digest_value, moment_value, stamp_value, range_value, format_value, event_value, status_value, hook_status_value, kept_value, tags_value, collection_value}
 
 -- ---- sources
 
@@ -118,6 +118,7 @@ object_members row flows =
     where_set (codes "length") number_value (stored_length row.state)
     ∷ always (codes "object_id") (string_value row.id)
     ∷ always (codes "referenced_by_flows") (list_tokens id_value flows)
+    ∷ where_set (codes "sha256") digest_value (digest_in_state row.state)
     ∷ always (codes "stored") (truth_value (is_stored row.state))
     ∷ []
 

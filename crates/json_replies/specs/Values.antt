@@ -3,6 +3,7 @@
 use Rattle.std.specs.Prelude.{ℕ, ℤ, List, [], ◌∷◌, Bool, true, false, Option, codes, map}
 use Rattle.json.specs.Token.{Token}
 use Rattle.json.specs.Lex.{tokens}
+use Rattle.media_rows.specs.Digests.{digest_text}
 use Rattle.media_rows.specs.Formats.{format_name, event_name, status_name, hook_status_name}
 use Rattle.media_rows.specs.Ids.{id_text}
 use Rattle.media_rows.specs.Moments.{moment_text}
@@ -10,6 +11,7 @@ use Rattle.media_rows.specs.declared.event.EventKind.{EventKind}
 use Rattle.media_rows.specs.declared.flow.FormatKind.{FormatKind}
 use Rattle.media_rows.specs.declared.flow.Member.{Member as Collected}
 use Rattle.media_rows.specs.declared.flow.Tag.{Tag}
+use Rattle.media_rows.specs.declared.object.Digest.{Digest}
 use Rattle.media_rows.specs.declared.request.DeleteStatus.{DeleteStatus}
 use Rattle.time_range.specs.Printing.{canonical_ts_text, canonical_range_text}
 use Rattle.time_range.specs.declared.ranges.Span.{Span}
@@ -18,6 +20,10 @@ use Rattle.json_replies.specs.Shapes.{string_value, list_tokens, object_tokens, 
 -- the id of a source, a flow or the store
 abbrev pub id_value : ℕ → List Token
 id_value id = string_value (id_text id)
+
+-- a digest, in hexadecimal digits
+abbrev pub digest_value : Digest → List Token
+digest_value digest = string_value (digest_text digest)
 
 -- a moment
 abbrev pub moment_value : ℕ → List Token

@@ -1,6 +1,6 @@
 //! Segments, and the objects that hold their media.
 ghost use Rattle.std.specs.Prelude.{◌≡◌, ◌++◌, ◌∷◌, [], OnOk, codes};
-ghost use Rattle.media_rows.specs.Objects.{is_stored};
+ghost use Rattle.media_rows.specs.Objects.{digest_in_state, is_stored};
 ghost use Rattle.json_replies.specs.Rows.{allocated_value, get_url_value, object_value, put_url_members, segment_value, storage_value, stored_length};
 ghost use Rattle.json_replies.specs.Shapes.{Appends, list_tokens, object_tokens};
 
@@ -8,9 +8,9 @@ use crate::addresses::Addresses;
 use crate::json_text::JsonText;
 use crate::lists::IdLists;
 use crate::shows::{Shows, show_if_set, show_list, show_member, show_word};
-use crate::values::{Numbers, Ranges, Stamps, Texts, Truths};
+use crate::values::{Digests, Numbers, Ranges, Stamps, Texts, Truths};
 use disk_trait::{Memory, Text, TextList};
-use media_rows::{IdList, ObjectRow, ObjectState, SegmentRow};
+use media_rows::{Digest, IdList, ObjectRow, ObjectState, SegmentRow};
 use std::alloc::Global;
 
 /// Segments, whose media are got behind this base.
@@ -152,6 +152,7 @@ pub(crate) fn show_object(
     show_if_set(alloc, "length", &stored_length(row.state), &Numbers, out)?;
     show_member(alloc, "object_id", &row.id, &Texts, out)?;
     show_member(alloc, "referenced_by_flows", flows, &IdLists, out)?;
+    show_if_set(alloc, "sha256", &digest_of(row.state), &Digests, out)?;
     show_member(alloc, "stored", &is_stored(row.state), &Truths, out)?;
     out.end_object()
 }
@@ -163,6 +164,16 @@ fn stored_length(state: ObjectState) -> Option<u64>
     match state {
         ObjectState::Allocated => None,
         ObjectState::Stored { length, .. } => Some(length),
+    }
+}
+
+/// The digest of a stored object's bytes, where it is kept.
+fn digest_of(state: ObjectState) -> Option<Digest>
+    ensures { result ≡ digest_in_state state }
+{
+    match state {
+        ObjectState::Allocated => None,
+        ObjectState::Stored { digest, .. } => digest,
     }
 }
 

@@ -3,12 +3,14 @@ ghost use Rattle.std.specs.Prelude.{◌≡◌, IfOk};
 ghost use Rattle.time_range.specs.Printing.{canonical_range_text, canonical_ts_text};
 ghost use Rattle.media_rows.specs.Formats.{event_name, format_name, hook_status_name, status_name};
 ghost use Rattle.json_replies.specs.Shapes.{number_value, string_value, truth_value};
-ghost use Rattle.json_replies.specs.Values.{event_value, format_value, hook_status_value, id_value, kept_value, moment_value, range_value, stamp_value, status_value};
+ghost use Rattle.json_replies.specs.Values.{digest_value, event_value, format_value, hook_status_value, id_value, kept_value, moment_value, range_value, stamp_value, status_value};
 
 use crate::json_text::JsonText;
 use crate::shows::Shows;
 use disk_trait::{Memory, Text};
-use media_rows::{DeleteStatus, EventKind, FormatKind, moment_text, print_id};
+use media_rows::{
+    DeleteStatus, Digest, EventKind, FormatKind, moment_text, print_digest, print_id,
+};
 use std::alloc::Global;
 use time_range::{TimeRange, Ts, print_range, print_ts};
 
@@ -32,6 +34,9 @@ pub(crate) struct Ids;
 
 /// Moments, in seconds since 1970-01-01T00:00:00Z.
 pub(crate) struct Moments;
+
+/// Digests, in hexadecimal digits.
+pub(crate) struct Digests;
 
 /// Timestamps.
 pub(crate) struct Stamps;
@@ -102,6 +107,15 @@ impl Shows<u64> for Moments {
             return Err(Memory);
         }
         let printed = moment_text(alloc, *value)?;
+        out.text(printed.bytes())
+    }
+}
+
+impl Shows<Digest> for Digests {
+    ghost shown = { λ _. digest_value };
+
+    fn show(&self, alloc: Global, value: &Digest, out: &mut JsonText) -> Result<(), Memory> {
+        let printed = print_digest(alloc, *value)?;
         out.text(printed.bytes())
     }
 }

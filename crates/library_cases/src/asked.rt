@@ -18,7 +18,7 @@ use reply_laws::{answers_have_texts, ask_refusals_have_texts, asks_are_good};
 use std::alloc::Global;
 use tams_http::{AnswerContext, Ask, AskFault, Routes};
 
-/// What stands for the digest of an object's bytes, of which the form in use keeps none.
+/// What stands for the digest of an object's bytes, which don't come here.
 const NO_DIGEST: Digest = Digest { high: 0, low: 0 };
 
 /// What the addresses of the store begin with.
@@ -85,7 +85,7 @@ fn answer_ask(
     body: &str,
     now: u64,
 ) -> Result<Reply, Memory>
-    requires good { IsGoodAsk kept.old.core ask }
+    requires good { IsGoodAsk kept.old.core.library ask }
     requires words { IsTrue (is_ask_good ask) }
     requires moment { IsTrue (is_moment now) }
     ensures texts { IfOk result (λ reply. IsTrue (has_reply_texts reply)) }
@@ -99,7 +99,7 @@ fn answer_ask(
 
 /// What is answered to a command.
 fn answer(alloc: Global, kept: &mut Followed, command: &Command, now: u64) -> Result<Reply, Memory>
-    requires good { IsTrue (is_good_command kept.old.core command.now) }
+    requires good { IsTrue (is_good_command kept.old.core.library command.now) }
     requires few { IsTrue (asks_few command.now) }
     requires words { IsTrue (is_command_good command.now) }
     requires moment { IsTrue (is_moment now) }
@@ -157,7 +157,7 @@ fn put_first(
 ) -> Result<Reply, Memory>
     requires moment { IsTrue (is_moment now) }
     requires allocated { option_map (λ row. row.state)
-        (object_of object kept.old.core.objects) ≡ Some Allocated }
+        (object_of object kept.old.core.library.objects) ≡ Some Allocated }
     requires id { IsTrue (is_object_id object) }
     ensures texts { IfOk result (λ reply. IsTrue (has_reply_texts reply)) }
 {

@@ -40,9 +40,9 @@ pub(crate) fn run(
     command: &Command,
     now: u64,
 ) -> Result<Reply, Memory>
-    requires good { IsTrue (is_good_command kept.old.core command.now) }
+    requires good { IsTrue (is_good_command kept.old.core.library command.now) }
     requires moment { IsTrue (is_moment now) }
-    ensures { IfOk result (λ reply. reply ≡ (answer kept.old.core command.now now).reply) }
+    ensures { IfOk result (λ reply. reply ≡ (answer kept.old.core.library command.now now).reply) }
 {
     match kept.core.prepare(alloc, command, now) {
         Ok(prepared) => become_prepared(alloc, kept, prepared),

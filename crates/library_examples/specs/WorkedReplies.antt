@@ -13,10 +13,11 @@ use Rattle.media_rows.specs.declared.reply.Reply.{Reply}
 use Rattle.media_rows.specs.declared.reply.Reply.TheVariants as replies
 use Rattle.media_rows.specs.declared.request.DeleteRow.{DeleteRow}
 use Rattle.media_rows.specs.declared.request.DeleteStatus.TheVariants as statuses
-use Rattle.media_rows.specs.Answer.{Outcome, answer, refusal_of, made_id, is_taken, put_media_answer, get_media_reply}
+use Rattle.media_rows.specs.Answer.{Outcome, answer, refusal_of, made_id, is_taken, put_media_answer}
 use Rattle.media_rows.specs.Changes.{after}
+use Rattle.media_rows.specs.Digests.{digest_of}
 use Rattle.media_rows.specs.Library.{Library}
-use Rattle.media_rows.specs.Media.{Archive, is_held, asks, puts, gets, answer_to, archive_after, fits_bytes}
+use Rattle.media_rows.specs.Media.{Archive, is_held, asks, puts, gets, answer_to, archive_after, fits_bytes, get_media_reply}
 use Rattle.media_rows.specs.Objects.{free_place}
 use Rattle.media_rows.specs.Ranges.{eternity}
 use Rattle.media_rows.specs.Segments.{covered, overlapping}
@@ -54,7 +55,7 @@ pub record RepliesAreGiven : Type 0 where
       ≡ gives (replies.CreatedObjects (codes "e" ∷ codes "d" ∷ []))
       (changes.Allocate 205 first_flow (codes "e" ∷ codes "d" ∷ []))
   pub bytes : studio_answer (commands.Keep (codes "c") 3 5 no_digest)
-      ≡ gives replies.Created (changes.Store 205 (codes "c") 3 5 None)
+      ≡ gives replies.Created (changes.Store 205 (codes "c") 3 5 (Some no_digest))
   pub posted : studio_answer (commands.AddSegments first_flow (alone (piece 40 50)))
       ≡ gives replies.Created (changes.AddSegments 205 first_flow (a_list (piece 40 50 ∷ [])))
   pub cut : studio_answer (commands.CutSegments first_flow (seconds 0 15))
@@ -150,13 +151,17 @@ one_block = record two_objects { blocks = 1 }
 abbrev pub their_bytes : List (List ℕ)
 their_bytes = codes "xyz" ∷ [] ∷ []
 
--- The first bytes of an object take the least free place, equal bytes change nothing, and others
--- are refused. An object without bytes is stored even where no block is free.
+-- the reply to a GET of an object of this library; which bytes are kept is no matter
+abbrev pub media_of : Library → List ℕ → Reply
+media_of library object = get_media_reply (record { library = library; held = [] }) object
+
+-- The first bytes of an object take the least free place, with their digest, equal bytes change
+-- nothing, and others are refused. An object without bytes is stored even where no block is free.
 pub record MediaAreKept : Type 0 where
   pub unknown : put_media_answer empty_store [] (codes "a") (codes "xyz") 5
       ≡ leaves (replies.Refused refusals.UnknownObject)
   pub first : put_media_answer two_objects their_bytes (codes "b") (codes "q") 5
-      ≡ gives replies.Created (changes.Store 5 (codes "b") 1 1 None)
+      ≡ gives replies.Created (changes.Store 5 (codes "b") 1 1 (Some (digest_of (codes "q"))))
   pub equal : put_media_answer stored (codes "xyz" ∷ []) (codes "a") (codes "xyz") 5
       ≡ leaves replies.Done
   pub other : put_media_answer stored (codes "xyz" ∷ []) (codes "a") (codes "xy") 5
@@ -166,11 +171,11 @@ pub record MediaAreKept : Type 0 where
   pub full : put_media_answer one_block their_bytes (codes "b") (codes "q") 5
       ≡ leaves (replies.Refused refusals.MediaFull)
   pub nothing_fits : put_media_answer one_block their_bytes (codes "b") [] 5
-      ≡ gives replies.Created (changes.Store 5 (codes "b") 0 0 None)
-  pub given : get_media_reply stored (codes "a") ≡ replies.Media 3
-  pub given_other : get_media_reply studio (codes "b") ≡ replies.Media 4097
-  pub not_given : get_media_reply two_objects (codes "b") ≡ replies.Refused refusals.UnknownObject
-  pub not_kept : get_media_reply studio (codes "z") ≡ replies.Refused refusals.UnknownObject
+      ≡ gives replies.Created (changes.Store 5 (codes "b") 0 0 (Some (digest_of [])))
+  pub given : media_of stored (codes "a") ≡ replies.Media 3
+  pub given_other : media_of studio (codes "b") ≡ replies.Media 4097
+  pub not_given : media_of two_objects (codes "b") ≡ replies.Refused refusals.UnknownObject
+  pub not_kept : media_of studio (codes "z") ≡ replies.Refused refusals.UnknownObject
 
 -- the archive of a stored object and an allocated one
 abbrev pub archive : Archive
@@ -190,7 +195,7 @@ pub record BytesStandBeside : Type 0 where
   pub command : answer_to archive (asks (commands.DropFlow 99)) 5
       ≡ leaves (replies.Refused refusals.NoFlow)
   pub put : answer_to archive (puts (codes "b") (codes "q")) 5
-      ≡ gives replies.Created (changes.Store 5 (codes "b") 1 1 None)
+      ≡ gives replies.Created (changes.Store 5 (codes "b") 1 1 (Some (digest_of (codes "q"))))
   pub get : answer_to archive (gets (codes "a")) 5 ≡ leaves (replies.Media 3)
   pub no_get : answer_to archive (gets (codes "b")) 5
       ≡ leaves (replies.Refused refusals.UnknownObject)

@@ -13,19 +13,20 @@ use Rattle.media_rows.specs.declared.reply.Reply.{Reply}
 use Rattle.media_rows.specs.Answer.{unchanged, keep_refusal, keep_state, placed_put, put_by_state, put_answer_by, first_taken, is_kept_object, change_refusal}
 use Rattle.media_rows.specs.Apply.{is_allowed, applied, passes_serials}
 use Rattle.media_rows.specs.Changes.{after}
+use Rattle.media_rows.specs.Digests.{digest_of}
 use Rattle.media_rows.specs.Good.{Good, are_object_ids_distinct}
 use Rattle.media_rows.specs.Library.{Library}
 use Rattle.media_rows.specs.Lists.{has_text}
-use Rattle.media_rows.specs.Media.{Archive, asks, puts, gets, answer_to, bytes_after, fits_bytes}
+use Rattle.media_rows.specs.Media.{Archive, asks, puts, gets, answer_to, archive_after, bytes_after, fits_bytes, HasDigests, IsDigestOf, NamesDigest}
 use Rattle.media_rows.specs.Moments.{is_moment}
-use Rattle.media_rows.specs.Objects.{object_of, is_stored, is_free, blocks_of, free_place, stored_row, with_object, fits_state, are_bytes_of, bytes_of}
+use Rattle.media_rows.specs.Objects.{object_of, digest_in_state, is_stored, is_free, blocks_of, free_place, stored_row, with_object, fits_state, are_bytes_of, bytes_of}
 use Rattle.library_laws.specs.Laws.{IsLeastPlace}
-use Rattle.library_laws.specs.MediaLaws.{IsGoodArchive, BytesFit, BytesStay, TakesPlace, PutsApply, QuestionsApply}
+use Rattle.library_laws.specs.MediaLaws.{IsGoodArchive, BytesFit, BytesStay, DigestsStay, bytes_in, TakesPlace, PutsApply, QuestionsApply}
 use Rattle.library_laws.proofs.AppliesLemmas.{answers_apply, zero_or_more}
 use Rattle.library_laws.proofs.ChangesKept.{changes_apply}
 use Rattle.library_laws.proofs.FirstBytes.{first_bytes_stay, same_id, allocated_one}
 use Rattle.library_laws.proofs.KeptLemmas.{chosen, passed, same_text, text_same}
-use Rattle.library_laws.proofs.ListLemmas.{In, In-map, map-In, find-In, list_all-In, In-from_Contains}
+use Rattle.library_laws.proofs.ListLemmas.{In, In-map, map-In, find-In, list_all-In, In-from_Contains, Contains-from_In}
 use Rattle.library_laws.proofs.ObjectsCome.{Came, kept, made, stored, came}
 use Rattle.library_laws.proofs.OutboxKept.{Names-from}
 use Rattle.library_laws.proofs.PlaceLemmas.{places_are_least}
@@ -229,12 +230,48 @@ bytes_stay archive change given good allowed old new here there serial st =
       | inr s ↦ absurd (not_again archive change old new.id good allowed (In-from_Contains archive.library.objects old here) same.0 st s)
     ]
 
+-- ---- digests that stay
+
+-- a kept object has the digest and the bytes that it had
+digest_kept : (archive : Archive) (change : Change) (given : List ℕ) (row old : ObjectRow) → HasDigests archive → In old archive.library.objects
+    → row.state ≡ old.state → is_stored row.state ≡ true
+    → bytes_in (archive_after change given archive) row.id ≡ bytes_in archive old.id
+    → IsDigestOf (bytes_in (archive_after change given archive) row.id) (digest_in_state row.state)
+digest_kept archive change given row old has here state st same =
+    let was = has old (Contains-from_In archive.library.objects old here) (sym (ap is_stored state) ∙ st) in
+    ap digest_in_state state ∙ was ∙ ap (λ bytes. Some (digest_of bytes)) (sym same)
+
+-- the object that a change stores has the bytes that came
+stored_bytes : (archive : Archive) (change : Change) (given id : List ℕ) (s : Stores change id) → bytes_after change given archive id ≡ given
+stored_bytes archive change given id s =
+    ap (λ c. bytes_after c given archive id) s.is ∙ chosen (bytes_eq id id) given (bytes_of id archive.library.objects archive.held) (text_same id)
+
+digest_after : (archive : Archive) (change : Change) (given : List ℕ) → IsGoodArchive archive → is_allowed archive.library change ≡ true
+    → NamesDigest change given → HasDigests archive → (row : ObjectRow)
+    → In row (after change archive.library).objects → is_stored row.state ≡ true → Came archive.library change row
+    → IsDigestOf (bytes_in (archive_after change given archive) row.id) (digest_in_state row.state)
+digest_after archive change given good allowed names has row here st (kept old there serial id state) =
+    digest_kept archive change given row old has there state st
+    (bytes_stay archive change given good allowed old row (Contains-from_In archive.library.objects old there)
+    (Contains-from_In (after change archive.library).objects row here) serial (sym (ap is_stored state) ∙ st))
+digest_after archive change given good allowed names has row here st (made moment flow ids is among state) = absurd (false≢true (sym (ap is_stored state) ∙ st))
+digest_after archive change given good allowed names has row here st (stored moment start size digest is state) =
+    let s : Stores change row.id = record { moment = moment; start = start; size = size; digest = digest; is = is } in
+    let own = bytes_along (after change archive.library).objects (bytes_after change given archive) row here ∙ stored_bytes archive change given row.id s in
+    let named : digest ≡ Some (digest_of given) = subst (λ c. NamesDigest c given) is names in
+    ap digest_in_state state ∙ named ∙ ap (λ bytes. Some (digest_of bytes)) (sym own)
+
+pub digests_stay : DigestsStay
+digests_stay archive change given good allowed names has row here st =
+    let there = In-from_Contains (after change archive.library).objects row here in
+    digest_after archive change given good allowed names has row there st (came archive.library change row there)
+
 -- ---- a put
 
 takes : (library : Library) (object bytes : List ℕ) (moment : ℕ) → Good library → is_moment moment ≡ true → (row : ObjectRow) → object_of object library.objects
     ≡ Some row → row.state ≡ Allocated
     → (start : ℕ) → IsLeastPlace library.objects library.blocks (blocks_of (length bytes)) start
-    → TakesPlace library object bytes moment (changes.Store moment object start (length bytes) None)
+    → TakesPlace library object bytes moment (changes.Store moment object start (length bytes) (Some (digest_of bytes)))
 takes library object bytes moment good at row is state start least =
     let refused : is_none (keep_refusal (object_of object library.objects)) ≡ true = ap (λ o. is_none (keep_refusal o)) is
     ∙ ap (λ s. is_none (keep_state s)) state in
@@ -242,7 +279,7 @@ takes library object bytes moment good at row is state start least =
       start = start;
       is = refl;
       least = least;
-      applies = changes_apply library (changes.Store moment object start (length bytes) None) good (and_from _ _ refused least.free)
+      applies = changes_apply library (changes.Store moment object start (length bytes) (Some (digest_of bytes))) good (and_from _ _ refused least.free)
           (record { at = at; values = zero_or_more (length bytes) start least.zero; serials = (Names-from library good.names).most });
     }
 
@@ -250,14 +287,14 @@ placed : (library : Library) (object bytes : List ℕ) (moment : ℕ) → Good l
     → object_of object library.objects ≡ Some row → row.state ≡ Allocated
     → (p : Option ℕ) → MatchOption p ((place : ℕ) → place < library.blocks → IsFalse (is_free library.objects library.blocks (blocks_of (length bytes)) place))
     (IsLeastPlace library.objects library.blocks (blocks_of (length bytes)))
-    → IfSome (placed_put p object (length bytes) moment).change (TakesPlace library object bytes moment)
+    → IfSome (placed_put p object bytes moment).change (TakesPlace library object bytes moment)
 placed library object bytes moment good at row is state None least = tt
 placed library object bytes moment good at row is state (Some start) least = takes library object bytes moment good at row is state start least
 
 by_state : (library : Library) (object bytes : List ℕ) (moment : ℕ) → Good library → is_moment moment ≡ true → (row : ObjectRow)
     → object_of object library.objects ≡ Some row
     → (state : ObjectState) → row.state ≡ state → (again : Reply)
-    → IfSome (put_by_state state (placed_put (free_place library.objects library.blocks (blocks_of (length bytes))) object (length bytes) moment)
+    → IfSome (put_by_state state (placed_put (free_place library.objects library.blocks (blocks_of (length bytes))) object bytes moment)
     (unchanged again)).change (TakesPlace library object bytes moment)
 by_state library object bytes moment good at row is Allocated state again =
     placed library object bytes moment good at row is state (free_place library.objects library.blocks (blocks_of (length bytes)))
@@ -266,7 +303,7 @@ by_state library object bytes moment good at row is (Stored start size digest) s
 
 by_object : (library : Library) (object bytes : List ℕ) (moment : ℕ) → Good library → is_moment moment ≡ true → (o : Option ObjectRow)
     → object_of object library.objects ≡ o → (again : Reply)
-    → IfSome (put_answer_by o (placed_put (free_place library.objects library.blocks (blocks_of (length bytes))) object (length bytes) moment)
+    → IfSome (put_answer_by o (placed_put (free_place library.objects library.blocks (blocks_of (length bytes))) object bytes moment)
     (unchanged again)).change (TakesPlace library object bytes moment)
 by_object library object bytes moment good at None is again = tt
 by_object library object bytes moment good at (Some row) is again = by_state library object bytes moment good at row is row.state refl again

@@ -5,9 +5,10 @@ use Rattle.media_rows.specs.declared.change.Change.TheVariants as changes
 use Rattle.media_rows.specs.declared.object.ObjectRow.{ObjectRow}
 use Rattle.media_rows.specs.Apply.{is_allowed, applied}
 use Rattle.media_rows.specs.Changes.{after}
+use Rattle.media_rows.specs.Digests.{digest_of}
 use Rattle.media_rows.specs.Good.{Good}
 use Rattle.media_rows.specs.Library.{Library}
-use Rattle.media_rows.specs.Media.{Archive, is_held, Question, puts, answer_to, is_good_question, archive_after, fits_bytes}
+use Rattle.media_rows.specs.Media.{Archive, is_held, Question, puts, answer_to, is_good_question, archive_after, fits_bytes, HasDigests, NamesDigest}
 use Rattle.media_rows.specs.Moments.{is_moment}
 use Rattle.media_rows.specs.Objects.{is_stored, bytes_of, blocks_of}
 use Rattle.library_laws.specs.Laws.{AppliesWithin, IsLeastPlace}
@@ -35,11 +36,19 @@ BytesStay = (archive : Archive) (change : Change) (came : List ℕ) → IsGoodAr
     → new.serial ≡ old.serial → IsTrue (is_stored old.state)
     → bytes_in (archive_after change came archive) new.id ≡ bytes_in archive old.id
 
--- the bytes of an object are stored by this change at the least free place for them
+-- Where each stored object has the digest of its bytes, so it has after a change, whose digest is
+-- that of the bytes that came.
+abbrev pub DigestsStay : Type 0
+DigestsStay = (archive : Archive) (change : Change) (came : List ℕ) → IsGoodArchive archive
+    → IsTrue (is_allowed archive.library change) → NamesDigest change came
+    → HasDigests archive → HasDigests (archive_after change came archive)
+
+-- the bytes of an object are stored by this change with their digest, at the least free place for
+-- them
 pub record TakesPlace (library : Library) (object bytes : List ℕ) (moment : ℕ) (change : Change)
     : Type 0 where
   pub start : ℕ
-  pub is : change ≡ changes.Store moment object start (length bytes) None
+  pub is : change ≡ changes.Store moment object start (length bytes) (Some (digest_of bytes))
   pub least : IsLeastPlace library.objects library.blocks (blocks_of (length bytes)) start
   pub applies : applied change library ≡ Some (after change library)
 

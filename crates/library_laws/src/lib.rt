@@ -17,7 +17,7 @@ pub use crate::laws::{
     places_are_least, range_answer_is_in_order, range_answer_is_on_points, turns_apply,
     turns_are_bounded,
 };
-pub use crate::media::{bytes_fit, bytes_stay, puts_apply, questions_apply};
+pub use crate::media::{bytes_fit, bytes_stay, digests_stay, puts_apply, questions_apply};
 pub use crate::rows::{
     equal_rows_are_one_library, keys_give_ids, refusals_are_tabled, rows_give_the_library,
     rows_rise, sources_have_their_parts,

@@ -1,5 +1,5 @@
 //! Laws of a library together with the bytes of its objects.
-ghost use Rattle.library_laws.specs.MediaLaws.{BytesFit, BytesStay, PutsApply, QuestionsApply};
+ghost use Rattle.library_laws.specs.MediaLaws.{BytesFit, BytesStay, DigestsStay, PutsApply, QuestionsApply};
 
 /// After a change, too, each stored object's bytes have its length.
 pub fn bytes_fit()
@@ -9,6 +9,12 @@ pub fn bytes_fit()
 /// A stored object keeps its bytes while it is kept.
 pub fn bytes_stay()
     ensures { BytesStay }
+{}
+
+/// Where each stored object has the digest of its bytes, so it has after a change with that of the bytes
+/// that came.
+pub fn digests_stay()
+    ensures { DigestsStay }
 {}
 
 /// Bytes that are kept take the least free place, by a change that applies.

@@ -1,5 +1,5 @@
 -- What is kept of the media holds after each change of one object or of one segment.
-use Rattle.std.proofs.Common.{◌≡◌, ℕ, ◌+◌, nat_le, nat_lt, Bool, true, false, not, ◌||◌, List, [], ◌∷◌, ◌++◌, Option, None, Err, Contains, refl, sym, ap, ap₂, subst, ◌∙◌, arith, append-nil}
+use Rattle.std.proofs.Common.{◌≡◌, ℕ, ◌+◌, nat_le, nat_lt, Bool, true, false, not, ◌||◌, List, [], ◌∷◌, ◌++◌, Option, Some, None, Err, Contains, bytes_eq, cond, option_map, refl, sym, ap, ap₂, subst, ◌∙◌, arith, append-nil}
 use Rattle.std.specs.Prelude.{◌==◌, is_some}
 use Rattle.std.specs.List.{list_all}
 use Rattle.std.proofs.lemmas.Bool.{and_from, and_parts}
@@ -139,6 +139,24 @@ pub stored_seen : (segments : List SegmentRow) (kept : List Kept) (area new : Ar
     → media_seen segments (changed_at id (stored_at extent digest moment) kept) new ≡ with_stored id extent digest moment (media_seen segments kept area)
 stored_seen segments kept area new id extent digest moment taken =
     ap₂ (λ n l. record { blocks = n; segments = segments; objects = l }) taken.blocks (stored_objects id extent digest moment kept)
+
+-- it keeps its serial
+pub stored_serial : (id : List ℕ) (extent : Extent) (digest : Option Digest) (moment : ℕ) (kept : List Kept)
+    → option_map (λ row. row.serial) (object_of id (objects_in (changed_at id (stored_at extent digest moment) kept)))
+    ≡ option_map (λ row. row.serial) (object_of id (objects_in kept))
+stored_serial id extent digest moment [] = refl
+stored_serial id extent digest moment (k ∷ kept) = by (bytes_eq k.row.id id) refl (stored_serial id extent digest moment kept)
+  where
+    later : Option ObjectRow
+    later = object_of id (objects_in (changed_at id (stored_at extent digest moment) kept))
+
+    by : (t : Bool) → bytes_eq k.row.id id ≡ t
+        → option_map (λ (row : ObjectRow). row.serial) later ≡ option_map (λ row. row.serial) (object_of id (objects_in kept))
+        → option_map (λ row. row.serial)
+        (object_of id ((cond t (stored_at extent digest moment k) k).row ∷ objects_in (changed_at id (stored_at extent digest moment) kept)))
+        ≡ option_map (λ row. row.serial) (cond t (Some k.row) (object_of id (objects_in kept)))
+    by true e ih = ap (λ b. option_map (λ (row : ObjectRow). row.serial) (cond b (Some (stored_at extent digest moment k).row) later)) e
+    by false e ih = ap (λ b. option_map (λ (row : ObjectRow). row.serial) (cond b (Some k.row) later)) e ∙ ih
 
 -- ---- a segment that comes
 

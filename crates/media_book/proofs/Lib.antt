@@ -6,6 +6,7 @@ mod Removals
 mod Covering
 mod Sweeping
 mod Kept
+pub mod Digested
 mod Allocations
 mod Same
 mod Restored

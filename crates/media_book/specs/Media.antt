@@ -1,6 +1,6 @@
 -- The media of a library, what its changes make of them, and which media can be made from rows. Our
 -- own rules.
-use Rattle.std.specs.Prelude.{◌≡◌, ℕ, ◌==◌, nat_lt, List, [], ◌++◌, Bool, ◌&&◌, ◌||◌, IsTrue, Contains, Option, Some, None, if◌then◌else◌, is_some, map}
+use Rattle.std.specs.Prelude.{◌≡◌, ℕ, ◌==◌, nat_lt, List, [], ◌++◌, Bool, ◌&&◌, ◌||◌, IsTrue, Contains, Option, Some, None, option_map, Result, Ok, Err, if◌then◌else◌, is_some, map}
 use Rattle.std.specs.List.{AllByRecursion, list_all, sum}
 use Rattle.media_rows.specs.declared.object.Digest.{Digest}
 use Rattle.media_rows.specs.declared.object.Extent.{Extent}
@@ -17,6 +17,7 @@ use Rattle.media_rows.specs.Lists.{are_distinct, each_pair}
 use Rattle.media_rows.specs.Objects.{allocated_rows, blocks_of, idled, is_free, object_of, stored_row, swept_objects, with_object, without_objects}
 use Rattle.media_rows.specs.Ranges.{has_both_ends}
 use Rattle.media_rows.specs.Segments.{posted, without_segments}
+use Rattle.object_refs.specs.References.{digested}
 
 -- the media of a library: how many media blocks there are, and its segments and its objects, each
 -- by rising serial
@@ -24,6 +25,21 @@ pub record Media : Type 0 where
   pub blocks : ℕ
   pub segments : List SegmentRow
   pub objects : List ObjectRow
+
+-- Media as a book is seen: beside them the serial of the object whose row the book holds apart,
+-- where it holds one.
+pub record HeldMedia : Type 0 where
+  pub media : Media
+  pub apart : Option ℕ
+
+-- the media alone, where there are some
+abbrev pub only_media : Option HeldMedia → Option Media
+only_media held = option_map (λ h. h.media) held
+
+-- the media alone, or what went wrong
+abbrev pub given_media : {E : Type 0} → Result HeldMedia E → Result Media E
+given_media (Ok held) = Ok held.media
+given_media (Err fault) = Err fault
 
 -- the media of a library
 abbrev pub media_of : Library → Media
@@ -91,6 +107,17 @@ abbrev pub with_stored : List ℕ → Extent → Option Digest → ℕ → Media
 with_stored id extent digest moment media = record media {
   objects = with_object id (stored_row extent.start extent.length digest moment) media.objects;
 }
+
+-- the object whose row is held apart has this digest
+abbrev pub media_digested : Digest → HeldMedia → HeldMedia
+media_digested digest held = record {
+  media = record held.media { objects = digested held.apart digest held.media.objects };
+  apart = held.apart;
+}
+
+-- the serial of the object of an id
+abbrev pub serial_in : List ℕ → Media → Option ℕ
+serial_in id media = option_map (λ row. row.serial) (object_of id media.objects)
 
 -- the segments of a post come, with rising serials from this one on
 abbrev pub with_posts : ℕ → ℕ → List Segment → Media → Media

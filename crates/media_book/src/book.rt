@@ -19,7 +19,9 @@ use std::marker::Model;
 use time_range::TimeRange;
 
 /// Segments and objects by rising serial, and which media blocks are free, as a library has them. A change
-/// makes a new book and leaves this one as it is; moments are seconds since 1970-01-01T00:00:00Z.
+/// makes a new book and leaves this one as it is; moments are seconds since 1970-01-01T00:00:00Z. The row of
+/// the object that was stored last may be held apart, where its digest can still be set; a book is seen with
+/// that object's serial.
 #[derive(Drop)]
 pub struct MediaBook {
     pub(crate) segments: SegmentBook,
@@ -30,20 +32,20 @@ pub struct MediaBook {
 }
 
 impl Model for MediaBook {
-    ghost use Rattle.media_book.specs.Media.{Media};
-    ghost use Rattle.media_book.specs.Within.Ties.{IsMedia, media_seen};
+    ghost use Rattle.media_book.specs.Media.{HeldMedia};
+    ghost use Rattle.media_book.specs.Within.Ties.{IsMedia, held_seen};
 
-    ghost Value = { Media };
+    ghost Value = { HeldMedia };
 
-    ghost view = { λ b. media_seen b.segments b.objects b.space };
+    ghost view = { λ b. held_seen b.segments b.objects b.space };
 
-    ghost invariant = { λ b. IsMedia b.segments b.objects b.space b.bytes };
+    ghost invariant = { λ b. IsMedia b.segments b.objects.kept b.space b.bytes };
 }
 
 impl MediaBook {
     /// A book without segments and objects, of so many media blocks.
     pub fn empty(alloc: Global, blocks: u64) -> Result<MediaBook, Memory>
-        ensures { IfOk result (λ media. media ≡ no_media blocks) }
+        ensures { IfOk result (λ next. next.media ≡ no_media blocks) }
     {
         Ok(MediaBook {
             segments: SegmentBook::empty(),
@@ -53,13 +55,13 @@ impl MediaBook {
         })
     }
 
-    /// The same book once more. The error is for a count of owners that is full.
-    pub fn share(&self) -> Result<MediaBook, Memory>
+    /// The same book once more, with a copy of the row that is held apart.
+    pub fn share(&self, alloc: Global) -> Result<MediaBook, Memory>
         ensures { IfOk result (λ media. media ≡ self.now) }
     {
         Ok(MediaBook {
             segments: self.segments.share()?,
-            objects: self.objects.share()?,
+            objects: self.objects.share(alloc)?,
             space: self.space.share()?,
             bytes: self.bytes,
         })
@@ -67,7 +69,7 @@ impl MediaBook {
 
     /// The object of this id, if it is kept, be it allocated or stored. It takes no memory.
     pub fn object(&self, id: &Text) -> Option<&ObjectRow>
-        ensures { option_copied result ≡ object_of id.now self.now.objects }
+        ensures { option_copied result ≡ object_of id.now self.now.media.objects }
     {
         self.objects.find(id)
     }
@@ -75,7 +77,7 @@ impl MediaBook {
     /// The least place at which so many media blocks are free in a row, and `None` exactly where there is none.
     /// No blocks are placed at 0. It takes no memory.
     pub fn place(&self, blocks: u64) -> Option<u64>
-        ensures { result ≡ free_place self.now.objects self.now.blocks blocks }
+        ensures { result ≡ free_place self.now.media.objects self.now.media.blocks blocks }
     {
         self.space.place(blocks)
     }
@@ -83,7 +85,7 @@ impl MediaBook {
     /// The object that is swept first, if one is due. It takes no memory.
     pub fn first_due(&self, now: u64) -> Option<&ObjectRow>
         ensures { option_copied result
-            ≡ first (due_objects self.now.segments self.now.objects now) }
+            ≡ first (due_objects self.now.media.segments self.now.media.objects now) }
     {
         due_are_same();
         self.objects.first_idle(now)
@@ -91,21 +93,21 @@ impl MediaBook {
 
     /// The least range that covers all segments of a flow, and never where there are none.
     pub fn hull(&self, flow: u128) -> TimeRange
-        ensures { result ≡ hull_of_segments (segments_of flow self.now.segments) }
+        ensures { result ≡ hull_of_segments (segments_of flow self.now.media.segments) }
     {
         self.segments.hull(flow)
     }
 
     /// The number of segments of a flow, or the last value of a `u64` where there are more.
     pub fn flow_len(&self, flow: u128) -> u64
-        ensures { result ≡ min (length (segments_of flow self.now.segments)) (2 ^ 64 - 1) }
+        ensures { result ≡ min (length (segments_of flow self.now.media.segments)) (2 ^ 64 - 1) }
     {
         self.segments.flow_len(flow)
     }
 
     /// Whether a segment of a flow has a point in a range.
     pub fn is_met(&self, alloc: Global, flow: u128, range: &TimeRange) -> Result<bool, Memory>
-        ensures { IfOk result (λ met. met ≡ is_flow_met self.now.segments flow range.now) }
+        ensures { IfOk result (λ met. met ≡ is_flow_met self.now.media.segments flow range.now) }
     {
         self.segments.is_met(alloc, flow, range)
     }
@@ -119,15 +121,15 @@ impl MediaBook {
         page: &Page,
     ) -> Result<View, Memory>
         ensures { IfOk result (λ view. view ≡ shown_segments page.now
-            (overlapping self.now.segments flow wanted.now.range wanted.now.object)) }
+            (overlapping self.now.media.segments flow wanted.now.range wanted.now.object)) }
     {
         self.segments.page(alloc, flow, wanted, page)
     }
 
     /// The flows whose segments name a kept object, by rising id, each once.
     pub fn flows_of(&self, alloc: Global, id: &Text) -> Result<IdList, Memory>
-        requires kept { IsTrue (is_some (object_of id.now self.now.objects)) }
-        ensures { IfOk result (λ flows. flows ≡ flows_naming self.now.segments id.now) }
+        requires kept { IsTrue (is_some (object_of id.now self.now.media.objects)) }
+        ensures { IfOk result (λ flows. flows ≡ flows_naming self.now.media.segments id.now) }
     {
         flows_are_same();
         self.objects.is_in_order();
@@ -136,8 +138,8 @@ impl MediaBook {
 
     /// The number of segments that name a kept object. It takes no memory.
     pub fn references(&self, id: &Text) -> u64
-        requires kept { IsTrue (is_some (object_of id.now self.now.objects)) }
-        ensures { result ≡ reference_count self.now.segments id.now }
+        requires kept { IsTrue (is_some (object_of id.now self.now.media.objects)) }
+        ensures { result ≡ reference_count self.now.media.segments id.now }
     {
         counts_are_same();
         self.objects.is_in_order();
@@ -146,8 +148,8 @@ impl MediaBook {
 
     /// What is shown of the object of an id, if it is kept: it and the flows whose segments name it.
     pub fn shown_object(&self, alloc: Global, id: &Text) -> Result<Option<View>, Memory>
-        ensures { IfOk result (λ view. view ≡ option_map (shown_object (library_with self.now 0))
-            (object_of id.now self.now.objects)) }
+        ensures { IfOk result (λ view. view ≡ option_map (shown_object (library_with self.now.media 0))
+            (object_of id.now self.now.media.objects)) }
     {
         match self.object(id) {
             Some(row) => {
@@ -163,37 +165,37 @@ impl MediaBook {
 
     /// The number of segments.
     pub fn segment_count(&self) -> u64
-        ensures { result ≡ length self.now.segments }
+        ensures { result ≡ length self.now.media.segments }
     {
         self.segments.len()
     }
 
     /// The number of objects, or the last value of a `u64` where there are more.
     pub fn object_count(&self) -> u64
-        ensures { result ≡ min (length self.now.objects) (2 ^ 64 - 1) }
+        ensures { result ≡ min (length self.now.media.objects) (2 ^ 64 - 1) }
     {
         self.objects.object_count()
     }
 
     /// The number of the bytes of all stored objects.
     pub fn stored_bytes(&self) -> u64
-        ensures { result ≡ stored_bytes self.now.objects }
+        ensures { result ≡ stored_bytes self.now.media.objects }
     {
         self.bytes
     }
 
     /// A law: segments and objects stand by rising serial, and no two objects have one id.
     pub fn is_in_order(&self)
-        ensures segments { IsTrue (rises_by (λ row. row.serial) self.now.segments) }
-        ensures objects { IsTrue (rises_by (λ row. row.serial) self.now.objects) }
-        ensures ids { IsTrue (are_object_ids_distinct self.now.objects) }
+        ensures segments { IsTrue (rises_by (λ row. row.serial) self.now.media.segments) }
+        ensures objects { IsTrue (rises_by (λ row. row.serial) self.now.media.objects) }
+        ensures ids { IsTrue (are_object_ids_distinct self.now.media.objects) }
     {
         self.objects.is_in_order();
     }
 
     /// All objects, by rising serial.
     pub fn object_rows(&self, alloc: Global) -> Result<ObjectList, Memory>
-        ensures { IfOk result (λ rows. rows ≡ self.now.objects) }
+        ensures { IfOk result (λ rows. rows ≡ self.now.media.objects) }
     {
         self.objects.list(alloc)
     }

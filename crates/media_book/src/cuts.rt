@@ -32,14 +32,14 @@ impl MediaBook {
         range: &TimeRange,
         serial: u64,
     ) -> Result<Covered, Memory>
-        requires above { IsTrue (are_segments_below serial self.now.segments) }
+        requires above { IsTrue (are_segments_below serial self.now.media.segments) }
         ensures rows { IfOk result (λ cut. cut.rows
-            ≡ take step_size (covered self.now.segments flow range.now)) }
+            ≡ take step_size (covered self.now.media.segments flow range.now)) }
         ensures whole { IfOk result (λ cut. cut.whole
-            ≡ nat_le (length (covered self.now.segments flow range.now)) step_size) }
+            ≡ nat_le (length (covered self.now.media.segments flow range.now)) step_size) }
         ensures all { IfOk result (λ cut. IsTrue cut.whole
-            → cut.rows ≡ covered self.now.segments flow range.now) }
-        ensures some { IfOk result (λ cut. AreSome cut.rows self.now.segments) }
+            → cut.rows ≡ covered self.now.media.segments flow range.now) }
+        ensures some { IfOk result (λ cut. AreSome cut.rows self.now.media.segments) }
     {
         // They are those of the first step of a request for them.
         let deletion = Deletion {
@@ -66,12 +66,12 @@ impl MediaBook {
     ) -> Result<DueStep, Memory>
         requires due { IsTrue (is_some (first_unfinished requests.now)) }
         ensures removed { IfOk result (λ step. OfDue requests.now
-            (λ request. step.removed ≡ removed_by_step self.now.segments request)) }
+            (λ request. step.removed ≡ removed_by_step self.now.media.segments request)) }
         ensures finished { IfOk result (λ step. OfDue requests.now
-            (λ request. step.finished ≡ is_finished_by_step self.now.segments request)) }
+            (λ request. step.finished ≡ is_finished_by_step self.now.media.segments request)) }
         ensures book { IfOk result (λ step. OfDue requests.now
             (λ request. step.book ≡ after_step request.serial step.finished now requests.now)) }
-        ensures some { IfOk result (λ step. AreSome step.removed self.now.segments) }
+        ensures some { IfOk result (λ step. AreSome step.removed self.now.media.segments) }
     {
         let Some(request) = requests.first_due() else {
             unreachable!()
@@ -83,8 +83,7 @@ impl MediaBook {
     /// Leaves out all segments of a flow, as a flow that goes loses them. An object that loses its last reference
     /// is idle since now.
     pub fn remove_flow(&self, alloc: Global, flow: u128, now: u64) -> Result<MediaBook, Memory>
-        ensures { IfOk result (λ media. media
-            ≡ without_rows (segments_of flow self.now.segments) now self.now) }
+        ensures { IfOk result (λ next. next.media ≡ without_rows (segments_of flow self.now.media.segments) now self.now.media) }
     {
         let rows = self.segments.flow_rows(alloc, flow)?;
         self.remove(alloc, rows.items(), now)
@@ -92,7 +91,7 @@ impl MediaBook {
 
     /// All segments as a snapshot has them: by flow, and those of a flow by rising first point.
     pub fn segment_rows(&self, alloc: Global) -> Result<SegmentList, Memory>
-        ensures { IfOk result (λ rows. rows ≡ in_order segment_row_before self.now.segments) }
+        ensures { IfOk result (λ rows. rows ≡ in_order segment_row_before self.now.media.segments) }
     {
         self.segments.list(alloc)
     }

@@ -4,7 +4,7 @@ ghost use Rattle.media_rows.specs.Answer.{keep_refusal};
 ghost use Rattle.media_rows.specs.Objects.{blocks_of, object_of};
 ghost use Rattle.media_rows.specs.Refusals.{IsChange, when};
 ghost use Rattle.media_rows.specs.declared.refusal.Refusal.TheVariants.{IdTaken};
-ghost use Rattle.media_book.specs.Media.{allocation_refusal, are_objects_below, can_take, with_allocated, with_stored};
+ghost use Rattle.media_book.specs.Media.{allocation_refusal, are_objects_below, can_take, given_media, media_digested, serial_in, with_allocated, with_stored};
 
 use crate::MediaBook;
 use disk_trait::{Memory, Text};
@@ -23,12 +23,12 @@ impl MediaBook {
         serial: u64,
         now: u64,
     ) -> Result<MediaBook, BookFault>
-        requires above { IsTrue (are_objects_below serial self.now.objects) }
+        requires above { IsTrue (are_objects_below serial self.now.media.objects) }
         requires fits { serial + length ids.now < 2 ^ 64 }
-        ensures { IsChange (allocation_refusal self.now ids.now)
-            (with_allocated serial now ids.now self.now) result }
+        ensures { IsChange (allocation_refusal self.now.media ids.now)
+            (with_allocated serial now ids.now self.now.media) (given_media result) }
     {
-        let mut media = self.share()?;
+        let mut media = self.share(alloc)?;
         for index in 0..ids.len() {
             match media.with_object(alloc, &ids[index], serial + index as u64, now) {
                 Ok(next) => media = next,
@@ -46,9 +46,9 @@ impl MediaBook {
         serial: u64,
         now: u64,
     ) -> Result<MediaBook, BookFault>
-        requires above { IsTrue (are_objects_below serial self.now.objects) }
-        ensures { IsChange (when (is_some (object_of id.now self.now.objects)) (IdTaken id.now))
-            (with_allocated serial now (id.now ∷ []) self.now) result }
+        requires above { IsTrue (are_objects_below serial self.now.media.objects) }
+        ensures { IsChange (when (is_some (object_of id.now self.now.media.objects)) (IdTaken id.now))
+            (with_allocated serial now (id.now ∷ []) self.now.media) (given_media result) }
     {
         objects_come();
         match self.objects.allocate(alloc, id, serial, now) {
@@ -65,7 +65,7 @@ impl MediaBook {
     /// Whether the blocks of an extent are free, so that an object may have its bytes there. An extent without
     /// bytes begins at block 0. It takes no memory.
     pub fn takes(&self, extent: Extent) -> bool
-        ensures { result ≡ can_take self.now extent }
+        ensures { result ≡ can_take self.now.media extent }
     {
         if extent.length == 0 {
             return extent.start == 0;
@@ -75,7 +75,7 @@ impl MediaBook {
 
     /// Notes that an object has its bytes, at a place whose blocks are free and with their digest where one is
     /// kept, and is idle since now. It is refused as `UnknownObject` where there is no such object, and as
-    /// `OtherBytes` where it has its bytes already. A number of all bytes that passes a `u64` is want of memory.
+    /// `OtherBytes` where it has its bytes already. Its row is held apart then. A number of all bytes that passes a `u64` is want of memory.
     pub fn store(
         &self,
         alloc: Global,
@@ -84,9 +84,10 @@ impl MediaBook {
         digest: Option<Digest>,
         now: u64,
     ) -> Result<MediaBook, BookFault>
-        requires place { IsTrue (can_take self.now extent) }
-        ensures { IsChange (keep_refusal (object_of id.now self.now.objects))
-            (with_stored id.now extent digest now self.now) result }
+        requires place { IsTrue (can_take self.now.media extent) }
+        ensures media { IsChange (keep_refusal (object_of id.now self.now.media.objects))
+            (with_stored id.now extent digest now self.now.media) (given_media result) }
+        ensures apart { IfOk result (λ next. next.apart ≡ serial_in id.now self.now.media) }
     {
         objects_change();
         self.objects.is_in_order();
@@ -101,6 +102,14 @@ impl MediaBook {
             }),
             Err(fault) => Err(fault),
         }
+    }
+
+    /// Sets the digest of the object whose row is held apart. It takes no memory.
+    pub fn set_digest(&mut self, digest: Digest)
+        requires apart { IsTrue (is_some self.old.apart) }
+        ensures { self.new ≡ media_digested digest self.old }
+    {
+        self.objects.set_digest(digest);
     }
 }
 

@@ -4,7 +4,7 @@ ghost use Rattle.media_rows.specs.Answer.{keep_refusal};
 ghost use Rattle.media_rows.specs.Good.{rises_by};
 ghost use Rattle.media_rows.specs.Objects.{object_of};
 ghost use Rattle.media_rows.specs.Ranges.{has_both_ends};
-ghost use Rattle.media_book.specs.Media.{Media, MediaAreGood, are_media_good, are_objects_below, are_objects_good, are_rows_good, are_segments_below, can_take, media_if, no_media, with_allocated, with_stored};
+ghost use Rattle.media_book.specs.Media.{only_media, Media, MediaAreGood, are_media_good, are_objects_below, are_objects_good, are_rows_good, are_segments_below, can_take, media_if, no_media, with_allocated, with_stored};
 ghost use Rattle.media_book.specs.Within.Restoring.{can_come, can_follow, can_hold, with_objects, with_segments_behind};
 
 use crate::MediaBook;
@@ -25,7 +25,8 @@ impl MediaBook {
         objects: &[ObjectRow],
     ) -> Result<Option<MediaBook>, Memory>
         ensures { let rows : Media = record { blocks = blocks; segments = segments.now; objects = objects.now } in
-            IfOk result (λ media. media ≡ media_if (are_media_good rows) rows) }
+            IfOk result (λ media. only_media media
+            ≡ media_if (are_media_good rows) rows) }
     {
         match MediaBook::of_objects(alloc, blocks, objects)? {
             Some(bare) => bare.with_segments(alloc, segments),
@@ -39,7 +40,7 @@ impl MediaBook {
         blocks: u64,
         objects: &[ObjectRow],
     ) -> Result<Option<MediaBook>, Memory>
-        ensures { IfOk result (λ media. media
+        ensures { IfOk result (λ media. only_media media
             ≡ media_if (are_objects_good blocks objects.now) (with_objects objects.now (no_media blocks))) }
     {
         let mut media = MediaBook::empty(alloc, blocks)?;
@@ -59,9 +60,9 @@ impl MediaBook {
         front: &[ObjectRow],
         row: &ObjectRow,
     ) -> Result<Option<MediaBook>, Memory>
-        requires front { front.now ≡ self.now.objects }
-        ensures { IfOk result (λ media. media
-            ≡ media_if (can_follow self.now row.now) (with_objects (row.now ∷ []) self.now)) }
+        requires front { front.now ≡ self.now.media.objects }
+        ensures { IfOk result (λ media. only_media media
+            ≡ media_if (can_follow self.now.media row.now) (with_objects (row.now ∷ []) self.now.media)) }
     {
         self.is_in_order();
         if !is_behind_objects(front, row.serial) {
@@ -81,11 +82,11 @@ impl MediaBook {
         bare: MediaBook,
         row: &ObjectRow,
     ) -> Result<Option<MediaBook>, Memory>
-        requires new { IsFalse (is_some (object_of row.now.id self.now.objects)) }
-        requires bare { bare
-            ≡ with_allocated row.now.serial row.now.idle_since (row.now.id ∷ []) self.now }
-        ensures { IfOk result (λ media. media
-            ≡ media_if (can_hold self.now row.now.state) (with_objects (row.now ∷ []) self.now)) }
+        requires new { IsFalse (is_some (object_of row.now.id self.now.media.objects)) }
+        requires bare { bare.media
+            ≡ with_allocated row.now.serial row.now.idle_since (row.now.id ∷ []) self.now.media }
+        ensures { IfOk result (λ media. only_media media
+            ≡ media_if (can_hold self.now.media row.now.state) (with_objects (row.now ∷ []) self.now.media)) }
     {
         match row.state {
             ObjectState::Allocated => Ok(Some(bare)),
@@ -112,11 +113,12 @@ impl MediaBook {
         alloc: Global,
         segments: &[SegmentRow],
     ) -> Result<Option<MediaBook>, Memory>
-        requires none { self.now.segments ≡ [] }
-        ensures { IfOk result (λ media. media ≡ media_if
-            (are_rows_good self.now.objects segments.now) (with_segments_behind segments.now self.now)) }
+        requires none { self.now.media.segments ≡ [] }
+        ensures { IfOk result (λ media. only_media media
+            ≡ media_if
+            (are_rows_good self.now.media.objects segments.now) (with_segments_behind segments.now self.now.media)) }
     {
-        let mut media = self.share()?;
+        let mut media = self.share(alloc)?;
         for index in 0..segments.len() {
             match media.with_next_segment(alloc, &segments[..index], &segments[index])? {
                 Some(next) => media = next,
@@ -133,9 +135,9 @@ impl MediaBook {
         front: &[SegmentRow],
         row: &SegmentRow,
     ) -> Result<Option<MediaBook>, Memory>
-        requires front { front.now ≡ self.now.segments }
-        ensures { IfOk result (λ media. media
-            ≡ media_if (can_come self.now row.now) (with_segments_behind (row.now ∷ []) self.now)) }
+        requires front { front.now ≡ self.now.media.segments }
+        ensures { IfOk result (λ media. only_media media
+            ≡ media_if (can_come self.now.media row.now) (with_segments_behind (row.now ∷ []) self.now.media)) }
     {
         self.is_in_order();
         if !is_behind_segments(front, row.serial) || !has_both_ends(&row.segment.range) {
@@ -162,10 +164,10 @@ fn stored(
     extent: Extent,
     digest: Option<Digest>,
 ) -> Result<Option<MediaBook>, Memory>
-    requires place { IsTrue (can_take bare.now extent) }
-    requires bare { keep_refusal (object_of row.now.id bare.now.objects) ≡ None }
-    ensures { IfOk result (λ media. media
-        ≡ Some (with_stored row.now.id extent digest row.now.idle_since bare.now)) }
+    requires place { IsTrue (can_take bare.now.media extent) }
+    requires bare { keep_refusal (object_of row.now.id bare.now.media.objects) ≡ None }
+    ensures { IfOk result (λ media. only_media media
+        ≡ Some (with_stored row.now.id extent digest row.now.idle_since bare.now.media)) }
 {
     match bare.store(alloc, &row.id, extent, digest, row.idle_since) {
         Ok(next) => Ok(Some(next)),

@@ -4,7 +4,7 @@ ghost use Rattle.media_rows.specs.Answer.{posts_refusal};
 ghost use Rattle.media_rows.specs.Ranges.{has_both_ends};
 ghost use Rattle.media_rows.specs.Refusals.{IsChange};
 ghost use Rattle.media_rows.specs.Sound.{are_posts_good};
-ghost use Rattle.media_book.specs.Media.{AreSome, PostsAreRefusedAlike, are_segments_below, library_with, with_posts, without_rows};
+ghost use Rattle.media_book.specs.Media.{given_media, AreSome, PostsAreRefusedAlike, are_segments_below, library_with, with_posts, without_rows};
 ghost use Rattle.media_book.specs.Within.Ties.{row_refusal};
 
 use crate::MediaBook;
@@ -25,12 +25,12 @@ impl MediaBook {
         serial: u64,
     ) -> Result<MediaBook, BookFault>
         requires bounded { IsTrue (are_posts_good posts.now) }
-        requires above { IsTrue (are_segments_below serial self.now.segments) }
+        requires above { IsTrue (are_segments_below serial self.now.media.segments) }
         requires fits { serial + length posts.now < 2 ^ 64 }
-        ensures { IsChange (posts_refusal (library_with self.now serial) flow posts.now)
-            (with_posts flow serial posts.now self.now) result }
+        ensures { IsChange (posts_refusal (library_with self.now.media serial) flow posts.now)
+            (with_posts flow serial posts.now self.now.media) (given_media result) }
     {
-        let mut media = self.share()?;
+        let mut media = self.share(alloc)?;
         for index in 0..posts.len() {
             let row = SegmentRow {
                 flow,
@@ -48,9 +48,9 @@ impl MediaBook {
     /// Adds one of them.
     pub(crate) fn with_row(&self, alloc: Global, row: SegmentRow) -> Result<MediaBook, BookFault>
         requires bounded { IsTrue (has_both_ends row.segment.range) }
-        requires above { IsTrue (are_segments_below row.serial self.now.segments) }
-        ensures { IsChange (row_refusal self.now row)
-            (with_posts row.flow row.serial (row.segment ∷ []) self.now) result }
+        requires above { IsTrue (are_segments_below row.serial self.now.media.segments) }
+        ensures { IsChange (row_refusal self.now.media row)
+            (with_posts row.flow row.serial (row.segment ∷ []) self.now.media) (given_media result) }
     {
         references_come();
         let objects = match self.objects.refer(alloc, &row.segment.object, row.flow) {
@@ -70,10 +70,10 @@ impl MediaBook {
 
     /// Leaves out these segments. An object that loses its last reference is idle since now.
     pub fn remove(&self, alloc: Global, rows: &[SegmentRow], now: u64) -> Result<MediaBook, Memory>
-        requires some { AreSome rows.now self.now.segments }
-        ensures { IfOk result (λ media. media ≡ without_rows rows.now now self.now) }
+        requires some { AreSome rows.now self.now.media.segments }
+        ensures { IfOk result (λ next. next.media ≡ without_rows rows.now now self.now.media) }
     {
-        let mut media = self.share()?;
+        let mut media = self.share(alloc)?;
         for row in rows {
             media = media.without_row(alloc, row, now)?;
         }
@@ -82,8 +82,8 @@ impl MediaBook {
 
     /// Leaves out one of them.
     fn without_row(&self, alloc: Global, row: &SegmentRow, now: u64) -> Result<MediaBook, Memory>
-        requires there { Contains self.now.segments row.now }
-        ensures { IfOk result (λ media. media ≡ without_rows (row.now ∷ []) now self.now) }
+        requires there { Contains self.now.media.segments row.now }
+        ensures { IfOk result (λ next. next.media ≡ without_rows (row.now ∷ []) now self.now.media) }
     {
         references_go();
         Ok(MediaBook {

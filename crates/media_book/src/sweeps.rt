@@ -27,7 +27,7 @@ impl MediaBook {
     /// Removes the first 16 objects that are due, whose blocks are free again: objects that no segment names and
     /// that are idle for a day, by the moment since which they are, and then by serial.
     pub fn sweep(&self, alloc: Global, now: u64) -> Result<MediaBook, Memory>
-        ensures { IfOk result (λ media. media ≡ swept now self.now) }
+        ensures { IfOk result (λ next. next.media ≡ swept now self.now.media) }
     {
         due_are_same();
         self.objects.is_in_order();
@@ -51,10 +51,10 @@ fn freed(
     bytes: u64,
     gone: &[ObjectRow],
 ) -> Result<Room, Memory>
-    requires held { AreHeld (object_states (objects_in objects.now)) space.now bytes }
-    requires some { AreSomeObjects gone.now (objects_in objects.now) }
+    requires held { AreHeld (object_states (objects_in objects.now.kept)) space.now bytes }
+    requires some { AreSomeObjects gone.now (objects_in objects.now.kept) }
     ensures held { IfOk result (λ left. AreHeld
-        (object_states (without_objects gone.now (objects_in objects.now))) left.space left.bytes) }
+        (object_states (without_objects gone.now (objects_in objects.now.kept))) left.space left.bytes) }
     ensures blocks { IfOk result (λ left. left.space.blocks ≡ space.now.blocks) }
 {
     objects.is_in_order();

@@ -181,7 +181,7 @@ half_made image rows start size within fits few =
     let inside : start + length (half_text rows) ≤ length image = omega (arith, length-half_text rows) in
     let none : start + 0 ≡ start = omega arith in
     record {
-      is = inl refl;
+      is = inr refl;
       text = rw none at (bytes_at-written start (half_text rows) image inside 0 (8 + length rows) (omega (arith, length-half_text rows))) ∙ front-half_text
           rows;
       few = few;

@@ -1,5 +1,5 @@
 -- What formatting leaves in an image.
-use Rattle.std.proofs.Common.{◌≡◌, inl, ◌<◌, ◌≤◌, ◌+◌, ◌^◌, ℕ, List, [], ◌∷◌, ◌++◌, length, take, get_or, refl, sym, ap, ◌∙◌, arith, length-append}
+use Rattle.std.proofs.Common.{◌≡◌, inr, ◌<◌, ◌≤◌, ◌+◌, ◌^◌, ℕ, List, [], ◌∷◌, ◌++◌, length, take, get_or, refl, sym, ap, ◌∙◌, arith, length-append}
 use Rattle.std.proofs.lemmas.List.{places}
 use Rattle.std.proofs.Math.Seq.{take-append_seam, take-length}
 use Rattle.disk_trait.specs.Calls.{bytes_at, overwritten}
@@ -155,7 +155,7 @@ module _ (image : List ℕ) (h : Header) (rows : List ℕ) (fits : FitsStore h (
         };
         sizes = rw length-formatted fits.sizes;
         half = rw start record {
-          is = inl refl;
+          is = inr refl;
           text = rows_are;
           few = omega (arith, fits.room, fits.sizes.half);
           chain = refl;

@@ -37,6 +37,13 @@ impl Frame {
         Ok(Frame { bytes })
     }
 
+    /// How many bytes the payload has.
+    pub fn len(&self) -> usize
+        ensures { result ≡ length self.now }
+    {
+        self.bytes().len() - 5
+    }
+
     /// Puts these bytes over those of the payload from this place on. It takes no memory.
     pub fn fill(&mut self, at: usize, bytes: &[u8])
         requires { at + length bytes.now ≤ length self.old }

@@ -23,6 +23,7 @@ use Rattle.media_rows.specs.declared.request.Deletion.{Deletion}
 use Rattle.media_rows.specs.declared.segment.Segment.{Segment}
 use Rattle.media_rows.specs.declared.segment.SegmentRow.{SegmentRow}
 use Rattle.media_rows.specs.Catalog.{flow_of, put_refusal, set_refusal, set_source_refusal, flow_refusal}
+use Rattle.media_rows.specs.Digests.{digest_of}
 use Rattle.media_rows.specs.Ids.{id_text}
 use Rattle.media_rows.specs.Library.{Library}
 use Rattle.media_rows.specs.Lists.{has_text, numbers_below, or_else}
@@ -247,12 +248,12 @@ answer library command moment =
 
 -- ---- media, whose bytes stand beside the library
 
--- An allocated object takes the bytes at the least free place, if there is one. No digest of them
--- is kept, since stores are written in form 1.
-abbrev pub placed_put : Option ℕ → List ℕ → ℕ → ℕ → Outcome
-placed_put None object size moment = unchanged (replies.Refused refusals.MediaFull)
-placed_put (Some start) object size moment =
-    changed replies.Created (changes.Store moment object start size None)
+-- an allocated object takes the bytes at the least free place, if there is one, with their digest
+abbrev pub placed_put : Option ℕ → List ℕ → List ℕ → ℕ → Outcome
+placed_put None object bytes moment = unchanged (replies.Refused refusals.MediaFull)
+placed_put (Some start) object bytes moment =
+    changed replies.Created
+    (changes.Store moment object start (length bytes) (Some (digest_of bytes)))
 
 -- a stored object takes equal bytes and changes nothing
 abbrev pub stored_put : Bool → Outcome
@@ -274,7 +275,7 @@ abbrev pub put_media_answer : Library → List (List ℕ) → List ℕ → List 
 put_media_answer library held object bytes moment =
     put_answer_by (object_of object library.objects)
     (placed_put (free_place library.objects library.blocks (blocks_of (length bytes)))
-    object (length bytes) moment)
+    object bytes moment)
     (stored_put (bytes_eq (bytes_of object library.objects held) bytes))
 
 -- the length of an object's bytes, where they are stored; an allocated object has none to give
@@ -287,7 +288,3 @@ media_answer (Stored start size digest) = replies.Media size
 abbrev pub media_reply : Option ObjectRow → Reply
 media_reply None = replies.Refused refusals.UnknownObject
 media_reply (Some row) = media_answer row.state
-
--- the reply to a GET of an object's bytes: their length, where the object is kept and stored
-abbrev pub get_media_reply : Library → List ℕ → Reply
-get_media_reply library object = media_reply (object_of object library.objects)

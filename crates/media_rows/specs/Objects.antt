@@ -21,6 +21,11 @@ abbrev pub is_stored : ObjectState → Bool
 is_stored Allocated = false
 is_stored (Stored start size digest) = true
 
+-- the digest that is kept of an object's bytes, if there is one
+abbrev pub digest_in_state : ObjectState → Option Digest
+digest_in_state Allocated = None
+digest_in_state (Stored start size digest) = digest
+
 -- the object is kept, and its bytes are stored
 abbrev pub is_stored_row : Option ObjectRow → Bool
 is_stored_row None = false

@@ -1,13 +1,47 @@
-//! Digests in text.
-ghost use Rattle.std.specs.Prelude.{◌≡◌, ◌≤◌, ◌++◌, IfOk, OnOk, length};
+//! Digests of bytes, and digests in text.
+ghost use Rattle.std.specs.Prelude.{◌≡◌, ◌≤◌, ◌++◌, ℕ, List, IfOk, OnOk, drop, length, take};
+ghost use Rattle.std.specs.Int.{from_be_bytes, w128};
+ghost use Rattle.sha2.specs.Sha256.{sha256};
 ghost use Rattle.uuid.specs.Text.{lower, simple_text};
-ghost use Rattle.media_rows.specs.Digests.{digest_text, half_digest_text};
+ghost use Rattle.media_rows.specs.Digests.{digest_of, digest_text, half_digest_text};
 
 use crate::object::Digest;
 use disk_trait::{Memory, Text};
+use sha2::{Digest as _, Sha256};
 use std::alloc::Global;
 use uuid::Uuid;
 use uuid::fmt::Simple;
+
+/// The digest of bytes.
+pub fn digest_of(bytes: &[u8]) -> Digest
+    ensures { result ≡ digest_of bytes.now }
+{
+    Digest::from_hash(Sha256::digest(bytes))
+}
+
+impl Digest {
+    /// The digest with the 32 bytes that a hasher gives.
+    #[tactic(auto, unfolding(crate::specs::Digests::digest_of))]
+    pub fn from_hash(hash: [u8; 32]) -> Digest
+        ensures { (bytes : List ℕ) → hash ≡ sha256 bytes → result ≡ digest_of bytes }
+    {
+        let (high, low) = hash.split_at(16);
+        Digest {
+            high: half_of(high),
+            low: half_of(low),
+        }
+    }
+}
+
+/// The number that 16 bytes spell.
+fn half_of(bytes: &[u8]) -> u128
+    requires { length bytes.now ≡ 16 }
+    ensures { result ≡ from_be_bytes w128 bytes.now }
+{
+    let mut half = [0u8; 16];
+    half.copy_from_slice(bytes);
+    u128::from_be_bytes(half)
+}
 
 /// The 64 hexadecimal digits of a digest, in lower case.
 pub fn print_digest(alloc: Global, digest: Digest) -> Result<Text, Memory>

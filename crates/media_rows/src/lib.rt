@@ -27,7 +27,7 @@ pub use crate::change::Change;
 pub use crate::command::{
     Command, FlowFilter, Page, Query, SegmentFilter, SourceFilter, TagTest, TagTests, Want,
 };
-pub use crate::digests::print_digest;
+pub use crate::digests::{digest_of, print_digest};
 pub use crate::essence::{holds_float, is_essence};
 pub use crate::event::{EventKind, EventList, EventRow, EventRowList, Happened, HappenedList};
 pub use crate::flow::{FlowBody, FlowList, FlowRow, FormatKind, Member, MemberList, Tag, TagList};

@@ -80,7 +80,7 @@ rows_are kept change (Some text) first = first.text
 
 -- the step of a plan's record
 pub step_is : (kept : StoreView) (change : Change) (planned : Planned) (payload : List ℕ) → MakesChange (journal_of kept) change planned
-    → planned.frame ≡ Some payload → StepOf form_in_use payload kept.library planned.next
+    → planned.frame ≡ Some payload → StepOf form_in_use payload kept.library planned.next.library
 step_is kept change planned payload makes is =
     let same : makes.payload ≡ payload = cc in
     record { change = change; spells = subst (λ (bytes : List ℕ). SpellsChange form_in_use bytes change) same makes.spells; made = makes.made }
@@ -94,7 +94,7 @@ pub commit_makes : (ok : Bool) (old new : Device) (kept : StoreView) (held : Lis
     → Carries ok (kept_state k h).archive (kept_written k planned.rows next payload) next_held old new)
     → ChangesStore ok change came kept (kept_by kept planned) held old new
 commit_makes ok old new kept held change came planned payload journal is same agrees makes fits there carries =
-    let next = planned.next in
+    let next = planned.next.library in
     let step = step_is kept change planned payload makes is in
     let bytes = next_bytes old kept held change came next agrees makes.made fits there in
     let made = carries kept held next (archive_next kept held change came).held agrees same (rows_are kept change planned.rows makes.first) step bytes in

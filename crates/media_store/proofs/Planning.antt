@@ -18,10 +18,10 @@ use Rattle.media_store.specs.Stores.{journal_of}
 -- ---- media blocks
 
 pub step_blocks : (journal : State) (change : Option Change) (planned : Planned) → MakesStep journal change planned
-    → planned.next.blocks ≡ journal.library.blocks
+    → planned.next.library.blocks ≡ journal.library.blocks
 step_blocks journal None planned makes = ap (λ (x : Library). x.blocks) makes.same
 step_blocks journal (Some change) planned makes =
-    ap (λ (x : Library). x.blocks) (applied_is_sound journal.library change planned.next makes.made).gives
+    ap (λ (x : Library). x.blocks) (applied_is_sound journal.library change planned.next.library makes.made).gives
     ∙ (store_stays journal.library change).blocks
 
 -- ---- what is kept behind a change
@@ -77,8 +77,8 @@ pub planned_next : (kept : StoreView) (change : Change) (planned : Planned) → 
     → IsAfterChange kept change (kept_by kept planned)
 planned_next kept change planned makes =
     subst (λ (frame : Option (List ℕ)). IsAfterChange kept change (kept_with kept planned frame)) (sym makes.frame)
-    (next_is kept change planned.rows planned.next makes.payload makes.first makes.spells
-    (applied_is_sound kept.library change planned.next makes.made).gives)
+    (next_is kept change planned.rows planned.next.library makes.payload makes.first makes.spells
+    (applied_is_sound kept.library change planned.next.library makes.made).gives)
 
 -- the bytes that it hands to the disk
 pub planned_bytes : (kept : StoreView) (change : Change) (planned : Planned) → MakesChange (journal_of kept) change planned

@@ -13,6 +13,7 @@ use Rattle.media_rows.specs.declared.refusal.Refusal.TheVariants.{JournalFull}
 use Rattle.media_rows.specs.declared.reply.Reply.{Reply}
 use Rattle.media_rows.specs.declared.reply.Reply.TheVariants as replies
 use Rattle.media_rows.specs.Answer.{Outcome, unchanged, put_answer_by, put_by_state, placed_put, stored_put}
+use Rattle.media_rows.specs.Digests.{digest_of}
 use Rattle.media_rows.specs.Media.{Archive, answer_to, puts}
 use Rattle.media_rows.specs.Objects.{blocks_of, bytes_of, free_place, object_of}
 use Rattle.change_codec.specs.Fitting.{State, fits}
@@ -20,11 +21,12 @@ use Rattle.store_states.specs.Fitting.{fitted, fitted_by}
 use Rattle.store_plans.specs.declared.outcome.Planned.{Planned}
 use Rattle.store_plans.specs.declared.puts.PutPlan.{PutPlan}
 use Rattle.store_plans.specs.declared.puts.PutPlan.TheVariants.{Refused, Write}
-use Rattle.store_plans.specs.Plans.{HasExtent, IsPutPlan, MakesStep, TakesExtent}
+use Rattle.store_plans.specs.declared.puts.StorePlan.{StorePlan}
+use Rattle.store_plans.specs.Plans.{IsPutPlan, MakesStep, planned_with}
 use Rattle.media_store.specs.Puts.{IsPlannedPut, put_reply}
 use Rattle.media_store.specs.Stores.{PutSeen, journal_of}
 use Rattle.media_store.specs.Within.{is_put_refusal}
-use Rattle.media_store.proofs.PutFacts.{fresh_extent, fresh_plan}
+use Rattle.media_store.proofs.PutFacts.{fresh_plan}
 
 -- a reply that isn't a refusal, or one of those
 abbrev may_be : Reply → Bool
@@ -36,9 +38,9 @@ record MayPut (outcome : Outcome) : Type 0 where
   refused : may_be outcome.reply ≡ true
   made : IfSome outcome.change (λ change. outcome.reply ≡ replies.Created)
 
-placed : (place : Option ℕ) (object : List ℕ) (size moment : ℕ) → MayPut (placed_put place object size moment)
-placed None object size moment = record { refused = refl; made = tt }
-placed (Some start) object size moment = record { refused = refl; made = refl }
+placed : (place : Option ℕ) (object bytes : List ℕ) (moment : ℕ) → MayPut (placed_put place object bytes moment)
+placed None object bytes moment = record { refused = refl; made = tt }
+placed (Some start) object bytes moment = record { refused = refl; made = refl }
 
 again : (same : Bool) → MayPut (stored_put same)
 again true = record { refused = refl; made = tt }
@@ -63,7 +65,7 @@ may_put journal archive object bytes moment =
     let outcome = answer_to archive (puts object bytes) moment in
     by_change journal outcome outcome.change
     (by_row (object_of object archive.library.objects) _ _
-    (placed (free_place archive.library.objects archive.library.blocks (blocks_of (length bytes))) object (length bytes) moment)
+    (placed (free_place archive.library.objects archive.library.blocks (blocks_of (length bytes))) object bytes moment)
     (again (bytes_eq (bytes_of object archive.library.objects archive.held) bytes)))
 
 -- ---- by plan
@@ -86,17 +88,16 @@ made_reply : (journal : State) (change : Option Change) (reply : Reply) (planned
 made_reply journal None reply planned payload step frame made = let none = step.frame in absurd cc
 made_reply journal (Some change) reply planned payload step frame made = made
 
-reply_of_put : (journal : State) (object : List ℕ) (size moment : ℕ) (extent : Extent) (planned : Planned)
-    → IsPutPlan journal object size moment (Write extent planned) → TakesExtent journal object size moment extent planned
-    → planned.reply ≡ replies.Created
+reply_of_put : (journal : State) (object : List ℕ) (size moment : ℕ) (extent : Extent) (plan : StorePlan)
+    → IsPutPlan journal object size moment (Write extent plan) → plan.prepared.reply ≡ replies.Created
 unfolding without_bytes
-reply_of_put journal object size moment extent planned is takes =
+reply_of_put journal object size moment extent plan is =
     let bytes = replicate size 0 in
-    let plan = is (without_bytes journal) bytes refl (length-replicate size 0) in
+    let planned = planned_with (digest_of bytes) plan in
+    let made = is (without_bytes journal) bytes refl (length-replicate size 0) in
     let outcome = fitted journal (answer_to (without_bytes journal) (puts object bytes) moment) in
-    plan.reply
-    ∙ made_reply journal outcome.change outcome.reply planned takes.makes.payload plan.step takes.makes.frame
-    (may_put journal (without_bytes journal) object bytes moment).made
+    made.reply
+    ∙ made_reply journal outcome.change outcome.reply planned _ made.step refl (may_put journal (without_bytes journal) object bytes moment).made
 
 -- ---- of a put that was planned
 
@@ -105,11 +106,10 @@ planned_refusal put why is at =
     refusal_of_put (journal_of is.kept) is.object put.size is.moment why
     (subst (IsPutPlan (journal_of is.kept) is.object put.size is.moment) at (fresh_plan is.kept is.object put.size is.moment put is.fresh))
 
-pub planned_write : (put : PutSeen) (extent : Extent) (planned : Planned) → IsPlannedPut put → put.plan ≡ Write extent planned
+pub planned_write : (put : PutSeen) (extent : Extent) (plan : StorePlan) → IsPlannedPut put → put.plan ≡ Write extent plan
     → replies.Created ≡ put_reply (record put { same = true }) put.plan
-planned_write put extent planned is at =
+planned_write put extent plan is at =
     let journal = journal_of is.kept in
-    let reply = reply_of_put journal is.object put.size is.moment extent planned
-    (subst (IsPutPlan journal is.object put.size is.moment) at (fresh_plan is.kept is.object put.size is.moment put is.fresh))
-    (subst (HasExtent journal is.object put.size is.moment) at (fresh_extent is.kept is.object put.size is.moment put is.fresh)) in
+    let reply = reply_of_put journal is.object put.size is.moment extent plan
+    (subst (IsPutPlan journal is.object put.size is.moment) at (fresh_plan is.kept is.object put.size is.moment put is.fresh)) in
     subst (λ (p : PutPlan). replies.Created ≡ put_reply (record put { same = true }) p) (sym at) (sym reply)

@@ -37,7 +37,7 @@ pub record CanCommit (kept : StoreView) (planned : Planned) : Type 0 where
 -- what is kept once a plan was written, by its record
 abbrev pub kept_with : StoreView → Planned → Option (List ℕ) → StoreView
 kept_with kept planned None = kept
-kept_with kept planned (Some payload) = kept_written kept planned.rows planned.next payload
+kept_with kept planned (Some payload) = kept_written kept planned.rows planned.next.library payload
 
 -- what is kept once a plan was written
 abbrev pub kept_by : StoreView → Planned → StoreView

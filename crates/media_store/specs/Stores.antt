@@ -1,5 +1,6 @@
 -- What a store is seen as, and what opening one answers. Our own rules.
 use Rattle.std.specs.Prelude.{◌≡◌, ◌≤◌, ◌+◌, ◌-◌, ◌*◌, ℕ, Bool, List, Option, Some, None, Result, Ok, Err}
+use Rattle.sha2.specs.declared.Sha256.{Sha256}
 use Rattle.media_rows.specs.declared.object.Extent.{Extent}
 use Rattle.media_rows.specs.declared.object.ObjectRow.{ObjectRow}
 use Rattle.media_rows.specs.declared.object.ObjectState.{ObjectState}
@@ -15,14 +16,15 @@ use Rattle.store_plans.specs.declared.puts.PutPlan.{PutPlan}
 use Rattle.store_plans.specs.Plans.{journal_in}
 
 -- What a put is seen as: its object, how many bytes were announced, its moment, how many were
--- handed to it so far, what is planned of them, and for an object that is stored whether its bytes
--- are the same so far.
+-- handed to it so far, what is planned of them, the hasher that takes the bytes that are written,
+-- and for an object that is stored whether its bytes are the same so far.
 pub record PutSeen : Type 0 where
   pub object : List ℕ
   pub size : ℕ
   pub moment : ℕ
   pub handed : ℕ
   pub plan : PutPlan
+  pub hasher : Sha256
   pub same : Bool
 
 -- What a store is seen as: its library and where its journal stands, whether a call of the disk

@@ -18,14 +18,14 @@ abbrev pub IsPlacedOn : ℕ → ℕ → PutPlan → Bool → ℕ → Type 0
 IsPlacedOn area size (Refused why) same end = Unit {0}
 IsPlacedOn area size (Kept extent) same end =
     IsOnDevice area extent size × (same ≡ true → end ≤ extent.length)
-IsPlacedOn area size (Write extent planned) same end =
+IsPlacedOn area size (Write extent plan) same end =
     IsOnDevice area extent size × (end ≤ extent.length)
 
 -- no stored object of a library has a block of the place where a put's bytes are written
 abbrev pub LeavesObjects : Library → PutPlan → Type 0
 LeavesObjects library (Refused why) = Unit {0}
 LeavesObjects library (Kept extent) = Unit {0}
-LeavesObjects library (Write extent planned) = IsFree library.objects extent
+LeavesObjects library (Write extent plan) = IsFree library.objects extent
 
 -- What a piece at this offset makes of a put over these bytes of a device and those after the call,
 -- where the media blocks begin here, and the bytes were the same so far and then are still.
@@ -33,7 +33,7 @@ abbrev pub TakesAt : ℕ → PutPlan → List ℕ → ℕ → Bool → Bool → 
 TakesAt area (Refused why) piece at same still before after = Unit {0}
 TakesAt area (Kept extent) piece at same still before after =
     still ≡ (same && bytes_eq (bytes_at (extent_bytes area extent before) at (length piece)) piece)
-TakesAt area (Write extent planned) piece at same still before after =
+TakesAt area (Write extent plan) piece at same still before after =
     take (at + length piece) (extent_bytes area extent after)
     ≡ take at (extent_bytes area extent before) ++ piece
 

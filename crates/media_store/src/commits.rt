@@ -40,12 +40,12 @@ impl Store {
     }
 
     /// The plan that leaves the store as it is, with this reply. The error is for a count of owners that is full.
-    pub fn keep(&self, reply: Reply) -> Result<Planned, Memory>
+    pub fn keep(&self, alloc: Global, reply: Reply) -> Result<Planned, Memory>
         ensures planned { IfOk result (IsPlanned (journal_of self.now.kept) (unchanged reply)) }
         ensures ready { IfOk result (CanCommit self.now.kept) }
     {
         Ok(Planned {
-            next: self.library.share()?,
+            next: self.library.share(alloc)?,
             frame: None,
             rows: None,
             reply,
@@ -93,7 +93,7 @@ impl Store {
         requires idle { self.old.put ≡ None }
         requires device { size_of self.old.kept ≤ (D.device disk.old).size }
         requires fits { PlanFits self.old.kept.journal planned }
-        requires blocks { planned.next.blocks ≡ self.old.kept.library.blocks }
+        requires blocks { planned.next.library.blocks ≡ self.old.kept.library.blocks }
         ensures makes { (D.device disk.old).honest ≡ true → (D.device disk.old).shows ≡ true
             → (held : List (List ℕ)) → (change : Change) → (came : List ℕ)
             → AgreesWith (D.device disk.old) self.old.kept held

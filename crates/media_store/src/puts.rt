@@ -4,24 +4,27 @@ ghost use Rattle.std.specs.Option.{option_copied};
 ghost use Rattle.std.specs.Result.{is_err};
 ghost use Rattle.media_rows.specs.declared.change.Change.{Change};
 ghost use Rattle.media_rows.specs.Answer.{stored_put};
+ghost use Rattle.media_rows.specs.Digests.{digest_of};
 ghost use Rattle.media_rows.specs.Moments.{is_moment};
 ghost use Rattle.disk_trait.specs.Calls.{DiskCalls, bytes_at};
 ghost use Rattle.object_blobs.specs.Extents.{IsOnDevice, extent_bytes};
-ghost use Rattle.store_plans.specs.Plans.{MakesChange, PlanFits};
+ghost use Rattle.sha2.specs.Hashers.{Holds256};
+ghost use Rattle.store_plans.specs.Plans.{CanTakeDigest, MakesChange, PlanFits, planned_with};
 ghost use Rattle.store_states.specs.Kept.{AgreesWith, StoreView};
 ghost use Rattle.store_states.specs.States.{media_start};
 ghost use Rattle.store_writes.specs.Writes.{Keeps};
 ghost use Rattle.media_store.specs.Changes.{ChangesStore, FileStands, bytes_by, kept_by};
-ghost use Rattle.media_store.specs.Puts.{AllCame, EndsIf, HandsOn, HasRoomToCompare, IsFreshPut, IsPlannedPut, IsPutOf, MayTake, PutMovesOn, asks_disk, asks_disk_if, body_handed, bytes_at_extent, end_handed, handed_of_piece, kept_behind, may_be_same, plan_of, put_plan_refusal, put_reply, reply_if, writes_by, writes_if};
+ghost use Rattle.media_store.specs.Puts.{AllCame, EndsIf, HandsOn, HasCome, HasRoomToCompare, Hashes, IsFreshPut, IsPlannedPut, IsPutOf, MayTake, PutMovesOn, asks_disk, asks_disk_if, body_handed, bytes_at_extent, end_handed, handed_of_piece, kept_behind, may_be_same, plan_of, put_plan_refusal, put_reply, reply_if, writes_by, writes_if};
 ghost use Rattle.media_store.specs.Stores.{journal_of, size_of};
 ghost use Rattle.media_store.specs.Within.{IsPlacedOn, LeavesObjects, StoresAt, TakesAt, is_put_refusal};
 
 use crate::Store;
 use disk_trait::{Disk, Failed, Memory, Text, same_bytes};
-use media_rows::{Extent, Refusal, Reply};
+use media_rows::{Digest, Extent, Refusal, Reply};
+use sha2::{Digest as _, Sha256};
 use std::alloc::Global;
 use std::marker::Model;
-use store_plans::{Planned, PutPlan, plan_put};
+use store_plans::{Planned, PutPlan, StorePlan, plan_put};
 use store_writes::{read_kept, write_free};
 
 /// The most bytes of a piece.
@@ -35,6 +38,8 @@ pub struct Put {
     moment: u64,
     handed: u64,
     plan: PutPlan,
+    /// It takes the bytes that are written.
+    hasher: Sha256,
     same: bool,
     /// Room for a piece of the bytes that are kept, where they are to be compared.
     buffer: Vec<u8>,
@@ -53,6 +58,7 @@ impl Model for Put {
       moment = p.moment;
       handed = p.handed;
       plan = p.plan;
+      hasher = p.hasher;
       same = p.same;
     } };
 
@@ -117,6 +123,7 @@ impl Store {
             moment: now,
             handed: 0,
             plan,
+            hasher: Sha256::new(),
             same,
             buffer,
         })
@@ -184,9 +191,12 @@ impl Store {
         requires unspent { IsFalse self.old.spent }
         requires device { size_of self.old.kept ≤ (D.device disk.old).size }
         requires filled { AllCame self.old.put }
+
+        // The object gets the digest of the bytes that came, where its put writes any.
         ensures makes { (D.device disk.old).honest ≡ true → (D.device disk.old).shows ≡ true
-            → (held : List (List ℕ)) → AgreesWith (D.device disk.old) self.old.kept held
-            → EndsIf (is_ok result) self.old.put self.old.kept held
+            → (held : List (List ℕ)) → (came : List ℕ)
+            → AgreesWith (D.device disk.old) self.old.kept held → HasCome self.old.put came
+            → EndsIf (is_ok result) self.old.put (digest_of came) self.old.kept held
             (D.device disk.old) (D.device disk.new) }
         ensures stands { (D.device disk.old).honest ≡ true → (D.device disk.old).shows ≡ true
             → FileStands (D.device disk.old) self.old.kept
@@ -197,7 +207,8 @@ impl Store {
             → (disk.new ≡ disk.old) × IsTrue (is_ok result) }
 
         ensures reply { IfOk result (λ reply. Some reply ≡ reply_if self.old.put) }
-        ensures kept { OnOk result (self.new.kept ≡ kept_behind self.old.kept self.old.put) }
+        ensures kept { (came : List ℕ) → HasCome self.old.put came → OnOk result
+            (self.new.kept ≡ kept_behind self.old.kept self.old.put (digest_of came)) }
         ensures idle { self.new.put ≡ None }
         ensures spent { self.new.spent ≡ is_err result }
         ensures handed { (D.device disk.old).tells ≡ true → OnOk result ((D.device disk.new).handed
@@ -209,11 +220,16 @@ impl Store {
         let Some(put) = self.put.take() else {
             unreachable!()
         };
-        let Put { plan, same, .. } = put;
+        let Put {
+            plan,
+            same,
+            hasher,
+            ..
+        } = put;
         match plan {
             PutPlan::Refused(why) => Ok(Reply::Refused(why)),
             PutPlan::Kept(_) => Ok(compared_reply(same)),
-            PutPlan::Write(extent, planned) => self.store(disk, extent, planned),
+            PutPlan::Write(extent, plan) => self.store(disk, extent, finished(plan, hasher)),
         }
     }
 
@@ -240,7 +256,7 @@ impl Store {
         requires device { size_of self.old.kept ≤ (D.device disk.old).size }
         requires place { IsOnDevice (media_start self.old.kept.journal.half) extent (D.device disk.old).size }
         requires fits { PlanFits self.old.kept.journal planned }
-        requires blocks { planned.next.blocks ≡ self.old.kept.library.blocks }
+        requires blocks { planned.next.library.blocks ≡ self.old.kept.library.blocks }
         ensures makes { (D.device disk.old).honest ≡ true → (D.device disk.old).shows ≡ true
             → (held : List (List ℕ)) → (change : Change)
             → AgreesWith (D.device disk.old) self.old.kept held
@@ -296,6 +312,7 @@ impl Put {
         let at = self.handed;
         let room = self.buffer.as_mut_slice();
         self.same = take_piece(disk, area, &self.plan, at, self.same, piece, room)?;
+        hash_piece(&self.plan, &mut self.hasher, piece);
         self.handed += piece.len() as u64;
         Ok(())
     }
@@ -344,6 +361,24 @@ fn take_piece<D: Disk>(
             write_free(disk, area, *extent, at, piece)?;
             Ok(same)
         }
+    }
+}
+
+/// The plan with the digest of the bytes that a hasher has taken. It takes no memory.
+fn finished(plan: StorePlan, hasher: Sha256) -> Planned
+    requires takes { CanTakeDigest plan }
+    ensures { (came : List ℕ) → Holds256 hasher came
+        → result ≡ planned_with (digest_of came) plan }
+{
+    plan.with_digest(Digest::from_hash(hasher.finalize()))
+}
+
+/// Feeds a piece to the hasher of a put, where it is written.
+fn hash_piece(plan: &PutPlan, hasher: &mut Sha256, piece: &[u8])
+    ensures { Hashes plan.now hasher.old piece.now hasher.new }
+{
+    if let PutPlan::Write(_, _) = plan {
+        hasher.update(piece);
     }
 }
 

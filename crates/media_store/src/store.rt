@@ -31,13 +31,13 @@ impl Model for Store {
     ghost Value = { StoreSeen };
 
     ghost view = { λ s. record {
-      kept = record { library = s.library; journal = s.journal };
+      kept = record { library = s.library.library; journal = s.journal };
       spent = s.spent;
       put = s.put;
     } };
 
     ghost invariant = { λ s. s.spent ≡ false
-        → IsStore (record { library = s.library; journal = s.journal }) s.put };
+        → IsStore (record { library = s.library.library; journal = s.journal }) s.put };
 }
 
 impl Store {

@@ -13,5 +13,6 @@ mod Sweeping
 mod Ordering
 mod Restoring
 mod Coming
+mod Shown
 pub mod Gathered
 pub mod Theorems

@@ -1,15 +1,29 @@
 -- Objects with the references to them, as a book is seen: which object each call changes, and how.
 -- Our own rules.
-use Rattle.std.specs.Prelude.{ℕ, ◌==◌, pos, nat_lt, List, [], ◌∷◌, ◌++◌, Bool, Option, None, if◌then◌else◌, bytes_eq, filter, find, map, not}
+use Rattle.std.specs.Prelude.{ℕ, ◌==◌, pos, nat_lt, List, [], ◌∷◌, ◌++◌, Bool, Option, Some, None, if◌then◌else◌, bytes_eq, filter, find, map, not, option_map}
 use Rattle.std.specs.List.{list_all, list_any}
 use Rattle.media_rows.specs.declared.object.Digest.{Digest}
 use Rattle.media_rows.specs.declared.object.Extent.{Extent}
 use Rattle.media_rows.specs.declared.object.ObjectRow.{ObjectRow}
+use Rattle.media_rows.specs.declared.object.ObjectState.{ObjectState}
+use Rattle.media_rows.specs.declared.object.ObjectState.TheVariants.{Allocated, Stored}
 use Rattle.media_rows.specs.declared.segment.SegmentRow.{SegmentRow}
 use Rattle.media_rows.specs.Lists.{in_order, inserted}
-use Rattle.media_rows.specs.Objects.{allocated_rows, references, stored_row}
+use Rattle.media_rows.specs.Objects.{allocated_rows, object_of, references, stored_row}
 use Rattle.media_rows.specs.Restoring.{objects_of}
 use Rattle.object_refs.specs.declared.kept.Kept.{Kept}
+
+-- ---- a book
+
+-- A book as it is seen: the objects by rising serial, each with the references to it, and the
+-- serial of the object whose row the book holds apart, where it holds one.
+pub record Book : Type 0 where
+  pub kept : List Kept
+  pub apart : Option ℕ
+
+-- a book that holds no row apart
+abbrev pub settled : List Kept → Book
+settled kept = record { kept = kept; apart = None }
 
 -- ---- what a book has
 
@@ -72,6 +86,40 @@ changed_at id change kept = map (λ k. if bytes_eq k.row.id id then change k els
 abbrev pub stored_at : Extent → Option Digest → ℕ → Kept → Kept
 stored_at extent digest moment k =
     record { row = stored_row extent.start extent.length digest moment k.row; flows = k.flows }
+
+-- a book that holds the row of an id apart
+abbrev pub held_apart : List ℕ → List Kept → Book
+held_apart id kept = record {
+  kept = kept;
+  apart = option_map (λ row. row.serial) (object_of id (objects_in kept));
+}
+
+-- an object in this state, with this digest where it has its bytes
+abbrev pub digested_state : Digest → ObjectState → ObjectState
+digested_state digest Allocated = Allocated
+digested_state digest (Stored start size kept) = Stored start size (Some digest)
+
+-- an object with this digest, where it has its bytes
+abbrev pub digested_row : Digest → ObjectRow → ObjectRow
+digested_row digest row = record row { state = digested_state digest row.state }
+
+-- an object with this digest, where it has this serial
+abbrev pub digested_at : Option ℕ → Digest → ObjectRow → ObjectRow
+digested_at None digest row = row
+digested_at (Some serial) digest row =
+    if row.serial == serial then digested_row digest row else row
+
+-- the objects with this digest at the one of a serial, if there is a serial
+abbrev pub digested : Option ℕ → Digest → List ObjectRow → List ObjectRow
+digested apart digest objects = map (digested_at apart digest) objects
+
+-- the book with this digest at the row that it holds apart
+abbrev pub with_digest : Digest → Book → Book
+with_digest digest book = record {
+  kept =
+      map (λ k. record { row = digested_at book.apart digest k.row; flows = k.flows }) book.kept;
+  apart = book.apart;
+}
 
 -- an object with one reference of a flow more
 abbrev pub referred : ℕ → Kept → Kept

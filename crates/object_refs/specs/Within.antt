@@ -1,4 +1,5 @@
--- What only proofs and private clauses need: counts of references.
+-- What only proofs and private clauses need.
 pub mod Counts
 pub mod Names
 pub mod Books
+pub mod Apart

@@ -1,68 +1,51 @@
 //! The book and its public calls.
-ghost use Rattle.std.specs.Prelude.{◌≡◌, ◌+◌, ◌-◌, ◌^◌, [], IfOk, IsFalse, IsTrue, is_some, length, min, nat_le, not, option_copied, pos};
+ghost use Rattle.std.specs.Prelude.{◌≡◌, ◌-◌, ◌^◌, [], IfOk, IsFalse, IsTrue, is_some, length, min, not, option_copied};
 ghost use Rattle.media_rows.specs.Answer.{keep_refusal};
 ghost use Rattle.media_rows.specs.Good.{are_object_ids_distinct, rises_by};
-ghost use Rattle.media_rows.specs.Objects.{due_objects, flows_naming, idle_time, idled, is_named, is_stored_object, object_of, reference_count};
+ghost use Rattle.media_rows.specs.Objects.{due_objects, flows_naming, idled, is_named, is_stored_object, object_of, reference_count};
 ghost use Rattle.media_rows.specs.Refusals.{IsChange, Restores, when};
 ghost use Rattle.media_rows.specs.Restoring.{can_restore_objects};
 ghost use Rattle.media_rows.specs.declared.refusal.Refusal.TheVariants.{IdTaken, NoObject};
-ghost use Rattle.shared_tree.specs.Pairs.{first, values_of};
-ghost use Rattle.object_refs.specs.References.{are_below, book_of, changed_at, flows_in, kept_of, objects_in, references_in, referred, refers, released, released_at, stored_at, with_new, without_id};
-ghost use Rattle.object_refs.specs.Within.Books.{has_serial, stored_of};
-ghost use Rattle.object_refs.specs.Within.Names.{id_number};
+ghost use Rattle.shared_tree.specs.Pairs.{first};
+ghost use Rattle.object_refs.specs.References.{are_below, book_of, changed_at, flows_in, held_apart, objects_in, references_in, referred, refers, released, released_at, settled, stored_at, with_digest, with_new, without_id};
 
-use crate::changes::{is_stored, referred_kept, released_kept, stored_kept};
-use crate::kept::Kept;
-use crate::keys::{all_values, first_value, value_at};
-use crate::names::{NameTable, id_number};
-use crate::restores::{gathered, referred_by};
+use crate::apart::{row_copy, shown_if_any, with_digest};
+use crate::trees::ObjectTrees;
 use disk_trait::{Duplicate, Memory, Text};
 use media_rows::{
-    ApplyFault, BookFault, Digest, Extent, IdList, ObjectList, ObjectRow, Refusal, SegmentList,
+    ApplyFault, BookFault, Digest, Extent, IdList, ObjectList, ObjectRow, SegmentList,
 };
-use shared_tree::Version;
 use std::alloc::Global;
 use std::marker::Model;
 
-/// Seconds for which an object to which nothing refers is kept.
-const IDLE_TIME: u64 = 86400;
-
 /// Objects by rising serial, each with the references to it: the flows that name it, each as often as it
 /// does. A change gives a new book and leaves this one as it is; moments are seconds since
-/// 1970-01-01T00:00:00Z.
+/// 1970-01-01T00:00:00Z. The row of the object that was stored last may be held apart, where its digest can
+/// still be set; the next change puts it with the others.
 #[derive(Drop)]
 pub struct ObjectBook {
-    /// The objects by their serials.
-    pub(crate) rows: Version<Kept>,
-    /// Their serials by the numbers of their ids.
-    pub(crate) names: NameTable,
-    /// The serials of the objects to which nothing refers, in the order in which they are swept.
-    pub(crate) idle: Version<u64>,
+    trees: ObjectTrees,
+    /// The row that is held apart. It stands for the one of its serial in the trees.
+    apart: Option<ObjectRow>,
 }
 
 impl Model for ObjectBook {
-    ghost use Rattle.std.specs.Prelude.{List};
-    ghost use Rattle.shared_tree.specs.Pairs.{values};
-    ghost use Rattle.object_refs.specs.declared.kept.Kept.{Kept};
-    ghost use Rattle.object_refs.specs.Within.Books.{IsBook};
+    ghost use Rattle.object_refs.specs.References.{Book};
+    ghost use Rattle.object_refs.specs.Within.Apart.{IsHeld, book_seen};
 
-    ghost Value = { List Kept };
+    ghost Value = { Book };
 
-    ghost view = { λ b. values b.rows };
+    ghost view = { λ b. book_seen b.trees b.apart };
 
-    ghost invariant = { λ b. IsBook b.rows b.names b.idle };
+    ghost invariant = { λ b. IsHeld b.apart b.trees };
 }
 
 impl ObjectBook {
     /// A book without objects. It takes no memory.
     pub fn empty() -> ObjectBook
-        ensures { result ≡ [] }
+        ensures { result ≡ settled [] }
     {
-        ObjectBook {
-            rows: Version::empty(),
-            names: NameTable::empty(),
-            idle: Version::empty(),
-        }
+        ObjectBook::of_trees(ObjectTrees::empty())
     }
 
     /// The book of these objects and of the references of these segments, each in any order. It is refused
@@ -73,40 +56,33 @@ impl ObjectBook {
         segments: &SegmentList,
     ) -> Result<ObjectBook, ApplyFault>
         ensures { Restores (can_restore_objects objects.now segments.now)
-            (book_of objects.now segments.now) result }
+            (settled (book_of objects.now segments.now)) result }
     {
-        match gathered(alloc, objects.items()) {
-            Ok(bare) => referred_by(alloc, &bare, segments.items()),
+        match ObjectTrees::from_rows(alloc, objects, segments) {
+            Ok(trees) => Ok(ObjectBook::of_trees(trees)),
             Err(fault) => Err(fault),
         }
     }
 
     /// The object of this id, if it is kept, be it allocated or stored.
     pub fn find(&self, id: &Text) -> Option<&ObjectRow>
-        ensures { option_copied result ≡ object_of id.now (objects_in self.now) }
+        ensures { option_copied result ≡ object_of id.now (objects_in self.now.kept) }
     {
-        match self.kept(id) {
-            Some(kept) => Some(&kept.row),
-            None => None,
-        }
+        shown_if_any(&self.apart, self.trees.find(id))
     }
 
     /// How many references there are to the object of this id.
     pub fn count(&self, id: &Text) -> u64
-        ensures { result ≡ reference_count (references_in self.now) id.now }
+        ensures { result ≡ reference_count (references_in self.now.kept) id.now }
     {
-        self.rows.keys_rise();
-        match self.kept(id) {
-            Some(kept) => kept.flows.len(),
-            None => 0,
-        }
+        self.trees.count(id)
     }
 
     /// The number of objects, or the last value of a `u64` where there are more.
     pub fn object_count(&self) -> u64
-        ensures { result ≡ min (length (objects_in self.now)) (2 ^ 64 - 1) }
+        ensures { result ≡ min (length (objects_in self.now.kept)) (2 ^ 64 - 1) }
     {
-        self.rows.len()
+        self.trees.object_count()
     }
 
     /// Adds an object without bytes, idle since now, whose serial is above all others. It is refused as
@@ -118,20 +94,21 @@ impl ObjectBook {
         serial: u64,
         now: u64,
     ) -> Result<ObjectBook, BookFault>
-        requires above { IsTrue (are_below serial self.now) }
+        requires above { IsTrue (are_below serial self.now.kept) }
         ensures { IsChange
-            (when (is_some (object_of id.now (objects_in self.now))) (IdTaken id.now))
-            (with_new id.now serial now self.now) result }
+            (when (is_some (object_of id.now (objects_in self.now.kept))) (IdTaken id.now))
+            (settled (with_new id.now serial now self.now.kept)) result }
     {
-        let number = id_number(id);
-        if self.has_id(number, id) {
-            return Err(BookFault::Refused(Refusal::IdTaken(id.copy(alloc)?)));
+        let trees = self.settled(alloc)?;
+        match trees.allocate(alloc, id, serial, now) {
+            Ok(next) => Ok(ObjectBook::of_trees(next)),
+            Err(fault) => Err(fault),
         }
-        Ok(self.with_new(alloc, id, number, serial, now)?)
     }
 
     /// Notes that an object has its bytes, at this place and with this digest where one is kept, and is idle
-    /// since now. It is refused as `UnknownObject` where there is no such object, and as `OtherBytes` where it has its bytes already.
+    /// since now. The new book holds its row apart. It is refused as `UnknownObject` where there is no such
+    /// object, and as `OtherBytes` where it has its bytes already.
     pub fn mark_stored(
         &self,
         alloc: Global,
@@ -140,32 +117,36 @@ impl ObjectBook {
         digest: Option<Digest>,
         now: u64,
     ) -> Result<ObjectBook, BookFault>
-        ensures { IsChange (keep_refusal (object_of id.now (objects_in self.now)))
-            (changed_at id.now (stored_at extent digest now) self.now) result }
+        ensures { IsChange (keep_refusal (object_of id.now (objects_in self.now.kept)))
+            (held_apart id.now (changed_at id.now (stored_at extent digest now) self.now.kept))
+            result }
     {
-        let Some(old) = self.kept(id) else {
-            return Err(BookFault::Refused(Refusal::UnknownObject));
-        };
-        if is_stored(old.row.state) {
-            return Err(BookFault::Refused(Refusal::OtherBytes));
+        let trees = self.settled(alloc)?;
+        match trees.mark_stored(alloc, id, extent, digest, now) {
+            Ok(next) => Ok(ObjectBook::holding(alloc, next, id)?),
+            Err(fault) => Err(fault),
         }
-        let new = stored_kept(alloc, old, extent, digest, now)?;
-        Ok(self.with_kept(alloc, old, new)?)
+    }
+
+    /// Sets the digest of the object whose row is held apart, where it has its bytes. It takes no memory.
+    pub fn set_digest(&mut self, digest: Digest)
+        requires apart { IsTrue (is_some self.old.apart) }
+        ensures { self.new ≡ with_digest digest self.old }
+    {
+        self.apart = with_digest(self.apart.take(), digest);
     }
 
     /// Adds one reference of a flow to an object. It is refused as `NoObject` where no object of this id has
     /// its bytes.
     pub fn refer(&self, alloc: Global, id: &Text, flow: u128) -> Result<ObjectBook, BookFault>
         ensures { IsChange
-            (when (not (is_stored_object (objects_in self.now) id.now)) (NoObject id.now))
-            (changed_at id.now (referred flow) self.now) result }
+            (when (not (is_stored_object (objects_in self.now.kept) id.now)) (NoObject id.now))
+            (settled (changed_at id.now (referred flow) self.now.kept)) result }
     {
-        match self.stored(id) {
-            Some(old) => {
-                let new = referred_kept(alloc, old, flow)?;
-                Ok(self.with_kept(alloc, old, new)?)
-            }
-            None => Err(BookFault::Refused(Refusal::NoObject(id.copy(alloc)?))),
+        let trees = self.settled(alloc)?;
+        match trees.refer(alloc, id, flow) {
+            Ok(next) => Ok(ObjectBook::of_trees(next)),
+            Err(fault) => Err(fault),
         }
     }
 
@@ -177,160 +158,92 @@ impl ObjectBook {
         flow: u128,
         now: u64,
     ) -> Result<ObjectBook, Memory>
-        requires there { IsTrue (refers (references_in self.now) id.now flow) }
-        ensures objects { IfOk result (λ next. objects_in next
-            ≡ idled (references_in self.now) (references_in next) now (objects_in self.now)) }
-        ensures flows { IfOk result
-            (λ next. flows_in next ≡ flows_in (changed_at id.now (released flow) self.now)) }
+        requires there { IsTrue (refers (references_in self.now.kept) id.now flow) }
+        ensures objects { IfOk result (λ next. objects_in next.kept
+            ≡ idled (references_in self.now.kept) (references_in next.kept) now
+            (objects_in self.now.kept)) }
+        ensures flows { IfOk result (λ next. flows_in next.kept
+            ≡ flows_in (changed_at id.now (released flow) self.now.kept)) }
         ensures book { IfOk result
-            (λ next. next ≡ changed_at id.now (released_at flow now) self.now) }
+            (λ next. next ≡ settled (changed_at id.now (released_at flow now) self.now.kept)) }
     {
-        self.rows.keys_rise();
-        let Some(old) = self.kept(id) else {
-            unreachable!()
-        };
-        let new = released_kept(alloc, old, flow, now)?;
-        self.with_kept(alloc, old, new)
+        let trees = self.settled(alloc)?;
+        let next = trees.unrefer(alloc, id, flow, now)?;
+        Ok(ObjectBook::of_trees(next))
     }
 
     /// The flows that refer to the object of this id, by rising id, each once.
     pub fn flows_of(&self, alloc: Global, id: &Text) -> Result<IdList, Memory>
-        ensures { IfOk result (λ list. list ≡ flows_naming (references_in self.now) id.now) }
+        ensures { IfOk result
+            (λ list. list ≡ flows_naming (references_in self.now.kept) id.now) }
     {
-        self.rows.keys_rise();
-        match self.kept(id) {
-            Some(kept) => kept.flows.distinct(alloc),
-            None => Ok(IdList::new(alloc)),
-        }
+        self.trees.flows_of(alloc, id)
     }
 
     /// The object that is swept first, if one is due: of those to which nothing refers, the one that is idle
     /// for the longest, once it is so for a day. Objects that are idle since one moment go by serial.
     pub fn first_idle(&self, now: u64) -> Option<&ObjectRow>
-        ensures { option_copied result
-            ≡ first (due_objects (references_in self.now) (objects_in self.now) now) }
+        ensures { option_copied result ≡ first (due_objects (references_in self.now.kept)
+            (objects_in self.now.kept) now) }
     {
-        self.rows.keys_rise();
-        self.idle.keys_rise();
-        let Some(serial) = first_value(&self.idle) else {
-            return None;
-        };
-        let Some(kept) = value_at(&self.rows, &serial_key(*serial)) else {
-            unreachable!()
-        };
-        if is_over(kept.row.idle_since, now) {
-            Some(&kept.row)
-        } else {
-            None
-        }
+        shown_if_any(&self.apart, self.trees.first_idle(now))
     }
 
     /// Leaves out the object of this id, to which nothing refers.
     pub fn sweep(&self, alloc: Global, id: &Text) -> Result<ObjectBook, Memory>
-        requires unnamed { IsFalse (is_named (references_in self.now) id.now) }
-        ensures { IfOk result (λ next. next ≡ without_id id.now self.now) }
+        requires unnamed { IsFalse (is_named (references_in self.now.kept) id.now) }
+        ensures { IfOk result (λ next. next ≡ settled (without_id id.now self.now.kept)) }
     {
-        let number = id_number(id);
-        match self.kept_at(number, id) {
-            Some(old) => self.without_kept(alloc, number, old),
-            None => self.share(),
-        }
+        let trees = self.settled(alloc)?;
+        let next = trees.sweep(alloc, id)?;
+        Ok(ObjectBook::of_trees(next))
     }
 
     /// All objects, by rising serial.
     pub fn list(&self, alloc: Global) -> Result<ObjectList, Memory>
-        ensures { IfOk result (λ list. list ≡ objects_in self.now) }
+        ensures { IfOk result (λ list. list ≡ objects_in self.now.kept) }
     {
-        let kept = all_values(alloc, &self.rows)?;
-        object_list(alloc, &kept)
+        self.trees.list(alloc, &self.apart)
     }
 
     /// A law: objects stand by rising serial, and no two have one id.
     pub fn is_in_order(&self)
-        ensures serials { IsTrue (rises_by (λ row. row.serial) (objects_in self.now)) }
-        ensures ids { IsTrue (are_object_ids_distinct (objects_in self.now)) }
+        ensures serials { IsTrue (rises_by (λ row. row.serial) (objects_in self.now.kept)) }
+        ensures ids { IsTrue (are_object_ids_distinct (objects_in self.now.kept)) }
     {
-        self.rows.keys_rise();
+        self.trees.is_in_order();
     }
 
-    /// The same book once more.
-    pub fn share(&self) -> Result<ObjectBook, Memory>
+    /// The same book once more, the row apart with it.
+    pub fn share(&self, alloc: Global) -> Result<ObjectBook, Memory>
         ensures { IfOk result (λ next. next ≡ self.now) }
     {
         Ok(ObjectBook {
-            rows: self.rows.share()?,
-            names: self.names.share()?,
-            idle: self.idle.share()?,
+            trees: self.trees.share()?,
+            apart: self.apart.duplicate(alloc)?,
         })
     }
 
-    /// Whether an object has this serial.
-    pub(crate) fn has_serial(&self, serial: u64) -> bool
-        ensures { result ≡ has_serial serial self.now }
+    /// The objects with the row that is held apart in its place.
+    fn settled(&self, alloc: Global) -> Result<ObjectTrees, Memory>
+        ensures { IfOk result (λ next. next ≡ self.now.kept) }
     {
-        value_at(&self.rows, &serial_key(serial)).is_some()
+        self.trees.with_held(alloc, &self.apart)
     }
 
-    /// The object of this id, where it has its bytes.
-    fn stored(&self, id: &Text) -> Option<&Kept>
-        ensures { option_copied result ≡ stored_of (kept_of id.now self.now) }
+    /// The book of these objects, which holds none apart.
+    fn of_trees(trees: ObjectTrees) -> ObjectBook
+        ensures { result ≡ settled trees }
     {
-        let kept = self.kept(id)?;
-        if is_stored(kept.row.state) {
-            Some(kept)
-        } else {
-            None
-        }
+        ObjectBook { trees, apart: None }
     }
 
-    /// The object of this id, with the references to it.
-    fn kept(&self, id: &Text) -> Option<&Kept>
-        ensures { option_copied result ≡ kept_of id.now self.now }
+    /// The book of these objects, which holds a copy of the one of an id apart.
+    fn holding(alloc: Global, trees: ObjectTrees, id: &Text) -> Result<ObjectBook, Memory>
+        ensures { IfOk result (λ next. next ≡ held_apart id.now trees) }
     {
-        self.kept_at(id_number(id), id)
+        trees.is_in_order();
+        let apart = row_copy(alloc, trees.find(id))?;
+        Ok(ObjectBook { trees, apart })
     }
-
-    /// Whether an object has this id, whose number is given.
-    pub(crate) fn has_id(&self, number: u128, id: &Text) -> bool
-        requires number { number ≡ id_number id.now }
-        ensures { result ≡ is_some (object_of id.now (objects_in self.now)) }
-    {
-        self.kept_at(number, id).is_some()
-    }
-
-    /// The object of an id, whose number is given, with the references to it.
-    fn kept_at(&self, number: u128, id: &Text) -> Option<&Kept>
-        requires number { number ≡ id_number id.now }
-        ensures { option_copied result ≡ kept_of id.now self.now }
-    {
-        self.rows.keys_rise();
-        match self.names.at(number, id) {
-            Some(serial) => value_at(&self.rows, &serial_key(serial)),
-            None => None,
-        }
-    }
-}
-
-/// The key of a serial in the order of objects.
-pub(crate) fn serial_key(serial: u64) -> i128
-    ensures { result ≡ pos serial }
-{
-    serial as i128
-}
-
-/// Whether an object that is idle since a moment, and to which nothing refers, may be swept now.
-fn is_over(idle_since: u64, now: u64) -> bool
-    ensures { result ≡ nat_le (idle_since + idle_time) now }
-{
-    IDLE_TIME <= now && idle_since <= now - IDLE_TIME
-}
-
-fn object_list(alloc: Global, kept: &[&Kept]) -> Result<ObjectList, Memory>
-    ensures { IfOk result (λ list. list ≡ objects_in (values_of kept.now)) }
-{
-    let mut list = ObjectList::new(alloc);
-    for object in kept {
-        list.push(object.row.duplicate(alloc)?)?;
-    }
-    Ok(list)
 }

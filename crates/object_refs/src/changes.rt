@@ -1,4 +1,4 @@
-//! What makes a book of another one: an object that comes, is changed or goes.
+//! What makes new trees of others: an object that comes, is changed or goes.
 ghost use Rattle.std.specs.Prelude.{◌≡◌, ◌<◌, ◌^◌, IfOk, IsFalse, IsTrue, None, Some};
 ghost use Rattle.media_rows.specs.Objects.{is_stored};
 ghost use Rattle.object_refs.specs.References.{are_below, changed_at, kept_of, referred, released_at, stored_at, with_new, without_id};
@@ -6,18 +6,17 @@ ghost use Rattle.object_refs.specs.Within.Books.{has_serial, idle_entered, idle_
 ghost use Rattle.object_refs.specs.Within.Names.{id_number};
 ghost use Rattle.object_refs.specs.declared.kept.Kept.{Kept};
 
-use crate::ObjectBook;
-use crate::book::serial_key;
 use crate::flows::FlowCounts;
 use crate::kept::Kept;
 use crate::keys::{with_value, without_value};
+use crate::trees::{ObjectTrees, serial_key};
 use disk_trait::{Duplicate, Memory, Text};
 use media_rows::{Digest, Extent, ObjectRow, ObjectState};
 use shared_tree::Version;
 use std::alloc::Global;
 
-impl ObjectBook {
-    /// The book with a new object, the number of whose id is given.
+impl ObjectTrees {
+    /// The trees with a new object, the number of whose id is given.
     pub(crate) fn with_new(
         &self,
         alloc: Global,
@@ -25,7 +24,7 @@ impl ObjectBook {
         number: u128,
         serial: u64,
         now: u64,
-    ) -> Result<ObjectBook, Memory>
+    ) -> Result<ObjectTrees, Memory>
         requires number { number ≡ id_number id.now }
         requires above { IsTrue (are_below serial self.now) }
         requires id { kept_of id.now self.now ≡ None }
@@ -40,13 +39,13 @@ impl ObjectBook {
         self.with_row(alloc, number, row)
     }
 
-    /// The book with a new object at its place, to which nothing refers. The number of its id is given.
+    /// The trees with a new object at its place, to which nothing refers. The number of its id is given.
     pub(crate) fn with_row(
         &self,
         alloc: Global,
         number: u128,
         row: ObjectRow,
-    ) -> Result<ObjectBook, Memory>
+    ) -> Result<ObjectTrees, Memory>
         requires number { number ≡ id_number row.id }
         requires id { kept_of row.id self.now ≡ None }
         requires serial { IsFalse (has_serial row.serial self.now) }
@@ -61,20 +60,20 @@ impl ObjectBook {
         };
         let key = kept.idle_key();
         let id = kept.row.id.copy(alloc)?;
-        Ok(ObjectBook {
+        Ok(ObjectTrees {
             rows: with_value(alloc, &self.rows, &serial_key(serial), kept)?,
             names: self.names.with(alloc, number, id, serial)?,
             idle: idle_entered(alloc, &self.idle, &key, serial)?,
         })
     }
 
-    /// The book with an object in place of the one that has its id and serial.
+    /// The trees with an object in place of the one that has its id and serial.
     pub(crate) fn with_kept(
         &self,
         alloc: Global,
         old: &Kept,
         new: Kept,
-    ) -> Result<ObjectBook, Memory>
+    ) -> Result<ObjectTrees, Memory>
         requires found { kept_of old.now.row.id self.now ≡ Some old.now }
         requires id { new.row.id ≡ old.now.row.id }
         requires serial { new.row.serial ≡ old.now.row.serial }
@@ -85,26 +84,26 @@ impl ObjectBook {
         let serial = old.row.serial;
         let key = new.idle_key();
         let left = idle_left(alloc, &self.idle, &old.idle_key())?;
-        Ok(ObjectBook {
+        Ok(ObjectTrees {
             rows: with_value(alloc, &self.rows, &serial_key(serial), new)?,
             names: self.names.share()?,
             idle: idle_entered(alloc, &left, &key, serial)?,
         })
     }
 
-    /// The book without an object, the number of whose id is given.
+    /// The trees without an object, the number of whose id is given.
     pub(crate) fn without_kept(
         &self,
         alloc: Global,
         number: u128,
         old: &Kept,
-    ) -> Result<ObjectBook, Memory>
+    ) -> Result<ObjectTrees, Memory>
         requires number { number ≡ id_number old.now.row.id }
         requires found { kept_of old.now.row.id self.now ≡ Some old.now }
         ensures { IfOk result (λ next. next ≡ without_id old.now.row.id self.now) }
     {
         self.rows.keys_rise();
-        Ok(ObjectBook {
+        Ok(ObjectTrees {
             rows: without_value(alloc, &self.rows, &serial_key(old.row.serial))?,
             names: self.names.without(alloc, number, &old.row.id)?,
             idle: idle_left(alloc, &self.idle, &old.idle_key())?,

@@ -2,6 +2,7 @@
 //! shares with the old one what doesn't change.
 #![tactic(auto)]
 
+mod apart;
 mod book;
 mod changes;
 mod flows;
@@ -9,6 +10,7 @@ mod kept;
 mod keys;
 mod names;
 mod restores;
+mod trees;
 
 pub use crate::book::ObjectBook;
 pub use crate::names::NameTable;

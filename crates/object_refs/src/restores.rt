@@ -1,4 +1,4 @@
-//! Books that are made from rows.
+//! Trees that are made from rows.
 ghost use Rattle.std.specs.Prelude.{◌≡◌, ◌&&◌, is_none, not};
 ghost use Rattle.std.specs.List.{list_all};
 ghost use Rattle.media_rows.specs.Objects.{is_stored_object, object_of};
@@ -6,17 +6,17 @@ ghost use Rattle.media_rows.specs.Refusals.{Restores};
 ghost use Rattle.object_refs.specs.References.{changed_at, objects_in, referred};
 ghost use Rattle.object_refs.specs.Within.Books.{are_names_distinct, bare_objects, has_serial, referring, with_new_object};
 
-use crate::ObjectBook;
 use crate::names::id_number;
+use crate::trees::ObjectTrees;
 use disk_trait::Duplicate;
 use media_rows::{ApplyFault, BookFault, ObjectRow, SegmentRow};
 use std::alloc::Global;
 
-/// The book of these objects, to which nothing refers. The last one is put first.
-pub(crate) fn gathered(alloc: Global, objects: &[ObjectRow]) -> Result<ObjectBook, ApplyFault>
+/// The trees of these objects, to which nothing refers. The last one is put first.
+pub(crate) fn gathered(alloc: Global, objects: &[ObjectRow]) -> Result<ObjectTrees, ApplyFault>
     ensures { Restores (are_names_distinct objects.now) (bare_objects objects.now) result }
 {
-    let mut book = ObjectBook::empty();
+    let mut book = ObjectTrees::empty();
     for placed in 0..objects.len() {
         match with_object(alloc, &book, &objects[objects.len() - 1 - placed]) {
             Ok(next) => book = next,
@@ -26,8 +26,12 @@ pub(crate) fn gathered(alloc: Global, objects: &[ObjectRow]) -> Result<ObjectBoo
     Ok(book)
 }
 
-/// The book with an object more, whose id and serial are new.
-fn with_object(alloc: Global, book: &ObjectBook, row: &ObjectRow) -> Result<ObjectBook, ApplyFault>
+/// The trees with an object more, whose id and serial are new.
+fn with_object(
+    alloc: Global,
+    book: &ObjectTrees,
+    row: &ObjectRow,
+) -> Result<ObjectTrees, ApplyFault>
     ensures { Restores
         (is_none (object_of row.now.id (objects_in book.now))
         && not (has_serial row.now.serial book.now))
@@ -40,12 +44,12 @@ fn with_object(alloc: Global, book: &ObjectBook, row: &ObjectRow) -> Result<Obje
     Ok(book.with_row(alloc, number, row.duplicate(alloc)?)?)
 }
 
-/// The book with the references of these segments. The last one comes first.
+/// The trees with the references of these segments. The last one comes first.
 pub(crate) fn referred_by(
     alloc: Global,
-    bare: &ObjectBook,
+    bare: &ObjectTrees,
     segments: &[SegmentRow],
-) -> Result<ObjectBook, ApplyFault>
+) -> Result<ObjectTrees, ApplyFault>
     ensures { Restores
         (list_all (λ s. is_stored_object (objects_in bare.now) s.segment.object) segments.now)
         (referring segments.now bare.now) result }
@@ -60,12 +64,12 @@ pub(crate) fn referred_by(
     Ok(book)
 }
 
-/// The book with the reference of one segment more.
+/// The trees with the reference of one segment more.
 fn with_segment(
     alloc: Global,
-    book: &ObjectBook,
+    book: &ObjectTrees,
     row: &SegmentRow,
-) -> Result<ObjectBook, ApplyFault>
+) -> Result<ObjectTrees, ApplyFault>
     ensures { Restores (is_stored_object (objects_in book.now) row.now.segment.object)
         (changed_at row.now.segment.object (referred row.now.flow) book.now) result }
 {

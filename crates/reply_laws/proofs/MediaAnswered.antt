@@ -19,7 +19,7 @@ use Rattle.reply_laws.specs.Replies.{FittedHaveTexts, MediaAnswersHaveTexts}
 pub record Printed (outcome : Outcome) : Type 0 where
   pub is : has_reply_texts outcome.reply ≡ true
 
-placed : (place : Option ℕ) (object : List ℕ) (size moment : ℕ) → Printed (placed_put place object size moment)
+placed : (place : Option ℕ) (object bytes : List ℕ) (moment : ℕ) → Printed (placed_put place object bytes moment)
 placed None object size moment = record { is = refl }
 placed (Some start) object size moment = record { is = refl }
 
@@ -47,7 +47,7 @@ pub media_answers_have_texts : MediaAnswersHaveTexts
 media_answers_have_texts = record {
   put = λ archive object bytes moment.
       (by_row (object_of object archive.library.objects) _ _
-      (placed (free_place archive.library.objects archive.library.blocks (blocks_of (length bytes))) object (length bytes) moment)
+      (placed (free_place archive.library.objects archive.library.blocks (blocks_of (length bytes))) object bytes moment)
       (again (bytes_eq (bytes_of object archive.library.objects archive.held) bytes))).is;
   get = λ archive object moment. given (object_of object archive.library.objects);
 }

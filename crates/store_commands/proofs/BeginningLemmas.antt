@@ -1,5 +1,6 @@
 -- How a run begins, before its first connection.
 use Rattle.std.proofs.Common.{◌≡◌, ℕ, true, List, [], refl, sym, ap, subst}
+use Rattle.disk_trait.specs.Forms.{form_in_use}
 use Rattle.disk_trait.specs.Device.{Device, IsDevice, Link}
 use Rattle.disk_trait.specs.Calls.{Elapses, Unchanged}
 use Rattle.run_history.proofs.Going.{served_none, served_quiet}
@@ -17,5 +18,5 @@ pub begun_served : (base : List ℕ) (old new : Device) (from : StoreState) (giv
 begun_served base old new from given sound honest tells settled stands time link handed =
     let first = served_none (tams_machine base) (beginning from old given) old sound honest tells refl refl
     (λ p could. record { room = from.room; stands = subst (λ (image : List ℕ). StandsFor image from) (sym (settled p could)) stands })
-    (states_are_good old.seen from stands) refl in
+    (states_are_good form_in_use old.seen from stands) refl in
     served_quiet (tams_machine base) (beginning from old given) old new given [] nothing_counted first time (ap (λ (l : Link). l.connections) link) handed

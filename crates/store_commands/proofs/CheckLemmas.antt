@@ -1,5 +1,6 @@
 -- The ends of `check`.
 use Rattle.std.proofs.Common.{◌≡◌, Bool, true, ap}
+use Rattle.disk_trait.specs.Forms.{form_in_use}
 use Rattle.disk_trait.specs.Device.{Device}
 use Rattle.disk_trait.specs.Calls.{DiskReads}
 use Rattle.media_journal.specs.declared.fault.JournalFault.{JournalFault}
@@ -37,7 +38,7 @@ module _ (old new : Device) (ok : Bool) (reads : DiskReads ok old new) where
         record {
           stands = (kept_state kept (bytes_in_image old.seen kept), stands);
           counts_are = λ from other.
-              ap counts_in (one old.seen from (kept_state kept (bytes_in_image old.seen kept)) other stands);
+              ap counts_in (one old.seen form_in_use form_in_use from (kept_state kept (bytes_in_image old.seen kept)) other stands);
         },
     untouched,
   )

@@ -42,7 +42,9 @@ new_stands image h reads = record {
   text = empty_rows;
   records = [];
   reads = reads;
+  made = empty_library h.id (h.blocks - blocks_before h.half);
   makes = record { first = empty_library h.id (h.blocks - blocks_before h.half); snapshot = empty_snapshot h; folds = refl };
+  library = refl;
   held = refl;
   room = omega (arith, reads.half.chain, length-empty_rows, reads.sizes.some_half);
   half = refl;

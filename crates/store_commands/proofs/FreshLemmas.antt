@@ -1,5 +1,5 @@
 -- The file of a new store reads as one.
-use Rattle.std.proofs.Common.{◌≡◌, ◌<◌, ◌≤◌, ◌+◌, ◌-◌, ◌*◌, ◌^◌, ℕ, zero, suc, List, [], ◌∷◌, ◌++◌, length, take, get_or, replicate, refl, sym, ap, ◌∙◌, inl, arith, length-append}
+use Rattle.std.proofs.Common.{◌≡◌, ◌<◌, ◌≤◌, ◌+◌, ◌-◌, ◌*◌, ◌^◌, ℕ, zero, suc, List, [], ◌∷◌, ◌++◌, length, take, get_or, replicate, refl, sym, ap, ◌∙◌, inr, arith, length-append}
 use Rattle.std.proofs.lemmas.List.{get_or-append_right, get_or-replicate, length-replicate}
 use Rattle.std.proofs.Math.Seq.{take-append_seam}
 use Rattle.disk_trait.specs.Calls.{bytes_at}
@@ -115,7 +115,7 @@ module _ (h : Header) (fits : FitsStore h (BLOCK * h.blocks) empty_rows) where
         };
         sizes = rw length-file fits.sizes;
         half = rw start record {
-          is = inl refl;
+          is = inr refl;
           text = rows_are;
           few = omega (arith, fits.room, fits.sizes.half);
           chain = refl;

@@ -42,6 +42,7 @@ no_peer base old new clock begun o sound untouched ends from start =
         exit = rw untouched.seen (record { room = from.room; stands = start.stands });
         good = begins.good;
         bytes = (tt, tt);
+        digests = λ has. tt;
         times = All-nil IsMoment;
         handed = begins.handed;
       };

@@ -27,7 +27,7 @@ use Rattle.store_opening.specs.Opening.{IsKept, bytes_in_image}
 use Rattle.store_opening.proofs.Kept.{kept_stands}
 use Rattle.store_states.specs.Kept.{StoreView, kept_state}
 use Rattle.store_states.specs.States.{StoreState}
-use Rattle.tams_histories.specs.Along.{RunsKeepBytes}
+use Rattle.tams_histories.specs.Along.{RunsKeepObjects}
 use Rattle.tams_machine.specs.Machine.{tams_machine}
 use Rattle.tams_machine.specs.Requests.{TamsRequest}
 use Rattle.tams_outcomes.specs.declared.outcome.RunOutcome.{RunOutcome}
@@ -45,7 +45,7 @@ times : (moments : List ℕ) → All IsMoment moments → All (λ (moment : ℕ)
 times moments all k d few = let time = all k d few in grind (arith, nat_tests, time)
 
 -- the moments of a history are those that the clock gave
-pub runs_as : RunsKeepBytes → (base : List ℕ) (b : Beginning StoreState) (d : Device) (begun given : List ℕ) (sessions : List (Session TamsRequest))
+pub runs_as : RunsKeepObjects → (base : List ℕ) (b : Beginning StoreState) (d : Device) (begun given : List ℕ) (sessions : List (Session TamsRequest))
     (n : RunCounts)
     → HasServed (tams_machine base) b d given sessions n → IsDevice d → d.honest ≡ true → d.shows ≡ true → d.tells ≡ true → b.given ≡ begun
     → GivesMore begun given → RunsAs base b sessions d given
@@ -62,7 +62,8 @@ runs_as law base b d begun given sessions n h sound honest shows tells first mor
       moments = ran.right;
       exit = ran.stands;
       good = ran.good;
-      bytes = law base b.state sessions ran.good (times moments given_are);
+      bytes = law.bytes base b.state sessions ran.good (times moments given_are);
+      digests = law.digests base b.state sessions ran.good (times moments given_are);
       times = given_are;
       handed = h.handed;
     }
@@ -138,7 +139,7 @@ stood_for old kept answer shows = (kept_state kept (bytes_in_image old.seen kept
 
 module _ (base : List ℕ) (old opened new : Device) (clock clock_new : Bool) (begun given : List ℕ) (kept : StoreView) (keeps_first : StoreState → Type 0)
     (n : RunCounts)
-    (law : RunsKeepBytes)
+    (law : RunsKeepObjects)
     (sound_old : IsDevice old)
     (sound : IsDevice new)
     (reads : DiskReads true old opened)

@@ -443,7 +443,7 @@ module _ (old opened : Device) (clock : Bool) (begun : List ℕ) (sound : IsDevi
     history = λ from start.
         let shows = start.tells.shows in
         let is =
-        one old.seen (kept_state store.kept (bytes_in_image old.seen store.kept)) from (kept_stands old.seen store.kept (answer shows)) start.stands in
+        one old.seen form_in_use form_in_use (kept_state store.kept (bytes_in_image old.seen store.kept)) from (kept_stands old.seen store.kept (answer shows)) start.stands in
         let keeps = keeps_opened store opened from (bytes_in_image old.seen store.kept) unspent (agrees shows start.settled) is in
         record {
           end = end;

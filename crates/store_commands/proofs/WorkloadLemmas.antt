@@ -192,7 +192,7 @@ kept_by_rows are one library text rows bytes spelled read is =
 pub kept_is : KeptStands → IsOneState → (image : List ℕ) (view : StoreView) (from : StoreState) → IsKept image view → StandsFor image from
     → kept_of_library view.library ≡ kept_of_library from.archive.library
 kept_is kept_stands one image view from kept stands =
-    ap (λ (s : StoreState). kept_of_library s.archive.library) (one image from (kept_state view (bytes_in_image image view)) stands
+    ap (λ (s : StoreState). kept_of_library s.archive.library) (one image form_in_use form_in_use from (kept_state view (bytes_in_image image view)) stands
     (kept_stands image view kept))
 
 pub kept_found : KeptStands → IsOneState → (image : List ℕ) (view : StoreView) → IsKept image view → (found : Option StoreSizes)

@@ -13,7 +13,7 @@ use Rattle.connection_loop.specs.declared.run.RunEnd.{RunEnd}
 use Rattle.connection_loop.specs.declared.run.RunEnd.TheVariants as run_ends
 use Rattle.connection_loop.specs.Endings.{AreCounted, RunEnds, ending_of}
 use Rattle.store_states.specs.States.{StoreState}
-use Rattle.tams_histories.specs.Along.{KeepBytes}
+use Rattle.tams_histories.specs.Along.{KeepBytes, KeepDigests}
 use Rattle.tams_machine.specs.Machine.{tams_machine}
 use Rattle.tams_machine.specs.Requests.{TamsRequest}
 use Rattle.tams_outcomes.specs.declared.outcome.RunOutcome.{RunOutcome}
@@ -24,9 +24,10 @@ use Rattle.tams_outcomes.specs.declared.outcome.RunOutcome.TheVariants.{Served, 
 -- each crash since the beginning left a state of the history, with each change whose answer had
 -- begun; exit: the file stands for the last state, or the one before it where the disk failed while
 -- a record was being written; good: each state is; bytes: what is stored in one state keeps its
--- bytes in each later one; times: each moment that was taken is one. handed: unless the disk
--- failed, the device was handed the bytes of the changes, and of each media PUT that was cut at
--- most those of its body that were heard.
+-- bytes and its digest in each later one; digests: where each stored object of the first state has
+-- the digest of its bytes, so it has in each later one; times: each moment that was taken is one.
+-- handed: unless the disk failed, the device was handed the bytes of the changes, and of each media
+-- PUT that was cut at most those of its body that were heard.
 pub record RunsAs (base : List ℕ) (b : Beginning StoreState) (sessions : List (Session TamsRequest))
     (new : Device) (given : List ℕ) : Type 0 where
   pub connections : List Connection
@@ -40,6 +41,7 @@ pub record RunsAs (base : List ℕ) (b : Beginning StoreState) (sessions : List 
   pub good : All (tams_machine base).good
       (states_of (trace_of (tams_machine base) b.state sessions))
   pub bytes : KeepBytes (states_of (trace_of (tams_machine base) b.state sessions))
+  pub digests : KeepDigests (states_of (trace_of (tams_machine base) b.state sessions))
   pub times : All IsMoment (run_effect (tams_machine base) (start_of b.state) sessions).moments
   pub handed : failure_of sessions ≡ None → HasHanded (tams_machine base) b sessions new.handed
 

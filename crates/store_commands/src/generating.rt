@@ -185,7 +185,7 @@ fn kept_in(alloc: Global, site: &mut MemorySite) -> Option<StoreSizes>
 
 /// What a store keeps, which is closed.
 fn kept_by(alloc: Global, opened: OpenedStore) -> Option<StoreSizes>
-    ensures { IfSome result (λ kept. kept ≡ kept_of_library opened.core) }
+    ensures { IfSome result (λ kept. kept ≡ kept_of_library opened.core.library) }
 {
     let counts = line_counts(opened.core.counts());
     let bytes = bytes_in(alloc, &opened.core);
@@ -198,7 +198,7 @@ fn kept_by(alloc: Global, opened: OpenedStore) -> Option<StoreSizes>
 
 /// The bytes of all stored objects of a library, by its rows.
 fn bytes_in(alloc: Global, core: &Core) -> Option<u64>
-    ensures { IfSome result (λ bytes. bytes ≡ stored_total core.now.objects) }
+    ensures { IfSome result (λ bytes. bytes ≡ stored_total core.now.library.objects) }
 {
     texts_have_one_meaning();
     stored_bytes_are_the_objects();

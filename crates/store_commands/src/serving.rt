@@ -13,7 +13,7 @@ use disk_trait::Text;
 use site_edge::{Clock, Site};
 use std::alloc::Global;
 use store_opening::damaged_images_stand_for_none;
-use tams_histories::runs_keep_bytes;
+use tams_histories::runs_keep_objects;
 use tams_outcomes::RunOutcome;
 use tams_service::TamsService;
 
@@ -48,7 +48,7 @@ fn serve_peer<X: Site, C: Clock>(
         (C.given clock.old) (C.given clock.new) result }
 {
     damaged_images_stand_for_none();
-    runs_keep_bytes();
+    runs_keep_objects();
     let mut service = match TamsService::open(alloc, site, base) {
         Ok(service) => service,
         Err(fault) => return opening_outcome(fault),
@@ -97,7 +97,7 @@ fn serve_peers<X: Site, C: Clock>(
         (C.given clock.old) (C.given clock.new) connections result }
 {
     damaged_images_stand_for_none();
-    runs_keep_bytes();
+    runs_keep_objects();
     let mut service = match TamsService::open(alloc, site, base) {
         Ok(service) => service,
         Err(fault) => return opening_outcome(fault),

@@ -1,6 +1,6 @@
 -- What is prepared of a library, from what was made of it.
 use Rattle.std.proofs.Common.{◌≡◌, ℕ, Bool, true, false, cond, List, Option, Some, None, length, refl, sym, subst, ap, ◌∙◌}
-use Rattle.std.specs.Prelude.{IfSome, Result, Ok, Err, ◌==◌, ◌&&◌, nat_lt, nat_le, is_some, option_map}
+use Rattle.std.specs.Prelude.{IfErr, IfSome, Result, Ok, Err, ◌==◌, ◌&&◌, nat_lt, nat_le, is_some, option_map}
 use Rattle.std.proofs.lemmas.Bool.{and_parts, cond_both, le-leb, lt-leb, ltb-false, ltb-true}
 use Rattle.time_range.specs.declared.ranges.Span.{Span}
 use Rattle.media_rows.specs.declared.change.Change.{Change}
@@ -25,10 +25,8 @@ use Rattle.media_rows.specs.Views.{asked}
 use Rattle.library_laws.specs.Laws.{AnswersApply, AppliesWithin, GoodIsTested}
 use Rattle.core_parts.specs.Parts.{within_serials}
 use Rattle.core_queries.specs.Replies.{replied}
-use Rattle.store_core.specs.declared.made.Made.{Made}
-use Rattle.store_core.specs.declared.prepare.Prepared.{Prepared}
-use Rattle.store_core.specs.Prepared.{AppliesTo, prepared_by, prepared_of, unless_refused}
-use Rattle.store_core.specs.Within.{made_by, prepared_step, step_by}
+use Rattle.store_core.specs.Prepared.{AppliesTo, Preparation, prepared_by, prepared_of, unless_refused}
+use Rattle.store_core.specs.Within.{Making, made_by, prepared_step, step_by}
 
 -- ---- serials
 
@@ -42,10 +40,10 @@ within_room next room = ap (λ t. cond t (Some next) None) (le-leb next.next_ser
 
 -- ---- what is prepared
 
-abbrev prepared_with : Library → Reply → Change → Bool → Prepared
+abbrev prepared_with : Library → Reply → Change → Bool → Preparation
 prepared_with library reply change past = record { core = cond past library (after change library); change = Some change; reply = reply; past = past }
 
-abbrev stepped_with : Library → Reply → Change → Option Library → Prepared
+abbrev stepped_with : Library → Reply → Change → Option Library → Preparation
 stepped_with library reply change next = prepared_step library reply (Some (record { change = change; next = next }))
 
 -- a change is prepared as it was made
@@ -67,22 +65,22 @@ outcome_prepared library reply (Some change) = step_prepared library reply chang
 -- ---- replies that aren't refusals
 
 abbrev Passes : Outcome → Type 0
-Passes outcome = (p : Prepared) → unless_refused outcome.reply p ≡ Ok p
+Passes outcome = (p : Preparation) → unless_refused outcome.reply p ≡ Ok p
 
-created_passes : (there : Bool) (p : Prepared) → unless_refused (created_unless there) p ≡ Ok p
+created_passes : (there : Bool) (p : Preparation) → unless_refused (created_unless there) p ≡ Ok p
 created_passes true p = refl
 created_passes false p = refl
 
 drop_passes : (library : Library) (flow moment : ℕ) → Passes (accepted_drop library flow moment)
 drop_passes library flow moment =
-    cond_both (nat_le (length (segments_of flow library.segments)) 32) _ _ (λ (o : Outcome). (p : Prepared) → unless_refused o.reply p ≡ Ok p)
+    cond_both (nat_le (length (segments_of flow library.segments)) 32) _ _ (λ (o : Outcome). (p : Preparation) → unless_refused o.reply p ≡ Ok p)
     (λ e p. refl) (λ e p. refl)
 
 cut_passes : (library : Library) (flow : ℕ) (range : Option Span) (moment : ℕ) → Passes (accepted_cut library flow range moment)
 cut_passes library flow range moment =
-    cond_both (length (covered library.segments flow range) == 0) _ _ (λ (o : Outcome). (p : Prepared) → unless_refused o.reply p ≡ Ok p) (λ e p. refl)
+    cond_both (length (covered library.segments flow range) == 0) _ _ (λ (o : Outcome). (p : Preparation) → unless_refused o.reply p ≡ Ok p) (λ e p. refl)
     (λ some. cond_both (nat_le (length (covered library.segments flow range)) 32) _ _
-    (λ (o : Outcome). (p : Prepared) → unless_refused o.reply p ≡ Ok p) (λ e p. refl) (λ e p. refl))
+    (λ (o : Outcome). (p : Preparation) → unless_refused o.reply p ≡ Ok p) (λ e p. refl) (λ e p. refl))
 
 hook_passes : (url : List ℕ) (moment : ℕ) (kept : Bool)
     → Passes (cond kept (changed replies.Done (changes.DropHook moment url)) (unchanged replies.Done))
@@ -129,13 +127,13 @@ answered library command moment refusal is = ap (λ why. answer_by why (accepted
 
 -- what was made is prepared
 pub given : (library : Library) (command : Command) (moment : ℕ) → refusal_of library command ≡ None
-    → (made : Made) → made ≡ made_by library (accepted library command moment)
-    → (p : Prepared) → p ≡ prepared_step library made.reply made.step → prepared_of library (answer library command moment) ≡ Ok p
+    → (made : Making) → made ≡ made_by library (accepted library command moment)
+    → (p : Preparation) → p ≡ prepared_step library made.reply made.step → prepared_of library (answer library command moment) ≡ Ok p
 given library command moment free made made_is p p_is =
     let outcome = accepted library command moment in
     ap (prepared_of library) (answered library command moment None free)
     ∙ made_passes library command moment free (prepared_by library outcome)
-    ∙ ap Ok (outcome_prepared library outcome.reply outcome.change ∙ ap (λ (m : Made). prepared_step library m.reply m.step) (sym made_is) ∙ sym p_is)
+    ∙ ap Ok (outcome_prepared library outcome.reply outcome.change ∙ ap (λ (m : Making). prepared_step library m.reply m.step) (sym made_is) ∙ sym p_is)
 
 -- a refusal is answered
 pub refused : (library : Library) (command : Command) (moment : ℕ) (why : Refusal) → refusal_of library command ≡ Some why
@@ -143,7 +141,7 @@ pub refused : (library : Library) (command : Command) (moment : ℕ) (why : Refu
 refused library command moment why is = ap (prepared_of library) (answered library command moment (Some why) is)
 
 -- what was made of a library under one name was made of it under another
-pub made_at : (inside library : Library) → inside ≡ library → (command : Command) (moment : ℕ) (made : Made)
+pub made_at : (inside library : Library) → inside ≡ library → (command : Command) (moment : ℕ) (made : Making)
     → (refusal_of inside command ≡ None) × (made ≡ made_by inside (accepted inside command moment))
     → (refusal_of library command ≡ None) × (made ≡ made_by library (accepted library command moment))
 made_at inside library same command moment made =
@@ -176,13 +174,13 @@ step_good tested library (Some change) applies_then = by (passes_serials change 
 
 -- what a command makes is good
 pub made_good : AnswersApply → GoodIsTested → (library : Library) (command : Command) (moment : ℕ) → Good library → refusal_of library command ≡ None → is_good_command library command ≡ true → is_moment moment ≡ true
-    → (made : Made) → made ≡ made_by library (accepted library command moment)
+    → (made : Making) → made ≡ made_by library (accepted library command moment)
     → IfSome made.step (λ step. IfSome step.next Good)
 made_good apply tested library command moment good free brings at made made_is =
     let outcome = accepted library command moment in
     let then : IfSome outcome.change (AppliesWithin library) = subst (λ (o : Outcome). IfSome o.change (AppliesWithin library))
     (answered library command moment None free) (apply library command moment good brings at) in
-    subst (λ (m : Made). IfSome m.step (λ step. IfSome step.next Good)) (sym made_is) (step_good tested library outcome.change then)
+    subst (λ (m : Making). IfSome m.step (λ step. IfSome step.next Good)) (sym made_is) (step_good tested library outcome.change then)
 
 -- ---- what is prepared applies
 
@@ -195,7 +193,7 @@ applies_by library reply (Some made) applies_then = λ change e past.
     ap (λ c. applied c library) (sym same) ∙ applies_then past ∙ ap (λ t. Some (cond t library (after made library))) (sym past)
 
 -- nothing but what was given comes of a reply that isn't a refusal
-pub passed : (reply : Reply) (q p : Prepared) → unless_refused reply q ≡ Ok p → q ≡ p
+pub passed : (reply : Reply) (q p : Preparation) → unless_refused reply q ≡ Ok p → q ≡ p
 passed (replies.Refused why) q p e = absurd (cc)
 passed replies.Created q p e = cc
 passed replies.Done q p e = cc
@@ -207,8 +205,13 @@ passed (replies.Partly failed) q p e = cc
 
 -- what is prepared of a command
 pub command_applies : AnswersApply → (library : Library) (command : Command) (moment : ℕ) → Good library → is_good_command library command ≡ true
-    → is_moment moment ≡ true → (p : Prepared) → prepared_of library (answer library command moment) ≡ Ok p → AppliesTo library p
+    → is_moment moment ≡ true → (p : Preparation) → prepared_of library (answer library command moment) ≡ Ok p → AppliesTo library p
 command_applies apply library command moment good brings at p is =
     let outcome = answer library command moment in
     subst (AppliesTo library) (passed outcome.reply (prepared_by library outcome) p is)
     (applies_by library outcome.reply outcome.change (apply library command moment good brings at))
+
+-- a fact that holds of any result
+pub of_any : {T E : Type 0} (result : Result T E) (Fact : Type 0) → Fact → IfErr result (λ x. Fact)
+of_any (Ok value) Fact fact = tt
+of_any (Err fault) Fact fact = fact

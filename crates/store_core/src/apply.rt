@@ -6,7 +6,7 @@ ghost use Rattle.media_rows.specs.Changes.{after};
 ghost use Rattle.media_rows.specs.Refusals.{Restores};
 ghost use Rattle.media_rows.specs.Sound.{has_good_values};
 ghost use Rattle.core_parts.specs.Conditions.{IsReady};
-ghost use Rattle.core_parts.specs.Parts.{within_serials};
+ghost use Rattle.core_parts.specs.Parts.{given_library, given_parts, within_serials};
 ghost use Rattle.store_core.specs.Within.{without_reason};
 
 use crate::Core;
@@ -24,7 +24,8 @@ impl Core {
     /// The library after a change, which is refused exactly where it doesn't apply: nothing may refuse it, its moment and
     /// its values are good, and the serials don't end with it.
     pub fn apply(&self, alloc: Global, change: &Change) -> Result<Core, ApplyFault>
-        ensures { Restores (applies self.now change.now) (after change.now self.now) result }
+        ensures { Restores (applies self.now.library change.now) (after change.now self.now.library)
+            (given_parts result) }
     {
         good_is_ready();
         applies_is_tested();
@@ -46,10 +47,10 @@ impl Core {
 
 /// The library after a change, where nothing refuses it, unless its serials would end.
 fn next_parts(alloc: Global, parts: &Parts, change: &Change) -> Result<Option<Parts>, ApplyFault>
-    requires ready { IsReady parts.now }
+    requires ready { IsReady parts.now.library }
     requires values { IsTrue (has_good_values change.now) }
-    ensures { Restores (is_allowed parts.now change.now)
-        (within_serials (after change.now parts.now)) result }
+    ensures { Restores (is_allowed parts.now.library change.now)
+        (within_serials (after change.now parts.now.library)) (given_library result) }
 {
     match change {
         Change::PutFlow { moment, flow } => without_reason(parts.put_flow(alloc, flow, *moment)),
@@ -118,9 +119,9 @@ fn drop_flow(
     flow: u128,
     now: u64,
 ) -> Result<Option<Parts>, ApplyFault>
-    requires ready { IsReady parts.now }
-    ensures { Restores (is_allowed parts.now (changes.DropFlow now flow))
-        (within_serials (after (changes.DropFlow now flow) parts.now)) result }
+    requires ready { IsReady parts.now.library }
+    ensures { Restores (is_allowed parts.now.library (changes.DropFlow now flow))
+        (within_serials (after (changes.DropFlow now flow) parts.now.library)) (given_library result) }
 {
     if parts.media().flow_len(flow) > STEP_SIZE {
         return Err(ApplyFault::Refused);
@@ -137,12 +138,12 @@ fn store(
     digest: Option<Digest>,
     now: u64,
 ) -> Result<Option<Parts>, ApplyFault>
-    requires ready { IsReady parts.now }
+    requires ready { IsReady parts.now.library }
     requires start { IsTrue (nat_lt 0 extent.length || (extent.start == 0)) }
     ensures { Restores
-        (is_allowed parts.now (changes.Store now object.now extent.start extent.length digest))
+        (is_allowed parts.now.library (changes.Store now object.now extent.start extent.length digest))
         (within_serials
-        (after (changes.Store now object.now extent.start extent.length digest) parts.now)) result }
+        (after (changes.Store now object.now extent.start extent.length digest) parts.now.library)) (given_library result) }
 {
     if !parts.media().takes(extent) {
         return Err(ApplyFault::Refused);
@@ -158,9 +159,9 @@ fn cut_segments(
     range: &TimeRange,
     now: u64,
 ) -> Result<Option<Parts>, ApplyFault>
-    requires ready { IsReady parts.now }
-    ensures { Restores (is_allowed parts.now (changes.CutSegments now flow range.now))
-        (within_serials (after (changes.CutSegments now flow range.now) parts.now)) result }
+    requires ready { IsReady parts.now.library }
+    ensures { Restores (is_allowed parts.now.library (changes.CutSegments now flow range.now))
+        (within_serials (after (changes.CutSegments now flow range.now) parts.now.library)) (given_library result) }
 {
     match parts.cut(alloc, flow, range, now) {
         Ok(Cut::Gone(next)) => Ok(next),
@@ -176,11 +177,11 @@ fn ask_delete(
     asked: &Deletion,
     now: u64,
 ) -> Result<Option<Parts>, ApplyFault>
-    requires ready { IsReady parts.now }
-    ensures { Restores (is_allowed parts.now (changes.AskDelete now asked.now.flow asked.now.range
+    requires ready { IsReady parts.now.library }
+    ensures { Restores (is_allowed parts.now.library (changes.AskDelete now asked.now.flow asked.now.range
         asked.now.delete_flow))
         (within_serials (after (changes.AskDelete now asked.now.flow asked.now.range
-        asked.now.delete_flow) parts.now)) result }
+        asked.now.delete_flow) parts.now.library)) (given_library result) }
 {
     if !parts.covers_many(alloc, asked.flow, &asked.range)? {
         return Err(ApplyFault::Refused);
@@ -190,9 +191,9 @@ fn ask_delete(
 
 /// The delete request that is due is worked off by one step.
 fn delete_step(alloc: Global, parts: &Parts, now: u64) -> Result<Option<Parts>, ApplyFault>
-    requires ready { IsReady parts.now }
-    ensures { Restores (is_allowed parts.now (changes.DeleteStep now))
-        (within_serials (after (changes.DeleteStep now) parts.now)) result }
+    requires ready { IsReady parts.now.library }
+    ensures { Restores (is_allowed parts.now.library (changes.DeleteStep now))
+        (within_serials (after (changes.DeleteStep now) parts.now.library)) (given_library result) }
 {
     if parts.registry().requests().first_due().is_none() {
         return Err(ApplyFault::Refused);
@@ -202,9 +203,9 @@ fn delete_step(alloc: Global, parts: &Parts, now: u64) -> Result<Option<Parts>, 
 
 /// Objects that are due go.
 fn sweep_step(alloc: Global, parts: &Parts, now: u64) -> Result<Option<Parts>, ApplyFault>
-    requires ready { IsReady parts.now }
-    ensures { Restores (is_allowed parts.now (changes.SweepStep now))
-        (within_serials (after (changes.SweepStep now) parts.now)) result }
+    requires ready { IsReady parts.now.library }
+    ensures { Restores (is_allowed parts.now.library (changes.SweepStep now))
+        (within_serials (after (changes.SweepStep now) parts.now.library)) (given_library result) }
 {
     if !parts.is_sweep_due(now) {
         return Err(ApplyFault::Refused);
@@ -219,9 +220,9 @@ fn drop_hook(
     url: &Text,
     now: u64,
 ) -> Result<Option<Parts>, ApplyFault>
-    requires ready { IsReady parts.now }
-    ensures { Restores (is_allowed parts.now (changes.DropHook now url.now))
-        (within_serials (after (changes.DropHook now url.now) parts.now)) result }
+    requires ready { IsReady parts.now.library }
+    ensures { Restores (is_allowed parts.now.library (changes.DropHook now url.now))
+        (within_serials (after (changes.DropHook now url.now) parts.now.library)) (given_library result) }
 {
     if parts.registry().outbox().find_hook(alloc, url)?.is_none() {
         return Err(ApplyFault::Refused);
@@ -231,9 +232,9 @@ fn drop_hook(
 
 /// An event was delivered, if it is the first that waits for its hook.
 fn deliver(alloc: Global, parts: &Parts, event: u64, now: u64) -> Result<Option<Parts>, ApplyFault>
-    requires ready { IsReady parts.now }
-    ensures { Restores (is_allowed parts.now (changes.Delivered now event))
-        (within_serials (after (changes.Delivered now event) parts.now)) result }
+    requires ready { IsReady parts.now.library }
+    ensures { Restores (is_allowed parts.now.library (changes.Delivered now event))
+        (within_serials (after (changes.Delivered now event) parts.now.library)) (given_library result) }
 {
     if !parts.registry().outbox().waits_first(event) {
         return Err(ApplyFault::Refused);
@@ -243,7 +244,7 @@ fn deliver(alloc: Global, parts: &Parts, event: u64, now: u64) -> Result<Option<
 
 /// What a change gives, where nothing refuses it.
 fn without_reason(changed: Result<Option<Parts>, BookFault>) -> Result<Option<Parts>, ApplyFault>
-    ensures { result ≡ without_reason changed }
+    ensures { given_library result ≡ without_reason (given_library changed) }
 {
     match changed {
         Ok(next) => Ok(next),

@@ -1,5 +1,5 @@
 //! What each changing command makes of a library.
-ghost use Rattle.std.specs.Prelude.{◌≡◌, IsTrue, None};
+ghost use Rattle.std.specs.Prelude.{◌≡◌, IfOk, IsTrue, None};
 ghost use Rattle.media_rows.specs.declared.command.Command.TheVariants as commands;
 ghost use Rattle.media_rows.specs.Answer.{accepted_request, change_refusal};
 ghost use Rattle.media_rows.specs.Good.{Good};
@@ -7,7 +7,8 @@ ghost use Rattle.media_rows.specs.Moments.{is_moment};
 ghost use Rattle.media_rows.specs.Refusals.{IsChange};
 ghost use Rattle.media_rows.specs.Sound.{are_posts_good, is_good_command};
 ghost use Rattle.core_parts.specs.Conditions.{IsReady};
-ghost use Rattle.store_core.specs.Within.{MakesAnswer, made_by};
+ghost use Rattle.media_book.specs.Media.{media_of, serial_in};
+ghost use Rattle.store_core.specs.Within.{MakesAnswer, given_making, made_by, next_apart};
 
 use crate::made::{Made, created_unless};
 use core_parts::{Cut, Parts, good_is_ready};
@@ -29,8 +30,8 @@ pub(crate) fn put_flow(
     body: &FlowBody,
     now: u64,
 ) -> Result<Made, BookFault>
-    requires ready { IsReady parts.now }
-    ensures { MakesAnswer parts.now (commands.PutFlow body.now) now result }
+    requires ready { IsReady parts.now.library }
+    ensures { MakesAnswer parts.now.library (commands.PutFlow body.now) now result }
 {
     let there = parts.registry().catalog().flow(body.id).is_some();
     match parts.put_flow(alloc, body, now) {
@@ -54,8 +55,8 @@ pub(crate) fn set_flow(
     part: &Part,
     now: u64,
 ) -> Result<Made, BookFault>
-    requires ready { IsReady parts.now }
-    ensures { MakesAnswer parts.now (commands.SetFlow flow part.now) now result }
+    requires ready { IsReady parts.now.library }
+    ensures { MakesAnswer parts.now.library (commands.SetFlow flow part.now) now result }
 {
     match parts.set_flow(alloc, flow, part, now) {
         Ok(next) => {
@@ -82,8 +83,8 @@ pub(crate) fn set_source(
     part: &Part,
     now: u64,
 ) -> Result<Made, BookFault>
-    requires ready { IsReady parts.now }
-    ensures { MakesAnswer parts.now (commands.SetSource source part.now) now result }
+    requires ready { IsReady parts.now.library }
+    ensures { MakesAnswer parts.now.library (commands.SetSource source part.now) now result }
 {
     match parts.set_source(alloc, source, part, now) {
         Ok(next) => {
@@ -109,8 +110,8 @@ pub(crate) fn drop_flow(
     flow: u128,
     now: u64,
 ) -> Result<Made, BookFault>
-    requires ready { IsReady parts.now }
-    ensures { MakesAnswer parts.now (commands.DropFlow flow) now result }
+    requires ready { IsReady parts.now.library }
+    ensures { MakesAnswer parts.now.library (commands.DropFlow flow) now result }
 {
     if parts.media().flow_len(flow) > STEP_SIZE {
         let asked = Deletion {
@@ -134,8 +135,8 @@ pub(crate) fn allocate(
     want: &Want,
     now: u64,
 ) -> Result<Made, BookFault>
-    requires ready { IsReady parts.now }
-    ensures { MakesAnswer parts.now (commands.Allocate flow want.now) now result }
+    requires ready { IsReady parts.now.library }
+    ensures { MakesAnswer parts.now.library (commands.Allocate flow want.now) now result }
 {
     let ids = parts.wanted_ids(alloc, want)?;
     match parts.allocate_wanted(alloc, flow, want, ids.items(), now) {
@@ -164,10 +165,13 @@ pub(crate) fn keep(
     digest: Digest,
     now: u64,
 ) -> Result<Made, BookFault>
-    requires good { Good parts.now }
-    requires place { IsTrue (is_good_command parts.now (commands.Keep object.now extent.start extent.length digest)) }
+    requires good { Good parts.now.library }
+    requires place { IsTrue (is_good_command parts.now.library (commands.Keep object.now extent.start extent.length digest)) }
     requires moment { IsTrue (is_moment now) }
-    ensures { MakesAnswer parts.now (commands.Keep object.now extent.start extent.length digest) now result }
+    ensures made { MakesAnswer parts.now.library
+        (commands.Keep object.now extent.start extent.length digest) now result }
+    ensures apart { IfOk result
+        (λ made. next_apart made ≡ serial_in object.now (media_of parts.now.library)) }
 {
     good_is_ready();
     answers_apply();
@@ -195,9 +199,9 @@ pub(crate) fn add_segments(
     posts: &PostList,
     now: u64,
 ) -> Result<Made, BookFault>
-    requires ready { IsReady parts.now }
+    requires ready { IsReady parts.now.library }
     requires bounded { IsTrue (are_posts_good posts.now.segments) }
-    ensures { MakesAnswer parts.now (commands.AddSegments flow posts.now) now result }
+    ensures { MakesAnswer parts.now.library (commands.AddSegments flow posts.now) now result }
 {
     match parts.add(alloc, flow, posts.items(), now) {
         Ok(next) => {
@@ -224,8 +228,8 @@ pub(crate) fn cut_segments(
     range: &TimeRange,
     now: u64,
 ) -> Result<Made, BookFault>
-    requires ready { IsReady parts.now }
-    ensures { MakesAnswer parts.now (commands.CutSegments flow range.now) now result }
+    requires ready { IsReady parts.now.library }
+    ensures { MakesAnswer parts.now.library (commands.CutSegments flow range.now) now result }
 {
     match parts.cut(alloc, flow, range, now) {
         Ok(Cut::Nothing) => Ok(Made::unchanged(Reply::Done)),
@@ -251,9 +255,9 @@ pub(crate) fn cut_segments(
 
 /// A delete request is made, which is the reply.
 fn ask_delete(alloc: Global, parts: &Parts, asked: &Deletion, now: u64) -> Result<Made, BookFault>
-    requires ready { IsReady parts.now }
-    ensures { IsChange (change_refusal parts.now asked.now.flow)
-        (made_by parts.now (accepted_request parts.now asked.now now)) result }
+    requires ready { IsReady parts.now.library }
+    ensures { IsChange (change_refusal parts.now.library asked.now.flow)
+        (made_by parts.now.library (accepted_request parts.now.library asked.now now)) (given_making result) }
 {
     let row = asked.row(parts.registry().next_serial(), now);
     match parts.ask_delete(alloc, asked, now) {
@@ -277,8 +281,8 @@ pub(crate) fn put_hook(
     hook: &Hook,
     now: u64,
 ) -> Result<Made, BookFault>
-    requires ready { IsReady parts.now }
-    ensures { MakesAnswer parts.now (commands.PutHook hook.now) now result }
+    requires ready { IsReady parts.now.library }
+    ensures { MakesAnswer parts.now.library (commands.PutHook hook.now) now result }
 {
     let there = parts
         .registry()
@@ -301,8 +305,8 @@ pub(crate) fn drop_hook(
     url: &Text,
     now: u64,
 ) -> Result<Made, BookFault>
-    requires ready { IsReady parts.now }
-    ensures { MakesAnswer parts.now (commands.DropHook url.now) now result }
+    requires ready { IsReady parts.now.library }
+    ensures { MakesAnswer parts.now.library (commands.DropHook url.now) now result }
 {
     if parts.registry().outbox().find_hook(alloc, url)?.is_none() {
         return Ok(Made::unchanged(Reply::Done));

@@ -13,21 +13,22 @@ use std::alloc::Global;
 use std::marker::Model;
 
 /// A good library. What a command or a turn makes of it is prepared apart, as another core, which shares with this one all
-/// that the change leaves.
+/// that the change leaves. The row of the object that was stored last may be held apart, where its digest can still be set;
+/// a core is seen with that object's serial.
 #[derive(Drop)]
 pub struct Core {
     pub(crate) parts: Parts,
 }
 
 impl Model for Core {
-    ghost use Rattle.media_rows.specs.Library.{Library};
     ghost use Rattle.media_rows.specs.Good.{Good};
+    ghost use Rattle.core_parts.specs.Parts.{HeldLibrary};
 
-    ghost Value = { Library };
+    ghost Value = { HeldLibrary };
 
     ghost view = { λ c. c.parts };
 
-    ghost invariant = { λ c. Good c.parts };
+    ghost invariant = { λ c. Good c.parts.library };
 }
 
 /// The numbers of rows of each kind, each cut at the last value of its type, and that of the bytes of all stored objects.
@@ -45,25 +46,25 @@ pub struct Counts {
 impl Core {
     /// The library of a new store, with its id and the number of its media blocks.
     pub fn empty(alloc: Global, id: u128, blocks: u64) -> Result<Core, Memory>
-        ensures { IfOk result (λ core. core ≡ empty_library id blocks) }
+        ensures { IfOk result (λ core. core.library ≡ empty_library id blocks) }
     {
         Ok(Core {
             parts: Parts::empty(alloc, id, blocks)?,
         })
     }
 
-    /// The same library once more. The error is for a count of owners that is full.
-    pub fn share(&self) -> Result<Core, Memory>
+    /// The same library once more, with a copy of the row that is held apart.
+    pub fn share(&self, alloc: Global) -> Result<Core, Memory>
         ensures { IfOk result (λ core. core ≡ self.now) }
     {
         Ok(Core {
-            parts: self.parts.share()?,
+            parts: self.parts.share(alloc)?,
         })
     }
 
     /// A core is a good library, which is told to callers here. It does nothing.
     pub fn keeps_good(&self)
-        ensures { Good self.now }
+        ensures { Good self.now.library }
     {
         // Where a field is read, the invariant is known.
         let _parts = &self.parts;
@@ -71,7 +72,7 @@ impl Core {
 
     /// The store's id.
     pub fn id(&self) -> u128
-        ensures { result ≡ self.now.id }
+        ensures { result ≡ self.now.library.id }
     {
         self.parts.id()
     }
@@ -79,21 +80,21 @@ impl Core {
     /// The least place at which so many media blocks are free in a row, and `None` exactly where there is none. No blocks
     /// are placed at 0. It takes no memory.
     pub fn place(&self, blocks: u64) -> Option<u64>
-        ensures { result ≡ free_place self.now.objects self.now.blocks blocks }
+        ensures { result ≡ free_place self.now.library.objects self.now.library.blocks blocks }
     {
         self.parts.media().place(blocks)
     }
 
     /// The object of this id, if it is kept, be it allocated or stored. It takes no memory.
     pub fn object(&self, id: &Text) -> Option<&ObjectRow>
-        ensures { option_copied result ≡ object_of id.now self.now.objects }
+        ensures { option_copied result ≡ object_of id.now self.now.library.objects }
     {
         self.parts.media().object(id)
     }
 
     /// How much is kept. It takes no memory.
     pub fn counts(&self) -> Counts
-        ensures { result ≡ counts_of self.now }
+        ensures { result ≡ counts_of self.now.library }
     {
         let media = self.parts.media();
         let registry = self.parts.registry();

@@ -10,7 +10,7 @@ use std::alloc::Global;
 impl Core {
     /// Answers a question: by what it shows of the library, or by its refusal.
     pub fn query(&self, alloc: Global, question: &Query) -> Result<Reply, BookFault>
-        ensures { IsReply (asked self.now question.now) result }
+        ensures { IsReply (asked self.now.library question.now) result }
     {
         query(alloc, &self.parts, question)
     }

@@ -4,6 +4,7 @@ ghost use Rattle.media_rows.specs.Refusals.{Restores};
 ghost use Rattle.media_rows.specs.Snapshot.{library_of, rows_of};
 ghost use Rattle.disk_trait.specs.Forms.{form_in_use};
 ghost use Rattle.snapshot_rows.specs.Texts.{SpellsRows};
+ghost use Rattle.core_parts.specs.Parts.{given_parts};
 ghost use Rattle.core_restore.specs.Restored.{are_rows_of_good};
 
 use crate::Core;
@@ -17,7 +18,7 @@ use std::alloc::Global;
 impl Core {
     /// The text of the library's rows in the order of a snapshot. A row that has no spelling is want of memory.
     pub fn rows(&self, alloc: Global) -> Result<Text, Memory>
-        ensures { IfOk result (λ text. SpellsRows form_in_use text (rows_of self.now)) }
+        ensures { IfOk result (λ text. SpellsRows form_in_use text (rows_of self.now.library)) }
     {
         rows_rise();
         let text = snapshot_text(alloc, &self.parts)?;
@@ -32,7 +33,7 @@ impl Core {
         blocks: u64,
         rows: RowList,
     ) -> Result<Core, ApplyFault>
-        ensures { Restores (are_rows_of_good id blocks rows) (library_of id blocks rows) result }
+        ensures { Restores (are_rows_of_good id blocks rows) (library_of id blocks rows) (given_parts result) }
     {
         good_is_tested();
         match parts_of_rows(alloc, id, blocks, rows) {

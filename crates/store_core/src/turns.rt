@@ -5,8 +5,8 @@ ghost use Rattle.media_rows.specs.Answer.{changed};
 ghost use Rattle.media_rows.specs.Apply.{turn};
 ghost use Rattle.media_rows.specs.Moments.{is_moment};
 ghost use Rattle.core_parts.specs.Conditions.{IsReady};
-ghost use Rattle.store_core.specs.Prepared.{AppliesTo, turned};
-ghost use Rattle.store_core.specs.Within.{made_by};
+ghost use Rattle.store_core.specs.Prepared.{AppliesTo, preparation, turned};
+ghost use Rattle.store_core.specs.Within.{made_by, making};
 
 use crate::made::Made;
 use crate::{Core, Prepared};
@@ -21,16 +21,18 @@ impl Core {
     /// nothing to do, which is found without memory. The reply is `Done`. Whether the change fits is left to the caller.
     pub fn prepare_turn(&self, alloc: Global, now: u64) -> Result<Option<Prepared>, Memory>
         requires moment { IsTrue (is_moment now) }
-        ensures prepared { IfOk result (λ prepared. prepared ≡ turned self.now now) }
-        ensures due { IfErr result (λ _. IsTrue (is_some (turn self.now now))) }
-        ensures applies { IfOk result (λ prepared. IfSome prepared (AppliesTo self.now)) }
+        ensures prepared { IfOk result (λ prepared. option_map preparation prepared
+            ≡ turned self.now.library now) }
+        ensures due { IfErr result (λ _. IsTrue (is_some (turn self.now.library now))) }
+        ensures applies { IfOk result (λ prepared. IfSome prepared
+            (λ p. AppliesTo self.now.library (preparation p))) }
     {
         good_is_ready();
         turns_apply();
         good_is_tested();
         match made_in_turn(alloc, &self.parts, now) {
             Ok(None) => Ok(None),
-            Ok(Some(made)) => Ok(Some(self.prepared(made)?)),
+            Ok(Some(made)) => Ok(Some(self.prepared(alloc, made)?)),
             Err(fault) => Err(fault),
         }
     }
@@ -38,10 +40,10 @@ impl Core {
 
 /// What a turn makes of a library, where something is due.
 fn made_in_turn(alloc: Global, parts: &Parts, now: u64) -> Result<Option<Made>, Memory>
-    requires ready { IsReady parts.now }
-    ensures made { IfOk result (λ made. made
-        ≡ option_map (λ change. made_by parts.now (changed Done change)) (turn parts.now now)) }
-    ensures due { IfErr result (λ _. IsTrue (is_some (turn parts.now now))) }
+    requires ready { IsReady parts.now.library }
+    ensures made { IfOk result (λ made. option_map making made
+        ≡ option_map (λ change. made_by parts.now.library (changed Done change)) (turn parts.now.library now)) }
+    ensures due { IfErr result (λ _. IsTrue (is_some (turn parts.now.library now))) }
 {
     if parts.registry().requests().first_due().is_some() {
         let next = parts.delete_step(alloc, now)?;

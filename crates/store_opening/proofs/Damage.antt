@@ -66,7 +66,7 @@ damaged_stands_for_none image at form s damage stands = by damage
     by (InRow damage) = rows_are_whole image stands.header form stands.text stands.records half stands.makes.first stands.makes.snapshot at damage
     by (InRows damage) = rows_are_good image stands.header form stands.text stands.records half stands.makes.first stands.makes.snapshot at damage
     by (InRecord damage) =
-        records_are_good image stands.header form stands.text stands.records half stands.makes.first stands.makes.snapshot s.archive.library at stands.makes.folds
+        records_are_good image stands.header form stands.text stands.records half stands.makes.first stands.makes.snapshot stands.made at stands.makes.folds
         damage
     by (InTorn damage) = torn_or_whole image _ _ _ _ _ _ _ _ _ _ damage.reads stands.reads
 

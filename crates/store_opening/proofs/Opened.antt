@@ -11,7 +11,7 @@ use Rattle.media_journal.specs.Journal.{Gives}
 use Rattle.media_journal.specs.Opening.{IsOpened, OpenAnswer, contents_of, header_of}
 use Rattle.media_journal.proofs.ReadingLemmas.{gives_reads}
 use Rattle.core_restore.specs.Restored.{are_rows_of_good}
-use Rattle.store_states.specs.States.{Folds, IsSnapshot, Makes, StoreState, blocks_before, held_in, media_start}
+use Rattle.store_states.specs.States.{Folds, IsSnapshot, Makes, StoreState, blocks_before, held_in, library_in, media_start}
 use Rattle.store_opening.specs.declared.fault.OpenFault.{OpenFault}
 use Rattle.store_opening.specs.declared.fault.OpenFault.TheVariants.{Damaged, OldForm, Memory}
 use Rattle.store_opening.specs.Opening.{IsKept, IsRefusedAt, InJournal, InRow, InRows, InRecord, InTorn, StandsByOther, StoreAnswer, StoreDamagedAt}
@@ -133,14 +133,16 @@ is_other image o first library whole other is snapshot folds =
     record {
       form = o.form;
       other = other;
-      state = state_of image o library;
+      state = state_of image o (library_in o.form image (media_start o.half) library);
       stands = record {
         header = header_of o;
         gate = o.journal.gate;
         text = o.rows;
         records = o.found;
         reads = gives_reads image o.journal (contents_of o) gives;
+        made = library;
         makes = record { first = first; snapshot = snapshot; folds = folds };
+        library = refl;
         held = refl;
         room = gives.half.room ∙ ap (λ start. start + 4096 * o.half) gives.active;
         half = refl;

@@ -27,11 +27,12 @@ pub record IsKept (image : List ℕ) (kept : StoreView) : Type 0 where
 
 -- what a store keeps that was opened
 abbrev pub view_of_opened : OpenedStore → StoreView
-view_of_opened store = record { library = store.core; journal = store.journal }
+view_of_opened store = record { library = store.core.library; journal = store.journal }
 
 -- the library has the media blocks of its file: all but those before them
 abbrev pub HasItsBlocks : OpenedStore → Type 0
-HasItsBlocks store = store.core.blocks ≡ store.journal.blocks - blocks_before store.journal.half
+HasItsBlocks store =
+    store.core.library.blocks ≡ store.journal.blocks - blocks_before store.journal.half
 
 -- the bytes in the image of the objects of what is kept
 abbrev pub bytes_in_image : List ℕ → StoreView → List (List ℕ)
@@ -121,7 +122,7 @@ pub data StoreDamagedAt (image : List ℕ) (at : ℕ) : Type 0 where
 
 -- ---- where an image is of another form
 
--- the image stands for a state by a half of a form that isn't in use
+-- the image stands for a state by a half of a form that isn't in use, which is form 1
 pub record StandsByOther (image : List ℕ) : Type 0 where
   pub form : ℕ
   pub other : form ≢ form_in_use

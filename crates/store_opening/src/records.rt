@@ -20,8 +20,9 @@ pub(crate) fn fold(
     first: Core,
 ) -> Result<Core, OpenFault>
     requires form { IsForm form }
-    ensures folded { IfOk result (Folds form records.now first) }
-    ensures refused { AtDamage result (IsRefusedAt form records.now first) }
+    ensures folded { IfOk result
+        (λ next. Folds form records.now first.library next.library) }
+    ensures refused { AtDamage result (IsRefusedAt form records.now first.library) }
 {
     let mut library = first;
     for entry in records {
@@ -33,8 +34,9 @@ pub(crate) fn fold(
 /// The library that a record of a form makes of this one.
 fn step(alloc: Global, entry: &Record, form: u8, library: &Core) -> Result<Core, OpenFault>
     requires form { IsForm form }
-    ensures next { IfOk result (StepOf form entry.now.payload library.now) }
-    ensures refused { AtDamage result (λ at. IsNoStep form entry.now.payload library.now) }
+    ensures next { IfOk result
+        (λ next. StepOf form entry.now.payload library.now.library next.library) }
+    ensures refused { AtDamage result (λ at. IsNoStep form entry.now.payload library.now.library) }
     ensures place { AtDamage result (λ at. at ≡ entry.now.offset) }
 {
     let change = match decode_change(alloc, entry.payload.bytes(), form) {

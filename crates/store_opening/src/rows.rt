@@ -16,7 +16,8 @@ use store_core::Core;
 pub(crate) fn library_of_rows(alloc: Global, opened: &Opened) -> Result<Core, OpenFault>
     requires sizes { 2 * opened.now.half + 3 ≤ opened.now.blocks }
     requires form { IsForm opened.now.form }
-    ensures ok { IfOk result (IsSnapshot opened.now.form (header_of opened.now) opened.now.rows) }
+    ensures ok { IfOk result (λ core. IsSnapshot opened.now.form (header_of opened.now)
+        opened.now.rows core.library) }
     ensures damaged { (image : List ℕ) → IsOpened image opened.now
         → AtDamage result (RowsMakeNoLibrary image) }
 {

@@ -2,3 +2,4 @@ mod Spelled
 mod Answered
 mod Fitted
 mod Due
+pub mod Storing

@@ -1,7 +1,7 @@
 -- What is planned of a store before anything is written to it: the library that a command, a turn
 -- or a put of an object's bytes makes of it, the record of the change, and the rows of a checkpoint
 -- that must come first. Our own rules.
-use Rattle.std.specs.Prelude.{◌≡◌, ◌≤◌, ◌+◌, ◌*◌, ℕ, List, length, bytes_eq, Option, Some, None, IfSome, IsTrue, IsFalse}
+use Rattle.std.specs.Prelude.{◌≡◌, ◌≤◌, ◌+◌, ◌*◌, ℕ, List, length, bytes_eq, Option, Some, None, is_some, IfSome, IsTrue, IsFalse}
 use Rattle.disk_trait.specs.Forms.{form_in_use}
 use Rattle.media_rows.specs.declared.change.Change.{Change}
 use Rattle.media_rows.specs.declared.change.Change.TheVariants as changes
@@ -12,18 +12,22 @@ use Rattle.media_rows.specs.declared.object.ObjectState.TheVariants.{Stored}
 use Rattle.media_rows.specs.declared.reply.Reply.TheVariants as replies
 use Rattle.media_rows.specs.Answer.{Outcome, changed, stored_put, unchanged}
 use Rattle.media_rows.specs.Apply.{applied, turn}
+use Rattle.media_rows.specs.Digests.{digest_of}
 use Rattle.media_rows.specs.Library.{Library}
 use Rattle.media_rows.specs.Media.{Archive, answer_to, puts}
 use Rattle.media_rows.specs.Objects.{blocks_of, free_place, object_of}
 use Rattle.change_codec.specs.Codec.{SpellsChange}
+use Rattle.change_codec.specs.Digests.{HasHalves, digest_bytes, ending_in}
 use Rattle.change_codec.specs.Fitting.{State, fits, fits_room, snapshot_size}
 use Rattle.library_laws.specs.MediaLaws.{bytes_in}
+use Rattle.core_parts.specs.Parts.{library_digested}
 use Rattle.media_journal.specs.Journal.{Position}
 use Rattle.store_states.specs.Fitting.{FitsJournal, fitted}
 use Rattle.store_states.specs.Laws.{is_clear}
 use Rattle.store_states.specs.States.{IsTextOf}
 use Rattle.store_plans.specs.declared.outcome.Planned.{Planned}
 use Rattle.store_plans.specs.declared.puts.PutPlan.{PutPlan}
+use Rattle.store_plans.specs.declared.puts.StorePlan.{StorePlan}
 use Rattle.store_plans.specs.declared.puts.PutPlan.TheVariants.{Refused, Kept, Write}
 use Rattle.store_plans.specs.declared.turns.TurnPlan.{TurnPlan}
 use Rattle.store_plans.specs.declared.turns.TurnPlan.TheVariants.{Nothing, NoRoom, Delete, Sweep}
@@ -55,14 +59,14 @@ pub record MakesChange (journal : State) (change : Change) (planned : Planned) :
   pub payload : List ℕ
   pub frame : planned.frame ≡ Some payload
   pub spells : SpellsChange form_in_use payload change
-  pub made : applied change journal.library ≡ Some planned.next
+  pub made : applied change journal.library ≡ Some planned.next.library
   pub first : ComesFirst journal change planned.rows
 
 -- the plan makes none: it leaves the library as it is, and nothing is written
 pub record MakesNone (journal : State) (planned : Planned) : Type 0 where
   pub frame : planned.frame ≡ None
   pub rows : planned.rows ≡ None
-  pub same : planned.next ≡ journal.library
+  pub same : planned.next.library ≡ journal.library
 
 -- the plan makes a change, if there is one
 abbrev pub MakesStep : State → Option Change → Planned → Type 0
@@ -119,8 +123,25 @@ TurnFits position (Sweep planned) = PlanFits position planned
 
 -- ---- a put of an object's bytes
 
+-- The plan with the digest of the bytes that came: it stands last in the record, and the library
+-- has it.
+abbrev pub planned_with : Digest → StorePlan → Planned
+planned_with digest plan = record {
+  next = library_digested digest plan.prepared.core;
+  frame = Some (ending_in (digest_bytes digest) plan.frame);
+  rows = plan.rows;
+  reply = plan.prepared.reply;
+}
+
+-- A digest can be put into the plan: its record has room for one, and what was prepared holds the
+-- object's row apart.
+pub record CanTakeDigest (plan : StorePlan) : Type 0 where
+  pub long : 32 ≤ length plan.frame
+  pub apart : IsTrue (is_some plan.prepared.core.apart)
+
 -- What is planned of bytes that come for an object of an archive: the refusal that is answered to
--- them, a look at the bytes that the object has, or the plan of the answer.
+-- them, a look at the bytes that the object has, or the plan of the answer, once it has their
+-- digest.
 abbrev pub PlansPut : State → Archive → List ℕ → List ℕ → ℕ → PutPlan → Type 0
 PlansPut journal archive object bytes moment (Refused why) =
     fitted journal (answer_to archive (puts object bytes) moment)
@@ -128,8 +149,9 @@ PlansPut journal archive object bytes moment (Refused why) =
 PlansPut journal archive object bytes moment (Kept extent) =
     answer_to archive (puts object bytes) moment
     ≡ stored_put (bytes_eq (bytes_in archive object) bytes)
-PlansPut journal archive object bytes moment (Write extent planned) =
-    IsPlanOf journal (answer_to archive (puts object bytes) moment) planned
+PlansPut journal archive object bytes moment (Write extent plan) =
+    IsPlanOf journal (answer_to archive (puts object bytes) moment)
+    (planned_with (digest_of bytes) plan)
 
 -- this holds of all bytes of the size, whatever bytes the library's objects have
 abbrev pub IsPutPlan : State → List ℕ → ℕ → ℕ → PutPlan → Type 0
@@ -145,27 +167,31 @@ pub record IsStoredAt (objects : List ObjectRow) (object : List ℕ) (extent : E
   pub stored : row.state ≡ Stored extent.start extent.length digest
 
 -- The extent is the least free place for so many bytes: it lies in the media blocks, and no stored
--- object has a block of it. The plan stores the object there.
+-- object has a block of it. The plan stores the object there, with whatever digest it is given.
 pub record TakesExtent (journal : State) (object : List ℕ) (size moment : ℕ) (extent : Extent)
-    (planned : Planned) : Type 0 where
+    (plan : StorePlan) : Type 0 where
   pub sized : extent.length ≡ size
   pub least : free_place journal.library.objects journal.library.blocks (blocks_of size)
       ≡ Some extent.start
   pub clear : is_clear journal.library.objects extent.start (blocks_of extent.length)
   pub within : extent.start + blocks_of extent.length ≤ journal.library.blocks
-  pub makes :
-      MakesChange journal (changes.Store moment object extent.start extent.length None) planned
+  pub makes : (digest : Digest) → HasHalves digest
+      → MakesChange journal
+      (changes.Store moment object extent.start extent.length (Some digest))
+      (planned_with digest plan)
+  pub takes : CanTakeDigest plan
 
 -- the extent of a plan: that of the object's bytes, or the one that they take
 abbrev pub HasExtent : State → List ℕ → ℕ → ℕ → PutPlan → Type 0
 HasExtent journal object size moment (Refused why) = Unit {0}
 HasExtent journal object size moment (Kept extent) =
     IsStoredAt journal.library.objects object extent
-HasExtent journal object size moment (Write extent planned) =
-    TakesExtent journal object size moment extent planned
+HasExtent journal object size moment (Write extent plan) =
+    TakesExtent journal object size moment extent plan
 
--- the record of a put has its room
+-- the record of a put has its room, whatever its digest is
 abbrev pub PutFits : Position → PutPlan → Type 0
 PutFits position (Refused why) = Unit {0}
 PutFits position (Kept extent) = Unit {0}
-PutFits position (Write extent planned) = PlanFits position planned
+PutFits position (Write extent plan) =
+    (digest : Digest) → PlanFits position (planned_with digest plan)

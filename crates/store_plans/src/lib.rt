@@ -11,5 +11,5 @@ mod turns;
 
 pub use crate::commands::plan;
 pub use crate::outcome::Planned;
-pub use crate::puts::{PutPlan, plan_put};
+pub use crate::puts::{PutPlan, StorePlan, plan_put};
 pub use crate::turns::{TurnPlan, plan_turn};

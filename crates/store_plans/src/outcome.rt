@@ -29,11 +29,11 @@ struct Written {
 }
 
 /// The plan that leaves a library as it is.
-pub(crate) fn unchanged(library: &Core, reply: Reply) -> Result<Planned, Memory>
-    ensures { IfOk result (λ planned. planned ≡ still library.now reply) }
+pub(crate) fn unchanged(alloc: Global, core: &Core, reply: Reply) -> Result<Planned, Memory>
+    ensures { IfOk result (λ planned. planned ≡ still core.now reply) }
 {
     Ok(Planned {
-        next: library.share()?,
+        next: core.share(alloc)?,
         frame: None,
         rows: None,
         reply,
@@ -43,15 +43,15 @@ pub(crate) fn unchanged(library: &Core, reply: Reply) -> Result<Planned, Memory>
 /// The plan of what was prepared, and `None` exactly where its change doesn't fit the journal.
 pub(crate) fn fitted(
     alloc: Global,
-    library: &Core,
+    core: &Core,
     journal: &Journal,
     prepared: Prepared,
 ) -> Result<Option<Planned>, Memory>
-    requires { IsPreparedFor library.now prepared }
-    ensures plan { IfOk result (IsFitted (journal_in library.now journal.now) (prepared_outcome prepared)) }
+    requires { IsPreparedFor core.now.library prepared }
+    ensures plan { IfOk result (IsFitted (journal_in core.now.library journal.now) (prepared_outcome prepared)) }
     ensures fits { IfOk result (λ planned. IfSome planned (PlanFits journal.now)) }
 {
-    match written_of(alloc, library, journal, &prepared)? {
+    match written_of(alloc, core, journal, &prepared)? {
         None => Ok(None),
         Some(written) => Ok(Some(plan_with(prepared, written))),
     }
@@ -60,12 +60,12 @@ pub(crate) fn fitted(
 /// What is written for what was prepared, and `None` exactly where its change doesn't fit the journal.
 fn written_of(
     alloc: Global,
-    library: &Core,
+    core: &Core,
     journal: &Journal,
     prepared: &Prepared,
 ) -> Result<Option<Written>, Memory>
-    requires { IsPreparedFor library.now prepared.now }
-    ensures plan { IfOk result (λ written. IsFitted (journal_in library.now journal.now)
+    requires { IsPreparedFor core.now.library prepared.now }
+    ensures plan { IfOk result (λ written. IsFitted (journal_in core.now.library journal.now)
         (prepared_outcome prepared.now) (option_map (plan_with prepared.now) written)) }
     ensures fits { IfOk result (λ written. IfSome written (WrittenFits journal.now)) }
 {
@@ -78,7 +78,7 @@ fn written_of(
     if prepared.past {
         return Ok(None);
     }
-    match record_of(alloc, library, journal, change)? {
+    match record_of(alloc, core, journal, change)? {
         None => Ok(None),
         Some(Recorded { frame, rows }) => Ok(Some(Written {
             frame: Some(frame),

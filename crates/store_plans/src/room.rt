@@ -23,11 +23,11 @@ pub(crate) struct Recorded {
 /// of memory.
 pub(crate) fn record_of(
     alloc: Global,
-    library: &Core,
+    core: &Core,
     journal: &Journal,
     change: &Change,
 ) -> Result<Option<Recorded>, Memory>
-    ensures found { IfOk result (IsRecorded (journal_in library.now journal.now) change.now) }
+    ensures found { IfOk result (IsRecorded (journal_in core.now.library journal.now) change.now) }
     ensures fits { IfOk result (λ found. IfSome found (RecordFits journal.now)) }
 {
     if !has_spelling(change) {
@@ -37,7 +37,7 @@ pub(crate) fn record_of(
     let size = payload.bytes().len() as u64;
     // A record takes 5 bytes beside its payload, and the gate behind it one.
     if size + 6 > journal.room() {
-        return behind_rows(alloc, library, journal, &payload);
+        return behind_rows(alloc, core, journal, &payload);
     }
     Ok(Some(Recorded {
         frame: Frame::new(alloc, payload.bytes())?,
@@ -48,18 +48,18 @@ pub(crate) fn record_of(
 /// The record of this payload behind the library's rows, and `None` exactly where a half has no room for both.
 fn behind_rows(
     alloc: Global,
-    library: &Core,
+    core: &Core,
     journal: &Journal,
     payload: &Text,
 ) -> Result<Option<Recorded>, Memory>
     requires some { 0 < length payload.now }
-    ensures found { IfOk result (IsBehindRows (journal_in library.now journal.now) payload.now) }
+    ensures found { IfOk result (IsBehindRows (journal_in core.now.library journal.now) payload.now) }
     ensures fits { IfOk result (λ found. IfSome found (RecordFits journal.now)) }
 {
     rows_give_the_library();
     good_is_tested();
-    library.keeps_good();
-    let rows = library.rows(alloc)?;
+    core.keeps_good();
+    let rows = core.rows(alloc)?;
     let taken = rows.bytes().len() as u64;
     let size = payload.bytes().len() as u64;
     let half = BLOCK * journal.half();

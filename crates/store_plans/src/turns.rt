@@ -2,7 +2,7 @@
 ghost use Rattle.std.specs.Prelude.{◌≡◌, IfErr, IfOk, IfSome, IsTrue, is_some};
 ghost use Rattle.media_rows.specs.Apply.{turn};
 ghost use Rattle.media_rows.specs.Moments.{is_moment};
-ghost use Rattle.store_core.specs.Prepared.{AppliesTo, turned};
+ghost use Rattle.store_core.specs.Prepared.{AppliesTo, preparation, turned};
 ghost use Rattle.store_plans.specs.Plans.{IsTurnPlan, TurnFits, journal_in};
 ghost use Rattle.store_plans.specs.Within.{is_delete_step};
 
@@ -26,40 +26,40 @@ pub enum TurnPlan {
 /// exactly where nothing is due, and `NoRoom` exactly where the change of what is due doesn't fit the journal.
 pub fn plan_turn(
     alloc: Global,
-    library: &Core,
+    core: &Core,
     journal: &Journal,
     now: u64,
 ) -> Result<TurnPlan, Memory>
     requires moment { IsTrue (is_moment now) }
-    ensures planned { IfOk result (IsTurnPlan (journal_in library.now journal.now) now) }
+    ensures planned { IfOk result (IsTurnPlan (journal_in core.now.library journal.now) now) }
 
     // That nothing is due is found without memory.
-    ensures due { IfErr result (λ _. IsTrue (is_some (turn library.now now))) }
+    ensures due { IfErr result (λ _. IsTrue (is_some (turn core.now.library now))) }
 
     // Where there is a record, it has the room that it needs.
     ensures fits { IfOk result (TurnFits journal.now) }
 {
-    match library.prepare_turn(alloc, now)? {
+    match core.prepare_turn(alloc, now)? {
         None => Ok(TurnPlan::Nothing),
-        Some(prepared) => plan_step(alloc, library, journal, prepared, now),
+        Some(prepared) => plan_step(alloc, core, journal, prepared, now),
     }
 }
 
 /// The plan of what was prepared for a turn in which something is due.
 fn plan_step(
     alloc: Global,
-    library: &Core,
+    core: &Core,
     journal: &Journal,
     prepared: Prepared,
     now: u64,
 ) -> Result<TurnPlan, Memory>
-    requires turned { turned library.now now ≡ Some prepared }
-    requires applies { AppliesTo library.now prepared }
-    ensures planned { IfOk result (IsTurnPlan (journal_in library.now journal.now) now) }
+    requires turned { turned core.now.library now ≡ Some (preparation prepared) }
+    requires applies { AppliesTo core.now.library (preparation prepared) }
+    ensures planned { IfOk result (IsTurnPlan (journal_in core.now.library journal.now) now) }
     ensures fits { IfOk result (TurnFits journal.now) }
 {
     let deletes = is_delete(&prepared.change);
-    match fitted(alloc, library, journal, prepared)? {
+    match fitted(alloc, core, journal, prepared)? {
         None => Ok(TurnPlan::NoRoom),
         Some(planned) => {
             if deletes {

@@ -32,7 +32,7 @@ use Rattle.store_states.specs.States.{held_in, state_bytes}
 -- ---- the bytes of one object
 
 -- where no two objects have one id, the bytes of an id are those of its object
-own_held : (image : List ℕ) (area : ℕ) (objects : List ObjectRow) (row : ObjectRow) → are_object_ids_distinct objects ≡ true → In row objects
+pub own_held : (image : List ℕ) (area : ℕ) (objects : List ObjectRow) (row : ObjectRow) → are_object_ids_distinct objects ≡ true → In row objects
     → bytes_of row.id objects (held_in image area objects) ≡ state_bytes image area row.state
 own_held image area [] row distinct here = absurd here
 own_held image area (first ∷ rows) row distinct (inl same) =

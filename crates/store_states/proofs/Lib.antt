@@ -6,4 +6,5 @@ pub mod Agreeing
 pub mod Appending
 pub mod Checking
 pub mod Held
+pub mod Digested
 pub mod Making

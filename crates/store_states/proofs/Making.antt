@@ -9,7 +9,7 @@ use Rattle.media_rows.specs.Apply.{applied, applies, is_allowed}
 use Rattle.media_rows.specs.Changes.{after, moment_of}
 use Rattle.media_rows.specs.Good.{Good, is_good}
 use Rattle.media_rows.specs.Library.{Library}
-use Rattle.media_rows.specs.Media.{Archive, is_held}
+use Rattle.media_rows.specs.Media.{Archive, HasDigests, is_held}
 use Rattle.media_rows.specs.Moments.{is_moment}
 use Rattle.media_rows.specs.Snapshot.{library_of, with_row}
 use Rattle.media_journal.specs.declared.header.Header.{Header}
@@ -19,8 +19,9 @@ use Rattle.library_laws.proofs.ChangeFacts.{store_stays}
 use Rattle.library_laws.proofs.ChangesKept.{good_is_tested}
 use Rattle.library_laws.proofs.SoundLemmas.{applied_is_sound}
 use Rattle.store_states.specs.Held.{archive_in}
-use Rattle.store_states.specs.Laws.{IsUnder, LibrariesAreGood, StatesAreGood}
-use Rattle.store_states.specs.States.{Folds, IsSnapshot, IsTextOf, Makes, StandsFor, StepOf, StoreState, blocks_before, held_in, media_start}
+use Rattle.store_states.specs.Laws.{IsUnder, LibrariesAreGood, OldStatesHaveDigests, StatesAreGood}
+use Rattle.store_states.specs.States.{Folds, IsSnapshot, IsTextOf, Makes, StandsBy, StepOf, StoreState, blocks_before, held_in, library_in, media_start}
+use Rattle.store_states.proofs.Digested.{blocks_in, digests_held, good_in}
 use Rattle.store_states.proofs.Held.{lengths_held}
 
 -- ---- one change
@@ -79,16 +80,27 @@ libraries_are_good form h text records library makes =
 -- ---- states
 
 pub states_are_good : StatesAreGood
-states_are_good image s stands =
-    let library = libraries_are_good form_in_use stands.header stands.text stands.records s.archive.library stands.makes in
+states_are_good form image s stands =
+    let area = media_start stands.header.half in
+    let made = libraries_are_good form stands.header stands.text stands.records stands.made stands.makes in
+    let good : Good s.archive.library = subst Good (sym stands.library) (good_in form image area stands.made made.0) in
+    let blocks : s.archive.library.blocks ≡ stands.header.blocks - blocks_before stands.header.half =
+    ap (λ (x : Library). x.blocks) stands.library ∙ blocks_in form image area stands.made ∙ made.1.blocks in
     let sizes = stands.reads.sizes in
     let there : media_start stands.header.half + 4096 * s.archive.library.blocks ≤ length image =
-    omega (arith, library.1.blocks, sizes.fits, sizes.within) in
+    omega (arith, blocks, sizes.fits, sizes.within) in
     record {
-      good = library.0;
+      good = good;
       held = ap (λ (bytes : List (List ℕ)). is_held (record { library = s.archive.library; held = bytes })) stands.held
-          ∙ lengths_held image (media_start stands.header.half) s.archive.library library.0 there;
+          ∙ lengths_held image (media_start stands.header.half) s.archive.library good there;
     }
+
+pub old_states_have_digests : OldStatesHaveDigests
+old_states_have_digests image s stands =
+    let area = media_start stands.header.half in
+    let good = (states_are_good 1 image s stands).good in
+    subst (λ (held : List (List ℕ)). HasDigests (record { library = s.archive.library; held = held })) (sym stands.held)
+    (digests_held image area stands.made s.archive.library good stands.library)
 
 -- ---- the text of what is kept
 

@@ -5,18 +5,19 @@ use Rattle.std.specs.List.{list_all}
 use Rattle.media_rows.specs.declared.object.ObjectRow.{ObjectRow}
 use Rattle.media_rows.specs.Good.{Good}
 use Rattle.media_rows.specs.Library.{Library}
+use Rattle.media_rows.specs.Media.{HasDigests}
 use Rattle.media_rows.specs.Objects.{is_clear_of}
 use Rattle.library_laws.specs.MediaLaws.{IsGoodArchive}
 use Rattle.disk_trait.specs.Calls.{Torn}
 use Rattle.media_journal.specs.declared.header.Header.{Header}
 use Rattle.media_journal.specs.declared.record.Record.{Record}
-use Rattle.store_states.specs.States.{Makes, StandsFor, StoreState, blocks_before, held_in}
+use Rattle.store_states.specs.States.{Makes, StandsBy, StoreState, blocks_before, held_in}
 
--- an image stands for one state at most
+-- an image stands for one state at most, by a half of whatever form
 abbrev pub IsOneState : Type 0
 IsOneState =
-    (image : List ℕ) (s other : StoreState)
-    → StandsFor image s → StandsFor image other → other ≡ s
+    (image : List ℕ) (form again : ℕ) (s other : StoreState)
+    → StandsBy form image s → StandsBy again image other → other ≡ s
 
 -- ---- the bytes of objects
 
@@ -59,4 +60,9 @@ LibrariesAreGood =
 -- a state for which an image stands is good: its library, and the lengths of its objects' bytes
 abbrev pub StatesAreGood : Type 0
 StatesAreGood =
-    (image : List ℕ) (s : StoreState) → StandsFor image s → IsGoodArchive s.archive
+    (form : ℕ) (image : List ℕ) (s : StoreState) → StandsBy form image s → IsGoodArchive s.archive
+
+-- by a half of form 1 it has the digests of its objects' bytes
+abbrev pub OldStatesHaveDigests : Type 0
+OldStatesHaveDigests =
+    (image : List ℕ) (s : StoreState) → StandsBy 1 image s → HasDigests s.archive

@@ -1,7 +1,7 @@
 -- The state for which an image of the file stands: its active half has the rows of a good library
--- and records whose changes apply one after another, and each stored object's bytes are those at
--- its extent. Our own format.
-use Rattle.std.specs.Prelude.{◌≡◌, ◌+◌, ◌-◌, ◌*◌, ℕ, List, [], ◌∷◌, map, Some, IsTrue}
+-- and records whose changes apply one after another, each stored object's bytes are those at its
+-- extent, and its digest is the one that is kept, or in form 1 that of these bytes. Our own format.
+use Rattle.std.specs.Prelude.{◌≡◌, ◌+◌, ◌-◌, ◌*◌, ◌==◌, ℕ, List, [], ◌∷◌, map, Some, IsTrue, if◌then◌else◌}
 use Rattle.disk_trait.specs.Forms.{form_in_use}
 use Rattle.media_rows.specs.declared.change.Change.{Change}
 use Rattle.media_rows.specs.declared.object.ObjectRow.{ObjectRow}
@@ -9,6 +9,7 @@ use Rattle.media_rows.specs.declared.object.ObjectState.{ObjectState}
 use Rattle.media_rows.specs.declared.object.ObjectState.TheVariants.{Allocated, Stored}
 use Rattle.media_rows.specs.declared.row.Row.{Row}
 use Rattle.media_rows.specs.Apply.{applied}
+use Rattle.media_rows.specs.Digests.{digest_of}
 use Rattle.media_rows.specs.Good.{is_good}
 use Rattle.media_rows.specs.Library.{Library}
 use Rattle.media_rows.specs.Media.{Archive}
@@ -40,6 +41,28 @@ state_bytes image area (Stored start size digest) =
 -- the bytes of objects, a list along them
 abbrev pub held_in : List ℕ → ℕ → List ObjectRow → List (List ℕ)
 held_in image area objects = map (λ row. state_bytes image area row.state) objects
+
+-- ---- the digests of objects
+
+-- the state of an object with the digest of its bytes in an image, where it has bytes
+abbrev pub digested_state : List ℕ → ℕ → ObjectState → ObjectState
+digested_state image area Allocated = Allocated
+digested_state image area (Stored start size digest) =
+    Stored start size (Some (digest_of (state_bytes image area (Stored start size digest))))
+
+-- an object with the digest of its bytes in an image
+abbrev pub digested_row : List ℕ → ℕ → ObjectRow → ObjectRow
+digested_row image area row = record row { state = digested_state image area row.state }
+
+-- objects with the digests of their bytes
+abbrev pub digested : List ℕ → ℕ → List ObjectRow → List ObjectRow
+digested image area objects = map (digested_row image area) objects
+
+-- The library of a half of a form whose rows and records make this one. Form 1 keeps no digests,
+-- so each stored object has that of its bytes in the image.
+abbrev pub library_in : ℕ → List ℕ → ℕ → Library → Library
+library_in form image area made =
+    if form == 1 then record made { objects = digested image area made.objects } else made
 
 -- ---- rows
 
@@ -93,7 +116,9 @@ pub record StandsBy (form : ℕ) (image : List ℕ) (s : StoreState) : Type 0 wh
   pub text : List ℕ
   pub records : List Record
   pub reads : Reads image header gate form text records
-  pub makes : Makes form header text records s.archive.library
+  pub made : Library
+  pub makes : Makes form header text records made
+  pub library : s.archive.library ≡ library_in form image (media_start header.half) made
   pub held : s.archive.held ≡ held_in image (media_start header.half) s.archive.library.objects
   pub room : gate + s.room ≡ active_start image header.half + 4096 * header.half
   pub half : s.half ≡ 4096 * header.half

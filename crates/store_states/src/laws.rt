@@ -1,9 +1,9 @@
 //! Laws of states. Each function does nothing.
 ghost use Rattle.store_states.specs.Held.{BytesHaveTheirLengths, ChangesFindBytes};
 ghost use Rattle.store_states.specs.Worked.{BytesAsWorked, PlacesAsWorked, RowsAsWorked};
-ghost use Rattle.store_states.specs.Laws.{ClearWritesLeaveBytes, EarlyWritesLeaveBytes, IsOneState, LibrariesAreGood, StatesAreGood};
+ghost use Rattle.store_states.specs.Laws.{ClearWritesLeaveBytes, EarlyWritesLeaveBytes, IsOneState, LibrariesAreGood, OldStatesHaveDigests, StatesAreGood};
 
-/// An image of the file stands for one state at most.
+/// An image of the file stands for one state at most, by a half of whatever form.
 pub fn an_image_stands_for_one_state()
     ensures { IsOneState }
 {}
@@ -22,10 +22,12 @@ pub fn images_have_the_bytes()
     ensures next { ChangesFindBytes }
 {}
 
-/// The library of a half's rows and records is good, and so is each state for which an image stands.
+/// The library of a half's rows and records is good, and so is each state for which an image stands. By a
+/// half of form 1 it has the digests of its objects' bytes.
 pub fn states_are_good()
     ensures library { LibrariesAreGood }
     ensures state { StatesAreGood }
+    ensures digests { OldStatesHaveDigests }
 {}
 
 /// Places, bytes and rows of a small store, by hand.

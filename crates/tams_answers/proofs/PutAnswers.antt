@@ -37,7 +37,7 @@ responses_by : (responses : Responses) (context : Context) (put : PutSeen) (plan
     → response_by responses (put_reply (record put { same = same }) plan) ≡ response_to context (put_reply (record put { same = same }) plan)
 responses_by responses context put (Refused why) same one other = by_reply responses context (replies.Refused why) one other
 responses_by responses context put (Kept extent) same one other = by_same responses context same one other
-responses_by responses context put (Write extent planned) same one other = by_reply responses context planned.reply one other
+responses_by responses context put (Write extent plan) same one other = by_reply responses context plan.prepared.reply one other
 
 pub has_responses : (responses : Responses) (context : Context) (put : PutSeen)
     → responses.reply ≡ response_to context (put_reply (record put { same = true }) put.plan)
@@ -53,7 +53,7 @@ texts_by have fits journal object size moment put (Refused why) is =
     ap (λ (o : Outcome). has_reply_texts o.reply) (sym (is archive bytes refl (length-replicate size 0)))
     ∙ fits journal outcome (have.put archive object bytes moment)
 texts_by have fits journal object size moment put (Kept extent) is = refl
-texts_by have fits journal object size moment put (Write extent planned) is =
+texts_by have fits journal object size moment put (Write extent plan) is =
     let archive : Archive = record { library = journal.library; held = [] } in
     let bytes = replicate size 0 in
     let outcome = answer_to archive (puts object bytes) moment in

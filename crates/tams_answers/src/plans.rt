@@ -51,10 +51,10 @@ pub(crate) fn plan_asked(
     requests_send_bytes();
     match routes.command_of(alloc, request.method, request.target, request.body) {
         Ok(Ask::Run(command)) => plan_command(alloc, store, &command, now),
-        Ok(Ask::GetMedia(object)) => plan_get(store, &object, is_head_only(request.method)),
+        Ok(Ask::GetMedia(object)) => plan_get(alloc, store, &object, is_head_only(request.method)),
         // A PUT of an object's bytes is planned by `plan_media`.
         Ok(Ask::PutMedia(_)) => unreachable!(),
-        Err(AskFault::Refused(why)) => plan_refusal(store, why),
+        Err(AskFault::Refused(why)) => plan_refusal(alloc, store, why),
         Err(AskFault::Memory) => Err(Memory),
     }
 }
@@ -84,13 +84,18 @@ fn plan_command(
 }
 
 /// Plans what is shown of the bytes of an object: their length, where they are stored.
-fn plan_get(store: &Store, object: &Text, head_only: bool) -> Result<PlannedAnswer, Memory>
+fn plan_get(
+    alloc: Global,
+    store: &Store,
+    object: &Text,
+    head_only: bool,
+) -> Result<PlannedAnswer, Memory>
     ensures { IfOk result (λ made. (moment : ℕ) → PlansAsked store.now.kept moment head_only
         (Ok (GetMedia object.now)) made.planned made.media) }
 {
     media_answers_have_texts();
     let extent = store.extent_of(object);
-    let planned = store.keep(reply_at(extent))?;
+    let planned = store.keep(alloc, reply_at(extent))?;
     Ok(PlannedAnswer {
         planned,
         media: unless(head_only, extent),
@@ -98,12 +103,12 @@ fn plan_get(store: &Store, object: &Text, head_only: bool) -> Result<PlannedAnsw
 }
 
 /// Plans a refusal.
-fn plan_refusal(store: &Store, why: Refusal) -> Result<PlannedAnswer, Memory>
+fn plan_refusal(alloc: Global, store: &Store, why: Refusal) -> Result<PlannedAnswer, Memory>
     requires texts { IsTrue (has_refusal_texts why) }
     ensures { IfOk result (λ made. (moment : ℕ) → (head_only : Bool)
         → PlansAsked store.now.kept moment head_only (Err why) made.planned made.media) }
 {
-    let planned = store.keep(Reply::Refused(why))?;
+    let planned = store.keep(alloc, Reply::Refused(why))?;
     Ok(PlannedAnswer {
         planned,
         media: None,

@@ -2,12 +2,13 @@
 use Rattle.std.proofs.Common.{suc, Bool, true, false, List, [], ◌∷◌, ◌++◌, All, Option, Some, None, unwrap_or, arith}
 use Rattle.std.specs.Prelude.{IfSome, option_to_list}
 use Rattle.std.specs.List.{AllByRecursion}
+use Rattle.media_rows.specs.Media.{HasDigests}
 use Rattle.library_laws.proofs.ListLemmas.{In-from_Contains}
 use Rattle.library_laws.specs.MediaLaws.{IsGoodArchive}
 use Rattle.run_history.specs.Steps.{last_or, where_done}
 use Rattle.store_states.specs.States.{StoreState}
-use Rattle.tams_machine.specs.Laws.{KeepsBytes}
-use Rattle.tams_histories.specs.Along.{KeepBytes}
+use Rattle.tams_machine.specs.Laws.{KeepsBytes, KeepsDigests}
+use Rattle.tams_histories.specs.Along.{KeepBytes, KeepDigests}
 use Rattle.tams_histories.proofs.Following.{Follows, follows_keeps, follows_self, follows_twice}
 
 pub all_by_recursion : {X : Type 0} (P : X → Type 0) (xs : List X) → All P xs → AllByRecursion P xs
@@ -18,9 +19,14 @@ pub all_parts : {X : Type 0} (P : X → Type 0) (xs ys : List X) → AllByRecurs
 all_parts P [] ys all = (tt, all)
 all_parts P (x ∷ xs) ys all = let parts = all_parts P xs ys all.1 in ((all.0, parts.0), parts.1)
 
+-- a state follows another, and has the digests of its objects' bytes where that has them
+pub record Follower (s next : StoreState) : Type 0 where
+  pub follows : Follows s.archive next.archive
+  pub digests : KeepsDigests s next
+
 -- where one state is good the next one follows it
 abbrev pub Link : StoreState → StoreState → Type 0
-Link s next = IsGoodArchive s.archive → Follows s.archive next.archive
+Link s next = IsGoodArchive s.archive → Follower s next
 
 -- each of these states follows the one before it, the first one this
 abbrev pub Chain : StoreState → List StoreState → Type 0
@@ -60,10 +66,20 @@ reaches : (s t : StoreState) (later : List StoreState) → Good s → Follows s.
     → AllByRecursion (KeepsBytes s) later
 reaches s t [] good follows goods chain = tt
 reaches s t (u ∷ later) good follows goods chain =
-    let next = follows_twice s.archive t.archive u.archive follows (chain.0 goods.0) in
+    let next = follows_twice s.archive t.archive u.archive follows (chain.0 goods.0).follows in
     (keeps s u good next, reaches s u later good next goods.1 chain.1)
 
 pub keep_along : (s : StoreState) (later : List StoreState) → AllByRecursion Good (s ∷ later) → Chain s later → KeepBytes (s ∷ later)
 keep_along s [] goods chain = (tt, tt)
 keep_along s (t ∷ later) goods chain =
     (reaches s s (t ∷ later) goods.0 (follows_self s.archive) goods chain, keep_along t later goods.1 chain.1)
+
+digests_reach : (s : StoreState) (later : List StoreState) → AllByRecursion Good (s ∷ later) → Chain s later → HasDigests s.archive
+    → AllByRecursion (λ next. HasDigests next.archive) later
+digests_reach s [] goods chain has = tt
+digests_reach s (t ∷ later) goods chain has =
+    let next = (chain.0 goods.0).digests has in
+    (next, digests_reach t later goods.1 chain.1 next)
+
+pub digests_along : (s : StoreState) (later : List StoreState) → AllByRecursion Good (s ∷ later) → Chain s later → KeepDigests (s ∷ later)
+digests_along s later goods chain = digests_reach s later goods chain

@@ -5,9 +5,9 @@ use Rattle.std.specs.List.{AllByRecursion}
 use Rattle.std.proofs.lemmas.Bool.{false≢true}
 use Rattle.change_codec.specs.Fitting as journals
 use Rattle.http_wire.specs.Framing.{method_kind}
-use Rattle.library_laws.specs.Laws.{AnswersAreAllowed, AppliesWithin, HasPlace, IsAllowedAt, TurnsApply}
+use Rattle.library_laws.specs.Laws.{AnswersAreAllowed, AppliesWithin, FirstBytesStay, HasPlace, IsAllowedAt, TurnsApply}
 use Rattle.library_laws.specs.MediaLaws.{IsGoodArchive, TakesPlace}
-use Rattle.library_laws.proofs.MediaKept.{puts_apply}
+use Rattle.library_laws.proofs.MediaKept.{digests_stay, puts_apply}
 use Rattle.library_laws.proofs.SoundLemmas.{applied_is_sound}
 use Rattle.media_rows.specs.declared.change.Change.{Change}
 use Rattle.media_rows.specs.declared.command.Command.{Command}
@@ -35,45 +35,50 @@ use Rattle.tams_machine.specs.Answers.{answer_in, asked_in, journal_of_state, ou
 use Rattle.tams_machine.specs.Laws.{RequestsSendBytes, is_sent}
 use Rattle.tams_machine.specs.Machine.{tams_machine}
 use Rattle.tams_machine.specs.Requests.{TamsRequest}
-use Rattle.tams_histories.specs.Along.{RunsKeepBytes}
-use Rattle.tams_histories.proofs.Chains.{Chain, Link, all_by_recursion, all_parts, chain_append, chain_both, chain_done, keep_along}
+use Rattle.tams_histories.specs.Along.{RunsKeepBytes, RunsKeepDigests}
+use Rattle.tams_histories.proofs.Chains.{Chain, Link, all_by_recursion, all_parts, chain_append, chain_both, chain_done, digests_along, keep_along}
 use Rattle.tams_histories.proofs.Following.{follows_change}
-use Rattle.tams_machine.proofs.Keeping.{within}
+use Rattle.tams_machine.proofs.Keeping.{Comes, Takes, commands_take, placed_take, steps_take, within}
 
 -- ---- one change
 
--- a change of this state, by the bytes that came for it, is allowed where the state is good and the change fits
-abbrev Fine : StoreState → Change → Type 0
-Fine s change = IsGoodArchive s.archive → journals.fits (journal_of_state s) change ≡ true → is_allowed s.archive.library change ≡ true
+-- a change of this state takes the bytes that came for it, and where the state is good and the change fits it is allowed
+record Fine (s : StoreState) (came : List ℕ) (change : Change) : Type 0 where
+  allowed : IsGoodArchive s.archive → journals.fits (journal_of_state s) change ≡ true → is_allowed s.archive.library change ≡ true
+  comes : IsGoodArchive s.archive → Comes change came
 
-fine_link : (s : StoreState) (change : Change) (came : List ℕ) → Fine s change → journals.fits (journal_of_state s) change ≡ true
+fine_link : FirstBytesStay → (s : StoreState) (change : Change) (came : List ℕ) → Fine s came change → journals.fits (journal_of_state s) change ≡ true
     → Link s (state_with_change s change came)
-fine_link s change came fine fits good = follows_change s.archive change came good (fine good fits)
-
-applies_fine : (s : StoreState) (change : Change) → (IsGoodArchive s.archive → AppliesWithin s.archive.library change) → Fine s change
-applies_fine s change applies good fits = (applied_is_sound s.archive.library change _ (applies good (within s change fits))).allowed
+fine_link stay s change came fine fits good = record {
+  follows = follows_change stay s.archive change came good (fine.allowed good fits);
+  digests = digests_stay s.archive change came good (fine.allowed good fits) (fine.comes good).digest;
+}
 
 -- ---- answers
 
-if_fits : (s : StoreState) (came : List ℕ) (reply : Reply) (change : Change) (fit : Bool) → journals.fits (journal_of_state s) change ≡ fit → Fine s change
+if_fits : FirstBytesStay → (s : StoreState) (came : List ℕ) (reply : Reply) (change : Change) (fit : Bool) → journals.fits (journal_of_state s) change ≡ fit → Fine s came change
     → IfSome (option_map (λ c. state_with_change s c came)
     (if fit then record { reply = reply; change = Some change } else unchanged (replies.Refused JournalFull)).change) (Link s)
-if_fits s came reply change true is fine = fine_link s change came fine is
-if_fits s came reply change false is fine = tt
+if_fits stay s came reply change true is fine = fine_link stay s change came fine is
+if_fits stay s came reply change false is fine = tt
 
-fitted_links : (s : StoreState) (came : List ℕ) (reply : Reply) (change : Option Change) → IfSome change (Fine s)
+fitted_links : FirstBytesStay → (s : StoreState) (came : List ℕ) (reply : Reply) (change : Option Change) → IfSome change (Fine s came)
     → IfSome (option_map (λ c. state_with_change s c came) (fitted_by (journal_of_state s) (record { reply = reply; change = change }) change).change) (Link s)
-fitted_links s came reply None fine = tt
-fitted_links s came reply (Some change) fine = if_fits s came reply change _ refl fine
+fitted_links stay s came reply None fine = tt
+fitted_links stay s came reply (Some change) fine = if_fits stay s came reply change _ refl fine
 
-if_allowed : (s : StoreState) (moment : ℕ) (change : Option Change) → IfSome change (IsAllowedAt s.archive.library moment) → IfSome change (Fine s)
-if_allowed s moment None allowed = tt
-if_allowed s moment (Some change) allowed = λ good fits. allowed.allowed
+if_allowed : (s : StoreState) (came : List ℕ) (moment : ℕ) (change : Option Change) → IfSome change (IsAllowedAt s.archive.library moment)
+    → IfSome change (λ c. Comes c came) → IfSome change (Fine s came)
+if_allowed s came moment None allowed comes = tt
+if_allowed s came moment (Some change) allowed comes = record { allowed = λ good fits. allowed.allowed; comes = λ good. comes }
 
 if_placed : (s : StoreState) (object bytes : List ℕ) (moment : ℕ) (change : Option Change)
-    → (IsGoodArchive s.archive → IfSome change (TakesPlace s.archive.library object bytes moment)) → IfSome change (Fine s)
+    → (IsGoodArchive s.archive → IfSome change (TakesPlace s.archive.library object bytes moment)) → IfSome change (Fine s bytes)
 if_placed s object bytes moment None takes = tt
-if_placed s object bytes moment (Some change) takes = λ good fits. (applied_is_sound s.archive.library change _ (takes good).applies).allowed
+if_placed s object bytes moment (Some change) takes = record {
+  allowed = λ good fits. (applied_is_sound s.archive.library change _ (takes good).applies).allowed;
+  comes = λ good. placed_take s.archive.library object bytes moment change (takes good);
+}
 
 -- a command of a request names no place
 no_place : (library : Library) (command : Command) → is_sent (Run command) ≡ true → HasPlace library command
@@ -91,29 +96,33 @@ no_place library (commands.Ask query) sent = tt
 
 -- ---- turns
 
-turn_if : (s : StoreState) (change : Change) (fit : Bool) → journals.fits (journal_of_state s) change ≡ fit → Fine s change
+turn_if : FirstBytesStay → (s : StoreState) (change : Change) (fit : Bool) → journals.fits (journal_of_state s) change ≡ fit → Fine s [] change
     → IfSome (if fit then Some (state_with_change s change []) else None) (Link s)
-turn_if s change true is fine = fine_link s change [] fine is
-turn_if s change false is fine = tt
+turn_if stay s change true is fine = fine_link stay s change [] fine is
+turn_if stay s change false is fine = tt
 
-turned_links : (s : StoreState) (change : Option Change) → (IsGoodArchive s.archive → IfSome change (AppliesWithin s.archive.library))
-    → IfSome (turned_by s change) (Link s)
-turned_links s None applies = tt
-turned_links s (Some change) applies = turn_if s change _ refl (applies_fine s change applies)
+turned_links : FirstBytesStay → (s : StoreState) (change : Option Change) → (IsGoodArchive s.archive → IfSome change (AppliesWithin s.archive.library))
+    → IfSome change (λ c. Comes c []) → IfSome (turned_by s change) (Link s)
+turned_links stay s None applies comes = tt
+turned_links stay s (Some change) applies comes = turn_if stay s change _ refl (record {
+  allowed = λ good fits. (applied_is_sound s.archive.library change _ (applies good (within s change fits))).allowed;
+  comes = λ good. comes;
+})
 
 -- ---- steps
 
-module _ (sends : RequestsSendBytes) (allowed : AnswersAreAllowed) (turns : TurnsApply) where
+module _ (sends : RequestsSendBytes) (allowed : AnswersAreAllowed) (turns : TurnsApply) (stay : FirstBytesStay) where
   asked_links : (s : StoreState) (body : List ℕ) (moment : ℕ) → is_moment moment ≡ true → (asked : Result asked.Ask Refusal)
       → IfOk asked (λ ask. IsTrue (is_sent ask)) → IfSome (option_map (λ c. state_with_change s c body) (outcome_by s body moment asked).change) (Link s)
   asked_links s body moment at (Err refusal) sent = tt
   asked_links s body moment at (Ok (Run command)) sent =
       let outcome = answer_to s.archive (question_of (Run command) body) moment in
-      fitted_links s body outcome.reply outcome.change
-      (if_allowed s moment outcome.change (allowed s.archive.library command moment (no_place s.archive.library command sent)))
+      fitted_links stay s body outcome.reply outcome.change
+      (if_allowed s body moment outcome.change (allowed s.archive.library command moment (no_place s.archive.library command sent))
+      (commands_take s.archive.library command moment body sent))
   asked_links s body moment at (Ok (PutMedia object)) sent =
       let outcome = answer_to s.archive (question_of (PutMedia object) body) moment in
-      fitted_links s body outcome.reply outcome.change
+      fitted_links stay s body outcome.reply outcome.change
       (if_placed s object body moment outcome.change (λ good. puts_apply s.archive object body moment good.good at))
   asked_links s body moment at (Ok (GetMedia object)) sent = tt
 
@@ -123,7 +132,8 @@ module _ (sends : RequestsSendBytes) (allowed : AnswersAreAllowed) (turns : Turn
       asked_links s r.body moment at (asked_in s r) (sends s.archive.library.id (method_kind r.head.method) r.head.target r.body)
 
   turn_links : (moment : ℕ) (s : StoreState) → is_moment moment ≡ true → IfSome (turn_in moment s) (Link s)
-  turn_links moment s at = turned_links s (turn s.archive.library moment) (λ good. turns s.archive.library moment good.good at)
+  turn_links moment s at = turned_links stay s (turn s.archive.library moment) (λ good. turns s.archive.library moment good.good at)
+      (steps_take _ _ moment)
 
   module _ (base : List ℕ) where
     abbrev IsTime : ℕ → Type 0
@@ -177,5 +187,11 @@ module _ (sends : RequestsSendBytes) (allowed : AnswersAreAllowed) (turns : Turn
   pub runs_keep_bytes : RunsKeepBytes
   runs_keep_bytes base from sessions good times =
       keep_along from (all_changes (tams_machine base) (start_of from) sessions)
+      (all_by_recursion (tams_machine base).good (states_of (trace_of (tams_machine base) from sessions)) good)
+      (sessions_chain base (start_of from) sessions (all_by_recursion (IsTime base) (all_moments (tams_machine base) (start_of from) sessions) times))
+
+  pub runs_keep_digests : RunsKeepDigests
+  runs_keep_digests base from sessions good times =
+      digests_along from (all_changes (tams_machine base) (start_of from) sessions)
       (all_by_recursion (tams_machine base).good (states_of (trace_of (tams_machine base) from sessions)) good)
       (sessions_chain base (start_of from) sessions (all_by_recursion (IsTime base) (all_moments (tams_machine base) (start_of from) sessions) times))

@@ -3,4 +3,4 @@
 
 mod laws;
 
-pub use crate::laws::{posts_succeed, runs_keep_bytes};
+pub use crate::laws::{posts_succeed, runs_keep_objects};

@@ -1,12 +1,12 @@
 -- Laws of the machine: what stands at the front of bytes, that states stay good, and that what is
--- stored keeps its bytes.
+-- stored keeps its bytes and its digest.
 use Rattle.std.specs.Prelude.{◌≡◌, ◌++◌, ℕ, Bool, true, false, List, Contains, IfOk, IfSome, IsTrue}
 use Rattle.http_wire.specs.declared.head.MethodKind.{MethodKind}
 use Rattle.media_rows.specs.declared.command.Command.TheVariants as commands
 use Rattle.media_rows.specs.declared.object.ObjectRow.{ObjectRow}
-use Rattle.media_rows.specs.Media.{is_good_question}
+use Rattle.media_rows.specs.Media.{Archive, HasDigests, is_good_question}
 use Rattle.media_rows.specs.Moments.{is_moment}
-use Rattle.media_rows.specs.Objects.{is_stored}
+use Rattle.media_rows.specs.Objects.{digest_in_state, is_stored}
 use Rattle.library_laws.specs.MediaLaws.{IsGoodArchive, bytes_in}
 use Rattle.store_states.specs.States.{StoreState}
 use Rattle.tams_http.specs.Asked.{ask_of}
@@ -55,13 +55,18 @@ TurnsKeepGood = (moment : ℕ) (s : StoreState) → IsGoodArchive s.archive
 
 -- ---- bytes stay
 
--- each object that is stored in both, known by its serial, has the same bytes
+-- an object has the same bytes and the same digest in two archives
+pub record IsSameObject (archive next : Archive) (old new : ObjectRow) : Type 0 where
+  pub bytes : bytes_in next new.id ≡ bytes_in archive old.id
+  pub digest : digest_in_state new.state ≡ digest_in_state old.state
+
+-- each object that is stored in both, known by its serial, has the same bytes and the same digest
 abbrev pub KeepsBytes : StoreState → StoreState → Type 0
 KeepsBytes s next = (old new : ObjectRow) → Contains s.archive.library.objects old
     → Contains next.archive.library.objects new → new.serial ≡ old.serial
-    → IsTrue (is_stored old.state) → bytes_in next.archive new.id ≡ bytes_in s.archive old.id
+    → IsTrue (is_stored old.state) → IsSameObject s.archive next.archive old new
 
--- an answer's change keeps the bytes of what is stored
+-- an answer's change keeps the bytes and the digest of what is stored
 abbrev pub AnswersKeepBytes : Type 0
 AnswersKeepBytes = (base : List ℕ) (r : TamsRequest) (moment : ℕ) (s : StoreState)
     → IsGoodArchive s.archive → IsTrue (is_moment moment) → AsksGood s r
@@ -71,3 +76,20 @@ AnswersKeepBytes = (base : List ℕ) (r : TamsRequest) (moment : ℕ) (s : Store
 abbrev pub TurnsKeepBytes : Type 0
 TurnsKeepBytes = (moment : ℕ) (s : StoreState) → IsGoodArchive s.archive
     → IsTrue (is_moment moment) → IfSome (turn_in moment s) (KeepsBytes s)
+
+-- ---- digests stay true
+
+-- where each stored object has the digest of its bytes, so it has in this state
+abbrev pub KeepsDigests : StoreState → StoreState → Type 0
+KeepsDigests s next = HasDigests s.archive → HasDigests next.archive
+
+-- an answer's change leaves it so, since a media PUT stores the digest of its body
+abbrev pub AnswersKeepDigests : Type 0
+AnswersKeepDigests = (base : List ℕ) (r : TamsRequest) (moment : ℕ) (s : StoreState)
+    → IsGoodArchive s.archive → IsTrue (is_moment moment) → AsksGood s r
+    → IfSome (answer_in base r moment s).change (KeepsDigests s)
+
+-- and so does a turn's
+abbrev pub TurnsKeepDigests : Type 0
+TurnsKeepDigests = (moment : ℕ) (s : StoreState) → IsGoodArchive s.archive
+    → IsTrue (is_moment moment) → IfSome (turn_in moment s) (KeepsDigests s)

@@ -1,6 +1,6 @@
 -- Worked values of the machine, computed by hand: an interim, the last request of a connection, the
 -- put of a flow into an empty library, the bytes of an object, and when a turn is due.
-use Rattle.std.specs.Prelude.{◌≡◌, ◌+◌, ℕ, true, false, List, [], ◌∷◌, None, Ok, Err, codes}
+use Rattle.std.specs.Prelude.{◌≡◌, ◌+◌, ℕ, true, false, List, [], ◌∷◌, Some, None, Ok, Err, codes}
 use Rattle.httparse.specs.Grammar.{RequestHead, crlf}
 use Rattle.media_rows.specs.declared.command.Command.TheVariants as commands
 use Rattle.media_rows.specs.declared.change.Change.{Change}
@@ -10,6 +10,7 @@ use Rattle.media_rows.specs.declared.object.ObjectState.TheVariants.{Stored}
 use Rattle.media_rows.specs.declared.refusal.Refusal.TheVariants.{JournalFull}
 use Rattle.media_rows.specs.declared.reply.Reply.TheVariants as replies
 use Rattle.media_rows.specs.Answer.{changed, unchanged}
+use Rattle.media_rows.specs.Digests.{digest_of}
 use Rattle.media_rows.specs.Library.{empty_library}
 use Rattle.media_rows.specs.Media.{Archive}
 use Rattle.change_codec.specs.Fitting.{snapshot_size}
@@ -44,15 +45,24 @@ empty_in half room = record {
 abbrev pub put_ask : Ask
 put_ask = Run (commands.PutFlow fitting_flow)
 
+-- three bytes
+abbrev pub three_bytes : List ℕ
+three_bytes = 7 ∷ 8 ∷ 9 ∷ []
+
 -- an object of three bytes that no segment names, idle since the moment 100
 abbrev pub idle_object : ObjectRow
-idle_object = record { id = codes "a"; serial = 1; state = Stored 0 3 None; idle_since = 100 }
+idle_object = record {
+  id = codes "a";
+  serial = 1;
+  state = Stored 0 3 (Some (digest_of three_bytes));
+  idle_since = 100;
+}
 
 -- the archive that keeps it alone
 abbrev pub idle_archive : Archive
 idle_archive = record {
   library = record (empty_library 1 1) { objects = idle_object ∷ [] };
-  held = (7 ∷ 8 ∷ 9 ∷ []) ∷ [];
+  held = three_bytes ∷ [];
 }
 
 -- the same in a half of a block
@@ -61,7 +71,7 @@ idle_state = record { archive = idle_archive; room = 4075; half = 4096 }
 
 -- the storing of three bytes for it
 abbrev pub storing_change : Change
-storing_change = changes.Store 0 (codes "a") 0 3 None
+storing_change = changes.Store 0 (codes "a") 0 3 (Some (digest_of three_bytes))
 
 -- a head of 19 bytes, and three bytes behind it
 abbrev pub cut_put : List ℕ
@@ -91,7 +101,7 @@ pub record MachineAsWorked : Type 0 where
   pub body_heard : heard_body cut_put ≡ 3
   pub head_heard : heard_body (codes "PUT /a HTTP/1.1\r\n") ≡ 0
   pub given : object_bytes idle_archive (Ok (GetMedia (codes "a"))) (replies.Media 3)
-      ≡ 7 ∷ 8 ∷ 9 ∷ []
+      ≡ three_bytes
   pub refused : object_bytes idle_archive (Err JournalFull) (replies.Refused JournalFull) ≡ []
   pub not_due : is_turn_due 86499 idle_state ≡ false
   pub due : is_turn_due 86500 idle_state ≡ true

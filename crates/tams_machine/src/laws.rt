@@ -1,9 +1,9 @@
 //! The laws of the machine that a contract can say.
 ghost use Rattle.tams_machine.specs.Worked.{MachineAsWorked};
-ghost use Rattle.tams_machine.specs.Laws.{AnswersKeepBytes, AnswersKeepGood, RequestsAreOne, RequestsSendBytes, TurnsKeepBytes, TurnsKeepGood};
+ghost use Rattle.tams_machine.specs.Laws.{AnswersKeepBytes, AnswersKeepDigests, AnswersKeepGood, RequestsAreOne, RequestsSendBytes, TurnsKeepBytes, TurnsKeepDigests, TurnsKeepGood};
 
 use change_codec::fits_as_worked;
-use library_laws::turns_apply;
+use library_laws::{first_bytes_stay, turns_apply};
 
 /// The front of a connection's bytes spells one request at most.
 pub fn requests_are_one()
@@ -15,18 +15,24 @@ pub fn requests_send_bytes()
     ensures { RequestsSendBytes }
 {}
 
-/// An answer's change leaves a good state, in which each object that was stored has the bytes that it had.
+/// An answer's change leaves a good state, in which each object that was stored has the bytes and the digest
+/// that it had. Where each has the digest of its bytes, so each has then.
 pub fn answers_keep()
     ensures good { AnswersKeepGood }
     ensures bytes { AnswersKeepBytes }
-{}
+    ensures digests { AnswersKeepDigests }
+{
+    first_bytes_stay();
+}
 
 /// And so does a turn's.
 pub fn turns_keep()
     ensures good { TurnsKeepGood }
     ensures bytes { TurnsKeepBytes }
+    ensures digests { TurnsKeepDigests }
 {
     turns_apply();
+    first_bytes_stay();
 }
 
 /// An interim, the last request of a connection, the put of a flow, the bytes of an object and a turn, by hand.

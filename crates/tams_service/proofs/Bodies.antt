@@ -232,6 +232,7 @@ module _ (s : StoreSeen) (from : Fed) (shown : Head) (old : Device) (moment : �
         holds =
             subst (λ k. HoldsIf k put body.part mid.seen) (sym kept_is)
             (body.holds refl tells.shows p.state.archive.held keeps.agrees);
+        hashed = body.hashed refl;
       }
         where
           sized : (q : Option PutSeen) → IfSome q (IsFilled s.kept shown.length) → IfSome q (λ x. x.size ≡ length body.part)

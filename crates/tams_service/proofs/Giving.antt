@@ -55,7 +55,7 @@ bare_state s change came bare =
 
 -- a planned change applies to the state's library
 pub applied_here : (store : StoreSeen) (d : Device) (s : StoreState) → KeepsState store d s → (change : Change) (planned : Planned)
-    → MakesChange (media.journal_of store.kept) change planned → applied change s.archive.library ≡ Some planned.next
+    → MakesChange (media.journal_of store.kept) change planned → applied change s.archive.library ≡ Some planned.next.library
 applied_here store d s keeps change planned makes = ap (λ (t : StoreState). applied change t.archive.library) keeps.state ∙ makes.made
 
 -- Nothing was changed for a request before its reply.
@@ -125,7 +125,7 @@ module _ (p : RunPlace) (old mid new : Device) (n now : RunCounts) (text rest : 
         let fits = none_came c bare in
         let torn = makes (Some c) step in
         let same = bare_state p.state c r.body bare in
-        let good = made_good p.state.archive c [] answer.planned.next (good_now asks.asking.begun)
+        let good = made_good p.state.archive c [] answer.planned.next.library (good_now asks.asking.begun)
         (applied_here store old p.state keeps c answer.planned step) fits in
         let changed = torn_at p old mid n (text ++ rest) store c [] next asks keeps link good torn in
         stops p text rest r moment last (state_with_change p.state c [] ∷ []) changed
@@ -187,7 +187,7 @@ module _ (p : RunPlace) (old mid new : Device) (n now : RunCounts) (text rest : 
         let fits = none_came c bare in
         let made = makes (Some c) step in
         let same = bare_state p.state c r.body bare in
-        let good = made_good p.state.archive c [] answer.planned.next (good_now asks.asking.begun)
+        let good = made_good p.state.archive c [] answer.planned.next.library (good_now asks.asking.begun)
         (applied_here store old p.state keeps c answer.planned step) fits in
         finishes p text rest r (state_with_change p.state c [] ∷ [])
         (changed_at p old mid n (text ++ rest) store c [] next.kept asks keeps link good made)

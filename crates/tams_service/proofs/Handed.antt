@@ -120,17 +120,17 @@ turn_handed_is store d s moment keeps =
 plan_none : (plan : PutPlan) → handed_of_piece plan [] ≡ 0
 plan_none (Refused why) = refl
 plan_none (Kept extent) = refl
-plan_none (Write extent planned) = refl
+plan_none (Write extent plan) = refl
 
 plan_twice : (plan : PutPlan) (part more : List ℕ) → handed_of_piece plan (part ++ more) ≡ handed_of_piece plan part + handed_of_piece plan more
 plan_twice (Refused why) part more = refl
 plan_twice (Kept extent) part more = refl
-plan_twice (Write extent planned) part more = length-append part more
+plan_twice (Write extent plan) part more = length-append part more
 
 plan_few : (plan : PutPlan) (part : List ℕ) → handed_of_piece plan part ≤ length part
 plan_few (Refused why) part = omega arith
 plan_few (Kept extent) part = omega arith
-plan_few (Write extent planned) part = omega arith
+plan_few (Write extent plan) part = omega arith
 
 -- none of a body is handed on where none came
 pub body_none : (plan : Option PutPlan) → body_handed plan [] ≡ 0

@@ -57,7 +57,7 @@ pub holds_none : (kept : StoreView) (put : PutSeen) (plan : PutPlan) (seen : Lis
     → HoldsPart kept put plan [] seen
 holds_none kept put (Refused why) seen same = tt
 holds_none kept put (Kept extent) seen same = same ∙ sym (and_true (extent.length == put.size))
-holds_none kept put (Write extent planned) seen same = refl
+holds_none kept put (Write extent plan) seen same = refl
 
 -- a piece more
 pub holds_more : (kept : StoreView) (put later : PutSeen) (plan : PutPlan) (part piece object : List ℕ) (size moment : ℕ) (old new : Device)
@@ -73,7 +73,7 @@ holds_more kept put later (Kept extent) part piece object size moment old new ha
     ∙ same_more (extent.length == put.size) bytes part piece
     ∙ ap (λ k. (extent.length == k) && bytes_eq (take (length (part ++ piece)) bytes) (part ++ piece)) (sym goes.sized)
     ∙ ap (λ b. (extent.length == later.size) && bytes_eq (take (length (part ++ piece)) b) (part ++ piece)) (sym (stays extent (stored_extent kept.library object extent is)))
-holds_more kept put later (Write extent planned) part piece object size moment old new handed goes is stays holds takes =
+holds_more kept put later (Write extent plan) part piece object size moment old new handed goes is stays holds takes =
     let count : length (part ++ piece) ≡ later.handed = omega (arith, length-append part piece, goes.handed, handed) in
     ap (λ k. take k (bytes_at_extent kept extent new.seen)) count
     ∙ takes
@@ -85,4 +85,4 @@ pub takes_from : (kept : StoreView) (plan : PutPlan) (piece : List ℕ) (put lat
     → TakesPiece kept plan piece put later old new → TakesPiece kept plan piece put later before new
 takes_from kept (Refused why) piece put later before old new same takes = tt
 takes_from kept (Kept extent) piece put later before old new same takes = rw (← same) takes
-takes_from kept (Write extent planned) piece put later before old new same takes = rw (← same) takes
+takes_from kept (Write extent plan) piece put later before old new same takes = rw (← same) takes

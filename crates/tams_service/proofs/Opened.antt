@@ -1,6 +1,7 @@
 -- A store that was opened keeps the state for which its file stood.
 use Rattle.std.proofs.Common.{◌≡◌, false, List, ℕ, sym, ap, ◌∙◌, subst}
 use Rattle.disk_trait.specs.Device.{Device}
+use Rattle.disk_trait.specs.Forms.{form_in_use}
 use Rattle.media_store.specs.Stores.{StoreSeen}
 use Rattle.store_opening.specs.Opening.{IsKept, bytes_in_image}
 use Rattle.store_states.specs.Kept.{AgreesWith, StoreView, kept_state}
@@ -14,7 +15,7 @@ kept_is : IsOneState → (image : List ℕ) (kept : StoreView) (from : StoreStat
     → from ≡ kept_state kept (bytes_in_image image kept)
 kept_is one image kept from is stands =
     let half = sym (ap (λ (h : ℕ). held_in image (media_start h) kept.library.objects) is.gives.half.half_blocks) in
-    one image (kept_state kept (bytes_in_image image kept)) from
+    one image form_in_use form_in_use (kept_state kept (bytes_in_image image kept)) from
     (image_stands kept (bytes_in_image image kept) is.header is.text is.records is.makes image is.gives half) stands
 
 pub opened_keeps : IsOneState → (store : StoreSeen) (d : Device) (image : List ℕ) (from : StoreState) → store.spent ≡ false → IsKept image store.kept

@@ -54,6 +54,7 @@ module _ {so_far : ℕ} {all : List ℕ} {said : Bool} {fed : Fed} {shown : Head
         of_store = fresh.of_store;
         sized = fresh.sized ∙ blank_long;
         none = fresh.none;
+        unhashed = fresh.unhashed;
         same = fresh.same ∙ ap (λ n. may_be_same n put.plan) blank_long;
       }
 

@@ -18,6 +18,7 @@ use Rattle.media_rows.specs.declared.reply.Reply.{Reply}
 use Rattle.media_rows.specs.declared.reply.Reply.TheVariants as replies
 use Rattle.media_rows.specs.Answer.{Outcome, changed, placed_put, put_answer_by, stored_put, unchanged}
 use Rattle.library_laws.specs.MediaLaws.{IsGoodArchive, bytes_in}
+use Rattle.media_rows.specs.Digests.{digest_of}
 use Rattle.media_rows.specs.Media.{Archive}
 use Rattle.media_rows.specs.Objects.{are_bytes_of, bytes_of, fits_state, object_of}
 use Rattle.change_codec.specs.Fitting.{State, fits}
@@ -38,21 +39,22 @@ by_fit : (b : Bool) (change : Change) → (cond b (changed replies.Created chang
 by_fit true change some = refl
 by_fit false change some = absurd (some refl)
 
-by_state : (journal : State) (state : ObjectState) (b : Bool) (object : List ℕ) (size moment start : ℕ)
-    → (fitted journal (Rattle.media_rows.specs.Answer.put_by_state state (placed_put (Some start) object size moment) (stored_put b))).change ≢ None
-    → (fitted journal (Rattle.media_rows.specs.Answer.put_by_state state (placed_put (Some start) object size moment) (stored_put b))).change
-    ≡ Some (changes.Store moment object start size None)
-by_state journal Allocated b object size moment start some =
-    by_fit (fits journal (changes.Store moment object start size None)) (changes.Store moment object start size None) some
-by_state journal (Stored at n digest) b object size moment start some = absurd (some refl)
+by_state : (journal : State) (state : ObjectState) (b : Bool) (object bytes : List ℕ) (moment start : ℕ)
+    → (fitted journal (Rattle.media_rows.specs.Answer.put_by_state state (placed_put (Some start) object bytes moment) (stored_put b))).change ≢ None
+    → (fitted journal (Rattle.media_rows.specs.Answer.put_by_state state (placed_put (Some start) object bytes moment) (stored_put b))).change
+    ≡ Some (changes.Store moment object start (length bytes) (Some (digest_of bytes)))
+by_state journal Allocated b object bytes moment start some =
+    let change = changes.Store moment object start (length bytes) (Some (digest_of bytes)) in
+    by_fit (fits journal change) change some
+by_state journal (Stored at n digest) b object bytes moment start some = absurd (some refl)
 
 -- Where there is a change, it stores the object at the place that is free.
-pub put_change : (journal : State) (row : Option ObjectRow) (b : Bool) (object : List ℕ) (size moment start : ℕ)
-    → (fitted journal (put_answer_by row (placed_put (Some start) object size moment) (stored_put b))).change ≢ None
-    → (fitted journal (put_answer_by row (placed_put (Some start) object size moment) (stored_put b))).change
-    ≡ Some (changes.Store moment object start size None)
-put_change journal None b object size moment start some = absurd (some refl)
-put_change journal (Some row) b object size moment start some = by_state journal row.state b object size moment start some
+pub put_change : (journal : State) (row : Option ObjectRow) (b : Bool) (object bytes : List ℕ) (moment start : ℕ)
+    → (fitted journal (put_answer_by row (placed_put (Some start) object bytes moment) (stored_put b))).change ≢ None
+    → (fitted journal (put_answer_by row (placed_put (Some start) object bytes moment) (stored_put b))).change
+    ≡ Some (changes.Store moment object start (length bytes) (Some (digest_of bytes)))
+put_change journal None b object bytes moment start some = absurd (some refl)
+put_change journal (Some row) b object bytes moment start some = by_state journal row.state b object bytes moment start some
 
 -- a plan with a record makes a change
 pub step_there : (journal : State) (change : Option Change) (planned : Planned) → MakesStep journal change planned → planned.frame ≢ None → change ≢ None

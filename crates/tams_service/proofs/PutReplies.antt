@@ -8,6 +8,7 @@ use Rattle.library_laws.specs.MediaLaws as laws
 use Rattle.library_laws.proofs.ListLemmas.{length-take_most}
 use Rattle.media_rows.specs.declared.change.Change.{Change}
 use Rattle.media_rows.specs.declared.change.Change.TheVariants as changes
+use Rattle.media_rows.specs.declared.object.Digest.{Digest}
 use Rattle.media_rows.specs.declared.object.Extent.{Extent}
 use Rattle.media_rows.specs.declared.refusal.Refusal.{Refusal}
 use Rattle.media_rows.specs.declared.reply.Reply.{Reply}
@@ -16,18 +17,22 @@ use Rattle.media_rows.specs.Answer.{Outcome, placed_put, put_answer_by, stored_p
 use Rattle.media_rows.specs.Library.{Library}
 use Rattle.media_rows.specs.Media.{answer_to, fits_bytes, puts}
 use Rattle.media_rows.specs.Objects.{blocks_of, free_place, object_of}
+use Rattle.media_rows.specs.Digests.{digest_of}
 use Rattle.change_codec.specs.Fitting.{State}
-use Rattle.media_store.specs.Changes.{bytes_by, bytes_of_change}
-use Rattle.media_store.specs.Puts.{bytes_at_extent, plan_of, put_reply}
+use Rattle.change_codec.proofs.DigestLemmas.{digests_have_halves}
+use Rattle.media_store.specs.Changes.{bytes_of_change}
+use Rattle.media_store.specs.Puts.{HasHashed, bytes_at_extent, plan_of, put_reply}
 use Rattle.media_store.specs.Stores.{PutSeen, StoreSeen}
 use Rattle.media_store.specs.Stores as media
 use Rattle.media_store.proofs.Planning.{planned_bytes}
-use Rattle.media_store.proofs.PutFacts.{fresh_extent, fresh_plan}
+use Rattle.media_store.proofs.PutFacts.{fresh_extent, fresh_plan, takes_handed}
 use Rattle.object_blobs.specs.Extents.{extent_start}
 use Rattle.store_plans.specs.declared.outcome.Planned.{Planned}
 use Rattle.store_plans.specs.declared.puts.PutPlan.{PutPlan}
 use Rattle.store_plans.specs.declared.puts.PutPlan.TheVariants.{Refused, Kept, Write}
-use Rattle.store_plans.specs.Plans.{HasExtent, IsPlanOf, IsPutPlan, IsStoredAt, PlansPut, TakesExtent}
+use Rattle.store_commits.specs.Carrying.{written_bytes}
+use Rattle.store_plans.specs.declared.puts.StorePlan.{StorePlan}
+use Rattle.store_plans.specs.Plans.{HasExtent, IsPlanOf, IsPutPlan, IsStoredAt, MakesChange, PlansPut, TakesExtent, planned_with}
 use Rattle.store_states.specs.Fitting.{fitted}
 use Rattle.store_states.specs.Kept.{StoreView, kept_state}
 use Rattle.store_states.specs.States.{StoreState, held_in, media_start}
@@ -48,7 +53,7 @@ use Rattle.tams_service.proofs.PutOutcomes.{compared, put_change, reply_is, step
 -- ---- what is known of a put whose bytes all came
 
 -- A put of an object's bytes was planned of a store as the request's, with the response to what it replies, and has all
--- bytes of the request.
+-- bytes of the request and their digest.
 pub record IsFull (p : RunPlace) (r : TamsRequest) (moment : ℕ) (kept : StoreView) (put : PutSeen) (responses : Responses) (seen : List ℕ) : Type 0 where
   pub object : List ℕ
   pub asked : (held : List (List ℕ)) → asked_in (kept_state kept held) r ≡ Ok (PutMedia object)
@@ -57,15 +62,16 @@ pub record IsFull (p : RunPlace) (r : TamsRequest) (moment : ℕ) (kept : StoreV
   pub response : response_by responses (put_reply put put.plan) ≡ response_to (context_of kept.library.id p.base r) (put_reply put put.plan)
   pub size : put.size ≡ length r.body
   pub holds : HoldsPart kept put put.plan r.body seen
+  pub hashed : HasHashed put.plan put.hasher r.body
 
 -- the reply hangs on the plan, and on whether the bytes are the same
 same_reply : (put begun : PutSeen) (plan : PutPlan) → put.same ≡ begun.same → put_reply put plan ≡ put_reply begun plan
 same_reply put begun (Refused why) same = refl
 same_reply put begun (Kept extent) same = ap (λ b. (stored_put b).reply) same
-same_reply put begun (Write extent planned) same = refl
+same_reply put begun (Write extent plan) same = refl
 
 module _ (p : RunPlace) (r : TamsRequest) (moment : ℕ) (kept : StoreView) (put : PutSeen) (responses : Responses) (seen : List ℕ)
-    (size : put.size ≡ length r.body) (holds : HoldsPart kept put put.plan r.body seen) where
+    (size : put.size ≡ length r.body) (holds : HoldsPart kept put put.plan r.body seen) (hashed : HasHashed put.plan put.hasher r.body) where
   full_of : (begun : PutSeen) → IsMediaPlanned p.base kept.library.id r moment kept begun responses → put.plan ≡ begun.plan
       → IsFull p r moment kept put responses seen
   full_of begun is same =
@@ -80,6 +86,7 @@ module _ (p : RunPlace) (r : TamsRequest) (moment : ℕ) (kept : StoreView) (put
             subst (λ (x : Reply). response_by responses x ≡ response_to (context_of kept.library.id p.base r) x) (sym reply) (is.response_is put.same);
         size = size;
         holds = holds;
+        hashed = hashed;
       }
 
   full_by : (begun : Option PutSeen) → MediaAnswers p.base r moment kept begun responses → plan_of (Some put) ≡ plan_of begun
@@ -89,7 +96,7 @@ module _ (p : RunPlace) (r : TamsRequest) (moment : ℕ) (kept : StoreView) (put
 
 pub full_put : (p : RunPlace) (r : TamsRequest) (moment : ℕ) (kept : StoreView) (put : PutSeen) (responses : Responses) (seen : List ℕ)
     → IsPutting p r moment kept (Some put) responses seen → IsFull p r moment kept put responses seen
-full_put p r moment kept put responses seen is = full_by p r moment kept put responses seen is.size is.holds is.begun is.answers is.plan
+full_put p r moment kept put responses seen is = full_by p r moment kept put responses seen is.size is.holds is.hashed is.begun is.answers is.plan
 
 -- ---- the machine's reply
 
@@ -193,12 +200,22 @@ module _ (p : RunPlace) (r : TamsRequest) (moment : ℕ) (store : StoreSeen) (d 
           no_change false = refl
 
     -- They were written.
-    module _ (extent : Extent) (planned : Planned) (is : put.plan ≡ Write extent planned) where
-      abbrev pub change : Change
-      change = changes.Store moment full.object extent.start extent.length None
+    module _ (extent : Extent) (plan : StorePlan) (is : put.plan ≡ Write extent plan) where
+      -- the digest of the bytes that came
+      abbrev digest : Digest
+      digest = digest_of r.body
 
-      pub takes : TakesExtent journal full.object (length r.body) moment extent planned
+      abbrev pub change : Change
+      change = changes.Store moment full.object extent.start extent.length (Some digest)
+
+      abbrev planned : Planned
+      planned = planned_with digest plan
+
+      pub takes : TakesExtent journal full.object (length r.body) moment extent plan
       takes = subst (HasExtent journal full.object (length r.body) moment) is full.extent
+
+      pub write_makes : MakesChange journal change planned
+      write_makes = takes.makes digest (digests_have_halves r.body)
 
       plan_is : IsPlanOf journal answered planned
       plan_is = subst (PlansPut journal p.state.archive full.object r.body moment) is plans
@@ -206,7 +223,7 @@ module _ (p : RunPlace) (r : TamsRequest) (moment : ℕ) (store : StoreSeen) (d 
       -- the answer where the least free place is the extent's
       abbrev answered_at : Option ℕ → Outcome
       answered_at start =
-          put_answer_by (object_of full.object p.state.archive.library.objects) (placed_put start full.object (length r.body) moment)
+          put_answer_by (object_of full.object p.state.archive.library.objects) (placed_put start full.object r.body moment)
           (stored_put (bytes_eq (laws.bytes_in p.state.archive full.object) r.body))
 
       answered_is : answered ≡ answered_at (Some extent.start)
@@ -215,14 +232,14 @@ module _ (p : RunPlace) (r : TamsRequest) (moment : ℕ) (store : StoreSeen) (d 
       there : (fitted journal answered).change ≢ None
       there =
           step_there journal (fitted journal answered).change planned plan_is.step
-          (λ none. let no : Some takes.makes.payload ≡ None = sym takes.makes.frame ∙ none in absurd cc)
+          (λ none. let no : Some write_makes.payload ≡ None = sym write_makes.frame ∙ none in absurd cc)
 
       change_is : (fitted journal answered).change ≡ Some change
       change_is =
           ap (λ (o : Outcome). (fitted journal o).change) answered_is
           ∙ put_change journal (object_of full.object p.state.archive.library.objects) (bytes_eq (laws.bytes_in p.state.archive full.object) r.body)
-          full.object (length r.body) moment extent.start (subst (λ (o : Outcome). (fitted journal o).change ≢ None) answered_is there)
-          ∙ ap (λ n. Some (changes.Store moment full.object extent.start n None)) (sym takes.sized)
+          full.object r.body moment extent.start (subst (λ (o : Outcome). (fitted journal o).change ≢ None) answered_is there)
+          ∙ ap (λ n. Some (changes.Store moment full.object extent.start n (Some digest))) (sym takes.sized)
 
       -- the machine's change
       pub changes_so : (answer_in p.base r moment p.state).change ≡ Some (state_with_change p.state change r.body)
@@ -236,13 +253,14 @@ module _ (p : RunPlace) (r : TamsRequest) (moment : ℕ) (store : StoreSeen) (d 
           (put_reply_is (fitted journal answered) outcome_is (ap (put_reply put) is ∙ plan_is.reply))
 
       -- its bytes are those of the request, and those of its plan
-      pub write_handed : answer_handed r moment p.state ≡ length r.body + bytes_by planned
+      pub write_handed : answer_handed r moment p.state ≡ length r.body + written_bytes plan.rows plan.frame
       write_handed =
           let made : answer_handed r moment p.state ≡ change_handed p.state change =
           ap (λ (o : Outcome). handed_if p.state o.change) outcome_is ∙ ap (handed_if p.state) change_is in
-          let bytes = planned_bytes store.kept change planned takes.makes in
+          let bytes = planned_bytes store.kept change planned write_makes in
+          let sized = takes_handed plan digest takes.takes in
           let same = ap (λ j. bytes_of_change j change) (journal_is store d p.state keeps) in
-          omega (arith, made, bytes, same, takes.sized)
+          omega (arith, made, bytes, sized, same, takes.sized)
 
       -- a read gives the bytes of the request
       pub came_is : bytes_at_extent store.kept extent d.seen ≡ r.body
@@ -257,4 +275,4 @@ module _ (p : RunPlace) (r : TamsRequest) (moment : ℕ) (store : StoreSeen) (d 
       -- the state behind it is good
       pub write_good : is_good p.state → is_good (state_with_change p.state change r.body)
       write_good good =
-          made_good p.state.archive change r.body planned.next good (applied_here store d p.state keeps change planned takes.makes) fits_here
+          made_good p.state.archive change r.body planned.next.library good (applied_here store d p.state keeps change planned write_makes) fits_here

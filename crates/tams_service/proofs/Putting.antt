@@ -1,16 +1,21 @@
 -- A put whose bytes all came is ended, and answered: what that leads to.
 use Rattle.std.proofs.Common.{◌≡◌, ◌<◌, ◌≤◌, ◌+◌, ◌++◌, ℕ, Bool, true, false, if◌then◌else◌, List, [], ◌∷◌, Option, None, Some, inl, refl, sym, ap, ◌∙◌, subst, arith}
-use Rattle.std.specs.Prelude.{IfSome}
+use Rattle.std.specs.Prelude.{IfSome, is_some}
 use Rattle.disk_trait.specs.Calls.{SameDevice}
 use Rattle.disk_trait.specs.Device.{Device, IsDevice}
+use Rattle.std.proofs.lemmas.Bool.{false≢true}
+use Rattle.media_rows.specs.declared.object.Digest.{Digest}
 use Rattle.media_rows.specs.declared.object.Extent.{Extent}
-use Rattle.media_store.specs.Changes.{IsAfterChange, ChangesStore, archive_next, kept_by, kept_with}
-use Rattle.media_store.specs.Puts.{EndsIf, EndsPut, IsPutOf, bytes_at_extent, end_handed, handed_at_end, handed_of_piece, kept_after_put, kept_behind, plan_of, put_change, put_reply, reply_if, writes_by}
+use Rattle.media_rows.specs.Digests.{digest_of}
+use Rattle.change_codec.proofs.DigestLemmas.{digests_have_halves}
+use Rattle.media_store.specs.Changes.{IsAfterChange, ChangesStore, archive_next, kept_by}
+use Rattle.media_store.specs.Puts.{EndsIf, EndsPut, HasCome, HasHashed, IsPutOf, bytes_at_extent, end_handed, handed_at_end, handed_of_piece, kept_after_put, kept_behind, plan_of, put_change, put_reply, reply_if, writes_by}
 use Rattle.media_store.specs.Stores.{PutSeen, StoreSeen, journal_of, size_of}
 use Rattle.media_store.proofs.Outcomes.{one_made}
 use Rattle.media_store.proofs.Planning.{planned_next}
 use Rattle.media_store.proofs.PutFacts.{takes_extent}
-use Rattle.store_plans.specs.declared.outcome.Planned.{Planned}
+use Rattle.store_plans.specs.declared.puts.StorePlan.{StorePlan}
+use Rattle.store_plans.specs.Plans.{planned_with}
 use Rattle.store_plans.specs.declared.puts.PutPlan.{PutPlan}
 use Rattle.store_plans.specs.declared.puts.PutPlan.TheVariants.{Refused, Kept, Write}
 use Rattle.store_states.specs.Kept.{AgreesWith, StoreView}
@@ -26,15 +31,17 @@ use Rattle.request_hearing.proofs.Asking.{asking_kept}
 use Rattle.tams_answers.specs.Answers.{following_bytes}
 use Rattle.tams_answers.specs.Media.{MediaAnswers, response_by}
 use Rattle.tams_answers.specs.declared.media.Responses.{Responses}
-use Rattle.tams_service.specs.Answering.{AsksWith, ChangedAt, EndsThere, FinishLeads, HandedAt, IsMachineReply, IsRequest, LeadsTo, RunPlace, EndsPutIf, IsWholePut, PutLeads, StopLeads, TellsAllOf, response_if, written_by, written_if}
+use Rattle.tams_service.specs.Answering.{AsksWith, ChangedAt, EndKeepsId, EndsThere, FinishLeads, HandedAt, IsMachineReply, IsRequest, LeadsTo, RunPlace, EndsPutIf, IsWholePut, PutLeads, StopLeads, TellsAllOf, response_if, written_by, written_if}
 use Rattle.tams_service.specs.declared.answering.DueReply.{DueReply}
 use Rattle.tams_service.specs.Keeping.{KeepsState}
+use Rattle.tams_service.specs.Taking.{HashedIf}
 use Rattle.tams_service.specs.Serving.{needs_by, needs_in}
 use Rattle.tams_service.proofs.Giving.{changed_at, nothing_changed, torn_at, unchanged_at}
 use Rattle.tams_service.proofs.Good.{good_now, is_good}
+use Rattle.tams_service.proofs.Ids.{id_with}
 use Rattle.tams_service.proofs.Keeping.{bytes_seen, keeps_so}
 use Rattle.tams_service.proofs.Moments.{over_keeps}
-use Rattle.tams_service.proofs.PutReplies.{IsFull, came_is, change, changes_so, full_put, kept_handed, kept_reply, no_put_handed, no_put_reply, refused_handed, refused_reply, takes, write_good, write_handed, write_reply}
+use Rattle.tams_service.proofs.PutReplies.{IsFull, came_is, change, changes_so, full_put, kept_handed, kept_reply, no_put_handed, no_put_reply, refused_handed, refused_reply, write_good, write_handed, write_makes, write_reply}
 use Rattle.tams_service.proofs.States.{keeps_next}
 
 -- There is no put.
@@ -57,6 +64,10 @@ module _ (p : RunPlace) (old mid : Device) (n : RunCounts) (text rest : List ℕ
     (responses : Responses) (is_put : IsPutOf store.kept put) (sound : IsDevice old) (all : TellsAllOf old) {more : ℕ} (asks : AsksWith p old (text ++ rest) n more)
     (keeps : KeepsState store old p.state)
     (full : IsFull p r moment store.kept put responses old.seen) (link : mid.link ≡ old.link) where
+  -- the digest of the bytes that came
+  abbrev digest : Digest
+  digest = digest_of r.body
+
   has : held_in old.seen (media_start store.kept.journal.half) p.state.archive.library.objects ≡ p.state.archive.held
   has = bytes_seen store old p.state sound all.shows keeps
 
@@ -68,23 +79,25 @@ module _ (p : RunPlace) (old mid : Device) (n : RunCounts) (text rest : List ℕ
   unchanged_over kept = nothing_changed p mid (text ++ rest) n (asking_kept asks.asking (over_keeps p.base keeps.state kept) link)
 
   -- the change that is made, with the bytes of the request
-  makes_so : (ok : Bool) (extent : Extent) (planned : Planned) (is : put.plan ≡ Write extent planned)
-      → EndsPut ok put put.plan store.kept p.state.archive.held old mid
-      → ChangesStore ok (change p r moment store old keeps put responses full extent planned is) r.body store.kept (kept_by store.kept planned)
+  makes_so : (ok : Bool) (extent : Extent) (plan : StorePlan) (is : put.plan ≡ Write extent plan)
+      → EndsPut ok put put.plan digest store.kept p.state.archive.held old mid
+      → ChangesStore ok (change p r moment store old keeps put responses full extent plan is) r.body store.kept (kept_by store.kept (planned_with digest plan))
       p.state.archive.held old mid
-  makes_so ok extent planned is makes =
-      let c = change p r moment store old keeps put responses full extent planned is in
-      let same : put_change put extent ≡ c =
-      one_made (journal_of store.kept) (put_change put extent) c planned (takes_extent store.kept put extent planned is_put is).makes
-      (takes p r moment store old keeps put responses full extent planned is).makes in
-      subst (λ came. ChangesStore ok c came store.kept (kept_by store.kept planned) p.state.archive.held old mid)
-      (came_is p r moment store old keeps put responses full extent planned is)
-      (subst (λ x. ChangesStore ok x (bytes_at_extent store.kept extent old.seen) store.kept (kept_by store.kept planned) p.state.archive.held old mid) same
-      (subst (λ plan. EndsPut ok put plan store.kept p.state.archive.held old mid) is makes))
+  makes_so ok extent plan is makes =
+      let c = change p r moment store old keeps put responses full extent plan is in
+      let next = kept_by store.kept (planned_with digest plan) in
+      let same : put_change put extent digest ≡ c =
+      one_made (journal_of store.kept) (put_change put extent digest) c (planned_with digest plan)
+      ((takes_extent store.kept put extent plan is_put is).makes digest (digests_have_halves r.body))
+      (write_makes p r moment store old keeps put responses full extent plan is) in
+      subst (λ came. ChangesStore ok c came store.kept next p.state.archive.held old mid)
+      (came_is p r moment store old keeps put responses full extent plan is)
+      (subst (λ x. ChangesStore ok x (bytes_at_extent store.kept extent old.seen) store.kept next p.state.archive.held old mid) same
+      (subst (λ plan. EndsPut ok put plan digest store.kept p.state.archive.held old mid) is makes))
 
   -- ---- the disk failed
 
-  module _ (makes : EndsPut false put put.plan store.kept p.state.archive.held old mid) (new : Device) (now : RunCounts) (last : StoreSeen) (ends : Bool) (request : IsRequest p text ends r) (count : ℕ) (stops : StopLeads mid new n now count)
+  module _ (makes : EndsPut false put put.plan (digest_of r.body) store.kept p.state.archive.held old mid) (new : Device) (now : RunCounts) (last : StoreSeen) (ends : Bool) (request : IsRequest p text ends r) (count : ℕ) (stops : StopLeads mid new n now count)
       (count_is : count ≡ written_by put.plan) where
     stopped_quiet : Keeps store.kept p.state.archive.held old mid → count ≡ 0 → EndsThere p new last (moment ∷ []) now endings.Stopped
     stopped_quiet kept none = stops p text rest r moment last [] (unchanged_over kept) (inl request.spells) request.interim (sym none)
@@ -92,23 +105,23 @@ module _ (p : RunPlace) (old mid : Device) (n : RunCounts) (text rest : List ℕ
     stopped_by : (plan : PutPlan) → put.plan ≡ plan → EndsThere p new last (moment ∷ []) now endings.Stopped
     stopped_by (Refused why) is =
         stopped_quiet
-        (subst (λ plan. EndsPut false put plan store.kept p.state.archive.held old mid) is makes)
+        (subst (λ plan. EndsPut false put plan digest store.kept p.state.archive.held old mid) is makes)
         (count_is ∙ ap written_by is)
     stopped_by (Kept extent) is =
         stopped_quiet
-        (subst (λ plan. EndsPut false put plan store.kept p.state.archive.held old mid) is makes)
+        (subst (λ plan. EndsPut false put plan digest store.kept p.state.archive.held old mid) is makes)
         (count_is ∙ ap written_by is)
-    stopped_by (Write extent planned) is =
-        let c = change p r moment store old keeps put responses full extent planned is in
+    stopped_by (Write extent plan) is =
+        let c = change p r moment store old keeps put responses full extent plan is in
         stops p text rest r moment last (state_with_change p.state c r.body ∷ [])
-        (torn_at p old mid n (text ++ rest) store c r.body (kept_by store.kept planned) asks keeps link
-        (write_good p r moment store old keeps put responses full extent planned is good) (makes_so false extent planned is makes))
-        (request.spells, refl, changes_so p r moment store old keeps put responses full extent planned is) request.interim
+        (torn_at p old mid n (text ++ rest) store c r.body (kept_by store.kept (planned_with digest plan)) asks keeps link
+        (write_good p r moment store old keeps put responses full extent plan is good) (makes_so false extent plan is makes))
+        (request.spells, refl, changes_so p r moment store old keeps put responses full extent plan is) request.interim
         (sym (count_is ∙ ap written_by is))
 
   -- ---- it was ended
 
-  module _ (makes : EndsPut true put put.plan store.kept p.state.archive.held old mid) (new : Device) (now : RunCounts) (next last : StoreSeen) (kept_is : next.kept ≡ kept_after_put store.kept put.plan) (unspent : next.spent ≡ false) (ends : Bool)
+  module _ (makes : EndsPut true put put.plan (digest_of r.body) store.kept p.state.archive.held old mid) (new : Device) (now : RunCounts) (next last : StoreSeen) (kept_is : next.kept ≡ kept_after_put store.kept put.plan (digest_of r.body)) (unspent : next.spent ≡ false) (ends : Bool)
       (request : IsRequest p text ends r) (count : ℕ) (count_is : count ≡ written_by put.plan) (few : p.taken < 1000000) (result : Option ConnectionEnd)
       (finishes : FinishLeads mid new next last n now (response_by responses (put_reply put put.plan) ++ []) count moment ends result)
       (before : more ≡ handed_of_piece put.plan r.body) (handed_on : mid.handed ≡ old.handed + handed_at_end put.plan) where
@@ -134,28 +147,29 @@ module _ (p : RunPlace) (old mid : Device) (n : RunCounts) (text rest : List ℕ
     ended_by : (plan : PutPlan) → put.plan ≡ plan → LeadsTo p new last moment rest now result
     ended_by (Refused why) is =
         ended_quiet
-        (subst (λ plan. EndsPut true put plan store.kept p.state.archive.held old mid) is makes)
-        (kept_is ∙ ap (kept_after_put store.kept) is) (refused_reply p r moment store old keeps put responses full why is)
+        (subst (λ plan. EndsPut true put plan digest store.kept p.state.archive.held old mid) is makes)
+        (kept_is ∙ ap (λ plan. kept_after_put store.kept plan digest) is) (refused_reply p r moment store old keeps put responses full why is)
         (handed_here (Refused why) is (refused_handed p r moment store old keeps put responses full why is)) (count_is ∙ ap written_by is)
     ended_by (Kept extent) is =
         ended_quiet
-        (subst (λ plan. EndsPut true put plan store.kept p.state.archive.held old mid) is makes)
-        (kept_is ∙ ap (kept_after_put store.kept) is) (kept_reply p r moment store old keeps put responses full extent is has good)
+        (subst (λ plan. EndsPut true put plan digest store.kept p.state.archive.held old mid) is makes)
+        (kept_is ∙ ap (λ plan. kept_after_put store.kept plan digest) is) (kept_reply p r moment store old keeps put responses full extent is has good)
         (handed_here (Kept extent) is (kept_handed p r moment store old keeps put responses full extent is has good))
         (count_is ∙ ap written_by is)
-    ended_by (Write extent planned) is =
-        let c = change p r moment store old keeps put responses full extent planned is in
-        let made = makes_so true extent planned is makes in
-        let kept = kept_is ∙ ap (kept_after_put store.kept) is in
+    ended_by (Write extent plan) is =
+        let c = change p r moment store old keeps put responses full extent plan is in
+        let planned = planned_with digest plan in
+        let made = makes_so true extent plan is makes in
+        let kept = kept_is ∙ ap (λ plan. kept_after_put store.kept plan digest) is in
         finishes p text rest r (state_with_change p.state c r.body ∷ [])
         (changed_at p old mid n (text ++ rest) store c r.body (kept_by store.kept planned) asks keeps link
-        (write_good p r moment store old keeps put responses full extent planned is good) made)
+        (write_good p r moment store old keeps put responses full extent plan is good) made)
         (keeps_next store next old mid p.state c r.body keeps unspent
         (subst (IsAfterChange store.kept c) (sym kept)
-        (planned_next store.kept c planned (takes p r moment store old keeps put responses full extent planned is).makes))
+        (planned_next store.kept c planned (write_makes p r moment store old keeps put responses full extent plan is)))
         (subst (λ k. AgreesWith mid k (archive_next store.kept p.state.archive.held c r.body).held) (sym kept) (made.agrees refl)))
-        request (write_reply p r moment store old keeps put responses full extent planned is)
-        (handed_here (Write extent planned) is (write_handed p r moment store old keeps put responses full extent planned is))
+        request (write_reply p r moment store old keeps put responses full extent plan is)
+        (handed_here (Write extent plan) is (write_handed p r moment store old keeps put responses full extent plan is))
         (sym (count_is ∙ ap written_by is)) few
 
 -- ---- what the end of a put leads to
@@ -163,7 +177,8 @@ module _ (p : RunPlace) (old mid : Device) (n : RunCounts) (text rest : List ℕ
 module _ (old mid new : Device) (n now : RunCounts) (store last : StoreSeen) (put : PutSeen) (responses : Responses) (moment : ℕ) (ends ok : Bool)
     (is_put : IsPutOf store.kept put) (sound : IsDevice old) (all : TellsAllOf old) (link : mid.link ≡ old.link) (count : ℕ)
     (count_is : count ≡ written_by put.plan)
-    (makes : (held : List (List ℕ)) → AgreesWith old store.kept held → EndsPut ok put put.plan store.kept held old mid) where
+    (makes : (held : List (List ℕ)) (came : List ℕ) → AgreesWith old store.kept held → HasHashed put.plan put.hasher came
+    → EndsPut ok put put.plan (digest_of came) store.kept held old mid) where
   -- The disk failed in it.
   pub failed_leads : ok ≡ false → StopLeads mid new n now count
       → PutLeads old new store last n now (Some put) responses moment ends (Some endings.Stopped)
@@ -171,11 +186,12 @@ module _ (old mid new : Device) (n now : RunCounts) (store last : StoreSeen) (pu
       let held = p.state.archive.held in
       let full = full_put p r moment store.kept put responses old.seen is in
       stopped_by p old mid n text rest store r moment put responses is_put sound all asks keeps full link
-      (subst (λ b. EndsPut b put put.plan store.kept held old mid) failed (makes held keeps.agrees)) new now last ends request count
+      (subst (λ b. EndsPut b put put.plan (digest_of r.body) store.kept held old mid) failed (makes held r.body keeps.agrees full.hashed)) new now last ends request count
       stops count_is put.plan refl
 
   -- It was ended, and the reply was said.
-  pub made_leads : ok ≡ true → (next : StoreSeen) → next.kept ≡ kept_after_put store.kept put.plan → next.spent ≡ false
+  pub made_leads : ok ≡ true → (next : StoreSeen)
+      → ((came : List ℕ) → HasHashed put.plan put.hasher came → next.kept ≡ kept_after_put store.kept put.plan (digest_of came)) → next.spent ≡ false
       → mid.handed ≡ old.handed + handed_at_end put.plan → (result : Option ConnectionEnd)
       → FinishLeads mid new next last n now (response_by responses (put_reply put put.plan) ++ []) count moment ends result
       → PutLeads old new store last n now (Some put) responses moment ends result
@@ -183,7 +199,7 @@ module _ (old mid new : Device) (n now : RunCounts) (store last : StoreSeen) (pu
       let held = p.state.archive.held in
       let full = full_put p r moment store.kept put responses old.seen is in
       ended_by p old mid n text rest store r moment put responses is_put sound all asks keeps full link
-      (subst (λ b. EndsPut b put put.plan store.kept held old mid) made (makes held keeps.agrees)) new now next last kept_is unspent
+      (subst (λ b. EndsPut b put put.plan (digest_of r.body) store.kept held old mid) made (makes held r.body keeps.agrees full.hashed)) new now next last (kept_is r.body full.hashed) unspent
       ends request count count_is few result finishes refl handed put.plan refl
 
 -- ---- the same, where there is a put
@@ -200,10 +216,15 @@ written_few count put is = omega (arith, is, few put)
         by_writes true = omega arith
         by_writes false = omega arith
 
-pub ends_if : (ok : Bool) (put : Option PutSeen) (kept : StoreView) (held : List (List ℕ)) (old new : Device) → EndsIf ok put kept held old new
-    → EndsPutIf ok put kept held old new
-ends_if ok None kept held old new ends = tt
-ends_if ok (Some put) kept held old new ends = ends
+pub ends_if : (ok : Bool) (put : Option PutSeen) (digest : Digest) (kept : StoreView) (held : List (List ℕ)) (old new : Device)
+    → EndsIf ok put digest kept held old new → EndsPutIf ok put digest kept held old new
+ends_if ok None d kept held old new ends = tt
+ends_if ok (Some put) d kept held old new ends = ends
+
+-- where a put is under way, its hasher has taken what came
+pub come_if : (put : Option PutSeen) (came : List ℕ) → is_some put ≡ true → HashedIf put came → HasCome put came
+come_if None came some hashed = absurd (false≢true some)
+come_if (Some put) came some hashed = hashed
 
 -- how many changes its end writes hangs on its plan
 pub written_same : (put begun : Option PutSeen) → plan_of put ≡ plan_of begun → written_if put ≡ written_if begun
@@ -219,7 +240,8 @@ module _ (old mid new : Device) (n now : RunCounts) (store next last : StoreSeen
     (sound : IsDevice old) (all : TellsAllOf old) (link : mid.link ≡ old.link) (count : ℕ) where
   -- The disk failed in it, so there is one.
   pub end_failed : (put : Option PutSeen) → IfSome put (IsWholePut store.kept) → count ≡ written_if put → (put ≡ None → ⊥)
-      → ((held : List (List ℕ)) → AgreesWith old store.kept held → EndsPutIf false put store.kept held old mid) → StopLeads mid new n now count
+      → ((held : List (List ℕ)) (came : List ℕ) → AgreesWith old store.kept held → HashedIf put came
+      → EndsPutIf false put (digest_of came) store.kept held old mid) → StopLeads mid new n now count
       → PutLeads old new store last n now put responses moment ends (Some endings.Stopped)
   end_failed None is count_is some makes stops = absurd (some refl)
   end_failed (Some put) is count_is some makes stops =
@@ -228,12 +250,13 @@ module _ (old mid new : Device) (n now : RunCounts) (store next last : StoreSeen
   -- It was ended, and the reply was said.
   pub end_made : (put : Option PutSeen) (reply : Option Reply) (result : Option ConnectionEnd) → IfSome put (IsWholePut store.kept)
       → count ≡ written_if put → (put ≡ None → mid ≡ old)
-      → ((held : List (List ℕ)) → AgreesWith old store.kept held → EndsPutIf true put store.kept held old mid)
-      → next.kept ≡ kept_behind store.kept put → next.spent ≡ false → mid.handed ≡ old.handed + end_handed put → reply ≡ reply_if put
+      → ((held : List (List ℕ)) (came : List ℕ) → AgreesWith old store.kept held → HashedIf put came
+      → EndsPutIf true put (digest_of came) store.kept held old mid)
+      → ((came : List ℕ) → HashedIf put came → next.kept ≡ kept_behind store.kept put (digest_of came)) → next.spent ≡ false → mid.handed ≡ old.handed + end_handed put → reply ≡ reply_if put
       → FinishLeads mid new next last n now (response_if responses reply ++ []) count moment ends result
       → PutLeads old new store last n now put responses moment ends result
   end_made None reply result is count_is none makes kept unspent handed replied finishes =
-      none_leads old new n now store next last responses moment ends result kept unspent
+      none_leads old new n now store next last responses moment ends result (kept old.seen tt) unspent
       (subst (λ d. FinishLeads d new next last n now (responses.reply ++ []) 0 moment ends result) (none refl)
       (subst (λ k. FinishLeads mid new next last n now (responses.reply ++ []) k moment ends result) count_is
       (subst (λ x. FinishLeads mid new next last n now (response_if responses x ++ []) count moment ends result) replied finishes)))
@@ -263,22 +286,41 @@ finishes_with old new store next n now moment result reply response area count e
     same leads))))
 
 -- what a put leaves of the file
-size_behind : (kept : StoreView) (plan : PutPlan) → size_of (kept_after_put kept plan) ≡ size_of kept
-size_behind kept (Refused why) = refl
-size_behind kept (Kept extent) = refl
-size_behind kept (Write extent planned) = by_frame planned.frame planned.rows
+size_behind : (kept : StoreView) (plan : PutPlan) (digest : Digest) → size_of (kept_after_put kept plan digest) ≡ size_of kept
+size_behind kept (Refused why) d = refl
+size_behind kept (Kept extent) d = refl
+size_behind kept (Write extent plan) d = by_rows plan.rows
   where
-    by_frame : (frame rows : Option (List ℕ)) → size_of (kept_with kept (record planned { rows = rows }) frame) ≡ size_of kept
-    by_frame None rows = refl
-    by_frame (Some payload) None = refl
-    by_frame (Some payload) (Some text) = refl
+    by_rows : (rows : Option (List ℕ)) → size_of (kept_by kept (planned_with d (record plan { rows = rows }))) ≡ size_of kept
+    by_rows None = refl
+    by_rows (Some text) = refl
 
-size_if : (kept : StoreView) (put : Option PutSeen) → size_of (kept_behind kept put) ≡ size_of kept
-size_if kept None = refl
-size_if kept (Some put) = size_behind kept put.plan
+size_if : (kept : StoreView) (put : Option PutSeen) (digest : Digest) → size_of (kept_behind kept put digest) ≡ size_of kept
+size_if kept None d = refl
+size_if kept (Some put) d = size_behind kept put.plan d
+
+-- the hasher of a put has taken some bytes
+some_came : (kept : StoreView) (put : Option PutSeen) → IfSome put (IsWholePut kept) → (came : List ℕ) × HashedIf put came
+some_came kept None is = ([], tt)
+some_came kept (Some put) is = (is.of_store.came, is.of_store.hashed)
 
 -- a store needs as much behind it
-pub needs_behind : (store next : StoreSeen) (put : Option PutSeen) → store.spent ≡ false → next.spent ≡ false
-    → next.kept ≡ kept_behind store.kept put → needs_in next ≡ needs_in store
-needs_behind store next put before behind kept =
-    ap (λ b. needs_by b (size_of next.kept)) behind ∙ ap size_of kept ∙ size_if store.kept put ∙ ap (λ b. needs_by b (size_of store.kept)) (sym before)
+pub needs_behind : (store next : StoreSeen) (put : Option PutSeen) → IfSome put (IsWholePut store.kept) → store.spent ≡ false → next.spent ≡ false
+    → ((came : List ℕ) → HashedIf put came → next.kept ≡ kept_behind store.kept put (digest_of came)) → needs_in next ≡ needs_in store
+needs_behind store next put whole before behind kept =
+    let came = some_came store.kept put whole in
+    ap (λ b. needs_by b (size_of next.kept)) behind ∙ ap size_of (kept came.0 came.1) ∙ size_if store.kept put (digest_of came.0)
+    ∙ ap (λ b. needs_by b (size_of store.kept)) (sym before)
+
+-- and it keeps its id
+id_if : (kept : StoreView) (put : Option PutSeen) → IfSome put (EndKeepsId kept) → (came : List ℕ)
+    → (kept_behind kept put (digest_of came)).library.id ≡ kept.library.id
+id_if kept None is came = refl
+id_if kept (Some put) is came = is came
+
+pub id_behind : (kept next : StoreView) (put begun : Option PutSeen) → IfSome put (IsWholePut kept) → plan_of put ≡ plan_of begun
+    → IfSome begun (EndKeepsId kept) → ((came : List ℕ) → HashedIf put came → next ≡ kept_behind kept put (digest_of came))
+    → next.library.id ≡ kept.library.id
+id_behind kept next put begun whole same keeps is =
+    let came = some_came kept put whole in
+    ap (λ (k : StoreView). k.library.id) (is came.0 came.1) ∙ id_if kept put (id_with kept put begun same keeps) came.0

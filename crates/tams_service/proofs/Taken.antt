@@ -8,12 +8,13 @@ use Rattle.http_wire.specs.Feeds.{Fed, left_of}
 use Rattle.http_wire.specs.declared.stage.FeedStage.TheVariants.{Media}
 use Rattle.store_states.specs.Kept.{AgreesWith, StoreView}
 use Rattle.store_writes.specs.Writes.{Keeps}
-use Rattle.media_store.specs.Puts.{HandsOn, IsPutOf, MayTake, body_handed, plan_of}
+use Rattle.media_store.specs.Puts.{HandsOn, HasHashed, IsPutOf, MayTake, body_handed, plan_of}
 use Rattle.media_store.specs.Stores.{PutSeen, StoreSeen}
+use Rattle.media_store.proofs.PutFacts.{hashed_on}
 use Rattle.request_hearing.specs.Hearing.{HearsBody}
 use Rattle.request_hearing.specs.declared.heard.Body.TheVariants as bodies
 use Rattle.tams_service.specs.Sites.{SiteCounts}
-use Rattle.tams_service.specs.Taking.{HandedMost, HoldsIf, HoldsPart, IsPutBegun, IsFilled, TakesBody, TakesNext, TakesOfBody}
+use Rattle.tams_service.specs.Taking.{HandedMost, HashedIf, HoldsIf, HoldsPart, IsPutBegun, IsFilled, TakesBody, TakesNext, TakesOfBody}
 use Rattle.tams_service.specs.declared.body.PieceTaken.TheVariants as pieces
 use Rattle.tams_service.specs.declared.body.BodyTaken.TheVariants as taken
 use Rattle.tams_service.proofs.Counting.{counts_none, counts_twice}
@@ -41,6 +42,7 @@ pub record HasTaken (kept : StoreView) (store : StoreSeen) (size left : ℕ) (fr
   pub has : IfSome next (HasPart kept size part)
   pub holds : first.shows ≡ true → (held : List (List ℕ)) → AgreesWith first kept held
       → HoldsIf kept next part last.seen
+  pub hashed : HashedIf next part
   pub handed : first.tells ≡ true → last.handed ≡ first.handed + body_handed (plan_of next) part
 
 -- ---- a piece
@@ -129,6 +131,10 @@ pub begun_of : (kept : StoreView) (size : ℕ) (put : Option PutSeen) → IfSome
 begun_of kept size None begun = tt
 begun_of kept size (Some put) begun = begun.of_store
 
+hashed_first : (kept : StoreView) (size : ℕ) (put : Option PutSeen) → IfSome put (IsPutBegun kept size) → HashedIf put []
+hashed_first kept size None begun = tt
+hashed_first kept size (Some put) begun = begun.unhashed
+
 holds_first : (kept : StoreView) (size : ℕ) (put : Option PutSeen) (seen : List ℕ) → IfSome put (IsPutBegun kept size) → HoldsIf kept put [] seen
 holds_first kept size None seen begun = tt
 holds_first kept size (Some put) seen begun = holds_none kept put put.plan seen (rw begun.sized begun.same)
@@ -146,6 +152,7 @@ taken_first kept store size fed put d put_is kept_is unspent begun = rw put_is r
   plan = refl;
   has = has_none kept size put begun;
   holds = λ shows held agrees. holds_first kept size put d.seen begun;
+  hashed = hashed_first kept size put begun;
   handed = λ tells. omega (arith, body_none (plan_of put));
 }
 
@@ -175,6 +182,13 @@ has_more kept size part piece (Some put) next old new has on =
       sized = on.goes.sized ∙ has.sized;
       handed = on.goes.handed ∙ ap (λ n. n + length piece) has.handed ∙ sym (length-append part piece);
     })
+
+hashed_more : (kept : StoreView) (part piece : List ℕ) (put next : Option PutSeen) (old new : Device) → HashedIf put part
+    → HandsOn kept piece put next old new → HashedIf next (part ++ piece)
+hashed_more kept part piece None next old new hashed none = rw none tt
+hashed_more kept part piece (Some put) next old new hashed on =
+    rw on.is (subst (λ plan. HasHashed plan on.later.hasher (part ++ piece)) (sym on.goes.plan)
+    (hashed_on put.plan put.hasher on.later.hasher part piece on.goes.hashed hashed))
 
 plan_more : (kept : StoreView) (piece : List ℕ) (put next : Option PutSeen) (old new : Device) → HandsOn kept piece put next old new
     → plan_of next ≡ plan_of put
@@ -232,6 +246,7 @@ module _ (kept : StoreView) (store : StoreSeen) (size left : ℕ) (from now fed 
             holds_on kept size so_far.part piece.part last new last_sound new_sound counts (so_far.counts.same.shows ∙ shows) held stands.agrees
             (keeps_on kept store size left from now put next first last new so_far keeps held agrees).agrees next later so_far.has
             (so_far.holds shows held agrees) on;
+        hashed = hashed_more kept so_far.part piece.part next later last new so_far.hashed on;
         handed = λ tells.
             let before = so_far.handed tells in
             let now = piece.handed refl (so_far.counts.same.tells ∙ tells) in
@@ -260,6 +275,7 @@ module _ (kept : StoreView) (store : StoreSeen) (size left : ℕ) (from now fed 
     takes = takes_twice so_far.part piece.part true false from now fed first last new so_far.counts.same so_far.takes piece.takes;
     comes = (omega (arith, length-append so_far.part piece.part, ap length piece.comes.0, so_far.sum, some), piece.comes.1);
     holds = λ no. absurd cc;
+    hashed = λ no. absurd cc;
     handed = λ stored. handed_by_now piece.part (piece.handed refl);
     handed_whole = λ no. absurd cc;
   }
@@ -272,6 +288,7 @@ module _ (kept : StoreView) (store : StoreSeen) (size left : ℕ) (from now fed 
     takes = takes_twice so_far.part piece.part false true from now fed first last new so_far.counts.same so_far.takes piece.takes;
     comes = (omega (arith, length-append so_far.part piece.part, ap length piece.comes.0, so_far.sum, some), piece.comes.1);
     holds = λ no. absurd cc;
+    hashed = λ no. absurd cc;
     handed = λ stored. handed_by_now piece.part (piece.handed refl);
     handed_whole = λ no. absurd cc;
   }
@@ -283,6 +300,7 @@ module _ (kept : StoreView) (store : StoreSeen) (size left : ℕ) (from now fed 
     takes = takes_twice so_far.part piece.part false false from now fed first last new so_far.counts.same so_far.takes piece.takes;
     comes = λ none. piece.comes (later_none so_far.part piece.part none);
     holds = λ no. absurd cc;
+    hashed = λ no. absurd cc;
     handed = λ stored. absurd (false≢true stored);
     handed_whole = λ no. absurd cc;
   }
@@ -310,6 +328,7 @@ module _ (kept : StoreView) (store : StoreSeen) (size left : ℕ) (from now : Fe
     takes = so_far.takes;
     comes = all_there;
     holds = λ whole. so_far.holds;
+    hashed = λ whole. so_far.hashed;
     handed = λ stored tells.
         let now = so_far.handed tells in
         let few = body_few (plan_of next) so_far.part in

@@ -8,7 +8,9 @@ use Rattle.http_wire.specs.Feeds.{Fed}
 use Rattle.http_wire.specs.Framing.{wants_interim}
 use Rattle.http_wire.specs.declared.framing.WireFault.{WireFault}
 use Rattle.library_laws.specs.MediaLaws.{IsGoodArchive}
+use Rattle.media_rows.specs.declared.object.Digest.{Digest}
 use Rattle.media_rows.specs.declared.reply.Reply.{Reply}
+use Rattle.media_rows.specs.Digests.{digest_of}
 use Rattle.media_store.specs.Stores.{PutSeen, StoreSeen}
 use Rattle.media_store.specs.declared.turns.TurnMade.{TurnMade}
 use Rattle.media_store.specs.declared.turns.TurnMade.TheVariants.{Deleted, NoRoom, Nothing, Swept}
@@ -37,7 +39,7 @@ use Rattle.store_states.specs.Kept.{StoreView}
 use Rattle.tams_answers.specs.Answers.{AnswersRequest}
 use Rattle.tams_answers.specs.Media.{MediaAnswers, response_by}
 use Rattle.tams_answers.specs.declared.media.Responses.{Responses}
-use Rattle.tams_service.specs.Taking.{HoldsIf}
+use Rattle.tams_service.specs.Taking.{HashedIf, HoldsIf}
 use Rattle.tams_answers.specs.declared.answers.Answer.{Answer}
 use Rattle.tams_service.specs.Serving.{ServiceSeen}
 use Rattle.tams_service.specs.declared.saying.AnswerTold.{AnswerTold}
@@ -196,17 +198,21 @@ abbrev pub response_if : Responses → Option Reply → List ℕ
 response_if responses None = responses.reply
 response_if responses (Some reply) = response_by responses reply
 
--- what the end of a put makes of a store, where there is a put
-abbrev pub EndsPutIf : Bool → Option PutSeen → StoreView → List (List ℕ) → Device → Device → Type 0
-EndsPutIf ok None kept held old new = Unit {0}
-EndsPutIf ok (Some put) kept held old new = EndsPut ok put put.plan kept held old new
+-- what the end of a put makes of a store, where there is a put, with this digest of its bytes
+abbrev pub EndsPutIf : Bool → Option PutSeen → Digest → StoreView → List (List ℕ) → Device → Device
+    → Type 0
+EndsPutIf ok None digest kept held old new = Unit {0}
+EndsPutIf ok (Some put) digest kept held old new =
+    EndsPut ok put put.plan digest kept held old new
 
--- what is kept behind a put has the store's id
+-- what is kept behind a put has the store's id, whatever bytes came
 abbrev pub EndKeepsId : StoreView → PutSeen → Type 0
-EndKeepsId kept put = (kept_after_put kept put.plan).library.id ≡ kept.library.id
+EndKeepsId kept put =
+    (came : List ℕ)
+    → (kept_after_put kept put.plan (digest_of came)).library.id ≡ kept.library.id
 
 -- What is known of a put whose bytes were all handed to it: it was planned of the store with the
--- responses to what it may reply, and has the bytes of the request.
+-- responses to what it may reply, and has the bytes of the request and their digest.
 pub record IsPutting (p : RunPlace) (r : TamsRequest) (moment : ℕ) (kept : StoreView)
     (put : Option PutSeen) (responses : Responses) (seen : List ℕ) : Type 0 where
   pub begun : Option PutSeen
@@ -214,6 +220,7 @@ pub record IsPutting (p : RunPlace) (r : TamsRequest) (moment : ℕ) (kept : Sto
   pub plan : plan_of put ≡ plan_of begun
   pub size : IfSome put (λ q. q.size ≡ length r.body)
   pub holds : HoldsIf kept put r.body seen
+  pub hashed : HashedIf put r.body
 
 -- From a media PUT whose bytes are all there, and were handed on.
 abbrev pub PutLeads : Device → Device → StoreSeen → StoreSeen → RunCounts → RunCounts

@@ -8,7 +8,7 @@ use Rattle.http_wire.specs.Feeds.{Fed, left_of, less_by}
 use Rattle.store_states.specs.Kept.{AgreesWith, StoreView}
 use Rattle.store_plans.specs.declared.puts.PutPlan.{PutPlan}
 use Rattle.store_plans.specs.declared.puts.PutPlan.TheVariants.{Kept, Refused, Write}
-use Rattle.media_store.specs.Puts.{HandsOn, IsPutOf, body_handed, bytes_at_extent, may_be_same, plan_of}
+use Rattle.media_store.specs.Puts.{HandsOn, HasHashed, IsPutOf, body_handed, bytes_at_extent, may_be_same, plan_of}
 use Rattle.media_store.specs.Stores.{PutSeen}
 use Rattle.request_hearing.specs.Hearing.{HearPart, IsPartOf, after_hearing}
 use Rattle.tams_service.specs.declared.body.PieceTaken.{PieceTaken}
@@ -67,6 +67,7 @@ pub record IsPutBegun (kept : StoreView) (size : ℕ) (put : PutSeen) : Type 0 w
   pub of_store : IsPutOf kept put
   pub sized : put.size ≡ size
   pub none : put.handed ≡ 0
+  pub unhashed : HasHashed put.plan put.hasher []
   pub same : put.same ≡ may_be_same size put.plan
 
 -- all of so many bytes were handed to a put
@@ -88,8 +89,12 @@ HoldsPart kept put (Refused why) part seen = Unit {0}
 HoldsPart kept put (Kept extent) part seen = put.same
     ≡ ((extent.length == put.size)
     && bytes_eq (take (length part) (bytes_at_extent kept extent seen)) part)
-HoldsPart kept put (Write extent planned) part seen =
+HoldsPart kept put (Write extent plan) part seen =
     take (length part) (bytes_at_extent kept extent seen) ≡ part
+
+-- a put, where there is one, has the digest of these bytes
+abbrev pub HashedIf : Option PutSeen → List ℕ → Type 0
+HashedIf put part = IfSome put (λ p. HasHashed p.plan p.hasher part)
 
 -- the same of a put, where there is one
 abbrev pub HoldsIf : StoreView → Option PutSeen → List ℕ → List ℕ → Type 0
@@ -113,6 +118,7 @@ pub record TakesBody (kept : StoreView) (size : ℕ) (old new : Fed) (put : Opti
   pub comes : BodyIs result size part new.unread
   pub holds : result ≡ Whole → before.shows ≡ true
       → (held : List (List ℕ)) → AgreesWith before kept held → HoldsIf kept put part now.seen
+  pub hashed : result ≡ Whole → HashedIf put part
   pub handed : is_taken_unfailed result ≡ true → before.tells ≡ true
       → HandedMost (length part) before now
   pub handed_whole : result ≡ Whole → before.tells ≡ true

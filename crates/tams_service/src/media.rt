@@ -4,6 +4,7 @@ ghost use Rattle.std.specs.Result.{is_err};
 ghost use Rattle.disk_trait.specs.Calls.{DiskCalls};
 ghost use Rattle.http_wire.specs.Agreeing.{MayTurn};
 ghost use Rattle.http_wire.specs.declared.stage.FeedStage.TheVariants as stages;
+ghost use Rattle.media_rows.specs.Digests.{digest_of};
 ghost use Rattle.media_rows.specs.Moments.{is_moment};
 ghost use Rattle.media_store.specs.Puts.{end_handed, kept_behind, reply_if};
 ghost use Rattle.media_store.specs.Stores.{size_of};
@@ -12,7 +13,7 @@ ghost use Rattle.connection_loop.specs.Turns.{ClockCalls, SiteCalls};
 ghost use Rattle.request_hearing.specs.Hearing.{OpensMedia};
 ghost use Rattle.tams_service.specs.Answering.{EndKeepsId, EndsPutIf, IsWholePut, MediaLeads, TakeLeads, TellsAllOf, response_if, written_if};
 ghost use Rattle.tams_service.specs.Serving.{needs_in};
-ghost use Rattle.tams_service.specs.Taking.{IsPutBegun};
+ghost use Rattle.tams_service.specs.Taking.{HashedIf, IsPutBegun};
 
 use crate::TamsService;
 use crate::answering::{DueReply, TimedHead};
@@ -137,11 +138,14 @@ fn end_put<X: Site>(store: &mut Store, site: &mut X) -> Result<Option<Reply>, Fa
     requires device { size_of store.old.kept ≤ (X.device site.old).size }
     requires filled { IfSome store.old.put (IsWholePut store.old.kept) }
     ensures makes { (X.device site.old).honest ≡ true → (X.device site.old).shows ≡ true
-        → (held : List (List ℕ)) → AgreesWith (X.device site.old) store.old.kept held
-        → EndsPutIf (is_ok result) store.old.put store.old.kept held (X.device site.old) (X.device site.new) }
+        → (held : List (List ℕ)) → (came : List ℕ)
+        → AgreesWith (X.device site.old) store.old.kept held → HashedIf store.old.put came
+        → EndsPutIf (is_ok result) store.old.put (digest_of came) store.old.kept held
+        (X.device site.old) (X.device site.new) }
     ensures none { store.old.put ≡ None → (site.new ≡ site.old) × IsTrue (is_ok result) }
     ensures reply { IfOk result (λ reply. reply ≡ reply_if store.old.put) }
-    ensures kept { OnOk result (store.new.kept ≡ kept_behind store.old.kept store.old.put) }
+    ensures kept { (came : List ℕ) → HashedIf store.old.put came → OnOk result
+        (store.new.kept ≡ kept_behind store.old.kept store.old.put (digest_of came)) }
     ensures idle { store.new.put ≡ None }
     ensures spent { store.new.spent ≡ is_err result }
     ensures handed { (X.device site.old).tells ≡ true → OnOk result ((X.device site.new).handed

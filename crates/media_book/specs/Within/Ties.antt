@@ -16,10 +16,10 @@ use Rattle.media_rows.specs.Refusals.{when}
 use Rattle.media_rows.specs.Sound.{are_posts_good}
 use Rattle.object_blobs.specs.Holes.{Area, GivesBlocks, is_free_block, is_taken_place}
 use Rattle.object_refs.specs.declared.kept.Kept.{Kept}
-use Rattle.object_refs.specs.References.{objects_in}
+use Rattle.object_refs.specs.References.{Book, objects_in}
 use Rattle.reference_laws.specs.Ties.{AreTied}
 use Rattle.segment_book.specs.Answers.{meeting_refusal}
-use Rattle.media_book.specs.Media.{AreSome, Media, allocation_refusal, are_objects_below, are_segments_below, library_with, stored_size, with_allocated, with_posts, without_rows}
+use Rattle.media_book.specs.Media.{AreSome, HeldMedia, Media, allocation_refusal, are_objects_below, are_segments_below, library_with, stored_size, with_allocated, with_posts, without_rows}
 
 -- the states of objects
 abbrev pub object_states : List ObjectRow → List ObjectState
@@ -47,6 +47,11 @@ pub record IsMedia (segments : List SegmentRow) (kept : List Kept) (area : Area)
 abbrev pub media_seen : List SegmentRow → List Kept → Area → Media
 media_seen segments kept area =
     record { blocks = area.blocks; segments = segments; objects = objects_in kept }
+
+-- the same beside a book of objects, with the serial of the row that it holds apart
+abbrev pub held_seen : List SegmentRow → Book → Area → HeldMedia
+held_seen segments book area =
+    record { media = media_seen segments book.kept area; apart = book.apart }
 
 -- the refusal of one segment: its object isn't stored, or one of its flow overlaps it
 abbrev pub row_refusal : Media → SegmentRow → Option Refusal

@@ -5,4 +5,4 @@ use Rattle.core_queries.proofs.flows.flow_page.Given as goal
 
 abbrev pub invariant-loop-row : goal.invariant-loop-row
 invariant-loop-row l =
-    l.list ++ map (shown_flow l.media.segments) (values_of (drop l.row-index l.page)) ≡ map (shown_flow l.media.segments) (values_of l.page)
+    l.list ++ map (shown_flow l.media.media.segments) (values_of (drop l.row-index l.page)) ≡ map (shown_flow l.media.media.segments) (values_of l.page)

@@ -2,6 +2,7 @@ use Rattle.std.proofs.Common.{◌≡◌, None, Some, ap, subst, sym, ◌∙◌}
 use Rattle.media_rows.specs.Lists.{rises}
 use Rattle.media_rows.specs.Snapshot.{row_before}
 use Rattle.core_rows.specs.Kinds.{Kinds}
+use Rattle.core_parts.specs.Parts.{given_parts}
 use Rattle.core_restore.specs.Within.{AreInOrder}
 use Rattle.core_restore.proofs.Handing.{from_kinds, no_numbers}
 use Rattle.core_restore.proofs.Parted.{kinds_rise}
@@ -19,7 +20,7 @@ returns-in-Some c =
     let seen = ap (λ (k : Kinds). k.next_serial) c.kinds.view_is in
     let found = c.in-Some.is in
     let some : c.in_ok-kinds.kinds.next_serial ≡ Some c.in-Some.next_serial = cc in
-    from_kinds c.args.id c.args.blocks c.in-Some.next_serial c.args.rows c.in_ok-kinds.kinds c.parts_of_kinds.result c.in_ok-kinds.ensures
+    from_kinds c.args.id c.args.blocks c.in-Some.next_serial c.args.rows c.in_ok-kinds.kinds (given_parts c.parts_of_kinds.result) c.in_ok-kinds.ensures
     (c.kinds_make_the_library.ensures c.args.id c.args.blocks c.args.rows)
     (ap (rises row_before) (sym c.items.ensures) ∙ sym c.do_rise.ensures ∙ c.if-not-do_rise.false) some c.parts_of_kinds.ensures
 

@@ -18,7 +18,7 @@ returns-in-Ended-clause-ends g c =
     (replay_ends c.args.base (g.X.Disk.device c.args.site.now) (g.X.Disk.device c.open.new.disk) (g.X.Disk.device c.serve_next-next.new.site)
     (g.C.Clock.tells c.args.clock.now) (g.C.Clock.tells c.serve_next-next.new.clock) (g.C.Clock.given c.args.clock.now)
     (g.C.Clock.given c.serve_next-next.new.clock) c.in-Ok.service.store.kept _
-    c.serve_next-next.new.tally c.runs_keep_bytes.ensures (g.met.X.Disk.sound c.args.site.now)
+    c.serve_next-next.new.tally c.runs_keep_objects.ensures (g.met.X.Disk.sound c.args.site.now)
     (g.met.X.Disk.sound c.serve_next-next.new.site) c.in-Ok.ensures.reads
     c.in-Ended.ensures.calls.same c.in-Ok.ensures.answer
     (λ from start. c.in-Ok.ensures.keeps start.tells.shows start.settled from start.stands) _ (omega arith)
@@ -33,7 +33,7 @@ returns-in-NoMore-clause-ends g c =
     (replay_ends c.args.base (g.X.Disk.device c.args.site.now) (g.X.Disk.device c.open.new.disk) (g.X.Disk.device c.serve_next-next.new.site)
     (g.C.Clock.tells c.args.clock.now) (g.C.Clock.tells c.serve_next-next.new.clock) (g.C.Clock.given c.args.clock.now)
     (g.C.Clock.given c.serve_next-next.new.clock) c.in-Ok.service.store.kept _
-    c.serve_next-next.new.tally c.runs_keep_bytes.ensures (g.met.X.Disk.sound c.args.site.now)
+    c.serve_next-next.new.tally c.runs_keep_objects.ensures (g.met.X.Disk.sound c.args.site.now)
     (g.met.X.Disk.sound c.serve_next-next.new.site) c.in-Ok.ensures.reads
     c.in-NoMore.ensures.calls.same c.in-Ok.ensures.answer
     (λ from start. c.in-Ok.ensures.keeps start.tells.shows start.settled from start.stands) _ (omega arith)
@@ -46,7 +46,7 @@ returns-in-Unlinked-clause-ends g c =
     (replay_ends c.args.base (g.X.Disk.device c.args.site.now) (g.X.Disk.device c.open.new.disk) (g.X.Disk.device c.serve_next-next.new.site)
     (g.C.Clock.tells c.args.clock.now) (g.C.Clock.tells c.serve_next-next.new.clock) (g.C.Clock.given c.args.clock.now)
     (g.C.Clock.given c.serve_next-next.new.clock) c.in-Ok.service.store.kept _
-    c.serve_next-next.new.tally c.runs_keep_bytes.ensures (g.met.X.Disk.sound c.args.site.now)
+    c.serve_next-next.new.tally c.runs_keep_objects.ensures (g.met.X.Disk.sound c.args.site.now)
     (g.met.X.Disk.sound c.serve_next-next.new.site) c.in-Ok.ensures.reads
     c.in-Unlinked.ensures.calls.same c.in-Ok.ensures.answer
     (λ from start. c.in-Ok.ensures.keeps start.tells.shows start.settled from start.stands)

@@ -17,7 +17,7 @@ returns-clause-ends g c =
     (serve_ends c.args.base (g.X.Disk.device c.args.site.now) (g.X.Disk.device c.open.new.disk) (g.X.Disk.device c.serve-end.new.site)
     (g.C.Clock.tells c.args.clock.now) (g.C.Clock.tells c.serve-end.new.clock) (g.C.Clock.given c.args.clock.now)
     (g.C.Clock.given c.serve-end.new.clock) c.in-Ok.service.store.kept _
-    c.serve-end.new.tally c.runs_keep_bytes.ensures (g.met.X.Disk.sound c.args.site.now) (g.met.X.Disk.sound c.serve-end.new.site) c.in-Ok.ensures.reads
+    c.serve-end.new.tally c.runs_keep_objects.ensures (g.met.X.Disk.sound c.args.site.now) (g.met.X.Disk.sound c.serve-end.new.site) c.in-Ok.ensures.reads
     c.serve-end.ensures.calls.same c.in-Ok.ensures.answer
     (λ from start. c.in-Ok.ensures.keeps start.tells.shows start.settled from start.stands) _
     (omega (arith, c.requires.few)) c.serve-end.ensures.clock c.serve-end.result

@@ -14,24 +14,24 @@ pub returns-in_err-core-clause-answer : goal.returns-in_err-core-clause-answer
 returns-in_err-core-clause-answer c = λ image is.
     let p = err_from_is_err_and c.from_residual-in_err-core.result c.from_residual-in_err-core.ensures.1 in
     rw (p.1, p.2)
-    (records_fault image c.args.opened c.in_ok-first.first c.in_err-core.field-0.0 is c.in_ok-first.ensures.ok
+    (records_fault image c.args.opened c.in_ok-first.first.library c.in_err-core.field-0.0 is c.in_ok-first.ensures.ok
     (rw c.items.ensures at c.in_err-core.ensures.refused))
 
 -- A record is torn, and all before it apply.
 pub returns-in-Some-clause-answer : goal.returns-in-Some-clause-answer
 returns-in-Some-clause-answer c = λ image is.
-    torn_record image c.args.opened c.in_ok-first.first c.in_ok-core.core c.in-Some.at c.in-Some.is is c.in_ok-first.ensures.ok
+    torn_record image c.args.opened c.in_ok-first.first.library c.in_ok-core.core.library c.in-Some.at c.in-Some.is is c.in_ok-first.ensures.ok
     (rw c.items.ensures at c.in_ok-core.ensures.folded)
 
 -- All records apply, and the half is of another form.
 pub returns-then-opened-ne-FORM_IN_USE-clause-answer : goal.returns-then-opened-ne-FORM_IN_USE-clause-answer
 returns-then-opened-ne-FORM_IN_USE-clause-answer c = λ image is.
-    is_other image c.args.opened c.in_ok-first.first c.in_ok-core.core (untorn c.args.opened.torn c.in_default.not-Some) c.if-opened-ne-FORM_IN_USE.true is
+    is_other image c.args.opened c.in_ok-first.first.library c.in_ok-core.core.library (untorn c.args.opened.torn c.in_default.not-Some) c.if-opened-ne-FORM_IN_USE.true is
     c.in_ok-first.ensures.ok (rw c.items.ensures at c.in_ok-core.ensures.folded)
 
 -- The library of rows and records has the media blocks of its header's file.
 pub returns-clause-blocks : goal.returns-clause-blocks
 returns-clause-blocks c =
-    let good = c.states_are_good.ensures.library c.args.opened.form (header_of c.args.opened) c.args.opened.rows c.args.opened.found c.in_ok-core.core
-    (record { first = c.in_ok-first.first; snapshot = c.in_ok-first.ensures.ok; folds = rw c.items.ensures at c.in_ok-core.ensures.folded }) in
+    let good = c.states_are_good.ensures.library c.args.opened.form (header_of c.args.opened) c.args.opened.rows c.args.opened.found c.in_ok-core.core.library
+    (record { first = c.in_ok-first.first.library; snapshot = c.in_ok-first.ensures.ok; folds = rw c.items.ensures at c.in_ok-core.ensures.folded }) in
     rw (c.requires.blocks, c.requires.half) good.1.blocks

@@ -7,7 +7,7 @@ use Rattle.store_plans.proofs.room.behind_rows.Goals as goal
 -- the rows are the text of the library, and there is room behind them
 pub returns-clause-found : goal.returns-clause-found
 returns-clause-found c =
-    let library = c.args.library.now in
+    let library = c.args.core.now.library in
     let text = c.in_ok-rows.rows in
     let size = size_of library text c.in_ok-rows.ensures in
     let room : snapshot_size library + length c.args.payload.now + 14 ≤ 4096 * c.args.journal.now.half =

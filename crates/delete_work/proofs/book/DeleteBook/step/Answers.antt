@@ -28,7 +28,7 @@ objects_without-requires-clause-references c =
       up = c.is_in_order.ensures.starts;
       bounded = c.is_in_order.ensures.bounded;
     } in
-    references_removed fits c.args.objects.now _ (c.requires.references c.in-Some.request.now due)
+    references_removed fits c.args.objects.now.kept _ (c.requires.references c.in-Some.request.now due)
     (c.items-rows.ensures ∙ c.in_ok-step.ensures.removed c.in-Some.request.now due)
 
 -- the segments that begin where these do are just these
@@ -44,4 +44,4 @@ returns-clause-index c =
     ∙ index_is fits c.in_ok-step.step.removed (c.in_ok-step.ensures.removed c.in-Some.request.now due)
 
 pub returns-clause-objects : goal.returns-clause-objects
-returns-clause-objects c = c.in_ok-objects_without.ensures.book ∙ ap (λ l. released_by c.args.now l c.args.objects.now) c.items-rows.ensures
+returns-clause-objects c = c.in_ok-objects_without.ensures.book ∙ ap (λ l. released_by c.args.now l c.args.objects.now.kept) c.items-rows.ensures

@@ -20,40 +20,40 @@ pub returns-clause-rows : goal.returns-clause-rows
 returns-clause-rows c =
     let segments = c.self.inside.segments in
     let row : DeleteRow = asked_row (record { flow = c.args.flow; range = c.args.range.now; delete_flow = false }) c.args.serial 0 in
-    let below = subst (λ m. are_segments_below c.args.serial m.segments ≡ true) (sym c.self.view_is) c.requires.above in
+    let below = subst (λ m. are_segments_below c.args.serial m.segments ≡ true) (sym (ap (λ m. m.media) c.self.view_is)) c.requires.above in
     c.in_ok-step.ensures.removed ∙ ap (λ r. removed_by_step c.in_ok-index.index r) c.row.ensures ∙ ap (λ l. removed_by_step l row) c.in_ok-index.ensures
     ∙ removed_of_all row segments ∙ removed_all row segments below
-    ∙ ap (λ m. take step_size (covered m.segments c.args.flow c.args.range.now)) c.self.view_is
+    ∙ ap (λ m. take step_size (covered m.segments c.args.flow c.args.range.now)) (ap (λ m. m.media) c.self.view_is)
 
 pub returns-clause-whole : goal.returns-clause-whole
 returns-clause-whole c =
     let segments = c.self.inside.segments in
     let row : DeleteRow = asked_row (record { flow = c.args.flow; range = c.args.range.now; delete_flow = false }) c.args.serial 0 in
-    let below = subst (λ m. are_segments_below c.args.serial m.segments ≡ true) (sym c.self.view_is) c.requires.above in
+    let below = subst (λ m. are_segments_below c.args.serial m.segments ≡ true) (sym (ap (λ m. m.media) c.self.view_is)) c.requires.above in
     c.in_ok-step.ensures.finished ∙ ap (λ r. is_finished_by_step c.in_ok-index.index r) c.row.ensures
     ∙ ap (λ l. is_finished_by_step l row) c.in_ok-index.ensures ∙ finished_of_all row segments
     ∙ finished_all row segments c.self.invariant.rising below
-    ∙ ap (λ m. nat_le (length (covered m.segments c.args.flow c.args.range.now)) step_size) c.self.view_is
+    ∙ ap (λ m. nat_le (length (covered m.segments c.args.flow c.args.range.now)) step_size) (ap (λ m. m.media) c.self.view_is)
 
 -- the first ones are all where there are no more
 pub returns-clause-all : goal.returns-clause-all
 returns-clause-all c = λ whole.
     let segments = c.self.inside.segments in
     let row : DeleteRow = asked_row (record { flow = c.args.flow; range = c.args.range.now; delete_flow = false }) c.args.serial 0 in
-    let below = subst (λ m. are_segments_below c.args.serial m.segments ≡ true) (sym c.self.view_is) c.requires.above in
+    let below = subst (λ m. are_segments_below c.args.serial m.segments ≡ true) (sym (ap (λ m. m.media) c.self.view_is)) c.requires.above in
     whole_taken c.in_ok-step.step.removed (covered segments c.args.flow c.args.range.now) c.in_ok-step.step.finished
     (c.in_ok-step.ensures.removed ∙ ap (λ r. removed_by_step c.in_ok-index.index r) c.row.ensures ∙ ap (λ l. removed_by_step l row) c.in_ok-index.ensures
     ∙ removed_of_all row segments ∙ removed_all row segments below)
     (c.in_ok-step.ensures.finished ∙ ap (λ r. is_finished_by_step c.in_ok-index.index r) c.row.ensures
     ∙ ap (λ l. is_finished_by_step l row) c.in_ok-index.ensures ∙ finished_of_all row segments
     ∙ finished_all row segments c.self.invariant.rising below) whole
-    ∙ ap (λ m. covered m.segments c.args.flow c.args.range.now) c.self.view_is
+    ∙ ap (λ m. covered m.segments c.args.flow c.args.range.now) (ap (λ m. m.media) c.self.view_is)
 
 pub returns-clause-some : goal.returns-clause-some
 returns-clause-some c =
     let segments = c.self.inside.segments in
     let row : DeleteRow = asked_row (record { flow = c.args.flow; range = c.args.range.now; delete_flow = false }) c.args.serial 0 in
-    subst (λ l. AreSome l c.args.self.now.segments)
+    subst (λ l. AreSome l c.args.self.now.media.segments)
     (sym (c.in_ok-step.ensures.removed ∙ ap (λ r. removed_by_step c.in_ok-index.index r) c.row.ensures ∙ ap (λ l. removed_by_step l row) c.in_ok-index.ensures
     ∙ removed_of_all row segments))
-    (subst (λ m. AreSome (removed_by_step segments row) m.segments) c.self.view_is (removed_some row segments c.self.invariant.rising))
+    (subst (λ m. AreSome (removed_by_step segments row) m.segments) (ap (λ m. m.media) c.self.view_is) (removed_some row segments c.self.invariant.rising))

@@ -26,7 +26,7 @@ returns-clause-removed c =
     let own =
     index_is c.args.requests.now c.in-Some.request.now request c.in_ok-index.index segments (sym c.in-Some.ensures) c.in_ok-index.ensures due in
     is request due ∙ ap (λ l. removed_by_step l request) own ∙ removed_of_all request segments
-    ∙ ap (λ m. removed_by_step m.segments request) c.self.view_is) c.due_step.ensures.removed
+    ∙ ap (λ m. removed_by_step m.segments request) (ap (λ m. m.media) c.self.view_is)) c.due_step.ensures.removed
 
 pub returns-clause-finished : goal.returns-clause-finished
 returns-clause-finished c =
@@ -35,14 +35,14 @@ returns-clause-finished c =
     let own =
     index_is c.args.requests.now c.in-Some.request.now request c.in_ok-index.index segments (sym c.in-Some.ensures) c.in_ok-index.ensures due in
     is request due ∙ ap (λ l. is_finished_by_step l request) own ∙ finished_of_all request segments
-    ∙ ap (λ m. is_finished_by_step m.segments request) c.self.view_is) c.due_step.ensures.finished
+    ∙ ap (λ m. is_finished_by_step m.segments request) (ap (λ m. m.media) c.self.view_is)) c.due_step.ensures.finished
 
 -- and what goes is there
 pub returns-clause-some : goal.returns-clause-some
 returns-clause-some c =
     let segments = c.self.inside.segments in
     let request = c.in-Some.request.now in
-    if_ok c.due_step.result (λ step is. subst (λ l. AreSome l c.args.self.now.segments)
+    if_ok c.due_step.result (λ step is. subst (λ l. AreSome l c.args.self.now.media.segments)
     (sym (is request (sym c.in-Some.ensures) ∙ ap (λ l. removed_by_step l request) c.in_ok-index.ensures ∙ removed_of_all request segments))
-    (subst (λ m. AreSome (removed_by_step segments request) m.segments) c.self.view_is (removed_some request segments c.self.invariant.rising)))
+    (subst (λ m. AreSome (removed_by_step segments request) m.segments) (ap (λ m. m.media) c.self.view_is) (removed_some request segments c.self.invariant.rising)))
     c.due_step.ensures.removed

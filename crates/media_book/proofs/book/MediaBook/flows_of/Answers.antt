@@ -8,7 +8,7 @@ use Rattle.media_book.proofs.book.MediaBook.flows_of.Goals as goal
 pub returns : goal.returns
 returns c =
     let id = c.args.id.now in
-    let kept = subst (λ m. is_some (object_of id m.objects) ≡ true) (sym c.self.view_is) c.requires.kept in
+    let kept = subst (λ m. is_some (object_of id m.objects) ≡ true) (sym (ap (λ m. m.media) c.self.view_is)) c.requires.kept in
     if_ok c.flows_of.result (λ list is. is
-    ∙ c.flows_are_same.ensures c.self.inside.segments c.self.inside.objects id c.self.invariant.tied c.is_in_order.ensures.ids kept
-    ∙ ap (λ m. flows_naming m.segments id) c.self.view_is) c.flows_of.ensures
+    ∙ c.flows_are_same.ensures c.self.inside.segments c.self.inside.objects.kept id c.self.invariant.tied c.is_in_order.ensures.ids kept
+    ∙ ap (λ m. flows_naming m.segments id) (ap (λ m. m.media) c.self.view_is)) c.flows_of.ensures

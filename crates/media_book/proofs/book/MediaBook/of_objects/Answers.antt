@@ -1,5 +1,6 @@
 use Rattle.std.proofs.Common.{◌∷◌, ◌++◌, [], ap, sym, take, ◌∙◌}
 use Rattle.std.proofs.lemmas.List.{take_more}
+use Rattle.media_book.specs.Media.{only_media}
 use Rattle.media_book.proofs.Restored.{objects_fail, objects_more}
 use Rattle.media_book.proofs.book.MediaBook.of_objects.Goals as goal
 
@@ -10,7 +11,7 @@ returns-in-None c =
     let row = c.index-objects-index.result in
     let shape = take_more rows c.loop-index.index row c.loop-index-test.true
     ∙ ap (λ r. take c.loop-index.index rows ++ r ∷ []) (sym c.index-objects-index.is) in
-    objects_fail c.args.blocks c.loop-index.index rows c.loop-index.media row c.loop-index.invariant shape (sym c.in-None.is ∙ c.in_ok-next.ensures)
+    objects_fail c.args.blocks c.loop-index.index rows c.loop-index.media.media row c.loop-index.invariant shape (sym (ap only_media c.in-None.is) ∙ c.in_ok-next.ensures)
 
 -- one more came
 pub loop-index-preserved : goal.loop-index-preserved
@@ -19,5 +20,5 @@ loop-index-preserved c =
     let row = c.index-objects-index.result in
     let shape = take_more rows c.loop-index.index row c.loop-index-test.true
     ∙ ap (λ r. take c.loop-index.index rows ++ r ∷ []) (sym c.index-objects-index.is) in
-    objects_more c.args.blocks c.loop-index.index rows c.loop-index.media c.in-Some.next row c.loop-index.invariant shape
-    (sym c.in-Some.is ∙ c.in_ok-next.ensures)
+    objects_more c.args.blocks c.loop-index.index rows c.loop-index.media.media c.in-Some.next.media row c.loop-index.invariant shape
+    (sym (ap only_media c.in-Some.is) ∙ c.in_ok-next.ensures)

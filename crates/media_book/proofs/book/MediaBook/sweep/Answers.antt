@@ -10,7 +10,7 @@ use Rattle.media_book.proofs.book.MediaBook.sweep.Goals as goal
 -- the first 16 that are due are some of the objects
 pub freed-requires : goal.freed-requires
 freed-requires c =
-    let kept = c.self.inside.objects in
+    let kept = c.self.inside.objects.kept in
     record {
       held = c.self.invariant.held;
       some = swept_some c.self.inside.segments (objects_in kept) _ c.args.now c.is_in_order.ensures.serials
@@ -20,7 +20,7 @@ freed-requires c =
 
 pub invariant_of-result : goal.invariant_of-result
 invariant_of-result c =
-    let kept = c.self.inside.objects in
+    let kept = c.self.inside.objects.kept in
     let is = c.in_ok-swept.ensures.gone
     ∙ ap (take sweep_size) (c.due_are_same.ensures c.self.inside.segments kept c.args.now c.self.invariant.tied) in
     rw c.in_ok-share.ensures
@@ -31,9 +31,9 @@ invariant_of-result c =
 
 pub returns : goal.returns
 returns c =
-    let kept = c.self.inside.objects in
+    let kept = c.self.inside.objects.kept in
     let is = c.in_ok-swept.ensures.gone
     ∙ ap (take sweep_size) (c.due_are_same.ensures c.self.inside.segments kept c.args.now c.self.invariant.tied) in
     rw c.in_ok-share.ensures
     (swept_seen c.self.inside.segments kept _ c.self.inside.space c.in_ok-freed.freed.space c.in_ok-swept.swept.gone c.args.now is c.in_ok-swept.ensures.rows
-    c.in_ok-freed.ensures.blocks ∙ ap (swept c.args.now) c.self.view_is)
+    c.in_ok-freed.ensures.blocks ∙ ap (swept c.args.now) (ap (λ m. m.media) c.self.view_is))

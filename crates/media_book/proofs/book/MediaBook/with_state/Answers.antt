@@ -11,14 +11,14 @@ pub stored-requires-clause-bare : goal.stored-requires-clause-bare
 stored-requires-clause-bare c =
     let row = c.args.row.now in
     ap (λ m. keep_refusal (object_of row.id m.objects)) c.requires.bare
-    ∙ found_last c.args.self.now.objects row row.serial row.idle_since c.requires.new
+    ∙ found_last c.args.self.now.media.objects row row.serial row.idle_since c.requires.new
 
 -- and has its own place then
 pub returns-else-not-takes : goal.returns-else-not-takes
 returns-else-not-takes c =
-    let media = c.args.self.now in
+    let media = c.args.self.now.media in
     let can : can_take media (record { start = c.in-Stored.start_block; length = c.in-Stored.length }) ≡ true =
     let told = c.if-not-takes.false in let is = c.takes.ensures in grind (arith, told, is) in
     if_ok c.stored.result (λ next is. is
-    ∙ held_last media c.args.bare c.args.row.now c.in-Stored.start_block c.in-Stored.length c.in-Stored.digest c.in-Stored.is c.requires.new c.requires.bare can)
+    ∙ held_last media c.args.bare.media c.args.row.now c.in-Stored.start_block c.in-Stored.length c.in-Stored.digest c.in-Stored.is c.requires.new c.requires.bare can)
     c.stored.ensures

@@ -6,21 +6,21 @@ use Rattle.media_book.proofs.book.MediaBook.without_row.Goals as goal
 -- the segment's flow refers to its object
 pub unrefer-requires : goal.unrefer-requires
 unrefer-requires c = record {
-  there = row_is_referred c.self.inside.segments c.self.inside.objects c.self.inside.space c.self.inside.bytes c.args.row.now c.self.invariant
-      (subst (λ m. Contains m.segments c.args.row.now) (sym c.self.view_is) c.requires.there);
+  there = row_is_referred c.self.inside.segments c.self.inside.objects.kept c.self.inside.space c.self.inside.bytes c.args.row.now c.self.invariant
+      (subst (λ m. Contains m.segments c.args.row.now) (sym (ap (λ m. m.media) c.self.view_is)) c.requires.there);
 }
 
 pub invariant_of-result : goal.invariant_of-result
 invariant_of-result c =
-    let there = subst (λ m. Contains m.segments c.args.row.now) (sym c.self.view_is) c.requires.there in
+    let there = subst (λ m. Contains m.segments c.args.row.now) (sym (ap (λ m. m.media) c.self.view_is)) c.requires.there in
     rw (c.in_ok-remove.ensures, c.in_ok-share.ensures)
-    ((less_is c.references_go.ensures c.self.inside.segments c.self.inside.objects c.in_ok-unrefer.field-0 c.self.inside.space c.self.inside.bytes
+    ((less_is c.references_go.ensures c.self.inside.segments c.self.inside.objects.kept c.in_ok-unrefer.field-0.kept c.self.inside.space c.self.inside.bytes
     c.args.row.now c.args.now c.self.invariant there c.in_ok-unrefer.ensures.objects c.in_ok-unrefer.ensures.flows).media)
 
 pub returns : goal.returns
 returns c =
-    let there = subst (λ m. Contains m.segments c.args.row.now) (sym c.self.view_is) c.requires.there in
+    let there = subst (λ m. Contains m.segments c.args.row.now) (sym (ap (λ m. m.media) c.self.view_is)) c.requires.there in
     rw (c.in_ok-remove.ensures, c.in_ok-share.ensures)
-    ((less_is c.references_go.ensures c.self.inside.segments c.self.inside.objects c.in_ok-unrefer.field-0 c.self.inside.space c.self.inside.bytes
+    ((less_is c.references_go.ensures c.self.inside.segments c.self.inside.objects.kept c.in_ok-unrefer.field-0.kept c.self.inside.space c.self.inside.bytes
     c.args.row.now c.args.now c.self.invariant there c.in_ok-unrefer.ensures.objects c.in_ok-unrefer.ensures.flows).seen
-    ∙ ap (without_rows (c.args.row.now ∷ []) c.args.now) c.self.view_is)
+    ∙ ap (without_rows (c.args.row.now ∷ []) c.args.now) (ap (λ m. m.media) c.self.view_is))

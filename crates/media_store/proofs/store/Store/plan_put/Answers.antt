@@ -1,6 +1,7 @@
-use Rattle.std.proofs.Common.{List, ℕ, arith, refl, subst, sym, ◌∙◌}
+use Rattle.std.proofs.Common.{List, [], ℕ, arith, refl, subst, sym, ◌∙◌}
 use Rattle.store_plans.specs.Plans.{HasExtent, IsPutPlan, PutFits}
 use Rattle.media_store.specs.Stores.{StoreSeen, journal_of}
+use Rattle.media_store.proofs.PutFacts.{hashed_by}
 use Rattle.media_store.proofs.store.Store.plan_put.Goals as goal
 
 pub returns : goal.returns
@@ -17,11 +18,14 @@ returns c =
         extent = subst (λ (id : List ℕ). HasExtent journal id c.args.length c.args.now c.in_ok-plan.plan) (sym c.in_ok-id.ensures) extent;
         fits = fits;
         few = omega arith;
+        came = [];
+        hashed = hashed_by c.in_ok-plan.plan c.new.result [] c.new.ensures;
         same = λ so. sym c.may_be_same-same.ensures ∙ so;
       };
       object_is = c.in_ok-id.ensures;
       sized = refl;
       moment_is = refl;
       none = refl;
+      unhashed = hashed_by c.in_ok-plan.plan c.new.result [] c.new.ensures;
       same = c.may_be_same-same.ensures;
     }

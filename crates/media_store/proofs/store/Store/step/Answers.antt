@@ -21,3 +21,13 @@ returns-clause-stands g c = λ honest shows stands.
       | in-Ok w ↦ rw w.result-is (w.in-Ok.ensures.stands honest shows stands)
       | in-Err w ↦ rw w.result-is tt
     ]
+
+-- the change that is due was written, or it wasn't
+pub returns-clause-makes : goal.returns-clause-makes
+returns-clause-makes g c = λ honest shows held due change agrees is.
+    let journal = journal_of c.args.self.now.kept in
+    let makes = step_makes journal due change c.args.planned is in
+    elim c.match-commit.branch [
+      | in-Ok w ↦ rw w.result-is (w.in-Ok.ensures.makes honest shows held agrees (turn_change journal due) makes)
+      | in-Err w ↦ rw w.result-is (w.in-Err.ensures.makes honest shows held agrees (turn_change journal due) makes)
+    ]

@@ -1,10 +1,13 @@
-use Rattle.std.proofs.Common.{ap, sym, ◌∙◌, option_map}
-use Rattle.object_refs.proofs.Found.{object_is}
+use Rattle.std.proofs.Common.{ap, ◌∙◌, option_map}
+use Rattle.media_rows.specs.Objects.{object_of}
+use Rattle.object_refs.specs.References.{objects_in}
+use Rattle.object_refs.specs.Within.Apart.{shown_row}
+use Rattle.object_refs.proofs.Shown.{find_shown}
 use Rattle.object_refs.proofs.book.ObjectBook.find.Goals as goal
 
--- the object's row is the one among the objects
-pub returns-in-Some : goal.returns-in-Some
-returns-in-Some c = ap (option_map (λ k. k.row)) c.in-Some.ensures ∙ sym (object_is c.args.id.now c.args.self.now)
-
-pub returns-in-None : goal.returns-in-None
-returns-in-None c = ap (option_map (λ k. k.row)) c.in-None.ensures ∙ sym (object_is c.args.id.now c.args.self.now)
+-- a row that stands for another one has its id
+pub returns : goal.returns
+returns c =
+    c.shown_if_any.ensures ∙ ap (option_map (shown_row c.self.inside.apart)) c.find.ensures
+    ∙ find_shown c.self.inside.apart c.self.inside.trees c.args.id.now c.self.invariant
+    ∙ ap (λ book. object_of c.args.id.now (objects_in book.kept)) c.self.view_is

@@ -1,6 +1,11 @@
-use Rattle.object_refs.proofs.Sweeping.{rows_least}
+use Rattle.std.proofs.Common.{ap, sym, ◌∙◌}
+use Rattle.object_refs.specs.References.{objects_in}
+use Rattle.object_refs.proofs.Lists.{if_ok}
+use Rattle.object_refs.proofs.Shown.{shown_objects}
 use Rattle.object_refs.proofs.book.ObjectBook.list.Goals as goal
 
--- each key is a serial
-pub all_values-requires : goal.all_values-requires
-all_values-requires c = record { least = rows_least c.self.inside.rows c.self.invariant.keyed }
+pub returns : goal.returns
+returns c =
+    if_ok c.list.result
+    (λ list is. is ∙ sym (shown_objects c.self.inside.apart c.self.inside.trees) ∙ ap (λ book. objects_in book.kept) c.self.view_is)
+    c.list.ensures

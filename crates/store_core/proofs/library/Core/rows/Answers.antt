@@ -1,4 +1,4 @@
-use Rattle.std.proofs.Common.{[], subst}
+use Rattle.std.proofs.Common.{[], ap, subst}
 use Rattle.media_rows.specs.Good.{Good}
 use Rattle.media_rows.specs.Library.{Library}
 use Rattle.media_rows.specs.Snapshot.{rows_of}
@@ -9,5 +9,5 @@ use Rattle.store_core.proofs.library.Core.rows.Goals as goal
 -- a good library's rows stand in their order
 pub returns : goal.returns
 returns c =
-    snapshot c.rows_rise.ensures c.args.self.now (subst Good c.self.view_is c.self.invariant) c.in_ok-text.text
-    (subst (λ (l : Library). AddsRows [] (rows_of l) c.in_ok-text.text) c.self.view_is c.in_ok-text.ensures)
+    snapshot c.rows_rise.ensures c.args.self.now.library (subst Good (ap (λ h. h.library) c.self.view_is) c.self.invariant) c.in_ok-text.text
+    (subst (λ (l : Library). AddsRows [] (rows_of l) c.in_ok-text.text) (ap (λ h. h.library) c.self.view_is) c.in_ok-text.ensures)

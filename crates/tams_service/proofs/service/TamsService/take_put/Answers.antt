@@ -1,12 +1,15 @@
-use Rattle.std.proofs.Common.{◌∙◌, None, Some, ap, arith, refl, sym}
+use Rattle.std.proofs.Common.{◌≡◌, ◌∙◌, None, Some, ap, arith, false, refl, subst, sym}
+use Rattle.std.specs.Prelude.{IfSome}
 use Rattle.std.proofs.lemmas.Bool.{false≢true}
 use Rattle.connection_loop.proofs.Turning.{calls_more}
 use Rattle.connection_loop.specs.declared.ending.ConnectionEnd.TheVariants.{Stopped}
+use Rattle.store_states.specs.Kept.{StoreView}
+use Rattle.tams_service.specs.Answering.{EndKeepsId}
 use Rattle.tams_service.proofs.Bodies.{cut_calls, take_ended, take_failed, take_unheard, take_whole}
 use Rattle.tams_service.proofs.Calls.{calls_held, disk_held, disk_stopped, stopped_more, unlinked_calls}
 use Rattle.tams_service.proofs.Giving.{none_follows}
 use Rattle.tams_service.proofs.Planned.{may_go_on, put_whole}
-use Rattle.tams_service.proofs.Putting.{end_failed, end_made, finishes_with, needs_behind, tells_on, written_few, written_same}
+use Rattle.tams_service.proofs.Putting.{end_failed, end_made, finishes_with, id_behind, needs_behind, tells_on, written_few, written_same}
 use Rattle.tams_service.proofs.service.TamsService.take_put.Goals as goal
 
 pub end_put-requires-clause-filled : goal.end_put-requires-clause-filled
@@ -16,7 +19,27 @@ end_put-requires-clause-filled g c = put_whole _ _ c.args.request.head.length _ 
 pub finish-requires-clause-few : goal.finish-requires-clause-few
 finish-requires-clause-few g c = rw c.reply_with-reply.ensures.rest.1 (written_few _ _ c.changes_of-changes.ensures)
 
--- It was ended, and its reply said.
+-- It was ended, and the service is as it was but for its store.
+pub invariant_of-self-in-Ok : goal.invariant_of-self-in-Ok
+invariant_of-self-in-Ok g c =
+    let was = c.self.invariant in
+    let body = c.in-Whole.ensures in
+    let ended = c.in-Ok.ensures in
+    let mid = c.take_body.new.store in
+    let whole = put_whole _ _ c.args.request.head.length _ (body.filled refl) body.kept in
+    let unspent : c.self.inside.store.spent ≡ false = rw (← c.self.view_is) at c.requires.unspent in
+    let begun : IfSome c.args.plan.put (EndKeepsId c.self.inside.store.kept) = rw (← c.self.view_is) at c.requires.id in
+    let keeps = subst (λ k. IfSome c.args.plan.put (EndKeepsId k)) (sym body.kept) begun in
+    let same = id_behind mid.kept c.end_put.new.store.kept mid.put c.args.plan.put whole (body.plan refl) keeps ended.kept in
+    record {
+      routes_are = λ still. was.routes_are unspent ∙ sym (same ∙ ap (λ (k : StoreView). k.library.id) body.kept);
+      base_is = was.base_is;
+      refusals_are = was.refusals_are;
+      room_is = was.room_is;
+      idle = ended.idle;
+    }
+
+-- Its reply is said.
 pub returns-in-Whole-clause-calls : goal.returns-in-Whole-clause-calls
 returns-in-Whole-clause-calls g c =
     let old = g.X.Disk.device c.args.site.now in
@@ -55,8 +78,10 @@ pub returns-in-Whole-clause-needs : goal.returns-in-Whole-clause-needs
 returns-in-Whole-clause-needs g c =
     let body = c.in-Whole.ensures in
     let ended = c.in-Ok.ensures in
-    let first = needs_behind c.self.inside.store c.take_body.new.store None (rw (← c.self.view_is) at c.requires.unspent) body.spent body.kept in
-    let then = needs_behind c.take_body.new.store c.end_put.new.store c.take_body.new.store.put body.spent ended.spent ended.kept in
+    let whole = put_whole _ _ c.args.request.head.length _ (body.filled refl) body.kept in
+    let first = needs_behind c.self.inside.store c.take_body.new.store None tt (rw (← c.self.view_is) at c.requires.unspent) body.spent
+    (λ came hashed. body.kept) in
+    let then = needs_behind c.take_body.new.store c.end_put.new.store c.take_body.new.store.put whole body.spent ended.spent ended.kept in
     rw (← c.self.view_is) (omega (arith, first, then, c.finish.ensures.needs))
 
 pub returns-in-Whole-clause-ready : goal.returns-in-Whole-clause-ready
