@@ -29,7 +29,7 @@ from tams_client import segments_of, timerange_text, timestamp_of, timestamp_tex
 
 # MPEG-TS counts 90,000 ticks a second, and begins anew behind 2^33 of them
 TICKS, WRAP = 90_000, 1 << 33
-LARGEST = 67_108_864
+LARGEST = 1_073_741_824
 BATCH = 20
 FORMATS = {'video': 'urn:x-nmos:format:video', 'audio': 'urn:x-nmos:format:audio', 'multi': 'urn:x-nmos:format:multi'}
 # codecs that are copied, with the names under which a flow has them

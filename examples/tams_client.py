@@ -24,13 +24,14 @@ HINTS = {
     'Deleting': 'the flow is being deleted; wait until its delete request is done',
     'IdTaken': 'another client has just allocated this object; run again',
     'OtherBytes': 'an object keeps its bytes; they were cut in another way, so take the same --seconds and ffmpeg',
+    'NoObject': 'the store has no bytes of this object; put them, and post the segment then',
     'Overlap': 'the flow has another segment there; choose another --start, or delete that one',
     'MediaFull': 'the store has no room for these bytes; format a bigger one',
     'JournalFull': 'a half of the store has no room for another change; format one with bigger halves',
     'UnknownObject': 'the store has no bytes of this object; one that no segment names is swept after a day',
     'BadTimerange': 'a timerange is written as [0:0_10:0)',
     'BadQuery': 'docs/PROFILE.md says what a query may hold',
-    'TooLarge': 'an object has at most 67108864 bytes; take fewer --seconds',
+    'TooLarge': 'an object has at most 1073741824 bytes; take fewer --seconds',
     'NoRoute': 'is this the address of a store?',
 }
 SAID = {500: 'the store has no memory for it', 503: 'the disk of the store failed'}
@@ -46,10 +47,23 @@ class Refusal(Failure):
     def __init__(self, asked, status, body):
         told = value_of(body)
         told = told if isinstance(told, dict) else {}
-        self.name, detail = told.get('type', SAID.get(status, 'no refusal of a store')), told.get('detail')
-        hint = HINTS.get(self.name)
-        super().__init__(f'{asked}: {status} {self.name}' + (f' ({detail})' if detail else '')
-                         + (f'\n  {hint}' if hint else ''))
+        self.name = told.get('type', SAID.get(status, 'no refusal of a store'))
+        super().__init__(f'{asked}: {status} {refusal_text(self.name, told.get("detail"))}')
+
+
+class FailedSegments(Failure):
+    """Segments of a list that the store didn't keep, while it kept others."""
+
+    def __init__(self, asked, failed):
+        first = failed[0]
+        super().__init__(f'{asked}: {len(failed)} of the segments failed, and the others are kept; the first is'
+                         f' {first["object_id"]} in {first["timerange"]}:'
+                         f' {refusal_text(first["error"]["type"], first["error"].get("detail"))}')
+
+
+def refusal_text(name, detail):
+    """A refusal as a line for the user, with what to do on a second one."""
+    return name + (f' ({detail})' if detail else '') + (f'\n  {HINTS[name]}' if name in HINTS else '')
 
 
 def value_of(body):
@@ -129,9 +143,13 @@ class Store:
         return answer, told
 
     def ask(self, method, path, value=None):
-        """The value that the store answers to a request at this path, with this value as its body."""
+        """The value that the store answers to a request at this path, with this value as its body. A list of segments
+        of which some failed is a failure, though the others are kept."""
         body = None if value is None else json_of(value)
-        return value_of(self.whole(method, self.address + path, body)[1])
+        told = value_of(self.whole(method, self.address + path, body)[1])
+        if isinstance(told, dict) and 'failed_segments' in told:
+            raise FailedSegments(f'{method} {self.address + path}', told['failed_segments'])
+        return told
 
     def find(self, path, refusal):
         """The value at a path, or None where it is refused by this name."""

@@ -197,6 +197,8 @@ def of_rules(session):
     session.ask('postStorage', 'IdTaken', sent={'object_ids': [STORE_ID + '-x']}, detail=STORE_ID + '-x')
     session.ask('postSegments', 'NoObject', sent=piece(90, 91, 'clip-9'), detail='clip-9')
     session.ask('postSegments', 'Overlap', sent=piece(9, 12), detail='[0:0_10:0)')
+    session.ask('postSegments', 'NoObject', sent=[piece(90, 91, 'clip-9'), piece(9, 12)], detail='clip-9')
+    session.ask('postSegments', 200, sent=[piece(90, 91, 'clip-9'), piece(90, 91), piece(9, 12)])
 
 
 # ---- each operation's statuses
@@ -205,7 +207,7 @@ def of_rules(session):
 def of_wire(session):
     """What the wire refuses of each operation."""
     for operation in session.page.operations.values():
-        limit = 67_108_864 if operation.name == 'putMedia' else 1_048_576
+        limit = 1_073_741_824 if operation.name == 'putMedia' else 1_048_576
         session.ask(operation.name, 'BadHead', fields=[('X', 'y')] * 65)
         session.ask(operation.name, 'BadFraming', fields=[('Content-Length', '1'), ('Content-Length', '2')])
         session.ask(operation.name, 'TooLarge', fields=[('Content-Length', str(limit + 1))])

@@ -49,6 +49,10 @@ class Chunks(list):
     """A body that is sent in chunks."""
 
 
+class Zeros(int):
+    """A body of so many zero bytes, which curl sends from a file that takes no room."""
+
+
 @dataclasses.dataclass
 class Ask:
     """A request, and what is wanted of its answer."""
@@ -56,7 +60,7 @@ class Ask:
     target: str
     status: int = 200
     value: object = None        # what the body shows: a value of JSON, the bytes of media, or None
-    sent: object = None         # the body: a value of JSON, the bytes of media, `Text` or `Chunks`
+    sent: object = None         # the body: a value of JSON, the bytes of media, `Text`, `Chunks` or `Zeros`
     query: list = ()
     fields: dict = dataclasses.field(default_factory=dict)
     options: list = ()          # of curl
@@ -71,7 +75,7 @@ class Ask:
         if self.changes is None:
             self.changes = int(self.status in (201, 202, 204))
         # A client that uploads decides by itself whether it waits for the word to go on.
-        if self.interims is None and not isinstance(self.sent, (bytes, Chunks)):
+        if self.interims is None and not isinstance(self.sent, (bytes, Chunks, Zeros)):
             self.interims = []
 
     def pairs(self):
@@ -169,7 +173,10 @@ def curl_words(ask, path):
     if isinstance(ask.sent, (bytes, Text)):
         with open(path, 'wb') as file:
             file.write(ask.sent if isinstance(ask.sent, bytes) else ask.sent.encode())
-    if isinstance(ask.sent, bytes):
+    if isinstance(ask.sent, Zeros):
+        with open(path, 'wb') as file:
+            file.truncate(ask.sent)
+    if isinstance(ask.sent, (bytes, Zeros)):
         return words + ['-T', path]
     if ask.sent is not None:
         words += ['-d', '@' + path if isinstance(ask.sent, Text) else json.dumps(ask.sent, ensure_ascii=False)]

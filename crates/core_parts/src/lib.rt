@@ -7,6 +7,7 @@ mod flows;
 mod hooks;
 mod ids;
 mod laws;
+mod lists;
 mod media;
 mod parts;
 mod steps;
@@ -14,4 +15,5 @@ mod sweeps;
 
 pub use crate::cuts::Cut;
 pub use crate::laws::good_is_ready;
+pub use crate::lists::ListPosted;
 pub use crate::parts::Parts;

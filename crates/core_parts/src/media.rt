@@ -2,8 +2,7 @@
 ghost use Rattle.std.specs.Prelude.{◌≡◌, IfOk, IsTrue};
 ghost use Rattle.media_book.specs.Media.{media_of, serial_in};
 ghost use Rattle.media_rows.specs.declared.change.Change.TheVariants as changes;
-ghost use Rattle.media_rows.specs.declared.command.Command.TheVariants as commands;
-ghost use Rattle.media_rows.specs.Answer.{keep_refusal, refusal_of};
+ghost use Rattle.media_rows.specs.Answer.{keep_refusal, posting_refusal};
 ghost use Rattle.media_rows.specs.Changes.{after};
 ghost use Rattle.media_rows.specs.Objects.{object_of};
 ghost use Rattle.media_rows.specs.Refusals.{IsChange};
@@ -92,8 +91,8 @@ impl Parts {
         }
     }
 
-    /// Adds the segments of a post to a flow, with the next serials. A number of serials that passes a `u64` is
-    /// want of memory.
+    /// Adds the segments of a post to a flow, all or none, with the next serials. A number of serials that passes
+    /// a `u64` is want of memory.
     pub fn add(
         &self,
         alloc: Global,
@@ -103,7 +102,7 @@ impl Parts {
     ) -> Result<Option<Parts>, BookFault>
         requires ready { IsReady self.now.library }
         requires bounded { IsTrue (are_posts_good posts.now) }
-        ensures { IsChange (refusal_of self.now.library (commands.AddSegments flow (list_post posts.now)))
+        ensures { IsChange (posting_refusal self.now.library flow posts.now)
             (within_serials (after (changes.AddSegments now flow (list_post posts.now)) self.now.library)) (given_library result) }
     {
         posts_are_refused_alike();

@@ -1,5 +1,5 @@
 //! The one list type of the store. Each list that a call takes or answers is an alias of it.
-ghost use Rattle.std.specs.Prelude.{◌≡◌, ◌∷◌, ◌++◌, [], IfOk, OnErr, OnOk};
+ghost use Rattle.std.specs.Prelude.{◌≡◌, ◌∷◌, ◌++◌, [], IfOk, OnErr, OnOk, slice_get};
 
 use crate::{Memory, Text};
 use std::alloc::Global;
@@ -54,6 +54,13 @@ impl<T: Drop> Listed<T> {
     {
         self.items.push(item)?;
         Ok(())
+    }
+
+    /// The first item, if there is one; the others are dropped. It takes no memory.
+    pub fn into_first(self) -> Option<T>
+        ensures { result ≡ slice_get self 0 }
+    {
+        self.items.into_iter().next()
     }
 }
 

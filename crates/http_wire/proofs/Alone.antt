@@ -428,7 +428,7 @@ too_large false false size e = cc
 never_chunked : (coded : Bool) (framing : Option Framing) → judged_framing true coded framing ≡ Ok Chunked → ⊥
 never_chunked coded None e = cc
 never_chunked coded (Some Chunked) e = cc
-never_chunked coded (Some (Length size)) e = too_large (nat_lt 67108864 size) coded size e
+never_chunked coded (Some (Length size)) e = too_large (nat_lt 1073741824 size) coded size e
 
 media_judged : (judged : Result Framing WireFault) (head : RequestHead) (n : ℕ) (rest : List ℕ) → judge head ≡ judged → has_body judged ≡ true
     → is_media head.method head.target ≡ true

@@ -18,7 +18,7 @@ max_body = 1048576
 
 -- the most bytes of a media object
 abbrev pub max_media : ℕ
-max_media = 67108864
+max_media = 1073741824
 
 -- the most bytes of a body of a request
 abbrev pub body_limit : Bool → ℕ

@@ -30,7 +30,7 @@ pub(crate) const BODY_ROOM: usize = 1_048_576;
 /// The same, as a length.
 const MAX_BODY: u64 = 1_048_576;
 /// The most bytes of a media object.
-const MAX_MEDIA: u64 = 67_108_864;
+const MAX_MEDIA: u64 = 1_073_741_824;
 
 const CONTENT_LENGTH: &[u8] = b"content-length";
 

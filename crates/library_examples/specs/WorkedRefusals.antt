@@ -13,12 +13,13 @@ use Rattle.media_rows.specs.declared.refusal.Refusal.{Refusal}
 use Rattle.media_rows.specs.declared.refusal.Refusal.TheVariants as refusals
 use Rattle.media_rows.specs.declared.segment.Segment.{Segment}
 use Rattle.media_rows.specs.Answer.{refusal_of, first_taken, is_kept_object}
-use Rattle.media_rows.specs.Apply.{applied}
+use Rattle.media_rows.specs.Apply.{applied, is_allowed}
 use Rattle.media_rows.specs.Catalog.{is_source_part}
 use Rattle.media_rows.specs.Changes.{after}
 use Rattle.media_rows.specs.Library.{Library}
+use Rattle.media_rows.specs.Posts.{posts_refusal}
 use Rattle.media_rows.specs.Ranges.{eternity}
-use Rattle.library_examples.specs.Examples.{a_list, no_digest, after_all, first_flow, second_flow, one_source, body, body_of, member, empty_store, put, put_collecting, seconds, piece, piece_of, stored, with_pieces, shared}
+use Rattle.library_examples.specs.Examples.{a_list, alone, no_digest, after_all, first_flow, second_flow, one_source, body, body_of, member, empty_store, put, put_collecting, seconds, piece, piece_of, stored, with_pieces, shared}
 use Rattle.library_examples.specs.Studio.{third_flow, other_source, take_tag, main_body, sound_body, open_request, done_request, studio}
 
 -- the first refusal of a command on the studio
@@ -262,17 +263,16 @@ pub record DeletingStands : Type 0 where
 
 -- ---- posts, allocations and bytes
 
--- a post to the first flow of the studio
+-- the first refusal of segments that come to the first flow of the studio, all or none
 abbrev pub posting : List Segment → Option Refusal
-posting segments = refused (commands.AddSegments first_flow (a_list segments))
+posting segments = posts_refusal studio first_flow segments
 
 -- For each segment in order its object comes before its range. The range in a refusal is that of
 -- the segment that begins first, be it posted later. Segments of other flows don't count, and
 -- ranges may touch.
 pub record PostsAreTested : Type 0 where
   pub within :
-      refusal_of stored
-      (commands.AddSegments first_flow (a_list (piece 30 40 ∷ piece 10 20 ∷ piece 39 41 ∷ [])))
+      posts_refusal stored first_flow (piece 30 40 ∷ piece 10 20 ∷ piece 39 41 ∷ [])
       ≡ Some (refusals.Overlap (seconds 30 40))
   pub object_first : posting (piece_of (codes "z") 5 6 ∷ []) ≡ Some (refusals.NoObject (codes "z"))
   pub allocated : posting (piece_of (codes "c") 40 41 ∷ []) ≡ Some (refusals.NoObject (codes "c"))
@@ -285,6 +285,30 @@ pub record PostsAreTested : Type 0 where
   pub other_flow : refused (commands.AddSegments third_flow (a_list (piece 10 20 ∷ []))) ≡ None
   pub own_flow : refused (commands.AddSegments third_flow (a_list (piece 6 20 ∷ [])))
       ≡ Some (refusals.Overlap (seconds 5 7))
+
+-- A list is refused by its flow, or as its first segment where none of them is kept. Its change is
+-- allowed only where all of its segments are kept.
+pub record ListsAreRefused : Type 0 where
+  pub none_kept :
+      refused
+      (commands.AddSegments first_flow (a_list (piece 5 6 ∷ piece_of (codes "z") 50 51 ∷ [])))
+      ≡ Some (refusals.Overlap (seconds 0 10))
+  pub last_kept :
+      refused
+      (commands.AddSegments first_flow (a_list (piece 5 6 ∷ piece 40 41 ∷ []))) ≡ None
+  pub first_kept :
+      refusal_of stored
+      (commands.AddSegments first_flow (a_list (piece 30 40 ∷ piece 39 41 ∷ []))) ≡ None
+  pub empty : refused (commands.AddSegments first_flow (a_list [])) ≡ None
+  pub one : refused (commands.AddSegments first_flow (alone (piece 5 6)))
+      ≡ Some (refusals.Overlap (seconds 0 10))
+  pub no_flow : refused (commands.AddSegments no_such_flow (a_list [])) ≡ Some refusals.NoFlow
+  pub in_part :
+      is_allowed stored
+      (changes.AddSegments 5 first_flow (a_list (piece 30 40 ∷ piece 39 41 ∷ []))) ≡ false
+  pub whole :
+      is_allowed stored
+      (changes.AddSegments 5 first_flow (a_list (piece 30 40 ∷ piece 40 41 ∷ []))) ≡ true
 
 -- an allocation of named objects for the first flow of the studio
 abbrev pub allocating : List (List ℕ) → Option Refusal

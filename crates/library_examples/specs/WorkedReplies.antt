@@ -8,11 +8,14 @@ use Rattle.media_rows.specs.declared.command.Command.TheVariants as commands
 use Rattle.media_rows.specs.declared.command.Want.TheVariants.{Count, Named}
 use Rattle.media_rows.specs.declared.flow.FormatKind.TheVariants.{Multi}
 use Rattle.media_rows.specs.declared.object.ObjectState.TheVariants.{Stored}
+use Rattle.media_rows.specs.declared.refusal.Refusal.{Refusal}
 use Rattle.media_rows.specs.declared.refusal.Refusal.TheVariants as refusals
+use Rattle.media_rows.specs.declared.reply.FailedSegment.{FailedSegment}
 use Rattle.media_rows.specs.declared.reply.Reply.{Reply}
 use Rattle.media_rows.specs.declared.reply.Reply.TheVariants as replies
 use Rattle.media_rows.specs.declared.request.DeleteRow.{DeleteRow}
 use Rattle.media_rows.specs.declared.request.DeleteStatus.TheVariants as statuses
+use Rattle.media_rows.specs.declared.segment.Segment.{Segment}
 use Rattle.media_rows.specs.Answer.{Outcome, answer, refusal_of, made_id, is_taken, put_media_answer}
 use Rattle.media_rows.specs.Changes.{after}
 use Rattle.media_rows.specs.Digests.{digest_of}
@@ -21,7 +24,7 @@ use Rattle.media_rows.specs.Media.{Archive, is_held, asks, puts, gets, answer_to
 use Rattle.media_rows.specs.Objects.{free_place}
 use Rattle.media_rows.specs.Ranges.{eternity}
 use Rattle.media_rows.specs.Segments.{covered, overlapping}
-use Rattle.library_examples.specs.Examples.{a_list, alone, no_digest, segment_serials, new_label, first_flow, second_flow, body, empty_store, seconds, piece, stored, allocate, with_pieces, hook}
+use Rattle.library_examples.specs.Examples.{a_list, alone, no_digest, segment_serials, new_label, first_flow, second_flow, body, empty_store, seconds, piece, piece_of, stored, allocate, with_pieces, hook}
 use Rattle.library_examples.specs.Studio.{other_source, main_body, object_a, object_b, one_hook, studio}
 
 -- the answer to a command on the studio at moment 205
@@ -71,6 +74,36 @@ pub record RepliesAreGiven : Type 0 where
   pub no_hook : studio_answer (commands.DropHook (codes "http://three/")) ≡ leaves replies.Done
   pub refused : studio_answer (commands.DropFlow second_flow)
       ≡ leaves (replies.Refused refusals.ReadOnly)
+
+-- ---- lists of segments
+
+-- a segment of an object that failed
+abbrev pub failed : Refusal → List ℕ → ℕ → ℕ → FailedSegment
+failed refusal object from to =
+    record { refusal = refusal; object = object; range = seconds from to }
+
+-- the segment from 30 to 40 and later ones, of which one overlaps it, one names no object, and one
+-- overlaps only the one that fails
+abbrev pub four_posts : List Segment
+four_posts = piece 30 40 ∷ piece 39 41 ∷ piece_of (codes "z") 50 51 ∷ piece 40 45 ∷ []
+
+-- the change that keeps two of them
+abbrev pub two_kept : Change
+two_kept = changes.AddSegments 5 first_flow (a_list (piece 30 40 ∷ piece 40 45 ∷ []))
+
+-- Each segment of a list is kept or fails against the ones kept before it. Those that fail are
+-- named in order, with the range of the kept segment that they overlap, and take no serial. Where
+-- all are kept nothing is named. The same list again is refused as its first segment is.
+pub record ListsAreAnswered : Type 0 where
+  pub partly : answer stored (commands.AddSegments first_flow (a_list four_posts)) 5
+      ≡ gives (replies.Partly (failed (refusals.Overlap (seconds 30 40)) (codes "a") 39 41
+      ∷ failed (refusals.NoObject (codes "z")) (codes "z") 50 51 ∷ [])) two_kept
+  pub serials : segment_serials (after two_kept stored) ≡ 2 ∷ 3 ∷ []
+  pub again : answer (after two_kept stored)
+      (commands.AddSegments first_flow (a_list four_posts)) 6
+      ≡ leaves (replies.Refused (refusals.Overlap (seconds 30 40)))
+  pub whole : answer stored (commands.AddSegments first_flow (a_list (piece 30 40 ∷ []))) 5
+      ≡ gives replies.Created (changes.AddSegments 5 first_flow (a_list (piece 30 40 ∷ [])))
 
 -- ---- what goes at once, and what is asked for
 

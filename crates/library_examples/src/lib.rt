@@ -22,13 +22,13 @@ pub use crate::good::{
 pub use crate::names::{names_are_spelled, numbers_run, pages_have_limits, refusals_are_named};
 pub use crate::refusals::{
     bytes_are_kept_once, collections_are_tested, collections_come_last, deleting_stands,
-    flows_are_kept, ids_are_taken, multi_fits, other_parts_are_of_flows, posts_are_tested,
-    read_only_stands, refusals_stand_in_order, set_parts_are_cleared, sources_go,
+    flows_are_kept, ids_are_taken, lists_are_refused, multi_fits, other_parts_are_of_flows,
+    posts_are_tested, read_only_stands, refusals_stand_in_order, set_parts_are_cleared, sources_go,
     unset_parts_are_named,
 };
 pub use crate::replies::{
-    bytes_stand_beside, cuts_cover, ids_are_made, many_are_asked_for, media_are_kept,
-    places_are_found, replies_are_given,
+    bytes_stand_beside, cuts_cover, ids_are_made, lists_are_answered, many_are_asked_for,
+    media_are_kept, places_are_found, replies_are_given,
 };
 pub use crate::rows::{done_ones_stay, libraries_are_made, rows_are_kept, snapshots_have_all};
 pub use crate::stamps::{

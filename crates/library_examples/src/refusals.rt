@@ -1,5 +1,5 @@
 //! What is refused, and in which order.
-ghost use Rattle.library_examples.specs.WorkedRefusals.{BytesAreKeptOnce, CollectionsAreTested, CollectionsComeLast, DeletingStands, FlowsAreKept, IdsAreTaken, MultiFits, OtherPartsAreOfFlows, PostsAreTested, ReadOnlyStands, RefusalsStandInOrder, SetPartsAreCleared, SourcesGo, UnsetPartsAreNamed};
+ghost use Rattle.library_examples.specs.WorkedRefusals.{BytesAreKeptOnce, CollectionsAreTested, CollectionsComeLast, DeletingStands, FlowsAreKept, IdsAreTaken, ListsAreRefused, MultiFits, OtherPartsAreOfFlows, PostsAreTested, ReadOnlyStands, RefusalsStandInOrder, SetPartsAreCleared, SourcesGo, UnsetPartsAreNamed};
 
 /// Of several refusals that could stand the first in a command's order is answered: being deleted
 /// before read-only, read-only before another format, another format before a missing member. The
@@ -58,6 +58,12 @@ pub fn deleting_stands()
 /// ranges may touch.
 pub fn posts_are_tested()
     ensures { PostsAreTested }
+{}
+
+/// A list is refused by its flow, or as its first segment where none of them is kept. Its change is
+/// allowed only where all of its segments are kept.
+pub fn lists_are_refused()
+    ensures { ListsAreRefused }
 {}
 
 /// The first id that is kept, or that stands earlier in the list, counts as taken, be the object

@@ -1,10 +1,17 @@
 //! Replies, and the change that each has.
-ghost use Rattle.library_examples.specs.WorkedReplies.{BytesStandBeside, CutsCover, IdsAreMade, ManyAreAskedFor, MediaAreKept, PlacesAreFound, RepliesAreGiven};
+ghost use Rattle.library_examples.specs.WorkedReplies.{BytesStandBeside, CutsCover, IdsAreMade, ListsAreAnswered, ManyAreAskedFor, MediaAreKept, PlacesAreFound, RepliesAreGiven};
 
 /// A flow, a hook or segments that are new are created, and all else is done. What isn't there
 /// isn't dropped, and a refusal changes nothing.
 pub fn replies_are_given()
     ensures { RepliesAreGiven }
+{}
+
+/// Each segment of a list is kept or fails against the ones kept before it. Those that fail are named
+/// in order, with the range of the kept segment that they overlap, and take no serial. Where all are
+/// kept nothing is named. The same list again is refused as its first segment is.
+pub fn lists_are_answered()
+    ensures { ListsAreAnswered }
 {}
 
 /// 32 segments go at once, and more make a request, which is the reply: of the range, or of all

@@ -16,10 +16,12 @@ use Rattle.media_rows.specs.Outbox.{hook_of}
 use Rattle.media_rows.specs.Answer.{Outcome, changed, unchanged, refusal_of, answer_by, accepted_drop, accepted_cut, change_refusal, first_taken, is_taken, is_kept_object, taken_refusal, wanted_ids, shown_reply}
 use Rattle.media_rows.specs.Views.{asked}
 use Rattle.media_rows.specs.Library.{Library}
-use Rattle.media_rows.specs.Lists.{has_text, or_else}
+use Rattle.media_rows.specs.Lists.{has_text}
 use Rattle.media_rows.specs.Ranges.{covers, eternity}
 use Rattle.media_rows.specs.Segments.{covered, segments_of, starts_before}
 use Rattle.library_laws.specs.Laws.{IsAllowedAt, AnswersAreAllowed}
+use Rattle.library_laws.proofs.Neither.{neither}
+use Rattle.library_laws.proofs.SortedLemmas.{list_is_allowed}
 use Rattle.library_laws.proofs.ListLemmas.{length-in_order, length-filter_passing}
 
 -- an answer has a change only where nothing is refused
@@ -30,10 +32,6 @@ by_refusal P (Some why) outcome h = tt
 
 none_is : {X : Type 0} (o : Option X) → o ≡ None → is_none o ≡ true
 none_is o e = ap is_none e
-
-pub neither : {X : Type 0} (a b : Option X) → or_else a b ≡ None → (a ≡ None) × (b ≡ None)
-neither None b e = (refl, e)
-neither (Some x) b e = absurd (cc)
 
 -- ---- a flow that goes, and segments that go
 
@@ -125,7 +123,7 @@ answers_allowed library (commands.Allocate flow want) moment place = by_answer l
 answers_allowed library (commands.Keep object start size digest) moment place =
     by_answer library (commands.Keep object start size digest) moment _ (λ none. record { allowed = and_from _ _ (none_is _ none) (place none); at = refl })
 answers_allowed library (commands.AddSegments flow posts) moment place = by_answer library (commands.AddSegments flow posts) moment _
-    (λ none. record { allowed = none_is _ none; at = refl })
+    (λ none. record { allowed = none_is _ (list_is_allowed library flow posts.segments none); at = refl })
 answers_allowed library (commands.CutSegments flow range) moment place = by_answer library (commands.CutSegments flow range) moment _
     (cut_allowed library flow range moment)
 answers_allowed library (commands.PutHook hook) moment place = record { allowed = refl; at = refl }

@@ -40,6 +40,8 @@ use Rattle.library_laws.proofs.ListLemmas.{In, In-append}
 use Rattle.library_laws.proofs.KeptLemmas.{list_all-both, list_all-mapped}
 use Rattle.library_laws.proofs.AnswerLemmas.{by_refusal, answers_allowed}
 use Rattle.library_laws.proofs.ChangesKept.{changes_apply}
+use Rattle.library_laws.proofs.SortedLemmas.{kept_pass}
+use Rattle.media_rows.specs.Ranges.{has_both_ends}
 
 -- ---- ids that the store makes are ids
 
@@ -180,7 +182,8 @@ answers_bring library (commands.Allocate flow want) moment good = brings_by libr
 answers_bring library (commands.Keep object start size digest) moment good =
     by_refusal (Brings library) (keep_refusal (object_of object library.objects)) (changed replies.Created (changes.Store moment object start size (kept_digest digest)))
     (λ none m. (found_place library object start size digest good none).1)
-answers_bring library (commands.AddSegments flow posts) moment good = brings_by library (commands.AddSegments flow posts) _ (λ m. good)
+answers_bring library (commands.AddSegments flow posts) moment good = brings_by library (commands.AddSegments flow posts) _
+    (λ m. kept_pass (λ post. has_both_ends post.range) library flow [] posts.segments good)
 answers_bring library (commands.CutSegments flow range) moment good = brings_by library (commands.CutSegments flow range) _
     (cut_brings library flow range moment)
 answers_bring library (commands.PutHook hook) moment good = λ m. good

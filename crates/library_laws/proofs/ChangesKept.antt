@@ -11,7 +11,8 @@ use Rattle.media_rows.specs.declared.flow.FlowRow.{FlowRow}
 use Rattle.media_rows.specs.declared.refusal.Refusal.TheVariants as refusals
 use Rattle.media_rows.specs.declared.request.DeleteRow.{DeleteRow}
 use Rattle.media_rows.specs.declared.segment.SegmentRow.{SegmentRow}
-use Rattle.media_rows.specs.Answer.{deleting_refusal, change_refusal, first_taken, is_kept_object, keep_refusal, posts_refusal}
+use Rattle.media_rows.specs.Answer.{deleting_refusal, change_refusal, first_taken, is_kept_object, keep_refusal}
+use Rattle.media_rows.specs.Posts.{posts_refusal}
 use Rattle.media_rows.specs.Apply.{is_allowed}
 use Rattle.media_rows.specs.Catalog.{flow_of, after_touch, touched, put_refusal, set_refusal, flow_refusal, flow_refusals}
 use Rattle.media_rows.specs.Changes.{after, moment_of, remove_segments, touch_flow, remove_flow, with_step, is_flow_gone, after_request_step, after_step_of, request_step_events, step_events}
@@ -29,7 +30,7 @@ use Rattle.media_rows.specs.Requests.{step_size, is_unfinished, is_deleting, fir
 use Rattle.media_rows.specs.Segments.{posted, segments_of, covered, starts_before, without_segments}
 use Rattle.library_laws.specs.Laws.{IsSound, ChangesKeepGood, ChangesApply, GoodIsTested}
 use Rattle.library_laws.proofs.ListLemmas.{In, In-filter, filter-In, in_order-In, find-In, find-some, map-In, list_all-In, list_any-In, list_any-from_In}
-use Rattle.library_laws.proofs.AnswerLemmas.{neither}
+use Rattle.library_laws.proofs.Neither.{neither}
 use Rattle.library_laws.proofs.CatalogKept.{not_when, put_keeps_catalog}
 use Rattle.library_laws.proofs.SettingsKept.{touch_keeps_good, set_keeps_catalog, set_source_keeps_catalog}
 use Rattle.library_laws.proofs.FlowsKept.{with_catalog}

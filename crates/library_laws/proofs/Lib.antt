@@ -1,4 +1,5 @@
 pub mod ListLemmas
+mod Neither
 mod AnswerLemmas
 mod CircleLemmas
 pub mod KeptLemmas
@@ -10,7 +11,7 @@ mod HooksKept
 mod FlowsKept
 pub mod CatalogKept
 pub mod SettingsKept
-mod PostsKept
+pub mod PostsKept
 mod DeletionKept
 pub mod ChangesKept
 mod BoundLemmas
@@ -27,4 +28,5 @@ pub mod ChangeFacts
 pub mod ObjectsCome
 pub mod SoundLemmas
 mod ReplyLemmas
+pub mod SortedLemmas
 pub mod MediaKept

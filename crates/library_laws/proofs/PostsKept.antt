@@ -10,7 +10,7 @@ use Rattle.media_rows.specs.declared.refusal.Refusal.TheVariants as refusals
 use Rattle.media_rows.specs.declared.request.DeleteRow.{DeleteRow}
 use Rattle.media_rows.specs.declared.segment.Segment.{Segment}
 use Rattle.media_rows.specs.declared.segment.SegmentRow.{SegmentRow}
-use Rattle.media_rows.specs.Answer.{overlap_refusal, posts_refusal, kept_behind, post_refusal, refusals_behind}
+use Rattle.media_rows.specs.Posts.{overlap_refusal, posts_refusal, kept_behind, post_refusal, refusals_behind}
 use Rattle.media_rows.specs.Collections.{is_kept}
 use Rattle.media_rows.specs.Good.{Good, are_compatible, is_segment_good, is_request_good}
 use Rattle.media_rows.specs.Library.{Library, last_serial}
@@ -22,7 +22,7 @@ use Rattle.media_rows.specs.Requests.{is_unfinished, is_deleting, done_count, do
 use Rattle.media_rows.specs.Segments.{segments_of, names_object, overlapping, starts_before, posted}
 use Rattle.library_laws.proofs.ListLemmas.{In, filter-In, in_order-In, list_all-In, list_all-from_In, list_any-from_In}
 use Rattle.library_laws.proofs.KeptLemmas.{Serials, counted, counted-New, rises-counted, serials_segments, list_all-both, rises-both}
-use Rattle.library_laws.proofs.AnswerLemmas.{neither}
+use Rattle.library_laws.proofs.Neither.{neither}
 use Rattle.library_laws.proofs.CatalogKept.{not_when}
 use Rattle.library_laws.proofs.RequestLemmas.{request_stays_good}
 use Rattle.library_laws.proofs.OutboxKept.{segment_below, Names-from, Names-test}
@@ -62,7 +62,7 @@ posts_step segments flow serial post e none =
     ])
 
 -- a front with one segment more
-posted_more : (flow serial : ℕ) (front : List Segment) (post : Segment) (at : ℕ) → at ≡ serial + length front
+pub posted_more : (flow serial : ℕ) (front : List Segment) (post : Segment) (at : ℕ) → at ≡ serial + length front
     → posted flow serial (front ++ post ∷ []) ≡ posted flow serial front ++ record { flow = flow; serial = at; segment = post } ∷ []
 posted_more flow serial [] post at e =
     let first : serial ≡ at = omega (arith, e) in ap (λ n. (let row : SegmentRow = record { flow = flow; serial = n; segment = post } in row) ∷ []) first

@@ -1,5 +1,5 @@
 -- The delete request or the objects that a reply names are what its change adds.
-use Rattle.std.proofs.Common.{◌≡◌, ℕ, ◌+◌, Bool, true, false, List, [], ◌∷◌, ◌++◌, map, length, Option, Some, None, refl, sym, ap, ◌∙◌}
+use Rattle.std.proofs.Common.{◌≡◌, ℕ, Bool, true, false, List, [], ◌∷◌, ◌++◌, map, length, Option, Some, None, refl, sym, ap, ◌∙◌}
 use Rattle.std.specs.Prelude.{◌==◌, nat_le, is_some, Result, Ok, Err}
 use Rattle.std.proofs.lemmas.Bool.{cond_both, false≢true}
 use Rattle.std.proofs.lemmas.List.{map-append}
@@ -11,15 +11,17 @@ use Rattle.media_rows.specs.declared.object.ObjectRow.{ObjectRow}
 use Rattle.media_rows.specs.declared.request.DeleteRow.{DeleteRow}
 use Rattle.media_rows.specs.declared.refusal.Refusal.{Refusal}
 use Rattle.media_rows.specs.Ranges.{eternity}
+use Rattle.media_rows.specs.declared.reply.FailedSegment.{FailedSegment}
 use Rattle.media_rows.specs.declared.reply.Reply.{Reply}
 use Rattle.media_rows.specs.declared.reply.Reply.TheVariants as replies
 use Rattle.media_rows.specs.declared.reply.View.{View}
-use Rattle.media_rows.specs.Answer.{Outcome, changed, unchanged, created_unless, refusal_of, answer_by, accepted_request, accepted_drop, accepted_cut, accepted_drop_hook, wanted_ids, shown_reply}
+use Rattle.media_rows.specs.Answer.{Outcome, changed, unchanged, created_unless, refusal_of, answer_by, accepted_request, accepted_drop, accepted_cut, accepted_drop_hook, list_reply, wanted_ids, shown_reply}
+use Rattle.media_rows.specs.Posts.{sorted}
 use Rattle.media_rows.specs.Views.{asked}
 use Rattle.media_rows.specs.Library.{Library}
 use Rattle.media_rows.specs.Objects.{allocated_rows, kept_digest}
 use Rattle.media_rows.specs.Outbox.{hook_of}
-use Rattle.media_rows.specs.Segments.{covered, segments_of, as_list}
+use Rattle.media_rows.specs.Segments.{covered, segments_of, list_post}
 use Rattle.media_rows.specs.Catalog.{flow_of}
 use Rattle.library_laws.specs.ChangeLaws.{TellsRows, RepliesTell}
 use Rattle.library_laws.proofs.NewObjectsKept.{ids-allocated}
@@ -72,6 +74,10 @@ created_plain : (library : Library) (there : Bool) (change : Change) → TellsRo
 created_plain library true change = plain library (changed replies.Done change) refl
 created_plain library false change = plain library (changed replies.Created change) refl
 
+list_plain : (library : Library) (failed : List FailedSegment) (change : Change) → TellsRows library (changed (list_reply failed) change)
+list_plain library [] change = plain library (changed replies.Created change) refl
+list_plain library (first ∷ later) change = plain library (changed (replies.Partly (first ∷ later)) change) refl
+
 shown_plain : (library : Library) (shown : Result View Refusal) → TellsRows library (unchanged (shown_reply shown))
 shown_plain library (Ok view) = plain library (unchanged (replies.Shown view)) refl
 shown_plain library (Err refusal) = plain library (unchanged (replies.Refused refusal)) refl
@@ -116,7 +122,8 @@ replies_tell library (commands.Keep object start size digest) moment =
     (plain library (changed replies.Created (changes.Store moment object start size (kept_digest digest))) refl)
 replies_tell library (commands.AddSegments flow posts) moment =
     by_refusal library (refusal_of library (commands.AddSegments flow posts)) _
-    (plain library (changed replies.Created (changes.AddSegments moment flow (as_list posts))) refl)
+    (list_plain library (sorted library flow [] posts.segments).failed
+    (changes.AddSegments moment flow (list_post (sorted library flow [] posts.segments).kept)))
 replies_tell library (commands.CutSegments flow range) moment = by_refusal library (refusal_of library (commands.CutSegments flow range)) _
     (cut_tells library flow range moment)
 replies_tell library (commands.PutHook hook) moment = created_plain library (is_some (hook_of hook.url library.outbox.hooks)) (changes.PutHook moment hook)

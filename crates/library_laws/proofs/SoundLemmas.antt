@@ -36,7 +36,7 @@ use Rattle.media_rows.specs.Segments.{posted}
 use Rattle.media_rows.specs.Sound.{is_part_good, has_good_values, is_sound}
 use Rattle.library_laws.specs.ChangeLaws.{AppliedIsSound, AppliesIsTested}
 use Rattle.library_laws.specs.Laws.{IsSound}
-use Rattle.library_laws.proofs.AnswerLemmas.{neither}
+use Rattle.library_laws.proofs.Neither.{neither}
 use Rattle.library_laws.proofs.CatalogKept.{BodyTexts, BodyTexts-from, RowTexts-from, put_body}
 use Rattle.library_laws.proofs.ChangesKept.{none_from, good_is_tested, changes_keep_good}
 use Rattle.library_laws.proofs.KeptLemmas.{chosen, list_all-parts}

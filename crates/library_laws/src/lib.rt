@@ -4,6 +4,7 @@
 
 mod changes;
 mod laws;
+mod lists;
 mod media;
 mod rows;
 
@@ -17,6 +18,7 @@ pub use crate::laws::{
     places_are_least, range_answer_is_in_order, range_answer_is_on_points, turns_apply,
     turns_are_bounded,
 };
+pub use crate::lists::lists_are_told;
 pub use crate::media::{bytes_fit, bytes_stay, digests_stay, puts_apply, questions_apply};
 pub use crate::rows::{
     equal_rows_are_one_library, keys_give_ids, refusals_are_tabled, rows_give_the_library,

@@ -2,6 +2,7 @@ mod Serials
 mod Held
 mod ObjectRows
 mod Posts
+mod Telling
 mod Removals
 mod Covering
 mod Sweeping

@@ -10,7 +10,7 @@ use Rattle.media_rows.specs.declared.refusal.Refusal.{Refusal}
 use Rattle.media_rows.specs.declared.refusal.Refusal.TheVariants.{NoObject}
 use Rattle.media_rows.specs.declared.segment.Segment.{Segment}
 use Rattle.media_rows.specs.declared.segment.SegmentRow.{SegmentRow}
-use Rattle.media_rows.specs.Answer.{overlap_refusal, post_refusal, posts_refusal, refusals_behind}
+use Rattle.media_rows.specs.Posts.{overlap_refusal, post_refusal, posts_refusal, refusals_behind}
 use Rattle.media_rows.specs.Good.{rises_by}
 use Rattle.media_rows.specs.Library.{Library}
 use Rattle.media_rows.specs.Lists.{or_else}
@@ -40,11 +40,11 @@ posts_are_refused_alike library flow posts = ap first_refusal (refused_alike lib
 -- ---- one after the other
 
 -- the media once the first one came
-abbrev after_one : Media → ℕ → ℕ → Segment → Media
+abbrev pub after_one : Media → ℕ → ℕ → Segment → Media
 after_one media flow serial post = with_posts flow serial (post ∷ []) media
 
 -- what counts as kept behind the first one
-kept_same : (media : Media) (flow serial : ℕ) (post : Segment) (front : List Segment)
+pub kept_same : (media : Media) (flow serial : ℕ) (post : Segment) (front : List Segment)
     → media.segments ++ posted flow serial (post ∷ front)
     ≡ (media.segments ++ posted flow serial (post ∷ [])) ++ posted flow (serial + 1) front
 kept_same media flow serial post front = sym (append_assoc media.segments (posted flow serial (post ∷ [])) (posted flow (serial + 1) front))
@@ -60,7 +60,7 @@ behind_first media flow serial post front (next ∷ later) =
     (behind_first media flow serial post (front ++ next ∷ []) later)
 
 -- the first one is refused as a row
-first_is : (media : Media) (flow serial : ℕ) (post : Segment)
+pub first_is : (media : Media) (flow serial : ℕ) (post : Segment)
     → post_refusal (library_with media serial) flow [] post ≡ row_refusal media (row_of flow serial post)
 first_is media flow serial post =
     ap (λ l. or_else (when (not (is_stored_object media.objects post.object)) (NoObject post.object))
@@ -82,7 +82,7 @@ posts_step media flow serial post later =
 pub posts_done : (media : Media) (flow serial : ℕ) → with_posts flow serial [] media ≡ media
 posts_done media flow serial = ap (λ l. record { blocks = media.blocks; segments = l; objects = media.objects }) (append-nil media.segments)
 
-below_step : (flow serial : ℕ) (post : Segment) (segments : List SegmentRow) → are_segments_below serial segments ≡ true
+pub below_step : (flow serial : ℕ) (post : Segment) (segments : List SegmentRow) → are_segments_below serial segments ≡ true
     → are_segments_below (serial + 1) (segments ++ posted flow serial (post ∷ [])) ≡ true
 below_step flow serial post [] e = let lt : nat_lt serial (serial + 1) ≡ true = grind (arith, nat_tests) in rw lt refl
 below_step flow serial post (row ∷ rows) e =

@@ -15,7 +15,8 @@ use Rattle.media_rows.specs.declared.object.ObjectState.TheVariants.{Allocated, 
 use Rattle.media_rows.specs.declared.refusal.Refusal.{Refusal}
 use Rattle.media_rows.specs.declared.refusal.Refusal.TheVariants.{NoObject}
 use Rattle.media_rows.specs.declared.segment.SegmentRow.{SegmentRow}
-use Rattle.media_rows.specs.Answer.{keep_refusal, overlap_refusal}
+use Rattle.media_rows.specs.Answer.{keep_refusal}
+use Rattle.media_rows.specs.Posts.{overlap_refusal}
 use Rattle.media_rows.specs.Collections.{is_kept}
 use Rattle.media_rows.specs.Good.{are_compatible, are_extents_good, are_object_ids_distinct, are_references_good, are_serials_good, are_serials_in_order, are_states_apart, are_urls_distinct, is_catalog_in_order, is_extent_good, is_segment_good, rises_by}
 use Rattle.media_rows.specs.Library.{serials_of}

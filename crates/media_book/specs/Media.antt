@@ -8,9 +8,11 @@ use Rattle.media_rows.specs.declared.object.ObjectRow.{ObjectRow}
 use Rattle.media_rows.specs.declared.object.ObjectState.{ObjectState}
 use Rattle.media_rows.specs.declared.object.ObjectState.TheVariants.{Allocated, Stored}
 use Rattle.media_rows.specs.declared.refusal.Refusal.{Refusal}
+use Rattle.media_rows.specs.declared.reply.SortedPosts.{SortedPosts}
 use Rattle.media_rows.specs.declared.segment.Segment.{Segment}
 use Rattle.media_rows.specs.declared.segment.SegmentRow.{SegmentRow}
-use Rattle.media_rows.specs.Answer.{first_taken, posts_refusal, taken_refusal}
+use Rattle.media_rows.specs.Answer.{first_taken, taken_refusal}
+use Rattle.media_rows.specs.Posts.{posts_refusal, sorted}
 use Rattle.media_rows.specs.Good.{Good, are_compatible, are_extents_good, are_object_ids_distinct, are_references_good, rises_by}
 use Rattle.media_rows.specs.Library.{Library, empty_library}
 use Rattle.media_rows.specs.Lists.{are_distinct, each_pair}
@@ -94,6 +96,15 @@ abbrev pub PostsAreRefusedAlike : Type 0
 PostsAreRefusedAlike = (library : Library) (flow : ℕ) (posts : List Segment)
     → posts_refusal library flow posts
     ≡ posts_refusal (library_with (media_of library) library.next_serial) flow posts
+
+-- what is told of a list of segments over these media, the next of which has this serial
+abbrev pub list_told : Media → ℕ → ℕ → List Segment → SortedPosts
+list_told media serial flow posts = sorted (library_with media serial) flow [] posts
+
+-- a list is told by a library as by its media alone
+abbrev pub ListsAreToldAlike : Type 0
+ListsAreToldAlike = (library : Library) (flow : ℕ) (posts : List Segment)
+    → sorted library flow [] posts ≡ list_told (media_of library) library.next_serial flow posts
 
 -- ---- what changes make
 

@@ -4,6 +4,7 @@
 
 mod book;
 mod cuts;
+mod lists;
 mod objects;
 mod restores;
 mod segments;
@@ -11,5 +12,6 @@ mod sweeps;
 
 pub use crate::book::MediaBook;
 pub use crate::cuts::Covered;
+pub use crate::lists::{ListAdded, lists_are_told_alike};
 pub use crate::restores::media_are_good;
 pub use crate::segments::posts_are_refused_alike;

@@ -1,6 +1,6 @@
 //! Segments that come and go.
 ghost use Rattle.std.specs.Prelude.{◌≡◌, ◌+◌, ◌<◌, ◌^◌, ◌∷◌, [], Contains, IfOk, IsTrue, length};
-ghost use Rattle.media_rows.specs.Answer.{posts_refusal};
+ghost use Rattle.media_rows.specs.Posts.{posts_refusal};
 ghost use Rattle.media_rows.specs.Ranges.{has_both_ends};
 ghost use Rattle.media_rows.specs.Refusals.{IsChange};
 ghost use Rattle.media_rows.specs.Sound.{are_posts_good};

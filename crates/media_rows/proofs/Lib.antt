@@ -3,4 +3,5 @@ mod CalendarLemmas
 pub mod RangeLemmas
 mod TextLemmas
 pub mod RestoringLemmas
+mod PostLemmas
 pub mod RowLemmas

@@ -2,7 +2,7 @@
 -- in their order, and its reply where none stands. That a change doesn't fit the journal is no
 -- matter of the library, and is added by the state above it. Our own profile of the
 -- Time-addressable Media Store.
-use Rattle.std.specs.Prelude.{ℕ, ◌+◌, ◌==◌, nat_le, List, [], ◌∷◌, ◌++◌, Bool, true, false, not, ◌||◌, Option, Some, None, is_some, Result, Ok, Err, if◌then◌else◌, map, length, slice_get, nat_eq, bytes_eq, codes, decimal}
+use Rattle.std.specs.Prelude.{ℕ, ◌+◌, ◌==◌, nat_le, List, [], ◌∷◌, ◌++◌, Bool, true, false, not, ◌||◌, Option, Some, None, is_some, Result, Ok, Err, if◌then◌else◌, map, length, nat_eq, bytes_eq, codes, decimal}
 use Rattle.std.specs.List.{starts_with}
 use Rattle.time_range.specs.declared.ranges.Span.{Span}
 use Rattle.media_rows.specs.declared.change.Change.{Change}
@@ -16,23 +16,25 @@ use Rattle.media_rows.specs.declared.object.ObjectState.{ObjectState}
 use Rattle.media_rows.specs.declared.object.ObjectState.TheVariants.{Allocated, Stored}
 use Rattle.media_rows.specs.declared.refusal.Refusal.{Refusal}
 use Rattle.media_rows.specs.declared.refusal.Refusal.TheVariants as refusals
+use Rattle.media_rows.specs.declared.reply.FailedSegment.{FailedSegment}
 use Rattle.media_rows.specs.declared.reply.Reply.{Reply}
 use Rattle.media_rows.specs.declared.reply.Reply.TheVariants as replies
+use Rattle.media_rows.specs.declared.reply.SortedPosts.{SortedPosts}
 use Rattle.media_rows.specs.declared.reply.View.{View}
 use Rattle.media_rows.specs.declared.request.Deletion.{Deletion}
 use Rattle.media_rows.specs.declared.segment.Segment.{Segment}
-use Rattle.media_rows.specs.declared.segment.SegmentRow.{SegmentRow}
 use Rattle.media_rows.specs.Catalog.{flow_of, put_refusal, set_refusal, set_source_refusal, flow_refusal}
 use Rattle.media_rows.specs.Digests.{digest_of}
 use Rattle.media_rows.specs.Ids.{id_text}
 use Rattle.media_rows.specs.Library.{Library}
 use Rattle.media_rows.specs.Lists.{has_text, numbers_below, or_else}
-use Rattle.media_rows.specs.Objects.{object_of, is_stored_object, kept_digest, free_place, blocks_of, bytes_of}
+use Rattle.media_rows.specs.Objects.{object_of, kept_digest, free_place, blocks_of, bytes_of}
 use Rattle.media_rows.specs.Outbox.{hook_of}
 use Rattle.media_rows.specs.Ranges.{eternity}
-use Rattle.media_rows.specs.Refusals.{when, first_refusal}
+use Rattle.media_rows.specs.Refusals.{when}
 use Rattle.media_rows.specs.Requests.{step_size, is_deleting, asked_row}
-use Rattle.media_rows.specs.Segments.{segments_of, overlapping, covered, posted, as_list}
+use Rattle.media_rows.specs.Posts.{sorted, posts_refusal}
+use Rattle.media_rows.specs.Segments.{segments_of, covered, list_post}
 use Rattle.media_rows.specs.Views.{asked}
 
 -- ---- refusals
@@ -85,34 +87,27 @@ taken_refusal (Some id) = Some (refusals.IdTaken id)
 
 -- ---- posts of segments
 
--- the refusal of a segment of a post, with the range of the kept segment that overlaps it and
--- begins first
-abbrev pub overlap_refusal : Option SegmentRow → Option Refusal
-overlap_refusal None = None
-overlap_refusal (Some row) = Some (refusals.Overlap row.segment.range)
+-- the refusal of a post whose segments are all kept or none: that of its flow, or the first of its
+-- segments
+abbrev pub posting_refusal : Library → ℕ → List Segment → Option Refusal
+posting_refusal library flow posts =
+    or_else (change_refusal library flow) (posts_refusal library flow posts)
 
--- the segments that count as kept behind a front of a post: the library's, and those of the front
-abbrev pub kept_behind : Library → ℕ → List Segment → List SegmentRow
-kept_behind library flow front = library.segments ++ posted flow library.next_serial front
+-- the refusal of a list by what is kept of it and what failed: where nothing is kept and something
+-- failed, the first one's
+abbrev pub refusal_by : List Segment → List FailedSegment → Option Refusal
+refusal_by kept [] = None
+refusal_by [] (failed ∷ later) = Some failed.refusal
+refusal_by (post ∷ kept) (failed ∷ later) = None
 
--- the refusal of a segment behind a front of its post: its object isn't stored, or a segment of the
--- flow that counts as kept overlaps it
-abbrev pub post_refusal : Library → ℕ → List Segment → Segment → Option Refusal
-post_refusal library flow front post =
-    or_else
-    (when (not (is_stored_object library.objects post.object)) (refusals.NoObject post.object))
-    (overlap_refusal
-    (slice_get (overlapping (kept_behind library flow front) flow post.range None) 0))
+-- the refusal of a list that is answered segment by segment
+abbrev pub list_refusal : SortedPosts → Option Refusal
+list_refusal told = refusal_by told.kept told.failed
 
--- the refusals of segments in order, each behind the front and the ones before it
-abbrev pub refusals_behind : Library → ℕ → List Segment → List Segment → List (Option Refusal)
-refusals_behind library flow front [] = []
-refusals_behind library flow front (post ∷ later) =
-    post_refusal library flow front post ∷ refusals_behind library flow (front ++ post ∷ []) later
-
--- the first refusal that stands of a post, whose segments each have the earlier ones before them
-abbrev pub posts_refusal : Library → ℕ → List Segment → Option Refusal
-posts_refusal library flow posts = first_refusal (refusals_behind library flow [] posts)
+-- all segments of a list are kept, or some failed
+abbrev pub list_reply : List FailedSegment → Reply
+list_reply [] = replies.Created
+list_reply (failed ∷ later) = replies.Partly (failed ∷ later)
 
 -- ---- the storing of an object
 
@@ -148,7 +143,7 @@ refusal_of library (commands.Allocate flow want) =
 refusal_of library (commands.Keep object start size digest) =
     keep_refusal (object_of object library.objects)
 refusal_of library (commands.AddSegments flow posts) =
-    or_else (change_refusal library flow) (posts_refusal library flow posts.segments)
+    or_else (change_refusal library flow) (list_refusal (sorted library flow [] posts.segments))
 refusal_of library (commands.CutSegments flow range) = change_refusal library flow
 refusal_of library (commands.PutHook hook) = None
 refusal_of library (commands.DropHook url) = None
@@ -225,7 +220,8 @@ accepted library (commands.Allocate flow want) moment =
 accepted library (commands.Keep object start size digest) moment =
     changed replies.Created (changes.Store moment object start size (kept_digest digest))
 accepted library (commands.AddSegments flow posts) moment =
-    changed replies.Created (changes.AddSegments moment flow (as_list posts))
+    let told = sorted library flow [] posts.segments in
+    changed (list_reply told.failed) (changes.AddSegments moment flow (list_post told.kept))
 accepted library (commands.CutSegments flow range) moment =
     accepted_cut library flow range moment
 accepted library (commands.PutHook hook) moment =

@@ -3,7 +3,7 @@ use Rattle.std.specs.Prelude.{ℕ, nat_lt, nat_le, [], Bool, true, ◌&&◌, Opt
 use Rattle.media_rows.specs.declared.change.Change.{Change}
 use Rattle.media_rows.specs.declared.change.Change.TheVariants as changes
 use Rattle.media_rows.specs.declared.command.Command.TheVariants as commands
-use Rattle.media_rows.specs.Answer.{change_refusal, refusal_of, is_kept_object, first_taken, keep_refusal}
+use Rattle.media_rows.specs.Answer.{change_refusal, posting_refusal, refusal_of, is_kept_object, first_taken, keep_refusal}
 use Rattle.media_rows.specs.Changes.{after, moment_of}
 use Rattle.media_rows.specs.Good.{is_good}
 use Rattle.media_rows.specs.Library.{Library, last_serial}
@@ -14,7 +14,8 @@ use Rattle.media_rows.specs.Requests.{step_size, first_unfinished}
 use Rattle.media_rows.specs.Segments.{segments_of, covered}
 
 -- Nothing refuses the change: the refusals of its command don't stand, and it removes as many
--- segments as its kind does. Ids that the store made stand in an allocation like others, so there
+-- segments as its kind does. Segments are added all or not at all, also where the client's list had
+-- others that failed. Ids that the store made stand in an allocation like others, so there
 -- an id is taken only where a kept object has it or the list repeats it. A step is refused where
 -- there is none, and a delivery where the event isn't the first that waits for its hook.
 abbrev pub is_allowed : Library → Change → Bool
@@ -33,7 +34,7 @@ is_allowed library (changes.Store moment object start size digest) =
     is_none (keep_refusal (object_of object library.objects))
     && is_free library.objects library.blocks (blocks_of size) start
 is_allowed library (changes.AddSegments moment flow posts) =
-    is_none (refusal_of library (commands.AddSegments flow posts))
+    is_none (posting_refusal library flow posts.segments)
 is_allowed library (changes.CutSegments moment flow range) =
     is_none (change_refusal library flow) && nat_le 1 (length (covered library.segments flow range))
     && nat_le (length (covered library.segments flow range)) step_size

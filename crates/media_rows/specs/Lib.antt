@@ -17,6 +17,7 @@ pub mod Library
 pub mod Events
 pub mod Changes
 pub mod Views
+pub mod Posts
 pub mod Answer
 pub mod Good
 pub mod Apply

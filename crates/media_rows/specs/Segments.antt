@@ -71,7 +71,3 @@ posted flow serial (segment ∷ later) =
 -- a post of these segments as a list
 abbrev pub list_post : List Segment → PostList
 list_post segments = record { single = false; segments = segments }
-
--- the same segments as a list, however they were posted
-abbrev pub as_list : PostList → PostList
-as_list posts = list_post posts.segments

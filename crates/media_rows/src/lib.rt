@@ -40,7 +40,8 @@ pub use crate::part::{Part, PartName};
 pub use crate::ranges::{range_covers, range_hull, range_overlaps};
 pub use crate::refusal::{ApplyFault, BookFault, Refusal};
 pub use crate::reply::{
-    FailedList, FailedSegment, FlowShown, FlowShownList, HookShown, HookShownList, Reply, View,
+    FailedList, FailedSegment, FlowShown, FlowShownList, HookShown, HookShownList, Reply,
+    SortedPosts, View,
 };
 pub use crate::request::{DeleteList, DeleteRow, DeleteStatus, Deletion};
 pub use crate::row::{Row, RowList};

@@ -1,7 +1,9 @@
 //! Segments: which object holds a flow's media over a timerange.
 ghost use Rattle.std.specs.Prelude.{◌≡◌, ◌∷◌, ◌++◌, [], IfOk, OnErr, OnOk};
-ghost use Rattle.media_rows.specs.Segments.{as_list};
+ghost use Rattle.media_rows.specs.Posts.{failed_of};
 
+use crate::refusal::Refusal;
+use crate::reply::FailedSegment;
 use disk_trait::{Duplicate, Listed, Memory, Text};
 use std::alloc::Global;
 use time_range::{TimeRange, Ts};
@@ -16,6 +18,19 @@ pub struct Segment {
     pub sample_offset: u64,
     pub sample_count: Option<u64>,
     pub key_frames: Option<u64>,
+}
+
+impl Segment {
+    /// The segment as one of a list that isn't kept, for this refusal.
+    pub fn failed(&self, alloc: Global, refusal: Refusal) -> Result<FailedSegment, Memory>
+        ensures { IfOk result (λ failed. failed ≡ failed_of refusal self.now) }
+    {
+        Ok(FailedSegment {
+            refusal,
+            object: self.object.duplicate(alloc)?,
+            range: self.range,
+        })
+    }
 }
 
 /// The segments of one post, in its order. It is single where its body was one object and no list.
@@ -51,16 +66,6 @@ impl PostList {
         ensures { result.now ≡ self.now.segments }
     {
         self.segments.items()
-    }
-
-    /// The same segments as a list, as a change has them.
-    pub fn to_list(&self, alloc: Global) -> Result<PostList, Memory>
-        ensures { IfOk result (λ posts. posts ≡ as_list self.now) }
-    {
-        Ok(PostList {
-            single: false,
-            segments: self.segments.duplicate(alloc)?,
-        })
     }
 }
 

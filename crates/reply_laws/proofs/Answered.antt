@@ -1,12 +1,11 @@
 -- What is answered to a command, to the bytes of an object and to a question of them has its texts.
-use Rattle.std.proofs.Common.{◌≡◌, ℕ, Bool, true, false, List, [], map, length, Option, Some, None, Result, Ok, Err, refl}
+use Rattle.std.proofs.Common.{◌≡◌, ℕ, Bool, true, false, List, [], ◌∷◌, map, length, Option, Some, None, Result, Ok, Err, refl}
 use Rattle.std.specs.Prelude.{◌==◌, ◌&&◌, nat_le, is_some}
 use Rattle.std.specs.List.{list_all}
 use Rattle.std.proofs.lemmas.Bool.{and_from, and_parts, cond_both}
 use Rattle.time_range.specs.declared.ranges.Span.{Span}
 use Rattle.json_bodies.specs.Segments.{is_post_good}
-use Rattle.json_replies.specs.Texts.{has_reply_texts}
-use Rattle.media_rows.specs.declared.command.Command.{Command}
+use Rattle.json_replies.specs.Texts.{has_failed_texts, has_reply_texts}
 use Rattle.media_rows.specs.declared.command.Command.TheVariants as commands
 use Rattle.media_rows.specs.declared.command.FlowFilter.{FlowFilter}
 use Rattle.media_rows.specs.declared.command.Page.{Page}
@@ -19,11 +18,12 @@ use Rattle.media_rows.specs.declared.object.ObjectState.{ObjectState}
 use Rattle.media_rows.specs.declared.object.ObjectState.TheVariants.{Allocated, Stored}
 use Rattle.media_rows.specs.declared.refusal.Refusal.{Refusal}
 use Rattle.media_rows.specs.declared.refusal.Refusal.TheVariants as refusals
+use Rattle.media_rows.specs.declared.reply.FailedSegment.{FailedSegment}
 use Rattle.media_rows.specs.declared.reply.View.{View}
 use Rattle.media_rows.specs.declared.reply.View.TheVariants as views
 use Rattle.media_rows.specs.declared.request.Deletion.{Deletion}
 use Rattle.media_rows.specs.declared.segment.Segment.{Segment}
-use Rattle.media_rows.specs.Answer.{Outcome, created_unless, answer_by, unchanged, shown_refusal, shown_reply, accepted_request, accepted_drop, accepted_cut, accepted_drop_hook, wanted_ids, is_taken, first_taken, taken_refusal, change_refusal, keep_refusal, keep_state}
+use Rattle.media_rows.specs.Answer.{Outcome, created_unless, list_reply, answer_by, unchanged, shown_refusal, shown_reply, accepted_request, accepted_drop, accepted_cut, accepted_drop_hook, wanted_ids, is_taken, first_taken, taken_refusal, change_refusal, keep_refusal, keep_state}
 use Rattle.media_rows.specs.Catalog.{flow_of, source_of}
 use Rattle.media_rows.specs.Good.{Good, is_body_text, is_flow_text, is_source_text, is_object_text, is_request_text, is_hook_text}
 use Rattle.media_rows.specs.Ids.{is_object_id}
@@ -32,6 +32,7 @@ use Rattle.media_rows.specs.Lists.{or_else, page_items}
 use Rattle.media_rows.specs.Moments.{is_moment}
 use Rattle.media_rows.specs.Objects.{object_of}
 use Rattle.media_rows.specs.Outbox.{hook_of}
+use Rattle.media_rows.specs.Posts.{sorted}
 use Rattle.media_rows.specs.Ranges.{eternity}
 use Rattle.media_rows.specs.Requests.{request_of}
 use Rattle.media_rows.specs.Segments.{segments_of, covered, overlapping}
@@ -99,6 +100,10 @@ keep_by (Some row) = keep_state_by row.state
 posted_ids : (posts : List Segment) → list_all is_post_good posts ≡ true → list_all (λ post. is_object_id post.object) posts ≡ true
 posted_ids posts e = list_all-from_In (λ post. is_object_id post.object) posts
     (λ post here. (and_parts (is_object_id post.object) _ (list_all-In is_post_good posts e post here)).0)
+
+listed : (failed : List FailedSegment) → list_all has_failed_texts failed ≡ true → has_reply_texts (list_reply failed) ≡ true
+listed [] e = refl
+listed (first ∷ later) e = e
 
 -- ---- what is shown
 
@@ -177,7 +182,9 @@ answers_have_texts library (commands.Allocate flow want) moment good at fine few
     allocated library flow (wanted_ids library want) (is_taken library want) _ forms forms
 answers_have_texts library (commands.Keep object start size digest) moment good at fine few = by_refusal _ _ (keep_by (object_of object library.objects)) refl
 answers_have_texts library (commands.AddSegments flow posts) moment good at fine few =
-    by_refusal _ _ (refused.either _ _ (refused.of_change library flow) (refused.of_posts library flow posts.segments (posted_ids posts.segments fine))) refl
+    let forms = posted_ids posts.segments fine in
+    by_refusal _ _ (refused.either _ _ (refused.of_change library flow) (refused.of_list library flow posts.segments forms))
+    (listed (sorted library flow [] posts.segments).failed (refused.failed_of_list library flow [] posts.segments forms))
 answers_have_texts library (commands.CutSegments flow range) moment good at fine few =
     by_refusal _ _ (refused.of_change library flow) (cut library flow range moment at)
 answers_have_texts library (commands.PutHook hook) moment good at fine few = created (is_some (hook_of hook.url library.outbox.hooks))

@@ -4,8 +4,8 @@ use Rattle.std.specs.Prelude.{codes, ◌||◌}
 use Rattle.std.specs.List.{list_all}
 use Rattle.std.specs.Str.{is_utf8, chars}
 use Rattle.std.proofs.Math.Utf8.{encode}
-use Rattle.std.proofs.lemmas.Bool.{and_parts, cond_both}
-use Rattle.json_replies.specs.Texts.{has_refusal_texts}
+use Rattle.std.proofs.lemmas.Bool.{and_from, and_parts, cond_both}
+use Rattle.json_replies.specs.Texts.{has_failed_texts, has_refusal_texts}
 use Rattle.media_rows.specs.declared.flow.FlowBody.{FlowBody}
 use Rattle.media_rows.specs.declared.flow.FlowRow.{FlowRow}
 use Rattle.media_rows.specs.declared.flow.Member.{Member}
@@ -13,10 +13,13 @@ use Rattle.media_rows.specs.declared.part.Part.{Part}
 use Rattle.media_rows.specs.declared.part.Part.TheVariants as parts
 use Rattle.media_rows.specs.declared.refusal.Refusal.{Refusal}
 use Rattle.media_rows.specs.declared.refusal.Refusal.TheVariants as refusals
+use Rattle.media_rows.specs.declared.reply.FailedSegment.{FailedSegment}
+use Rattle.media_rows.specs.declared.reply.SortedPosts.{SortedPosts}
 use Rattle.media_rows.specs.declared.segment.Segment.{Segment}
 use Rattle.media_rows.specs.declared.segment.SegmentRow.{SegmentRow}
 use Rattle.media_rows.specs.declared.source.SourceRow.{SourceRow}
-use Rattle.media_rows.specs.Answer.{deleting_refusal, change_refusal, first_taken, taken_refusal, overlap_refusal, refusals_behind, posts_refusal}
+use Rattle.media_rows.specs.Answer.{deleting_refusal, change_refusal, first_taken, list_refusal, refusal_by, taken_refusal}
+use Rattle.media_rows.specs.Posts.{failed_of, overlap_refusal, post_refusal, sorted, sorted_by}
 use Rattle.media_rows.specs.Catalog.{Catalog, flow_of, source_of, missing_refusal, collection_refusals, put_refusals, put_refusal, flow_part_unset, part_refusals, set_refusals, set_refusal, source_part_unset, source_refusals, set_source_refusal, flow_refusals}
 use Rattle.media_rows.specs.Collections.{first_missing, collects_itself}
 use Rattle.media_rows.specs.Good.{if_there}
@@ -122,13 +125,34 @@ overlap : (row : Option SegmentRow) → Told (overlap_refusal row)
 overlap None = none
 overlap (Some row) = some (refusals.Overlap row.segment.range) refl
 
-posts_behind : (library : Library) (flow : ℕ) (front posts : List Segment) → list_all (λ post. is_object_id post.object) posts ≡ true
-    → Told (first_refusal (refusals_behind library flow front posts))
-posts_behind library flow front [] e = none
-posts_behind library flow front (post ∷ later) e =
-    let both = and_parts (is_object_id post.object) _ e in
-    either _ _ (either _ _ (tested _ (refusals.NoObject post.object) both.0) (overlap _)) (posts_behind library flow (front ++ post ∷ []) later both.1)
+-- a segment behind a front of its post
+of_post : (library : Library) (flow : ℕ) (front : List Segment) (post : Segment) → is_object_id post.object ≡ true → Told (post_refusal library flow front post)
+of_post library flow front post e = either _ _ (tested _ (refusals.NoObject post.object) e) (overlap _)
 
-pub of_posts : (library : Library) (flow : ℕ) (posts : List Segment) → list_all (λ post. is_object_id post.object) posts ≡ true
-    → Told (posts_refusal library flow posts)
-of_posts library flow posts e = posts_behind library flow [] posts e
+failed_step : (refusal : Option Refusal) (post : Segment) (behind without : SortedPosts) → Told refusal → is_object_id post.object ≡ true
+    → list_all has_failed_texts behind.failed ≡ true → list_all has_failed_texts without.failed ≡ true
+    → list_all has_failed_texts (sorted_by refusal post behind without).failed ≡ true
+failed_step None post behind without told form rest other = rest
+failed_step (Some why) post behind without told form rest other =
+    and_from (has_failed_texts (failed_of why post)) (list_all has_failed_texts without.failed)
+    (and_from (has_refusal_texts why) (is_object_id post.object) told.is form) other
+
+-- those of a list that fail have their texts
+pub failed_of_list : (library : Library) (flow : ℕ) (front posts : List Segment) → list_all (λ post. is_object_id post.object) posts ≡ true
+    → list_all has_failed_texts (sorted library flow front posts).failed ≡ true
+failed_of_list library flow front [] e = refl
+failed_of_list library flow front (post ∷ later) e =
+    let both = and_parts (is_object_id post.object) _ e in
+    failed_step (post_refusal library flow front post) post (sorted library flow (front ++ post ∷ []) later) (sorted library flow front later)
+    (of_post library flow front post both.0) both.0 (failed_of_list library flow (front ++ post ∷ []) later both.1) (failed_of_list library flow front later both.1)
+
+list_by : (kept : List Segment) (failed : List FailedSegment) → list_all has_failed_texts failed ≡ true → Told (refusal_by kept failed)
+list_by kept [] e = none
+list_by [] (first ∷ later) e =
+    some first.refusal (and_parts (has_refusal_texts first.refusal) (is_object_id first.object) (and_parts (has_failed_texts first) _ e).0).0
+list_by (post ∷ kept) (first ∷ later) e = none
+
+-- so has the refusal of the list
+pub of_list : (library : Library) (flow : ℕ) (posts : List Segment) → list_all (λ post. is_object_id post.object) posts ≡ true
+    → Told (list_refusal (sorted library flow [] posts))
+of_list library flow posts e = list_by (sorted library flow [] posts).kept (sorted library flow [] posts).failed (failed_of_list library flow [] posts e)

@@ -11,7 +11,7 @@ use Rattle.media_rows.specs.declared.refusal.BookFault.TheVariants as books
 use Rattle.media_rows.specs.declared.refusal.Refusal.{Refusal}
 use Rattle.media_rows.specs.declared.refusal.Refusal.TheVariants as refusals
 use Rattle.media_rows.specs.declared.segment.SegmentRow.{SegmentRow}
-use Rattle.media_rows.specs.Answer.{overlap_refusal}
+use Rattle.media_rows.specs.Posts.{overlap_refusal}
 use Rattle.media_rows.specs.Lists.{inserted, in_order, is_past, placed, rises}
 use Rattle.media_rows.specs.Ranges.{higher, hull, lower, overlaps}
 use Rattle.media_rows.specs.Refusals.{IsChange}

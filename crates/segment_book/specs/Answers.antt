@@ -5,7 +5,7 @@ use Rattle.std.specs.List.{list_all, list_any}
 use Rattle.time_range.specs.declared.ranges.Span.{Span}
 use Rattle.media_rows.specs.declared.refusal.Refusal.{Refusal}
 use Rattle.media_rows.specs.declared.segment.SegmentRow.{SegmentRow}
-use Rattle.media_rows.specs.Answer.{overlap_refusal}
+use Rattle.media_rows.specs.Posts.{overlap_refusal}
 use Rattle.media_rows.specs.Ranges.{overlaps}
 use Rattle.media_rows.specs.Segments.{overlapping, segments_of}
 use Rattle.media_rows.specs.Snapshot.{older}

@@ -1,5 +1,5 @@
 -- What is prepared of a library, from what was made of it.
-use Rattle.std.proofs.Common.{◌≡◌, ℕ, Bool, true, false, cond, List, Option, Some, None, length, refl, sym, subst, ap, ◌∙◌}
+use Rattle.std.proofs.Common.{◌≡◌, ℕ, Bool, true, false, cond, List, [], ◌∷◌, Option, Some, None, length, refl, sym, subst, ap, ◌∙◌}
 use Rattle.std.specs.Prelude.{IfErr, IfSome, Result, Ok, Err, ◌==◌, ◌&&◌, nat_lt, nat_le, is_some, option_map}
 use Rattle.std.proofs.lemmas.Bool.{and_parts, cond_both, le-leb, lt-leb, ltb-false, ltb-true}
 use Rattle.time_range.specs.declared.ranges.Span.{Span}
@@ -8,10 +8,11 @@ use Rattle.media_rows.specs.declared.change.Change.TheVariants as changes
 use Rattle.media_rows.specs.declared.command.Command.{Command}
 use Rattle.media_rows.specs.declared.command.Command.TheVariants as commands
 use Rattle.media_rows.specs.declared.refusal.Refusal.{Refusal}
+use Rattle.media_rows.specs.declared.reply.FailedSegment.{FailedSegment}
 use Rattle.media_rows.specs.declared.reply.Reply.{Reply}
 use Rattle.media_rows.specs.declared.reply.Reply.TheVariants as replies
 use Rattle.media_rows.specs.declared.reply.View.{View}
-use Rattle.media_rows.specs.Answer.{Outcome, accepted, accepted_cut, accepted_drop, answer, answer_by, changed, created_unless, refusal_of, shown_refusal, shown_reply, unchanged}
+use Rattle.media_rows.specs.Answer.{Outcome, accepted, accepted_cut, accepted_drop, answer, answer_by, changed, created_unless, list_reply, refusal_of, shown_refusal, shown_reply, unchanged}
 use Rattle.media_rows.specs.Apply.{applied, applies, is_allowed, passes_serials}
 use Rattle.media_rows.specs.Catalog.{flow_of}
 use Rattle.media_rows.specs.Changes.{after, moment_of}
@@ -19,6 +20,7 @@ use Rattle.media_rows.specs.Good.{Good, is_good}
 use Rattle.media_rows.specs.Library.{Library, last_serial}
 use Rattle.media_rows.specs.Moments.{is_moment}
 use Rattle.media_rows.specs.Outbox.{hook_of}
+use Rattle.media_rows.specs.Posts.{sorted}
 use Rattle.media_rows.specs.Segments.{covered, segments_of}
 use Rattle.media_rows.specs.Sound.{is_good_command}
 use Rattle.media_rows.specs.Views.{asked}
@@ -71,6 +73,10 @@ created_passes : (there : Bool) (p : Preparation) → unless_refused (created_un
 created_passes true p = refl
 created_passes false p = refl
 
+list_passes : (failed : List FailedSegment) (p : Preparation) → unless_refused (list_reply failed) p ≡ Ok p
+list_passes [] p = refl
+list_passes (first ∷ later) p = refl
+
 drop_passes : (library : Library) (flow moment : ℕ) → Passes (accepted_drop library flow moment)
 drop_passes library flow moment =
     cond_both (nat_le (length (segments_of flow library.segments)) 32) _ _ (λ (o : Outcome). (p : Preparation) → unless_refused o.reply p ≡ Ok p)
@@ -100,7 +106,7 @@ made_passes library (commands.SetSource source part) moment free = λ p. refl
 made_passes library (commands.DropFlow flow) moment free = drop_passes library flow moment
 made_passes library (commands.Allocate flow want) moment free = λ p. refl
 made_passes library (commands.Keep object start size digest) moment free = λ p. refl
-made_passes library (commands.AddSegments flow posts) moment free = λ p. refl
+made_passes library (commands.AddSegments flow posts) moment free = list_passes (sorted library flow [] posts.segments).failed
 made_passes library (commands.CutSegments flow range) moment free = cut_passes library flow range moment
 made_passes library (commands.PutHook hook) moment free = created_passes (is_some (hook_of hook.url library.outbox.hooks))
 made_passes library (commands.DropHook url) moment free = hook_passes url moment (is_some (hook_of url library.outbox.hooks))

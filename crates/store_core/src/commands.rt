@@ -10,8 +10,8 @@ ghost use Rattle.core_parts.specs.Conditions.{IsReady};
 ghost use Rattle.media_book.specs.Media.{media_of, serial_in};
 ghost use Rattle.store_core.specs.Within.{MakesAnswer, given_making, made_by, next_apart};
 
-use crate::made::{Made, created_unless};
-use core_parts::{Cut, Parts, good_is_ready};
+use crate::made::{Made, created_unless, list_reply};
+use core_parts::{Cut, ListPosted, Parts, good_is_ready};
 use disk_trait::{Duplicate, Text};
 use library_laws::{answers_apply, applied_is_sound};
 use media_rows::{
@@ -191,7 +191,7 @@ pub(crate) fn keep(
     }
 }
 
-/// Segments come to a flow.
+/// Those segments of a post that can be kept come to a flow. The others are the reply.
 pub(crate) fn add_segments(
     alloc: Global,
     parts: &Parts,
@@ -203,11 +203,14 @@ pub(crate) fn add_segments(
     requires bounded { IsTrue (are_posts_good posts.now.segments) }
     ensures { MakesAnswer parts.now.library (commands.AddSegments flow posts.now) now result }
 {
-    match parts.add(alloc, flow, posts.items(), now) {
-        Ok(next) => {
-            let segments = posts.to_list(alloc)?;
+    match parts.add_list(alloc, flow, posts.items(), now) {
+        Ok(ListPosted { told, next }) => {
+            let segments = PostList {
+                single: false,
+                segments: told.kept,
+            };
             Ok(Made::changed(
-                Reply::Created,
+                list_reply(told.failed),
                 Change::AddSegments {
                     moment: now,
                     flow,

@@ -1,10 +1,10 @@
 //! What a command that nothing refuses makes: its reply, and the change with the library after it.
 ghost use Rattle.std.specs.Prelude.{◌≡◌};
-ghost use Rattle.media_rows.specs.Answer.{created_unless};
+ghost use Rattle.media_rows.specs.Answer.{created_unless, list_reply};
 ghost use Rattle.store_core.specs.Within.{made_change, made_none};
 
 use core_parts::Parts;
-use media_rows::{Change, Reply};
+use media_rows::{Change, FailedList, Reply};
 
 /// A change, and the library after it, unless its serials would end.
 #[derive(Drop)]
@@ -44,4 +44,14 @@ pub(crate) fn created_unless(there: bool) -> Reply
     ensures { result ≡ created_unless there }
 {
     if there { Reply::Done } else { Reply::Created }
+}
+
+/// All segments of a list are kept, or some failed.
+pub(crate) fn list_reply(failed: FailedList) -> Reply
+    ensures { result ≡ list_reply failed }
+{
+    if failed.items().is_empty() {
+        return Reply::Created;
+    }
+    Reply::Partly(failed)
 }

@@ -3,4 +3,4 @@
 
 mod laws;
 
-pub use crate::laws::{posts_succeed, runs_keep_objects};
+pub use crate::laws::{lists_are_answered, posts_succeed, runs_keep_objects};

@@ -58,7 +58,7 @@ fn answers(feed: &mut Feed, bytes: &[u8], wanted: u8) -> bool {
 }
 
 /// Rows of a table.
-const ROWS: [(&[u8], u8); 64] = [
+const ROWS: [(&[u8], u8); 65] = [
     // What is let through.
     (b"GET / HTTP/1.1\r\n\r\n", WHOLE),
     (b"GET / HTTP/1.1\n\n", WHOLE),
@@ -89,7 +89,7 @@ const ROWS: [(&[u8], u8); 64] = [
         WHOLE,
     ),
     (
-        b"PUT /media/a HTTP/1.1\r\nContent-Length: 67108864\r\n\r\n",
+        b"PUT /media/a HTTP/1.1\r\nContent-Length: 1073741824\r\n\r\n",
         HEAD,
     ),
     (b"PUT /media/ HTTP/1.1\r\n\r\n", HEAD),
@@ -222,6 +222,10 @@ const ROWS: [(&[u8], u8); 64] = [
     ),
     (
         b"POST / HTTP/1.1\r\nContent-Length: 1048577\r\n\r\n",
+        TOO_LARGE,
+    ),
+    (
+        b"PUT /media/a HTTP/1.1\r\nContent-Length: 1073741825\r\n\r\n",
         TOO_LARGE,
     ),
     (b"POST / HTTP/1.1\r\nContent-Encoding: gzip\r\n\r\n", CODING),

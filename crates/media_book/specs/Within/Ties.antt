@@ -1,25 +1,27 @@
 -- How segments, objects and holes are kept side by side.
-use Rattle.std.specs.Prelude.{◌≡◌, ◌≤◌, ℕ, ◌+◌, ◌-◌, nat_le, List, true, not, ◌&&◌, IsTrue, Contains, Option, map}
+use Rattle.std.specs.Prelude.{◌≡◌, ◌≤◌, ℕ, ◌+◌, ◌-◌, nat_le, List, true, not, ◌&&◌, IsTrue, Contains, Option, map, length}
 use Rattle.std.specs.List.{AllByRecursion, list_all, sum}
 use Rattle.media_rows.specs.declared.object.ObjectRow.{ObjectRow}
 use Rattle.media_rows.specs.declared.object.ObjectState.{ObjectState}
 use Rattle.media_rows.specs.declared.object.ObjectState.TheVariants.{Allocated, Stored}
 use Rattle.media_rows.specs.declared.refusal.Refusal.{Refusal}
 use Rattle.media_rows.specs.declared.refusal.Refusal.TheVariants.{NoObject}
+use Rattle.media_rows.specs.declared.reply.SortedPosts.{SortedPosts}
 use Rattle.media_rows.specs.declared.segment.Segment.{Segment}
 use Rattle.media_rows.specs.declared.segment.SegmentRow.{SegmentRow}
-use Rattle.media_rows.specs.Answer.{posts_refusal}
+use Rattle.media_rows.specs.Posts.{posts_refusal}
 use Rattle.media_rows.specs.Good.{are_references_good, are_states_apart, is_extent_good, rises_by}
 use Rattle.media_rows.specs.Lists.{are_distinct, each_pair, or_else}
 use Rattle.media_rows.specs.Objects.{blocks_of, is_clear_of, is_stored_object, without_objects}
 use Rattle.media_rows.specs.Refusals.{when}
 use Rattle.media_rows.specs.Sound.{are_posts_good}
+use Rattle.library_laws.specs.ListLaws.{joined}
 use Rattle.object_blobs.specs.Holes.{Area, GivesBlocks, is_free_block, is_taken_place}
 use Rattle.object_refs.specs.declared.kept.Kept.{Kept}
 use Rattle.object_refs.specs.References.{Book, objects_in}
 use Rattle.reference_laws.specs.Ties.{AreTied}
 use Rattle.segment_book.specs.Answers.{meeting_refusal}
-use Rattle.media_book.specs.Media.{AreSome, HeldMedia, Media, allocation_refusal, are_objects_below, are_segments_below, library_with, stored_size, with_allocated, with_posts, without_rows}
+use Rattle.media_book.specs.Media.{AreSome, HeldMedia, Media, allocation_refusal, are_objects_below, are_segments_below, library_with, list_told, stored_size, with_allocated, with_posts, without_rows}
 
 -- the states of objects
 abbrev pub object_states : List ObjectRow → List ObjectState
@@ -70,6 +72,16 @@ pub record Adding (flow serial next : ℕ) (start media : Media) (all left : Lis
         ≡ posts_refusal (library_with media next) flow left
     pub below : are_segments_below next media.segments ≡ true
     pub bounded : are_posts_good left ≡ true
+
+-- segments of a list were told, and these are left, with serials from this one on
+pub record Telling (flow serial next : ℕ) (start media : Media) (told : SortedPosts)
+    (all left : List Segment) : Type 0 where
+  pub rest : list_told start serial flow all ≡ joined told (list_told media next flow left)
+  pub came : media ≡ with_posts flow serial told.kept start
+  pub at : next ≡ serial + length told.kept
+  pub below : are_segments_below next media.segments ≡ true
+  pub bounded : are_posts_good left ≡ true
+  pub fits : next + length left ≤ serial + length all
 
 -- segments went, and these are left to go
 pub record Removing (moment : ℕ) (start media : Media) (all left : List SegmentRow) : Type 0 where
