@@ -271,7 +271,8 @@ def nginx_served(folder, sendfile):
     with open(os.path.join(folder, "nginx.conf"), "w") as file:
         file.write(
             f"{user} daemon off; worker_processes 1; pid {folder}/nginx.pid; error_log stderr crit;\n"
-            f"events {{}}\nhttp {{ access_log off; sendfile {sendfile}; tcp_nodelay on; {temporary}\n"
+            f"events {{}}\nhttp {{ access_log off; sendfile {sendfile}; tcp_nodelay on; "
+            f"keepalive_requests {MOST_REQUESTS}; {temporary}\n"
             f"server {{ listen 127.0.0.1:{port}; root {folder}; }} }}\n"
         )
     words = ["nginx", "-p", folder, "-c", os.path.join(folder, "nginx.conf")]

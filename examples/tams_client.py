@@ -29,6 +29,7 @@ HINTS = {
     'MediaFull': 'the store has no room for these bytes; format a bigger one',
     'JournalFull': 'a half of the store has no room for another change; format one with bigger halves',
     'UnknownObject': 'the store has no bytes of this object; one that no segment names is swept after a day',
+    'ObjectDamaged': 'its bytes on the disk of the store are not those that were put; docs/GUIDE.md says what to do',
     'BadTimerange': 'a timerange is written as [0:0_10:0)',
     'BadQuery': 'docs/PROFILE.md says what a query may hold',
     'TooLarge': 'an object has at most 1073741824 bytes; take fewer --seconds',

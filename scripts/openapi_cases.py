@@ -1,4 +1,5 @@
 """What `check_openapi` asks. Each function takes a session of a run of the program, and asks through it."""
+import hashlib
 import itertools
 
 from openapi_page import is_kept, read_as, types_of, wanted_refusal
@@ -14,6 +15,8 @@ FIRST, SECOND, THIRD, BARE, UNKNOWN = map(id_of, ('f1', 'f2', 'f3', 'f4', 'f9'))
 VIDEO, MULTI = 'urn:x-nmos:format:video', 'urn:x-nmos:format:multi'
 SMALL = {'source_id': id_of('a1'), 'format': VIDEO}
 BYTES = bytes(place % 251 for place in range(1_000))
+# the same with another first byte
+DAMAGED = b'\1' + BYTES[1:]
 LAST_WHOLE = 2 ** 63 - 1
 MOST_SECONDS = 281_474_976_710_655
 
@@ -148,6 +151,20 @@ def of_media(session):
     session.ask('putMedia', 204, sent=BYTES, fields=[('Expect', '100-continue')])
     session.ask('putMedia', 'OtherBytes', sent=BYTES[1:])
     session.ask('putMedia', 'UnknownObject', {'object_id': 'clip-9'}, sent=BYTES)
+    session.ask('getMedia', 200)
+
+
+def of_damage(session):
+    """A byte of an object becomes another one in the file of the store, as by its disk, and is put right again."""
+    detail = ' '.join(hashlib.sha256(each).hexdigest() for each in (BYTES, DAMAGED))
+    session.overwrite(BYTES, DAMAGED)
+    session.ask('getMedia', 'ObjectDamaged', detail=detail)
+    session.ask('getObject', 200)
+    session.ask('putMedia', 'OtherBytes', sent=BYTES)
+    session.ask('putMedia', 204, sent=DAMAGED)
+    session.ask('getMedia', 'ObjectDamaged', detail=detail)
+    session.ask('getMedia', 200, {'object_id': 'clip/2'})
+    session.overwrite(DAMAGED, BYTES)
     session.ask('getMedia', 200)
 
 
@@ -447,5 +464,6 @@ def fill(session):
             break
 
 
-STORY = [of_nothing, of_flows, of_parts, of_media, of_segments, of_deletion, of_webhooks, of_rules, of_queries,
-         of_missing, of_wire, of_routes, of_read_only, of_bodies, of_beyond, of_shown, of_defaults, of_deleting]
+STORY = [of_nothing, of_flows, of_parts, of_media, of_damage, of_segments, of_deletion, of_webhooks, of_rules,
+         of_queries, of_missing, of_wire, of_routes, of_read_only, of_bodies, of_beyond, of_shown, of_defaults,
+         of_deleting]

@@ -7,6 +7,7 @@ use Rattle.media_rows.specs.declared.command.Command.{Command}
 use Rattle.media_rows.specs.declared.command.Command.TheVariants as commands
 use Rattle.media_rows.specs.declared.command.Want.TheVariants.{Count, Named}
 use Rattle.media_rows.specs.declared.flow.FormatKind.TheVariants.{Multi}
+use Rattle.media_rows.specs.declared.object.Digest.{Digest}
 use Rattle.media_rows.specs.declared.object.ObjectState.TheVariants.{Stored}
 use Rattle.media_rows.specs.declared.refusal.Refusal.{Refusal}
 use Rattle.media_rows.specs.declared.refusal.Refusal.TheVariants as refusals
@@ -16,7 +17,7 @@ use Rattle.media_rows.specs.declared.reply.Reply.TheVariants as replies
 use Rattle.media_rows.specs.declared.request.DeleteRow.{DeleteRow}
 use Rattle.media_rows.specs.declared.request.DeleteStatus.TheVariants as statuses
 use Rattle.media_rows.specs.declared.segment.Segment.{Segment}
-use Rattle.media_rows.specs.Answer.{Outcome, answer, refusal_of, made_id, is_taken, put_media_answer}
+use Rattle.media_rows.specs.Answer.{Outcome, answer, refusal_of, made_id, is_taken, put_media_answer, whole_media}
 use Rattle.media_rows.specs.Changes.{after}
 use Rattle.media_rows.specs.Digests.{digest_of}
 use Rattle.media_rows.specs.Library.{Library}
@@ -184,12 +185,20 @@ one_block = record two_objects { blocks = 1 }
 abbrev pub their_bytes : List (List ℕ)
 their_bytes = codes "xyz" ∷ [] ∷ []
 
--- the reply to a GET of an object of this library; which bytes are kept is no matter
+-- the reply to a GET of an object of this library, where no digest is kept of its bytes
 abbrev pub media_of : Library → List ℕ → Reply
 media_of library object = get_media_reply (record { library = library; held = [] }) object
 
+-- digests of which one half is another
+abbrev pub other_high : Digest
+other_high = record { high = 1; low = 0 }
+
+abbrev pub other_low : Digest
+other_low = record { high = 0; low = 1 }
+
 -- The first bytes of an object take the least free place, with their digest, equal bytes change
 -- nothing, and others are refused. An object without bytes is stored even where no block is free.
+-- Bytes are given where they have the digest that is kept, if one is.
 pub record MediaAreKept : Type 0 where
   pub unknown : put_media_answer empty_store [] (codes "a") (codes "xyz") 5
       ≡ leaves (replies.Refused refusals.UnknownObject)
@@ -209,6 +218,12 @@ pub record MediaAreKept : Type 0 where
   pub given_other : media_of studio (codes "b") ≡ replies.Media 4097
   pub not_given : media_of two_objects (codes "b") ≡ replies.Refused refusals.UnknownObject
   pub not_kept : media_of studio (codes "z") ≡ replies.Refused refusals.UnknownObject
+  pub no_digest_kept : whole_media 3 None no_digest ≡ replies.Media 3
+  pub same_digest : whole_media 3 (Some no_digest) no_digest ≡ replies.Media 3
+  pub other_front : whole_media 3 (Some no_digest) other_high
+      ≡ replies.Refused (refusals.ObjectDamaged no_digest other_high)
+  pub other_back : whole_media 3 (Some no_digest) other_low
+      ≡ replies.Refused (refusals.ObjectDamaged no_digest other_low)
 
 -- the archive of a stored object and an allocated one
 abbrev pub archive : Archive

@@ -33,7 +33,8 @@ pub fn ids_are_made()
 {}
 
 /// The first bytes of an object take the least free place, equal bytes change nothing, and others
-/// are refused. An object without bytes is stored even where no block is free.
+/// are refused. An object without bytes is stored even where no block is free. Bytes are given where
+/// they have the digest that is kept, if one is.
 pub fn media_are_kept()
     ensures { MediaAreKept }
 {}

@@ -30,3 +30,4 @@ pub mod SoundLemmas
 mod ReplyLemmas
 pub mod SortedLemmas
 pub mod MediaKept
+pub mod MediaGiven

@@ -1,16 +1,19 @@
 -- Laws of a library together with the bytes of its objects.
-use Rattle.std.specs.Prelude.{◌≡◌, ℕ, IsTrue, List, Contains, Some, None, IfSome, length}
+use Rattle.std.specs.Prelude.{◌≡◌, ℕ, IsTrue, List, Contains, Option, Some, None, IfSome, length}
 use Rattle.media_rows.specs.declared.change.Change.{Change}
 use Rattle.media_rows.specs.declared.change.Change.TheVariants as changes
+use Rattle.media_rows.specs.declared.object.Digest.{Digest}
 use Rattle.media_rows.specs.declared.object.ObjectRow.{ObjectRow}
+use Rattle.media_rows.specs.declared.object.ObjectState.TheVariants.{Stored}
+use Rattle.media_rows.specs.declared.reply.Reply.TheVariants.{Media}
 use Rattle.media_rows.specs.Apply.{is_allowed, applied}
 use Rattle.media_rows.specs.Changes.{after}
 use Rattle.media_rows.specs.Digests.{digest_of}
 use Rattle.media_rows.specs.Good.{Good}
 use Rattle.media_rows.specs.Library.{Library}
-use Rattle.media_rows.specs.Media.{Archive, is_held, Question, puts, answer_to, is_good_question, archive_after, fits_bytes, HasDigests, NamesDigest}
+use Rattle.media_rows.specs.Media.{Archive, is_held, Question, puts, answer_to, is_good_question, archive_after, fits_bytes, get_media_reply, HasDigests, NamesDigest}
 use Rattle.media_rows.specs.Moments.{is_moment}
-use Rattle.media_rows.specs.Objects.{is_stored, bytes_of, blocks_of}
+use Rattle.media_rows.specs.Objects.{is_stored, object_of, bytes_of, blocks_of}
 use Rattle.library_laws.specs.Laws.{AppliesWithin, IsLeastPlace}
 
 -- a good library, whose objects' bytes have their lengths
@@ -64,3 +67,11 @@ abbrev pub QuestionsApply : Type 0
 QuestionsApply = (archive : Archive) (question : Question) (moment : ℕ) → Good archive.library
     → IsTrue (is_good_question archive.library question) → IsTrue (is_moment moment)
     → IfSome (answer_to archive question moment).change (AppliesWithin archive.library)
+
+-- where each stored object has the digest of its bytes, a question for the bytes of one is answered
+-- with their length, and never as damage
+abbrev pub WholeAreGiven : Type 0
+WholeAreGiven = (archive : Archive) (object : List ℕ) (row : ObjectRow) (start size : ℕ)
+    (digest : Option Digest) → HasDigests archive
+    → object_of object archive.library.objects ≡ Some row
+    → row.state ≡ Stored start size digest → get_media_reply archive object ≡ Media size

@@ -19,7 +19,9 @@ pub use crate::laws::{
     turns_are_bounded,
 };
 pub use crate::lists::lists_are_told;
-pub use crate::media::{bytes_fit, bytes_stay, digests_stay, puts_apply, questions_apply};
+pub use crate::media::{
+    bytes_fit, bytes_stay, digests_stay, puts_apply, questions_apply, whole_are_given,
+};
 pub use crate::rows::{
     equal_rows_are_one_library, keys_give_ids, refusals_are_tabled, rows_give_the_library,
     rows_rise, sources_have_their_parts,

@@ -1,5 +1,5 @@
 //! Laws of a library together with the bytes of its objects.
-ghost use Rattle.library_laws.specs.MediaLaws.{BytesFit, BytesStay, DigestsStay, PutsApply, QuestionsApply};
+ghost use Rattle.library_laws.specs.MediaLaws.{BytesFit, BytesStay, DigestsStay, PutsApply, QuestionsApply, WholeAreGiven};
 
 /// After a change, too, each stored object's bytes have its length.
 pub fn bytes_fit()
@@ -25,4 +25,9 @@ pub fn puts_apply()
 /// Where a question is answered with a change, the change applies, unless the serials would end.
 pub fn questions_apply()
     ensures { QuestionsApply }
+{}
+
+/// Where each stored object has the digest of its bytes, the bytes of each are given.
+pub fn whole_are_given()
+    ensures { WholeAreGiven }
 {}

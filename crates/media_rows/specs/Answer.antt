@@ -2,7 +2,7 @@
 -- in their order, and its reply where none stands. That a change doesn't fit the journal is no
 -- matter of the library, and is added by the state above it. Our own profile of the
 -- Time-addressable Media Store.
-use Rattle.std.specs.Prelude.{ℕ, ◌+◌, ◌==◌, nat_le, List, [], ◌∷◌, ◌++◌, Bool, true, false, not, ◌||◌, Option, Some, None, is_some, Result, Ok, Err, if◌then◌else◌, map, length, nat_eq, bytes_eq, codes, decimal}
+use Rattle.std.specs.Prelude.{ℕ, ◌+◌, ◌==◌, nat_le, List, [], ◌∷◌, ◌++◌, Bool, true, false, not, ◌&&◌, ◌||◌, Option, Some, None, is_some, Result, Ok, Err, if◌then◌else◌, map, length, nat_eq, bytes_eq, codes, decimal}
 use Rattle.std.specs.List.{starts_with}
 use Rattle.time_range.specs.declared.ranges.Span.{Span}
 use Rattle.media_rows.specs.declared.change.Change.{Change}
@@ -11,6 +11,7 @@ use Rattle.media_rows.specs.declared.command.Command.{Command}
 use Rattle.media_rows.specs.declared.command.Command.TheVariants as commands
 use Rattle.media_rows.specs.declared.command.Want.{Want}
 use Rattle.media_rows.specs.declared.command.Want.TheVariants.{Count, Named}
+use Rattle.media_rows.specs.declared.object.Digest.{Digest}
 use Rattle.media_rows.specs.declared.object.ObjectRow.{ObjectRow}
 use Rattle.media_rows.specs.declared.object.ObjectState.{ObjectState}
 use Rattle.media_rows.specs.declared.object.ObjectState.TheVariants.{Allocated, Stored}
@@ -274,13 +275,27 @@ put_media_answer library held object bytes moment =
     object bytes moment)
     (stored_put (bytes_eq (bytes_of object library.objects held) bytes))
 
--- the length of an object's bytes, where they are stored; an allocated object has none to give
-abbrev pub media_answer : ObjectState → Reply
-media_answer Allocated = replies.Refused refusals.UnknownObject
-media_answer (Stored start size digest) = replies.Media size
+-- two digests are one
+abbrev pub digest_eq : Digest → Digest → Bool
+digest_eq a b = (a.high == b.high) && (a.low == b.low)
+
+-- the length of a stored object's bytes; or, where the digest that is kept of them isn't the one
+-- that they have, that they were damaged
+abbrev pub whole_media : ℕ → Option Digest → Digest → Reply
+whole_media size None found = replies.Media size
+whole_media size (Some kept) found =
+    if digest_eq kept found
+    then replies.Media size
+    else replies.Refused (refusals.ObjectDamaged kept found)
+
+-- the reply to a question for the bytes of an object in this state, where these are its bytes; an
+-- allocated object has none to give
+abbrev pub media_answer : ObjectState → List ℕ → Reply
+media_answer Allocated bytes = replies.Refused refusals.UnknownObject
+media_answer (Stored start size digest) bytes = whole_media size digest (digest_of bytes)
 
 -- the same of an object that may be missing, where one that isn't kept is as unknown as one without
 -- bytes
-abbrev pub media_reply : Option ObjectRow → Reply
-media_reply None = replies.Refused refusals.UnknownObject
-media_reply (Some row) = media_answer row.state
+abbrev pub media_reply : Option ObjectRow → List ℕ → Reply
+media_reply None bytes = replies.Refused refusals.UnknownObject
+media_reply (Some row) bytes = media_answer row.state bytes

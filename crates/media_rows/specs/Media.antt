@@ -43,9 +43,12 @@ pub data Question : Type 0 where
   puts : List ℕ → List ℕ → Question
   gets : List ℕ → Question
 
--- the reply to a GET of an object's bytes: their length, where the object is kept and stored
+-- the reply to a GET of an object's bytes: their length, where the object is kept and stored and
+-- they have the digest that is kept of them
 abbrev pub get_media_reply : Archive → List ℕ → Reply
-get_media_reply archive object = media_reply (object_of object archive.library.objects)
+get_media_reply archive object =
+    media_reply (object_of object archive.library.objects)
+    (bytes_of object archive.library.objects archive.held)
 
 -- the reply to a question at a moment, and its change
 abbrev pub answer_to : Archive → Question → ℕ → Outcome

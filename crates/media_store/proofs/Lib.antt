@@ -3,6 +3,7 @@ pub mod Planning
 pub mod Commands
 mod Written
 mod Places
+mod Probing
 mod Storing
 pub mod Outcomes
 pub mod PutFacts

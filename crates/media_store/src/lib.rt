@@ -6,11 +6,13 @@ mod commits;
 mod fault;
 mod opening;
 mod pieces;
+mod probes;
 mod puts;
 mod store;
 mod turns;
 
 pub use crate::fault::StoreFault;
+pub use crate::probes::Probe;
 pub use crate::puts::{PIECE, Put};
 pub use crate::store::Store;
 pub use crate::turns::TurnMade;

@@ -1,15 +1,16 @@
 //! The store and its looks.
-ghost use Rattle.std.specs.Prelude.{◌≡◌, is_some};
+ghost use Rattle.std.specs.Prelude.{◌≡◌, IfOk, is_some};
 ghost use Rattle.media_rows.specs.Good.{Good};
 ghost use Rattle.media_rows.specs.Objects.{object_of};
-ghost use Rattle.store_core.specs.Prepared.{counts_of};
+ghost use Rattle.store_core.specs.Prepared.{counts_of, stored_objects};
 ghost use Rattle.store_states.specs.States.{media_start};
 ghost use Rattle.media_store.specs.Stores.{extent_of};
 
 use crate::Put;
-use disk_trait::Text;
+use disk_trait::{Memory, Text};
 use media_journal::{BLOCK, Journal};
-use media_rows::{Extent, ObjectState};
+use media_rows::{Extent, ObjectList, ObjectState};
+use std::alloc::Global;
 use std::marker::Model;
 use store_core::{Core, Counts};
 
@@ -77,6 +78,13 @@ impl Store {
         ensures { result ≡ counts_of self.now.kept.library }
     {
         self.library.counts()
+    }
+
+    /// The rows of all stored objects, by rising serial.
+    pub fn stored(&self, alloc: Global) -> Result<ObjectList, Memory>
+        ensures { IfOk result (λ rows. rows ≡ stored_objects self.now.kept.library.objects) }
+    {
+        self.library.stored(alloc)
     }
 
     /// Where the bytes of the object of this id lie, in media blocks and bytes; `None` exactly where it isn't

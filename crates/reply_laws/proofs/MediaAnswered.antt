@@ -5,12 +5,15 @@ use Rattle.std.proofs.lemmas.Bool.{cond_both}
 use Rattle.change_codec.specs.Fitting.{State, fits}
 use Rattle.json_replies.specs.Texts.{has_reply_texts}
 use Rattle.media_rows.specs.declared.change.Change.{Change}
+use Rattle.media_rows.specs.declared.object.Digest.{Digest}
 use Rattle.media_rows.specs.declared.object.ObjectRow.{ObjectRow}
 use Rattle.media_rows.specs.declared.object.ObjectState.{ObjectState}
 use Rattle.media_rows.specs.declared.object.ObjectState.TheVariants.{Allocated, Stored}
-use Rattle.media_rows.specs.declared.refusal.Refusal.TheVariants.{JournalFull}
-use Rattle.media_rows.specs.declared.reply.Reply.TheVariants.{Refused}
-use Rattle.media_rows.specs.Answer.{Outcome, unchanged, put_answer_by, put_by_state, placed_put, stored_put, media_answer, media_reply}
+use Rattle.media_rows.specs.declared.refusal.Refusal.TheVariants.{JournalFull, ObjectDamaged}
+use Rattle.media_rows.specs.declared.reply.Reply.{Reply}
+use Rattle.media_rows.specs.declared.reply.Reply.TheVariants.{Media, Refused}
+use Rattle.media_rows.specs.Answer.{Outcome, unchanged, put_answer_by, put_by_state, placed_put, stored_put, digest_eq, media_answer, media_reply, whole_media}
+use Rattle.media_rows.specs.Digests.{digest_of}
 use Rattle.media_rows.specs.Objects.{object_of, free_place, blocks_of, bytes_of}
 use Rattle.store_states.specs.Fitting.{fitted_by}
 use Rattle.reply_laws.specs.Replies.{FittedHaveTexts, MediaAnswersHaveTexts}
@@ -35,13 +38,18 @@ by_row : (row : Option ObjectRow) (first second : Outcome) → Printed first →
 by_row None first second h k = record { is = refl }
 by_row (Some row) first second h k = by_state row.state first second h k
 
-given_state : (state : ObjectState) → has_reply_texts (media_answer state) ≡ true
-given_state Allocated = refl
-given_state (Stored start size digest) = refl
+by_digest : (size : ℕ) (digest : Option Digest) (found : Digest) → has_reply_texts (whole_media size digest found) ≡ true
+by_digest size None found = refl
+by_digest size (Some kept) found =
+    cond_both (digest_eq kept found) (Media size) (Refused (ObjectDamaged kept found)) (λ (r : Reply). has_reply_texts r ≡ true) (λ same. refl) (λ other. refl)
 
-given : (row : Option ObjectRow) → has_reply_texts (media_reply row) ≡ true
-given None = refl
-given (Some row) = given_state row.state
+given_state : (state : ObjectState) (bytes : List ℕ) → has_reply_texts (media_answer state bytes) ≡ true
+given_state Allocated bytes = refl
+given_state (Stored start size digest) bytes = by_digest size digest (digest_of bytes)
+
+given : (row : Option ObjectRow) (bytes : List ℕ) → has_reply_texts (media_reply row bytes) ≡ true
+given None bytes = refl
+given (Some row) bytes = given_state row.state bytes
 
 pub media_answers_have_texts : MediaAnswersHaveTexts
 media_answers_have_texts = record {
@@ -49,7 +57,7 @@ media_answers_have_texts = record {
       (by_row (object_of object archive.library.objects) _ _
       (placed (free_place archive.library.objects archive.library.blocks (blocks_of (length bytes))) object bytes moment)
       (again (bytes_eq (bytes_of object archive.library.objects archive.held) bytes))).is;
-  get = λ archive object moment. given (object_of object archive.library.objects);
+  get = λ archive object moment. given (object_of object archive.library.objects) (bytes_of object archive.library.objects archive.held);
 }
 
 -- ---- the journal

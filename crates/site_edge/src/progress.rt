@@ -12,17 +12,20 @@ const BYTES_PER_MIB: u64 = 1_048_576;
 pub(crate) struct Progress {
     aside: Aside,
     word: &'static str,
+    /// Bytes of the file, as many as there are to be read at most.
+    most: u64,
     next: u64,
     read: u64,
     written: u64,
 }
 
 impl Progress {
-    /// That of what this word names.
-    pub(crate) fn new(aside: Aside, word: &'static str) -> Progress {
+    /// That of what this word names, over a file of so many bytes.
+    pub(crate) fn new(aside: Aside, word: &'static str, size: u64) -> Progress {
         Progress {
             aside,
             word,
+            most: size,
             next: UNSHOWN,
             read: 0,
             written: 0,
@@ -52,10 +55,11 @@ impl Progress {
         self.next = spent.saturating_add(PROGRESS_STEP);
         let seconds = spent / MICROS_PER_SECOND;
         let read = self.read / BYTES_PER_MIB;
+        let most = self.most / BYTES_PER_MIB;
         let written = self.written / BYTES_PER_MIB;
         let word = self.word;
         self.aside.show(format_args!(
-            "{word}: {seconds} s, {read} MiB read, {written} MiB written"
+            "{word}: {seconds} s, {read} of at most {most} MiB read, {written} MiB written"
         ));
     }
 }

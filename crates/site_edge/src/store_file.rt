@@ -108,7 +108,7 @@ impl StoreFile {
         ensures { self.new ≡ self.old }
     {
         if aside.shows() {
-            self.progress = Some(Progress::new(aside, word));
+            self.progress = Some(Progress::new(aside, word, self.size));
         }
     }
 

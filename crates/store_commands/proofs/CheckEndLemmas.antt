@@ -7,11 +7,12 @@ use Rattle.store_states.specs.States.{StandsFor, StoreState}
 use Rattle.tams_outcomes.specs.Statuses.{exit_of, no_disk_fault}
 use Rattle.tams_outcomes.specs.Touching.{IsDoneOrRefused, Untouched}
 use Rattle.tams_outcomes.specs.declared.outcome.RunOutcome.{RunOutcome}
-use Rattle.tams_outcomes.specs.declared.outcome.RunOutcome.TheVariants.{Formatted, Checked, Worked, Served, Generated, BadWords, NotStore, AlreadyStore, TooSmall, Damaged, OldForm, DiskFault, NoMemory, LinkFault}
+use Rattle.tams_outcomes.specs.declared.outcome.RunOutcome.TheVariants.{Formatted, Checked, Worked, Served, Generated, BadWords, NotStore, AlreadyStore, TooSmall, Damaged, DamagedObject, OldForm, DiskFault, NoMemory, LinkFault}
 use Rattle.tams_outcomes.proofs.TouchingLemmas.{no_disk}
-use Rattle.store_commands.specs.Opening.{StandsForNone}
 use Rattle.store_commands.proofs.OpeningLemmas.{damage_found, none_found, other_found}
-use Rattle.store_commands.specs.CheckEnds.{CheckCause, CheckEnds, counts_in}
+use Rattle.store_commands.specs.CheckEnds.{CheckCause, CheckEnds, RefusesCheck, counts_in}
+use Rattle.store_commands.specs.Probing.{AreWhole}
+use Rattle.store_commands.proofs.ProbingLemmas.{damaged_not_whole}
 
 module _ (old new : Device) where
   -- it writes nothing
@@ -19,29 +20,39 @@ module _ (old new : Device) where
   check_untouched (Checked counts) ends = ends.1
   check_untouched NotStore ends = ends.1
   check_untouched (Damaged at) ends = ends.1
+  check_untouched (DamagedObject damaged) ends = ends.1
   check_untouched OldForm ends = ends.1
   check_untouched DiskFault ends = ends
   check_untouched NoMemory ends = ends
   check_untouched _ ends = absurd ends
 
   pub check_refused : RefusedStandForNone → (o : RunOutcome) → CheckCause old new o → exit_of o ≡ 2
-      → Untouched old new × (old.shows ≡ true → StandsForNone old.seen)
-  check_refused none NotStore ends s = none_found old new ends
-  check_refused none (Damaged at) ends s = damage_found old new none at ends
-  check_refused none OldForm ends s = other_found old new none ends
+      → Untouched old new × (old.shows ≡ true → RefusesCheck old.seen)
+  check_refused none NotStore ends s = let found = none_found old new ends in (found.0, λ shows. inl (found.1 shows))
+  check_refused none (Damaged at) ends s = let found = damage_found old new none at ends in (found.0, λ shows. inl (found.1 shows))
+  check_refused none OldForm ends s = let found = other_found old new none ends in (found.0, λ shows. inl (found.1 shows))
+  check_refused none (DamagedObject damaged) ends s = (
+    ends.1,
+    λ shows.
+        let has = ends.0 shows in
+        let (from, stands) = has.stands in
+        inr (record { from = from; stands = stands; damaged = damaged_not_whole from.archive damaged (has.first from stands) }),
+  )
   check_refused none AlreadyStore ends s = absurd ends
   check_refused none TooSmall ends s = absurd ends
   check_refused none _ ends s = absurd (omega (arith, s))
 
-  pub check_only : (o : RunOutcome) → CheckCause old new o → old.shows ≡ true → StandsForNone old.seen
+  pub check_only : (o : RunOutcome) → CheckCause old new o → old.shows ≡ true → RefusesCheck old.seen
       → (exit_of o ≡ 2) ⊎ ((exit_of o ≡ 3) ⊎ (exit_of o ≡ 4))
-  check_only (Checked counts) ends shows none = let stood = (ends.0 shows).stands in absurd (none stood.0 stood.1)
-  check_only NotStore ends shows none = inl refl
-  check_only (Damaged at) ends shows none = inl refl
-  check_only OldForm ends shows none = inl refl
-  check_only DiskFault ends shows none = inr (inl refl)
-  check_only NoMemory ends shows none = inr (inr refl)
-  check_only _ ends shows none = absurd ends
+  check_only (Checked counts) ends shows (inl none) = let stood = (ends.0 shows).stands in absurd (none stood.0 stood.1)
+  check_only (Checked counts) ends shows (inr has) = absurd (has.damaged ((ends.0 shows).whole has.from has.stands))
+  check_only NotStore ends shows refuses = inl refl
+  check_only (Damaged at) ends shows refuses = inl refl
+  check_only (DamagedObject damaged) ends shows refuses = inl refl
+  check_only OldForm ends shows refuses = inl refl
+  check_only DiskFault ends shows refuses = inr (inl refl)
+  check_only NoMemory ends shows refuses = inr (inr refl)
+  check_only _ ends shows refuses = absurd ends
 
   -- a store that was checked has the counts of the state for which the file stands
   check_done : (o : RunOutcome) → CheckCause old new o → exit_of o ≡ 0 → old.shows ≡ true → (from : StoreState) → StandsFor old.seen from
@@ -53,11 +64,22 @@ module _ (old new : Device) where
   check_done (Generated run) ends s shows from stands = absurd ends
   check_done _ ends s shows from stands = absurd (omega (arith, s))
 
+  -- and each object of it is whole
+  check_probed : (o : RunOutcome) → CheckCause old new o → exit_of o ≡ 0 → old.shows ≡ true → (from : StoreState) → StandsFor old.seen from
+      → AreWhole from.archive
+  check_probed (Checked counts) ends s shows from stands = (ends.0 shows).whole from stands
+  check_probed (Formatted blocks half media) ends s shows from stands = absurd ends
+  check_probed (Worked turns) ends s shows from stands = absurd ends
+  check_probed (Served requests changes skipped) ends s shows from stands = absurd ends
+  check_probed (Generated run) ends s shows from stands = absurd ends
+  check_probed _ ends s shows from stands = absurd (omega (arith, s))
+
   -- where no call of the disk failed
   check_whole : (o : RunOutcome) → CheckCause old new o → (o ≡ DiskFault → ⊥) → IsDoneOrRefused o
   check_whole (Checked counts) ends held = inl refl
   check_whole NotStore ends held = inr (inl refl)
   check_whole (Damaged at) ends held = inr (inl refl)
+  check_whole (DamagedObject damaged) ends held = inr (inl refl)
   check_whole OldForm ends held = inr (inl refl)
   check_whole NoMemory ends held = inr (inr refl)
   check_whole DiskFault ends held = absurd (held refl)
@@ -77,6 +99,7 @@ module _ (old new : Device) where
   check_ends o disk cause = record {
     causes = cause;
     line = check_done o cause;
+    whole = check_probed o cause;
     completeness = λ none. check_whole o cause (no_disk old new o disk none);
     untouched = check_untouched o cause;
   }
@@ -86,6 +109,7 @@ module _ (old new : Device) where
   check_starved untouched = record {
     causes = untouched;
     line = λ s. absurd (omega (arith, s));
+    whole = λ s. absurd (omega (arith, s));
     completeness = λ none. inr (inr refl);
     untouched = untouched;
   }

@@ -9,7 +9,7 @@ use Rattle.store_states.specs.States.{StandsFor}
 use Rattle.tams_outcomes.specs.Statuses.{exit_of, no_disk_fault}
 use Rattle.tams_outcomes.specs.Touching.{IsDoneOrRefused, Untouched}
 use Rattle.tams_outcomes.specs.declared.outcome.RunOutcome.{RunOutcome}
-use Rattle.tams_outcomes.specs.declared.outcome.RunOutcome.TheVariants.{Formatted, Checked, Worked, Served, Generated, BadWords, NotStore, AlreadyStore, TooSmall, Damaged, OldForm, DiskFault, NoMemory, LinkFault}
+use Rattle.tams_outcomes.specs.declared.outcome.RunOutcome.TheVariants.{Formatted, Checked, Worked, Served, Generated, BadWords, NotStore, AlreadyStore, TooSmall, Damaged, DamagedObject, OldForm, DiskFault, NoMemory, LinkFault}
 use Rattle.tams_outcomes.proofs.TouchingLemmas.{no_disk}
 use Rattle.store_commands.specs.FormatEnds.{FormatCause, FormatEnds, FormatMoments}
 use Rattle.store_commands.specs.Formatting.{empty_rows, formatted_state}
@@ -22,6 +22,7 @@ module _ (old new : Device) (h : Header) where
   format_refused TooSmall ends s = (ends.1, λ shows. inr ((ends.0 shows).1))
   format_refused NotStore ends s = absurd ends
   format_refused (Damaged at) ends s = absurd ends
+  format_refused (DamagedObject damaged) ends s = absurd ends
   format_refused OldForm ends s = absurd ends
   format_refused _ ends s = absurd (omega (arith, s))
 

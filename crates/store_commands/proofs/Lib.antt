@@ -3,6 +3,7 @@ pub mod OpeningLemmas
 pub mod FormatEndLemmas
 pub mod FormattingLemmas
 mod FreshLemmas
+mod ProbingLemmas
 mod CheckLemmas
 pub mod CheckEndLemmas
 pub mod WorkEndLemmas

@@ -12,7 +12,7 @@ use Rattle.store_opening.specs.Opening.{StoreAnswer}
 use Rattle.tams_outcomes.specs.Statuses.{exit_of}
 use Rattle.tams_outcomes.specs.Touching.{Untouched}
 use Rattle.tams_outcomes.specs.declared.outcome.RunOutcome.{RunOutcome}
-use Rattle.tams_outcomes.specs.declared.outcome.RunOutcome.TheVariants.{Served, BadWords, Cut, NotStore, AlreadyStore, TooSmall, Damaged, OldForm, DiskFault, NoMemory, LinkFault}
+use Rattle.tams_outcomes.specs.declared.outcome.RunOutcome.TheVariants.{Served, BadWords, Cut, NotStore, AlreadyStore, TooSmall, Damaged, DamagedObject, OldForm, DiskFault, NoMemory, LinkFault}
 use Rattle.store_commands.specs.Opening.{DamageFound, NoStoreFound, OpenedCause, OtherFormFound, StandsForNone, opening_outcome}
 
 -- an image that is no store stands for no state
@@ -55,6 +55,7 @@ module _ (old new : Device) where
   opened_refused none OldForm cause s = other_found none cause
   opened_refused none AlreadyStore cause s = absurd cause
   opened_refused none TooSmall cause s = absurd cause
+  opened_refused none (DamagedObject damaged) cause s = absurd cause
   opened_refused none _ cause s = absurd (omega (arith, s))
 
   pub opened_only : (o : RunOutcome) → OpenedCause old new o → old.shows ≡ true → StandsForNone old.seen

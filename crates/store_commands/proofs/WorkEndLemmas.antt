@@ -7,7 +7,7 @@ use Rattle.store_opening.specs.Laws.{RefusedStandForNone}
 use Rattle.tams_outcomes.specs.Statuses.{exit_of, no_disk_fault}
 use Rattle.tams_outcomes.specs.Touching.{IsDoneOrRefused, Untouched}
 use Rattle.tams_outcomes.specs.declared.outcome.RunOutcome.{RunOutcome}
-use Rattle.tams_outcomes.specs.declared.outcome.RunOutcome.TheVariants.{Worked, BadWords, NotStore, AlreadyStore, TooSmall, Damaged, OldForm, DiskFault, NoMemory, LinkFault}
+use Rattle.tams_outcomes.specs.declared.outcome.RunOutcome.TheVariants.{Worked, BadWords, NotStore, AlreadyStore, TooSmall, Damaged, DamagedObject, OldForm, DiskFault, NoMemory, LinkFault}
 use Rattle.tams_outcomes.proofs.TouchingLemmas.{no_disk}
 use Rattle.store_commands.specs.Opening.{StandsForNone}
 use Rattle.store_commands.proofs.OpeningLemmas.{damage_found, none_found, other_found}
@@ -23,6 +23,7 @@ module _ (old new : Device) where
   work_refused none OldForm cause s = other_found old new none cause
   work_refused none AlreadyStore cause s = absurd cause
   work_refused none TooSmall cause s = absurd cause
+  work_refused none (DamagedObject damaged) cause s = absurd cause
   work_refused none _ cause s = absurd (omega (arith, s))
 
   pub work_only : (o : RunOutcome) → WorkCause old new o → old.shows ≡ true → StandsForNone old.seen

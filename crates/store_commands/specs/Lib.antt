@@ -3,6 +3,7 @@ pub mod Opening
 pub mod Formatting
 pub mod FormatEnds
 pub mod Fresh
+pub mod Probing
 pub mod CheckEnds
 pub mod Working
 pub mod WorkEnds

@@ -8,6 +8,7 @@ mod generating;
 mod laws;
 mod opening;
 mod premises;
+mod probing;
 mod serving;
 mod still_clock;
 mod working;

@@ -1,8 +1,9 @@
 -- What a library prepares for a command or a turn, and which changes it applies. Our own rules.
-use Rattle.std.specs.Prelude.{◌≡◌, ℕ, List, Bool, false, IsTrue, Option, Some, None, is_some, option_map, Result, Ok, Err, if◌then◌else◌}
+use Rattle.std.specs.Prelude.{◌≡◌, ℕ, List, Bool, false, IsTrue, Option, Some, None, is_some, option_map, filter, Result, Ok, Err, if◌then◌else◌}
 use Rattle.media_rows.specs.declared.change.Change.{Change}
 use Rattle.media_rows.specs.declared.change.Change.TheVariants as changes
 use Rattle.media_rows.specs.declared.object.Digest.{Digest}
+use Rattle.media_rows.specs.declared.object.ObjectRow.{ObjectRow}
 use Rattle.media_rows.specs.declared.refusal.BookFault.{BookFault}
 use Rattle.media_rows.specs.declared.refusal.BookFault.TheVariants as books
 use Rattle.media_rows.specs.declared.refusal.Refusal.{Refusal}
@@ -13,6 +14,7 @@ use Rattle.media_rows.specs.Apply.{applied, passes_serials, turn}
 use Rattle.media_rows.specs.Changes.{after}
 use Rattle.media_rows.specs.Good.{Good}
 use Rattle.media_rows.specs.Library.{Library}
+use Rattle.media_rows.specs.Objects.{is_stored}
 use Rattle.media_book.specs.Media.{media_of, serial_in, stored_bytes}
 use Rattle.core_parts.specs.Parts.{library_digested}
 use Rattle.webhook_outbox.specs.Delivered.{counted}
@@ -30,6 +32,10 @@ counts_of library = record {
   events = counted library.outbox.events;
   bytes = stored_bytes library.objects;
 }
+
+-- the rows of the stored objects
+abbrev pub stored_objects : List ObjectRow → List ObjectRow
+stored_objects objects = filter (λ row. is_stored row.state) objects
 
 -- ---- prepared
 

@@ -1,14 +1,14 @@
 //! The core and its looks.
-ghost use Rattle.std.specs.Prelude.{◌≡◌, ◌≤◌, IfOk, option_copied};
+ghost use Rattle.std.specs.Prelude.{◌≡◌, ◌≤◌, ◌∷◌, ◌++◌, [], IfOk, OnOk, option_copied};
 ghost use Rattle.media_rows.specs.Good.{Good};
 ghost use Rattle.media_rows.specs.Library.{empty_library};
 ghost use Rattle.media_rows.specs.Objects.{free_place, object_of};
-ghost use Rattle.store_core.specs.Prepared.{counts_of};
+ghost use Rattle.store_core.specs.Prepared.{counts_of, stored_objects};
 
 use crate::Prepared;
 use core_parts::Parts;
-use disk_trait::{Memory, Text};
-use media_rows::ObjectRow;
+use disk_trait::{Duplicate, Listed, Memory, Text};
+use media_rows::{ObjectList, ObjectRow, ObjectState};
 use std::alloc::Global;
 use std::marker::Model;
 
@@ -109,10 +109,32 @@ impl Core {
         }
     }
 
+    /// The rows of all stored objects, by rising serial.
+    pub fn stored(&self, alloc: Global) -> Result<ObjectList, Memory>
+        ensures { IfOk result (λ rows. rows ≡ stored_objects self.now.library.objects) }
+    {
+        let objects = self.parts.media().object_rows(alloc)?;
+        let mut stored = Listed::new(alloc);
+        for row in objects.items() {
+            add_stored(alloc, &mut stored, row)?;
+        }
+        Ok(stored)
+    }
+
     /// Becomes what was prepared. It takes no memory.
     pub fn install(&mut self, prepared: Prepared)
         ensures { self.new ≡ prepared.core }
     {
         *self = prepared.core;
+    }
+}
+
+/// Adds the row of an object where it is stored.
+fn add_stored(alloc: Global, stored: &mut ObjectList, row: &ObjectRow) -> Result<(), Memory>
+    ensures { OnOk result (stored.new ≡ stored.old ++ stored_objects (row.now ∷ [])) }
+{
+    match row.state {
+        ObjectState::Allocated => Ok(()),
+        ObjectState::Stored { .. } => stored.push(row.duplicate(alloc)?),
     }
 }

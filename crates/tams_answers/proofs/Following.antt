@@ -9,19 +9,19 @@ use Rattle.media_rows.specs.declared.object.ObjectState.{ObjectState}
 use Rattle.media_rows.specs.declared.object.ObjectState.TheVariants.{Allocated, Stored}
 use Rattle.media_rows.specs.declared.refusal.Refusal.{Refusal}
 use Rattle.media_rows.specs.declared.reply.Reply.{Reply}
-use Rattle.media_rows.specs.Answer.{media_answer, media_reply}
+use Rattle.media_rows.specs.declared.reply.Reply.TheVariants.{Accepted, Created, CreatedObjects, Done, Media, Partly, Refused, Shown}
 use Rattle.media_rows.specs.Media.{Archive}
 use Rattle.media_rows.specs.Objects.{bytes_of, object_of}
 use Rattle.store_states.specs.States.{StoreState, held_in, state_bytes}
 use Rattle.media_store.specs.Stores.{extent_in, extent_of}
 use Rattle.tams_http.specs.declared.ask.Ask.{Ask}
 use Rattle.tams_http.specs.declared.ask.Ask.TheVariants.{GetMedia, PutMedia, Run}
-use Rattle.tams_machine.specs.Answers.{asked_in, object_bytes, outcome_by}
+use Rattle.tams_machine.specs.Answers.{asked_in, object_bytes}
 use Rattle.tams_machine.specs.Requests.{is_head_only}
 use Rattle.tams_answers.specs.Answers.{MediaFollows, media_by, following_bytes}
 
 -- the bytes of an object in an image, if it is kept
-abbrev row_bytes : List ℕ → ℕ → Option ObjectRow → List ℕ
+abbrev pub row_bytes : List ℕ → ℕ → Option ObjectRow → List ℕ
 row_bytes image area None = []
 row_bytes image area (Some row) = state_bytes image area row.state
 
@@ -38,17 +38,13 @@ found_bytes image area object (row ∷ rows) =
     found_step (bytes_eq row.id object) image area row (object_of object rows) (bytes_of object rows (held_in image area rows))
     (found_bytes image area object rows)
 
-by_state : (archive : Archive) (object : List ℕ) (image : List ℕ) (area : ℕ) (state : ObjectState)
-    → bytes_of object archive.library.objects archive.held ≡ state_bytes image area state
-    → object_bytes archive (Ok (GetMedia object)) (media_answer state) ≡ following_bytes area (extent_in state) image
-by_state archive object image area Allocated e = refl
-by_state archive object image area (Stored start size digest) e = e
+by_state : (area : ℕ) (image : List ℕ) (state : ObjectState) → state_bytes image area state ≡ following_bytes area (extent_in state) image
+by_state area image Allocated = refl
+by_state area image (Stored start size digest) = refl
 
-by_row : (archive : Archive) (object : List ℕ) (image : List ℕ) (area : ℕ) (row : Option ObjectRow)
-    → bytes_of object archive.library.objects archive.held ≡ row_bytes image area row
-    → object_bytes archive (Ok (GetMedia object)) (media_reply row) ≡ following_bytes area (extent_of row) image
-by_row archive object image area None e = refl
-by_row archive object image area (Some row) e = by_state archive object image area row.state e
+by_row : (area : ℕ) (image : List ℕ) (row : Option ObjectRow) → row_bytes image area row ≡ following_bytes area (extent_of row) image
+by_row area image None = refl
+by_row area image (Some row) = by_state area image row.state
 
 unless_head : (head_only : Bool) (bytes : List ℕ) (extent : Option Extent) (area : ℕ) (image : List ℕ) → bytes ≡ following_bytes area extent image
     → body_unless head_only bytes ≡ following_bytes area (if head_only then None else extent) image
@@ -59,20 +55,33 @@ no_body : (head_only : Bool) → body_unless head_only [] ≡ []
 no_body true = refl
 no_body false = refl
 
-follows : (s : StoreState) (body : List ℕ) (moment : ℕ) (head_only : Bool) (reply : Reply) (area : ℕ) (image : List ℕ) (asked : Result Ask Refusal)
-    → held_in image area s.archive.library.objects ≡ s.archive.held → reply ≡ (outcome_by s body moment asked).reply
-    → body_unless head_only (object_bytes s.archive asked reply) ≡ following_bytes area (media_by s.archive.library head_only asked) image
-follows s body moment head_only reply area image (Err why) held is = no_body head_only
-follows s body moment head_only reply area image (Ok (Run command)) held is = no_body head_only
-follows s body moment head_only reply area image (Ok (PutMedia object)) held is = no_body head_only
-follows s body moment head_only reply area image (Ok (GetMedia object)) held is =
+-- the bytes of an object, behind a reply
+given : (archive : Archive) (object : List ℕ) (head_only : Bool) (area : ℕ) (image : List ℕ) (reply : Reply)
+    → bytes_of object archive.library.objects archive.held ≡ following_bytes area (extent_of (object_of object archive.library.objects)) image
+    → body_unless head_only (object_bytes archive (Ok (GetMedia object)) reply)
+    ≡ following_bytes area (media_by archive.library head_only (Ok (GetMedia object)) reply) image
+given archive object head_only area image (Media size) bytes =
+    unless_head head_only (bytes_of object archive.library.objects archive.held) (extent_of (object_of object archive.library.objects)) area image bytes
+given archive object head_only area image Created bytes = no_body head_only
+given archive object head_only area image (CreatedObjects ids) bytes = no_body head_only
+given archive object head_only area image (Accepted row) bytes = no_body head_only
+given archive object head_only area image Done bytes = no_body head_only
+given archive object head_only area image (Shown view) bytes = no_body head_only
+given archive object head_only area image (Refused why) bytes = no_body head_only
+given archive object head_only area image (Partly failed) bytes = no_body head_only
+
+follows : (s : StoreState) (head_only : Bool) (reply : Reply) (area : ℕ) (image : List ℕ) (asked : Result Ask Refusal)
+    → held_in image area s.archive.library.objects ≡ s.archive.held
+    → body_unless head_only (object_bytes s.archive asked reply) ≡ following_bytes area (media_by s.archive.library head_only asked reply) image
+follows s head_only reply area image (Err why) held = no_body head_only
+follows s head_only reply area image (Ok (Run command)) held = no_body head_only
+follows s head_only reply area image (Ok (PutMedia object)) held = no_body head_only
+follows s head_only reply area image (Ok (GetMedia object)) held =
     let objects = s.archive.library.objects in
-    let bytes : bytes_of object objects s.archive.held ≡ row_bytes image area (object_of object objects) =
-    ap (bytes_of object objects) (sym held) ∙ found_bytes image area object objects in
-    unless_head head_only (object_bytes s.archive (Ok (GetMedia object)) reply) (extent_of (object_of object objects)) area image
-    (ap (object_bytes s.archive (Ok (GetMedia object))) is ∙ by_row s.archive object image area (object_of object objects) bytes)
+    given s.archive object head_only area image reply
+    (ap (bytes_of object objects) (sym held) ∙ found_bytes image area object objects ∙ by_row area image (object_of object objects))
 
 pub media_follows : MediaFollows
 media_follows base s r moment answer area image answers held =
-    follows s r.body moment (is_head_only (method_kind r.head.method)) answer.planned.reply area image (asked_in s r) held answers.planned.reply
+    follows s (is_head_only (method_kind r.head.method)) answer.planned.reply area image (asked_in s r) held
     ∙ ap (λ (extent : Option Extent). following_bytes area extent image) (sym answers.media)

@@ -1,5 +1,6 @@
 mod Planning
-mod Asked
+mod Founds
+pub mod Probed
 mod Putting
 mod PutAnswers
 pub mod Following

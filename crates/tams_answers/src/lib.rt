@@ -2,12 +2,14 @@
 #![tactic(auto)]
 
 mod answers;
+mod asked;
 mod laws;
 mod media;
 mod plans;
 mod wire;
 
 pub use crate::answers::{Answer, Request, plan_answer};
+pub use crate::asked::Asked;
 pub use crate::laws::media_follows;
 pub use crate::media::{MediaHead, MediaPlan, Responses, plan_media};
 pub use crate::wire::WireResponses;

@@ -1,26 +1,26 @@
 //! What is planned for what a request asks for, before its response.
-ghost use Rattle.std.specs.Prelude.{◌≡◌, ◌≢◌, ℕ, Bool, List, IfOk, IsFalse, IsTrue, Ok, Err, if◌then◌else◌, None};
+ghost use Rattle.std.specs.Prelude.{◌≡◌, ◌≢◌, ℕ, Bool, List, IfOk, IsFalse, IsTrue, Option, Ok, Err};
 ghost use Rattle.json_replies.specs.Texts.{has_refusal_texts};
 ghost use Rattle.media_rows.specs.Moments.{is_moment};
 ghost use Rattle.reply_laws.specs.Asks.{IsGoodFor};
 ghost use Rattle.tams_http.specs.Asked.{ask_of};
-ghost use Rattle.tams_http.specs.Good.{is_command_good};
+ghost use Rattle.tams_http.specs.Good.{is_ask_good, is_command_good};
 ghost use Rattle.tams_http.specs.declared.ask.Ask.TheVariants.{GetMedia, PutMedia, Run};
 ghost use Rattle.tams_machine.specs.Laws.{is_sent};
 ghost use Rattle.tams_machine.specs.Requests.{is_head_only};
-ghost use Rattle.tams_answers.specs.Within.{PlansAsked, reply_at};
+ghost use Rattle.media_store.specs.declared.probes.Probe.{Probe};
+ghost use Rattle.tams_answers.specs.Within.{PlansAsked, following_at, reply_at};
 
 use crate::answers::Request;
+use crate::asked::Asked;
 use disk_trait::{Memory, Text};
 use http_wire::MethodKind;
 use media_rows::{Command, Extent, Refusal, Reply};
-use media_store::Store;
-use reply_laws::{
-    answers_have_texts, ask_refusals_have_texts, asks_are_good, media_answers_have_texts,
-};
+use media_store::{Probe, Store};
+use reply_laws::{answers_have_texts, ask_refusals_have_texts, asks_are_good};
 use std::alloc::Global;
 use store_plans::Planned;
-use tams_http::{Ask, AskFault, Routes};
+use tams_http::{Ask, Routes};
 use tams_machine::requests_send_bytes;
 
 /// What is planned, and where the bytes of an object lie that follow the response.
@@ -30,32 +30,41 @@ pub(crate) struct PlannedAnswer {
     pub(crate) media: Option<Extent>,
 }
 
-/// Plans what a request asks for at a moment, or its refusal.
+/// Plans what a request asks for at a moment, or its refusal. Where it asks for the bytes of a stored object, a
+/// probe has told what they are.
 pub(crate) fn plan_asked(
     alloc: Global,
     routes: &Routes,
     store: &Store,
     request: &Request<'_>,
+    asked: Asked,
+    probe: Option<Probe>,
     now: u64,
 ) -> Result<PlannedAnswer, Memory>
     requires unspent { IsFalse store.now.spent }
     requires moment { IsTrue (is_moment now) }
-    requires no_put { (object : List ℕ) → ask_of routes.now request.now.method request.now.target.now
-        request.now.body.now ≢ Ok (PutMedia object) }
+    requires asked { asked.ask
+        ≡ ask_of routes.now request.now.method request.now.target.now request.now.body.now }
+    requires good { IfOk asked.ask (λ ask. IsTrue (is_ask_good ask)) }
+    requires no_put { (object : List ℕ) → asked.ask ≢ Ok (PutMedia object) }
     ensures { IfOk result (λ made. PlansAsked store.now.kept now (is_head_only request.now.method)
-        (ask_of routes.now request.now.method request.now.target.now request.now.body.now)
-        made.planned made.media) }
+        asked.ask probe made.planned made.media) }
 {
     asks_are_good();
     ask_refusals_have_texts();
     requests_send_bytes();
-    match routes.command_of(alloc, request.method, request.target, request.body) {
+    match asked.ask {
         Ok(Ask::Run(command)) => plan_command(alloc, store, &command, now),
-        Ok(Ask::GetMedia(object)) => plan_get(alloc, store, &object, is_head_only(request.method)),
+        Ok(Ask::GetMedia(object)) => plan_get(
+            alloc,
+            store,
+            &object,
+            probe,
+            is_head_only(request.method),
+        ),
         // A PUT of an object's bytes is planned by `plan_media`.
         Ok(Ask::PutMedia(_)) => unreachable!(),
-        Err(AskFault::Refused(why)) => plan_refusal(alloc, store, why),
-        Err(AskFault::Memory) => Err(Memory),
+        Err(why) => plan_refusal(alloc, store, why),
     }
 }
 
@@ -72,7 +81,7 @@ fn plan_command(
     requires words { IsTrue (is_command_good command.now) }
     requires sent { IsTrue (is_sent (Run command.now)) }
     ensures { IfOk result (λ made. (head_only : Bool)
-        → PlansAsked store.now.kept now head_only (Ok (Run command.now)) made.planned made.media) }
+        → (probe : Option Probe) → PlansAsked store.now.kept now head_only (Ok (Run command.now)) probe made.planned made.media) }
 {
     answers_have_texts();
     store.keeps_good();
@@ -83,30 +92,28 @@ fn plan_command(
     })
 }
 
-/// Plans what is shown of the bytes of an object: their length, where they are stored.
+/// Plans what is shown of the bytes of an object: their length, where they are stored and whole.
 fn plan_get(
     alloc: Global,
     store: &Store,
     object: &Text,
+    probe: Option<Probe>,
     head_only: bool,
 ) -> Result<PlannedAnswer, Memory>
     ensures { IfOk result (λ made. (moment : ℕ) → PlansAsked store.now.kept moment head_only
-        (Ok (GetMedia object.now)) made.planned made.media) }
+        (Ok (GetMedia object.now)) probe made.planned made.media) }
 {
-    media_answers_have_texts();
     let extent = store.extent_of(object);
-    let planned = store.keep(alloc, reply_at(extent))?;
-    Ok(PlannedAnswer {
-        planned,
-        media: unless(head_only, extent),
-    })
+    let planned = store.keep(alloc, reply_at(extent, probe))?;
+    let media = following_at(head_only, &planned.reply, extent);
+    Ok(PlannedAnswer { planned, media })
 }
 
 /// Plans a refusal.
 fn plan_refusal(alloc: Global, store: &Store, why: Refusal) -> Result<PlannedAnswer, Memory>
     requires texts { IsTrue (has_refusal_texts why) }
     ensures { IfOk result (λ made. (moment : ℕ) → (head_only : Bool)
-        → PlansAsked store.now.kept moment head_only (Err why) made.planned made.media) }
+        → (probe : Option Probe) → PlansAsked store.now.kept moment head_only (Err why) probe made.planned made.media) }
 {
     let planned = store.keep(alloc, Reply::Refused(why))?;
     Ok(PlannedAnswer {
@@ -115,21 +122,29 @@ fn plan_refusal(alloc: Global, store: &Store, why: Refusal) -> Result<PlannedAns
     })
 }
 
-/// The reply where bytes of an object lie at this extent, if they lie somewhere.
-fn reply_at(extent: Option<Extent>) -> Reply
-    ensures { result ≡ reply_at extent }
+/// The reply where bytes of an object lie at this extent, if they lie somewhere, and a probe told this of them.
+fn reply_at(extent: Option<Extent>, probe: Option<Probe>) -> Reply
+    ensures { result ≡ reply_at extent probe }
 {
-    match extent {
-        None => Reply::Refused(Refusal::UnknownObject),
-        Some(extent) => Reply::Media(extent.length),
+    let Some(extent) = extent else {
+        return Reply::Refused(Refusal::UnknownObject);
+    };
+    match probe {
+        Some(Probe { kept, found }) if kept != found => {
+            Reply::Refused(Refusal::ObjectDamaged { kept, found })
+        }
+        _ => Reply::Media(extent.length),
     }
 }
 
-/// The extent, unless the response stands alone.
-fn unless(head_only: bool, extent: Option<Extent>) -> Option<Extent>
-    ensures { result ≡ (if head_only then None else extent) }
+/// Where the bytes lie that follow a response with this reply.
+fn following_at(head_only: bool, reply: &Reply, extent: Option<Extent>) -> Option<Extent>
+    ensures { result ≡ following_at head_only reply.now extent }
 {
-    if head_only { None } else { extent }
+    match reply {
+        Reply::Media(_) if !head_only => extent,
+        _ => None,
+    }
 }
 
 /// Whether a response to this method stands without its body.

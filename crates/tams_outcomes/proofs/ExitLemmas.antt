@@ -4,7 +4,7 @@ use Rattle.tams_outcomes.specs.Statuses.{exit_of, number_of}
 use Rattle.tams_outcomes.specs.declared.status.Status.{Status}
 use Rattle.tams_outcomes.specs.declared.status.Status.TheVariants as status
 use Rattle.tams_outcomes.specs.declared.outcome.RunOutcome.{RunOutcome}
-use Rattle.tams_outcomes.specs.declared.outcome.RunOutcome.TheVariants.{Formatted, Checked, Worked, Served, Generated, Cut, BadWords, NotStore, AlreadyStore, TooSmall, Damaged, OldForm, DiskFault, NoMemory, LinkFault}
+use Rattle.tams_outcomes.specs.declared.outcome.RunOutcome.TheVariants.{Formatted, Checked, Worked, Served, Generated, Cut, BadWords, NotStore, AlreadyStore, TooSmall, Damaged, DamagedObject, OldForm, DiskFault, NoMemory, LinkFault}
 
 pub bad_words_by : (o : RunOutcome) → exit_of o ≡ 1 → o ≡ BadWords
 bad_words_by BadWords e = refl
@@ -37,6 +37,7 @@ exit_at_most NotStore = omega arith
 exit_at_most AlreadyStore = omega arith
 exit_at_most TooSmall = omega arith
 exit_at_most (Damaged at) = omega arith
+exit_at_most (DamagedObject damaged) = omega arith
 exit_at_most OldForm = omega arith
 exit_at_most DiskFault = omega arith
 exit_at_most NoMemory = omega arith

@@ -5,12 +5,17 @@ use Rattle.disk_trait.specs.Calls.{IsCounted}
 use Rattle.site_edge.specs.Sinks.{Puts}
 use Rattle.tams_outcomes.specs.declared.outcome.StoreCounts.{StoreCounts}
 use Rattle.tams_outcomes.specs.declared.outcome.WorkloadRun.{WorkloadRun}
+use Rattle.tams_outcomes.specs.declared.outcome.DamagedObject as damaged_object
 use Rattle.tams_outcomes.specs.declared.outcome.RunOutcome.{RunOutcome}
-use Rattle.tams_outcomes.specs.declared.outcome.RunOutcome.TheVariants.{Formatted, Checked, Worked, Served, Generated, Cut, BadWords, NotStore, AlreadyStore, TooSmall, Damaged, OldForm, DiskFault, NoMemory, LinkFault}
+use Rattle.tams_outcomes.specs.declared.outcome.RunOutcome.TheVariants.{Formatted, Checked, Worked, Served, Generated, Cut, BadWords, NotStore, AlreadyStore, TooSmall, Damaged, DamagedObject, OldForm, DiskFault, NoMemory, LinkFault}
+
+-- bytes within a line
+abbrev pub named : List ℕ → List ℕ → List ℕ → List ℕ
+named front bytes rest = (front ++ bytes) ++ rest
 
 -- a number within a line
 abbrev pub numbered : List ℕ → ℕ → List ℕ → List ℕ
-numbered front n rest = (front ++ decimal n) ++ rest
+numbered front n rest = named front (decimal n) rest
 
 -- the end of the line of a run that served
 abbrev pub changes_end : ℕ → List ℕ
@@ -41,6 +46,13 @@ generated_line n =
     (numbered (codes ", objects ") n.kept.objects
     (numbered (codes ", bytes ") n.bytes (codes "\n"))))))))
 
+-- the line of a damaged object: its id, the digest that is kept of its bytes, and the one that they
+-- have
+abbrev pub damaged_line : damaged_object.DamagedObject → List ℕ
+damaged_line damaged =
+    named (codes "damaged object ") damaged.object (named (codes ": kept ") damaged.kept
+    (named (codes ", found ") damaged.found (codes "\n")))
+
 -- the line of each end in the notes
 abbrev pub line_of : RunOutcome → List ℕ
 line_of (Formatted blocks half media) =
@@ -55,6 +67,7 @@ line_of NotStore = codes "not a store\n"
 line_of AlreadyStore = codes "already a store\n"
 line_of TooSmall = codes "too small\n"
 line_of (Damaged at) = numbered (codes "damaged at ") at (codes "\n")
+line_of (DamagedObject damaged) = damaged_line damaged
 line_of OldForm = codes "old store\n"
 line_of DiskFault = codes "disk fault\n"
 line_of NoMemory = codes "no memory\n"

@@ -3,7 +3,7 @@ use Rattle.std.specs.Prelude.{ℕ, Bool, true, false}
 use Rattle.tams_outcomes.specs.declared.status.Status.{Status}
 use Rattle.tams_outcomes.specs.declared.status.Status.TheVariants as status
 use Rattle.tams_outcomes.specs.declared.outcome.RunOutcome.{RunOutcome}
-use Rattle.tams_outcomes.specs.declared.outcome.RunOutcome.TheVariants.{Formatted, Checked, Worked, Served, Generated, Cut, BadWords, NotStore, AlreadyStore, TooSmall, Damaged, OldForm, DiskFault, NoMemory, LinkFault}
+use Rattle.tams_outcomes.specs.declared.outcome.RunOutcome.TheVariants.{Formatted, Checked, Worked, Served, Generated, Cut, BadWords, NotStore, AlreadyStore, TooSmall, Damaged, DamagedObject, OldForm, DiskFault, NoMemory, LinkFault}
 
 -- the number of each status
 abbrev pub number_of : Status → ℕ
@@ -28,6 +28,7 @@ status_of NotStore = status.Refused
 status_of AlreadyStore = status.Refused
 status_of TooSmall = status.Refused
 status_of (Damaged at) = status.Refused
+status_of (DamagedObject damaged) = status.Refused
 status_of OldForm = status.Refused
 status_of DiskFault = status.DiskFault
 status_of NoMemory = status.NoMemory

@@ -1,10 +1,11 @@
 //! What a run ends with, and its line in the notes.
 ghost use Rattle.std.specs.Prelude.{◌≡◌, ◌++◌, is_ok};
-ghost use Rattle.std.specs.Fmt.{decimal};
-ghost use Rattle.tams_outcomes.specs.Lines.{TakesPart, checked_line, generated_line, line_of, served_line};
-ghost use Rattle.tams_outcomes.specs.Parts.{line_by};
+ghost use Rattle.tams_outcomes.specs.Lines.{TakesPart, checked_line, damaged_line, generated_line, line_of, served_line};
+ghost use Rattle.tams_outcomes.specs.Parts.{line_by, part_by, shown_by};
+ghost use Rattle.tams_outcomes.specs.declared.outcome.Shown.TheVariants.{Bytes, Number};
 
 use crate::status::Status;
+use disk_trait::Text;
 use itoa::Buffer;
 use site_edge::{Sink, SinkFailed};
 
@@ -31,8 +32,17 @@ pub struct WorkloadRun {
     pub bytes: u64,
 }
 
+/// A stored object whose bytes haven't the digest that is kept of them: its id, and the kept and the found
+/// digest in 64 hexadecimal digits each.
+#[derive(Drop)]
+pub struct DamagedObject {
+    pub object: Text,
+    pub kept: Text,
+    pub found: Text,
+}
+
 /// How a run ended.
-#[derive(Clone, Copy, Debug, PartialEq, Eq)]
+#[derive(Drop)]
 pub enum RunOutcome {
     /// A store of so many blocks was made, with so many a half and so many for media.
     Formatted {
@@ -60,6 +70,8 @@ pub enum RunOutcome {
     TooSmall,
     /// The file stands for no library from this offset on, in bytes.
     Damaged(u64),
+    /// The bytes of a stored object haven't the digest that is kept of them.
+    DamagedObject(DamagedObject),
     /// The file stands for a library in a form that isn't in use.
     OldForm,
     DiskFault,
@@ -71,8 +83,8 @@ impl RunOutcome {
     ghost use Rattle.tams_outcomes.specs.Statuses.{status_of};
 
     /// What its status says.
-    pub fn status(self) -> Status
-        ensures { result ≡ status_of self }
+    pub fn status(&self) -> Status
+        ensures { result ≡ status_of self.now }
     {
         match self {
             RunOutcome::Formatted { .. }
@@ -85,6 +97,7 @@ impl RunOutcome {
             | RunOutcome::AlreadyStore
             | RunOutcome::TooSmall
             | RunOutcome::Damaged(_)
+            | RunOutcome::DamagedObject(_)
             | RunOutcome::OldForm => Status::Refused,
             RunOutcome::DiskFault => Status::DiskFault,
             RunOutcome::NoMemory => Status::NoMemory,
@@ -94,8 +107,8 @@ impl RunOutcome {
     }
 
     /// Puts the outcome's line into the notes. It takes no memory.
-    pub fn put_line<N: Sink>(self, notes: &mut N) -> Result<(), SinkFailed>
-        ensures { TakesPart (is_ok result) (N.tells notes.old) (line_of self) (N.faults notes.old)
+    pub fn put_line<N: Sink>(&self, notes: &mut N) -> Result<(), SinkFailed>
+        ensures { TakesPart (is_ok result) (N.tells notes.old) (line_of self.now) (N.faults notes.old)
             (N.faults notes.new) (N.taken notes.old) (N.taken notes.new) }
     {
         match self {
@@ -105,21 +118,26 @@ impl RunOutcome {
                 media,
             } => {
                 let parts = [
-                    part(b"formatted ", blocks),
-                    part(b" blocks, ", half),
-                    part(b" per half, ", media),
+                    part(b"formatted ", *blocks),
+                    part(b" blocks, ", *half),
+                    part(b" per half, ", *media),
                 ];
                 put_parts(notes, &parts, b" for media\n")
             }
-            RunOutcome::Checked(counts) => put_checked(notes, counts),
-            RunOutcome::Worked(turns) => put_parts(notes, &[part(b"worked: ", turns)], b" turns\n"),
+            RunOutcome::Checked(counts) => put_checked(notes, *counts),
+            RunOutcome::Worked(turns) => put_parts(
+                notes,
+                &[part(b"worked: ", *turns)],
+                b" turns\n",
+            ),
             RunOutcome::Served {
                 requests,
                 changes,
                 skipped,
-            } => put_served(notes, requests, changes, skipped),
-            RunOutcome::Generated(run) => put_generated(notes, run),
-            RunOutcome::Damaged(at) => put_parts(notes, &[part(b"damaged at ", at)], b"\n"),
+            } => put_served(notes, *requests, *changes, *skipped),
+            RunOutcome::Generated(run) => put_generated(notes, *run),
+            RunOutcome::Damaged(at) => put_parts(notes, &[part(b"damaged at ", *at)], b"\n"),
+            RunOutcome::DamagedObject(damaged) => put_damaged_object(notes, damaged),
             RunOutcome::BadWords => notes.put(b"bad words\n"),
             RunOutcome::NotStore => notes.put(b"not a store\n"),
             RunOutcome::AlreadyStore => notes.put(b"already a store\n"),
@@ -186,17 +204,49 @@ fn put_generated<N: Sink>(notes: &mut N, run: WorkloadRun) -> Result<(), SinkFai
     put_parts(notes, &parts, b"\n")
 }
 
-/// A text of a line, and the number behind it.
+/// Puts the line of a damaged object.
+fn put_damaged_object<N: Sink>(notes: &mut N, damaged: &DamagedObject) -> Result<(), SinkFailed>
+    ensures { TakesPart (is_ok result) (N.tells notes.old) (damaged_line damaged.now)
+        (N.faults notes.old) (N.faults notes.new) (N.taken notes.old) (N.taken notes.new) }
+{
+    let parts = [
+        named(b"damaged object ", damaged.object.bytes()),
+        named(b": kept ", damaged.kept.bytes()),
+        named(b", found ", damaged.found.bytes()),
+    ];
+    put_parts(notes, &parts, b"\n")
+}
+
+/// What is shown within a line.
+#[derive(Clone, Copy)]
+enum Shown<'a> {
+    Number(u64),
+    Bytes(&'a [u8]),
+}
+
+/// A text of a line, and what is shown behind it.
 #[derive(Clone, Copy)]
 struct LinePart<'a> {
     text: &'a [u8],
-    number: u64,
+    shown: Shown<'a>,
 }
 
 fn part<'a>(text: &'a [u8], number: u64) -> LinePart<'a>
-    ensures { result ≡ record { text = text.entry; number = number } }
+    ensures { result ≡ record { text = text.entry; shown = Number number } }
 {
-    LinePart { text, number }
+    LinePart {
+        text,
+        shown: Shown::Number(number),
+    }
+}
+
+fn named<'a>(text: &'a [u8], bytes: &'a [u8]) -> LinePart<'a>
+    ensures { result ≡ record { text = text.entry; shown = Bytes bytes.entry } }
+{
+    LinePart {
+        text,
+        shown: Shown::Bytes(bytes),
+    }
 }
 
 /// Puts these parts of a line, and then its end.
@@ -207,17 +257,31 @@ fn put_parts<N: Sink>(notes: &mut N, parts: &[LinePart], end: &[u8]) -> Result<(
     let Some((first, later)) = parts.split_first() else {
         return notes.put(end);
     };
-    put_number(notes, first.text, first.number)?;
+    put_part(notes, first)?;
     put_parts(notes, later, end)
 }
 
-/// Puts a text and a number behind it.
-fn put_number<N: Sink>(notes: &mut N, text: &[u8], number: u64) -> Result<(), SinkFailed>
+/// Puts a text and what is shown behind it.
+fn put_part<N: Sink>(notes: &mut N, part: &LinePart) -> Result<(), SinkFailed>
     ensures tells { N.tells notes.new ≡ N.tells notes.old }
-    ensures takes { TakesPart (is_ok result) (N.tells notes.old) (text.now ++ decimal number)
+    ensures takes { TakesPart (is_ok result) (N.tells notes.old) (part_by part.now)
         (N.faults notes.old) (N.faults notes.new) (N.taken notes.old) (N.taken notes.new) }
 {
-    let mut buffer = Buffer::new();
-    notes.put(text)?;
-    notes.put(buffer.format(number).as_bytes())
+    notes.put(part.text)?;
+    put_shown(notes, part.shown)
+}
+
+/// Puts what is shown: a number in decimal digits, and bytes as they are.
+fn put_shown<N: Sink>(notes: &mut N, shown: Shown) -> Result<(), SinkFailed>
+    ensures tells { N.tells notes.new ≡ N.tells notes.old }
+    ensures takes { TakesPart (is_ok result) (N.tells notes.old) (shown_by shown.entry)
+        (N.faults notes.old) (N.faults notes.new) (N.taken notes.old) (N.taken notes.new) }
+{
+    match shown {
+        Shown::Number(number) => {
+            let mut buffer = Buffer::new();
+            notes.put(buffer.format(number).as_bytes())
+        }
+        Shown::Bytes(bytes) => notes.put(bytes),
+    }
 }

@@ -7,6 +7,7 @@ mod body;
 mod ending;
 mod media;
 mod opening;
+mod probing;
 mod saying;
 mod service;
 mod whole;

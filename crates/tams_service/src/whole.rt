@@ -12,16 +12,18 @@ ghost use Rattle.tams_service.specs.Serving.{needs_in};
 use crate::TamsService;
 use crate::answering::{DueReply, TimedHead};
 use crate::ending::{starve, stop};
+use crate::probing::plan_whole;
 use connection_loop::{ConnectionEnd, RunTally};
 use http_wire::Head;
+use media_store::StoreFault;
 use reply_laws::media_puts_agree;
 use site_edge::{Clock, Site};
 use std::alloc::Global;
 use store_plans::Planned;
-use tams_answers::{Answer, Request, media_follows, plan_answer};
+use tams_answers::{Answer, Request, media_follows};
 
 impl TamsService {
-    /// Answers a request that came whole.
+    /// Answers a request that came whole. The bytes of an object are read before anything is said of them.
     pub(crate) fn answer_whole<X: Site, C: Clock>(
         &mut self,
         alloc: Global,
@@ -56,8 +58,17 @@ impl TamsService {
             body: self.hearing.bytes(head.body),
             ends: head.ends,
         };
-        match plan_answer(alloc, &self.routes, &self.base, &self.store, &request, now) {
-            Err(_) => Some(starve(site, tally)),
+        match plan_whole(
+            alloc,
+            &self.routes,
+            &self.base,
+            &mut self.store,
+            site,
+            &request,
+            now,
+        ) {
+            Err(StoreFault::Memory) => Some(starve(site, tally)),
+            Err(StoreFault::Disk) => Some(stop(site, tally, 0)),
             Ok(answer) => {
                 let request = TimedHead { head, moment: now };
                 self.give_answer(alloc, site, tally, answer, request)

@@ -297,6 +297,7 @@ module _ (words : List (List ℕ)) (run : RunSeen) (status : ℕ) (ends : EndsBy
         (format_end path blocks half id is).0.moments.each honest shows settled bare p left;
     checked = λ s shows path is from stands.
         (ends.line.0, rw ((check_end path is).0.line (by 0 s) shows from stands) at ends.line.1);
+    whole = λ s shows path is from stands. (check_end path is).0.whole (by 0 s) shows from stands;
     generated = λ s number count is.
         let end = (workload_end number count is).0.line (by 0 s) in (end.0, end.1, (ends.line.0, rw end.2 at ends.line.1));
   }

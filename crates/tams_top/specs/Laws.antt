@@ -6,6 +6,7 @@ use Rattle.media_journal.specs.declared.header.Header.{Header}
 use Rattle.media_journal.specs.File.{HasOpenHeader}
 use Rattle.store_commands.specs.CheckEnds.{counts_in}
 use Rattle.store_commands.specs.Formatting.{formatted_state}
+use Rattle.store_commands.specs.Probing.{AreWhole}
 use Rattle.store_commands.specs.Completeness.{AreServedWhole, IsServedWhole}
 use Rattle.store_commands.specs.Histories.{OnePeer, Replayed, ServedAll}
 use Rattle.store_commands.specs.Beginning.{BeginsFrom, beginning}
@@ -142,7 +143,8 @@ pub record LittleIsTouched (words : List (List ℕ)) (run : RunSeen) (status : �
 
 -- At status 0 of `format` the file stands for the empty library, and at each moment of it over a
 -- device without a store a crash leaves none, or that one. `check` of a file that stands for a
--- state puts the counts of its library, and `workload` the numbers of one run of its requests.
+-- state puts the counts of its library, each object of which is whole, and `workload` the numbers
+-- of one run of its requests.
 pub record DoneIsTold (words : List (List ℕ)) (run : RunSeen) (status : ℕ) : Type 0 where
   pub formatted : status ≡ 0 → run.old.shows ≡ true → (path : List ℕ) (blocks half id : ℕ)
       → IsCommand words (Format path blocks half id) → StandsFor run.new.seen
@@ -156,6 +158,8 @@ pub record DoneIsTold (words : List (List ℕ)) (run : RunSeen) (status : ℕ) :
   pub checked : status ≡ 0 → run.old.shows ≡ true → (path : List ℕ)
       → IsCommand words (Check path) → (from : StoreState) → StandsFor run.old.seen from
       → PutsLine run.notes (checked_line (counts_in from))
+  pub whole : status ≡ 0 → run.old.shows ≡ true → (path : List ℕ) → IsCommand words (Check path)
+      → (from : StoreState) → StandsFor run.old.seen from → AreWhole from.archive
   pub generated : status ≡ 0 → (number count : ℕ) → IsCommand words (Workload number count)
       → (numbers : WorkloadRun) × IsWorkloadRun number count numbers
       × PutsLine run.notes (generated_line numbers)

@@ -86,7 +86,7 @@ pub fn command_line<'a>(alloc: Global) -> Result<Command<'a>, AllocError>
         alloc,
         program,
         "check",
-        "Counts what a store keeps",
+        "Reads the objects of a store, and counts what it keeps",
         &[PATH],
     )?;
     let program = with_command(

@@ -50,7 +50,7 @@ pub enum Invocation {
         half: u64,
         id: u128,
     },
-    /// Opens a store and counts what it keeps.
+    /// Reads the objects of a store, and counts what it keeps.
     Check {
         path: Text,
     },

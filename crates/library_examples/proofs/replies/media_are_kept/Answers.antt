@@ -16,4 +16,8 @@ returns c = record {
   given_other = refl;
   not_given = refl;
   not_kept = refl;
+  no_digest_kept = refl;
+  same_digest = refl;
+  other_front = refl;
+  other_back = refl;
 }

@@ -6,5 +6,5 @@ pub returns : goal.returns
 returns g t c =
     let rest = c.put_parts.ensures in
     rw c.in-Some.ensures.cases.0
-    (takes_twice _ _ _ _ _ _ _ _ _ _ _ c.put_number.ensures.tells c.in_ok-put_number.ensures.takes
+    (takes_twice _ _ _ _ _ _ _ _ _ _ _ c.put_part.ensures.tells c.in_ok-put_part.ensures.takes
     (record { counted = rest.counted; puts = rest.puts }))
