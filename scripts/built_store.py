@@ -1,11 +1,13 @@
-"""What `check_examples`, `check_copy`, `check_proxy` and `draw_pictures` run: the built program on a store, in a folder of
-its own."""
+"""What the checks of the built program run: the program on a store, in a folder of its own; and the stores of earlier
+programs that are kept."""
+import base64
 import contextlib
 import os
 import socket
 import subprocess
 import sys
 import time
+import zlib
 
 from local_ports import free_port
 
@@ -43,6 +45,12 @@ def must(words, folder, given=b''):
 
 def format_store(folder, blocks, half):
     return must([PROGRAM, 'format', 's', str(blocks), str(half), STORE_ID], folder)
+
+
+def kept_store(name):
+    """The bytes of a store that an earlier program made, which is kept as text."""
+    with open(os.path.join(TOP, 'crates', 'run_cases', 'stores', name + '.txt'), encoding='ascii') as file:
+        return zlib.decompress(base64.b64decode(''.join(line for line in file if not line.startswith('#'))))
 
 
 @contextlib.contextmanager

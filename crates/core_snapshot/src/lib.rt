@@ -3,4 +3,4 @@
 
 mod snapshot;
 
-pub use crate::snapshot::snapshot_text;
+pub use crate::snapshot::{snapshot_text, snapshot_text_with};

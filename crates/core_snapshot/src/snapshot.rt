@@ -11,7 +11,7 @@ use core_rows::{append_next_serial, append_rows};
 use disk_trait::{Memory, Text};
 use flow_book::FlowBook;
 use media_book::MediaBook;
-use media_rows::{FlowFilter, FlowList, SourceFilter, SourceList, TagTests};
+use media_rows::{FlowFilter, FlowList, ObjectRow, SourceFilter, SourceList, TagTests};
 use std::alloc::Global;
 
 /// The text of all rows of a library: by kind, then sources and flows by id, segments by flow and first point, all
@@ -19,9 +19,22 @@ use std::alloc::Global;
 pub fn snapshot_text(alloc: Global, parts: &Parts) -> Result<Text, Memory>
     ensures { IfOk result (AddsRows [] (rows_of parts.now.library)) }
 {
+    let objects = parts.media().object_rows(alloc)?;
+    snapshot_text_with(alloc, parts, objects.items())
+}
+
+/// The same, with these rows in place of those of the library's objects.
+pub fn snapshot_text_with(
+    alloc: Global,
+    parts: &Parts,
+    objects: &[ObjectRow],
+) -> Result<Text, Memory>
+    ensures { IfOk result
+        (AddsRows [] (rows_of (record parts.now.library { objects = objects.now }))) }
+{
     let mut text = Text::new(alloc);
     append_catalog(alloc, parts.registry().catalog(), &mut text)?;
-    append_media(alloc, parts.media(), &mut text)?;
+    append_media(alloc, parts.media(), objects, &mut text)?;
     append_others(alloc, parts.registry(), &mut text)?;
     Ok(text)
 }
@@ -37,14 +50,18 @@ fn append_catalog(alloc: Global, catalog: &FlowBook, text: &mut Text) -> Result<
     append_rows(alloc, flows.items(), text)
 }
 
-/// Adds the text of objects and of segments.
-fn append_media(alloc: Global, media: &MediaBook, text: &mut Text) -> Result<(), Memory>
+/// Adds the text of these objects, and of segments.
+fn append_media(
+    alloc: Global,
+    media: &MediaBook,
+    objects: &[ObjectRow],
+    text: &mut Text,
+) -> Result<(), Memory>
     ensures { OnOk result (AddsRows text.old
-        (map rows.Object media.now.media.objects
+        (map rows.Object objects.now
         ++ map rows.Segment (in_order segment_row_before media.now.media.segments)) text.new) }
 {
-    let objects = media.object_rows(alloc)?;
-    append_rows(alloc, objects.items(), text)?;
+    append_rows(alloc, objects, text)?;
     let segments = media.segment_rows(alloc)?;
     append_rows(alloc, segments.items(), text)
 }

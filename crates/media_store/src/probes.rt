@@ -12,10 +12,10 @@ ghost use Rattle.media_store.specs.Pieces.{IsExtent};
 ghost use Rattle.media_store.specs.Probes.{Tells, state_of};
 ghost use Rattle.media_store.specs.Stores.{size_of};
 
-use crate::{PIECE, Store};
+use crate::Store;
 use disk_trait::{Disk, Failed, Text};
 use media_rows::{Digest, Extent, ObjectState};
-use sha2::{Digest as _, Sha256};
+use object_blobs::extent_digest;
 
 /// The digest that is kept of a stored object's bytes, and that of the bytes which are there. The object is whole
 /// where they are equal.
@@ -89,16 +89,14 @@ impl Store {
         ensures put { self.new.put ≡ self.old.put }
         ensures spent { self.new.spent ≡ is_err result }
     {
-        let mut hasher = Sha256::new();
-        let mut room = [0u8; PIECE];
-        let mut at = 0;
-        'pieces: while at < extent.length {
-            let count = (extent.length - at).min(PIECE as u64);
-            let piece = &mut room[..count as usize];
-            self.get_piece(disk, extent, at, piece)?;
-            hasher.update(piece);
-            at += count;
+        self.library.keeps_good();
+        let area = self.area();
+        match extent_digest(disk, area, extent) {
+            Ok(digest) => Ok(digest),
+            Err(fault) => {
+                self.spent = true;
+                Err(fault)
+            }
         }
-        Ok(Digest::from_hash(hasher.finalize()))
     }
 }

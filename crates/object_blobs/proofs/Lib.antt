@@ -1,4 +1,5 @@
 mod Giving
+mod Hashing
 mod Holding
 mod PieceLemmas
 pub mod Places

@@ -6,6 +6,7 @@ mod FreshLemmas
 mod ProbingLemmas
 mod CheckLemmas
 pub mod CheckEndLemmas
+pub mod MigrateEndLemmas
 pub mod WorkEndLemmas
 mod TurnsLeft
 mod WorkingLemmas

@@ -9,17 +9,21 @@ use Rattle.media_journal.proofs.OpeningLemmas.{is_store}
 use Rattle.disk_trait.specs.Forms.{form_in_use}
 use Rattle.store_opening.specs.Laws.{RefusedStandForNone}
 use Rattle.store_opening.specs.Opening.{StoreAnswer}
+use Rattle.store_states.specs.States.{StandsBy, StoreState}
 use Rattle.tams_outcomes.specs.Statuses.{exit_of}
 use Rattle.tams_outcomes.specs.Touching.{Untouched}
 use Rattle.tams_outcomes.specs.declared.outcome.RunOutcome.{RunOutcome}
 use Rattle.tams_outcomes.specs.declared.outcome.RunOutcome.TheVariants.{Served, BadWords, Cut, NotStore, AlreadyStore, TooSmall, Damaged, DamagedObject, OldForm, DiskFault, NoMemory, LinkFault}
 use Rattle.store_commands.specs.Opening.{DamageFound, NoStoreFound, OpenedCause, OtherFormFound, StandsForNone, opening_outcome}
 
--- an image that is no store stands for no state
-pub no_store : (image : List ℕ) → ¬ (IsStore image) → StandsForNone image
-no_store image none s stands =
+-- an image that is no store stands for no state, by a half of no form
+pub no_state : (form : ℕ) (image : List ℕ) → ¬ (IsStore image) → (s : StoreState) → StandsBy form image s → ⊥
+no_state form image none s stands =
     let sizes = stands.reads.sizes in
     none (is_store image stands.header stands.reads.header (omega (arith, sizes.some_half, sizes.fits, sizes.within)))
+
+pub no_store : (image : List ℕ) → ¬ (IsStore image) → StandsForNone image
+no_store = no_state form_in_use
 
 -- reads leave all as it was
 pub untouched_by : (ok : Bool) (old new : Device) → DiskReads ok old new → Untouched old new

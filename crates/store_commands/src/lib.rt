@@ -1,11 +1,12 @@
-//! The commands of a store: `format`, `check`, `work`, `replay` and `serve`, and `workload`, each with the record of
-//! its ends; and what those that open a store share.
+//! The commands of a store: `format`, `check`, `migrate`, `work`, `replay` and `serve`, and `workload`, each with the
+//! record of its ends; and what those that open a store share.
 #![tactic(auto)]
 
 mod checking;
 mod formatting;
 mod generating;
 mod laws;
+mod migrating;
 mod opening;
 mod premises;
 mod probing;
@@ -17,6 +18,7 @@ pub use crate::checking::check;
 pub use crate::formatting::format;
 pub use crate::generating::workload;
 pub use crate::laws::fresh_files_stand;
+pub use crate::migrating::migrate;
 pub use crate::opening::{line_counts, opening_outcome};
 pub use crate::premises::site_over;
 pub use crate::serving::{replay, serve};

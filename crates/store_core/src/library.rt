@@ -109,11 +109,18 @@ impl Core {
         }
     }
 
+    /// The rows of all objects, by rising serial.
+    pub fn objects(&self, alloc: Global) -> Result<ObjectList, Memory>
+        ensures { IfOk result (λ rows. rows ≡ self.now.library.objects) }
+    {
+        self.parts.media().object_rows(alloc)
+    }
+
     /// The rows of all stored objects, by rising serial.
     pub fn stored(&self, alloc: Global) -> Result<ObjectList, Memory>
         ensures { IfOk result (λ rows. rows ≡ stored_objects self.now.library.objects) }
     {
-        let objects = self.parts.media().object_rows(alloc)?;
+        let objects = self.objects(alloc)?;
         let mut stored = Listed::new(alloc);
         for row in objects.items() {
             add_stored(alloc, &mut stored, row)?;

@@ -1,5 +1,6 @@
 //! The library and the rows of a snapshot.
 ghost use Rattle.std.specs.Prelude.{IfOk};
+ghost use Rattle.media_rows.specs.Good.{Good};
 ghost use Rattle.media_rows.specs.Refusals.{Restores};
 ghost use Rattle.media_rows.specs.Snapshot.{library_of, rows_of};
 ghost use Rattle.disk_trait.specs.Forms.{form_in_use};
@@ -9,10 +10,10 @@ ghost use Rattle.core_restore.specs.Restored.{are_rows_of_good};
 
 use crate::Core;
 use core_restore::parts_of_rows;
-use core_snapshot::snapshot_text;
+use core_snapshot::{snapshot_text, snapshot_text_with};
 use disk_trait::{Memory, Text};
 use library_laws::{good_is_tested, rows_rise};
-use media_rows::{ApplyFault, RowList};
+use media_rows::{ApplyFault, ObjectRow, RowList};
 use std::alloc::Global;
 
 impl Core {
@@ -22,6 +23,18 @@ impl Core {
     {
         rows_rise();
         let text = snapshot_text(alloc, &self.parts)?;
+        Ok(text)
+    }
+
+    /// The text of the rows of the library with these in place of those of its objects. They stand in the order of a
+    /// snapshot where that library is good, too.
+    pub fn rows_with(&self, alloc: Global, objects: &[ObjectRow]) -> Result<Text, Memory>
+        ensures { Good (record self.now.library { objects = objects.now })
+            → IfOk result (λ text. SpellsRows form_in_use text
+            (rows_of (record self.now.library { objects = objects.now }))) }
+    {
+        rows_rise();
+        let text = snapshot_text_with(alloc, &self.parts, objects)?;
         Ok(text)
     }
 

@@ -13,7 +13,7 @@ use Rattle.media_journal.specs.declared.record.Record.{Record}
 use Rattle.store_states.specs.States.{Folds, StepOf}
 use Rattle.store_states.proofs.Folding.{fold_push, one_step}
 use Rattle.store_opening.specs.declared.fault.OpenFault.{OpenFault}
-use Rattle.store_opening.specs.declared.fault.OpenFault.TheVariants.{Damaged, OldForm, Memory}
+use Rattle.store_opening.specs.declared.fault.OpenFault.TheVariants.{Damaged, Memory}
 use Rattle.store_opening.specs.Opening.{IsNoStep, IsRefusedAt}
 use Rattle.store_opening.specs.Within.{AtDamage}
 
@@ -60,7 +60,6 @@ fold_refused form rs i r first from (Damaged at) within is folds none place = re
   none = none;
   place = place;
 }
-fold_refused form rs i r first from OldForm within is folds none place = none
 fold_refused form rs i r first from Memory within is folds none place = tt
 
 -- ---- the refused record

@@ -13,14 +13,16 @@ use Rattle.media_journal.proofs.ReadingLemmas.{gives_reads}
 use Rattle.core_restore.specs.Restored.{are_rows_of_good}
 use Rattle.store_states.specs.States.{Folds, IsSnapshot, Makes, StoreState, blocks_before, held_in, library_in, media_start}
 use Rattle.store_opening.specs.declared.fault.OpenFault.{OpenFault}
-use Rattle.store_opening.specs.declared.fault.OpenFault.TheVariants.{Damaged, OldForm, Memory}
-use Rattle.store_opening.specs.Opening.{IsKept, IsRefusedAt, InJournal, InRow, InRows, InRecord, InTorn, StandsByOther, StoreAnswer, StoreDamagedAt}
+use Rattle.store_opening.specs.declared.fault.OpenFault.TheVariants.{Damaged, Memory}
+use Rattle.store_states.specs.Kept.{StoreView}
+use Rattle.store_opening.specs.Opening.{IsKeptBy, IsRefusedAt, InJournal, InRow, InRows, InRecord, InTorn, ReadAnswer, StandsByOther, StoreAnswer, StoreDamagedAt, state_read}
+use Rattle.store_opening.proofs.Kept.{read_stands}
 use Rattle.store_opening.specs.Within.{RowsMakeNoLibrary, AtDamage, PartAnswer, opening_fault}
 use Rattle.store_opening.proofs.Halves.{opened_half, opened_torn, opened_whole, rows_within}
 use Rattle.store_opening.proofs.Texts.{row_within, text_of_none}
 
 -- a fault in opening the journal
-pub journal_fault : (image : List ℕ) (fault : JournalFault) → OpenAnswer image (Err fault) → StoreAnswer image (Err fault)
+pub journal_fault : (image : List ℕ) (fault : JournalFault) → OpenAnswer image (Err fault) → ReadAnswer image (Err fault)
 journal_fault image journal.NotStore none = none
 journal_fault image (journal.Damaged at) damage = (damage.0, InJournal damage.1)
 journal_fault image journal.OldForm fault = absurd fault
@@ -29,9 +31,8 @@ journal_fault image journal.Memory fault = tt
 
 -- a fault in what was opened
 pub part_fault : (image : List ℕ) (o : Opened) (fault : OpenFault) → IsOpened image o → PartAnswer image (Err fault)
-    → StoreAnswer image (Err (opening_fault fault))
+    → ReadAnswer image (Err (opening_fault fault))
 part_fault image o (Damaged at) is damage = (is.store, damage)
-part_fault image o OldForm is other = other
 part_fault image o Memory is damage = tt
 
 -- ---- rows
@@ -67,7 +68,6 @@ other_rows image o blocks rows at is count spells wrong place = inr record {
 
 pub rows_fault : (image : List ℕ) (fault : OpenFault) → AtDamage {X = Library} (Err fault) (RowsMakeNoLibrary image) → PartAnswer image (Err fault)
 rows_fault image (Damaged at) wrong = elim wrong [ inl row ↦ InRow row | inr rows ↦ InRows rows ]
-rows_fault image OldForm wrong = absurd wrong
 rows_fault image Memory wrong = tt
 
 -- ---- records
@@ -84,7 +84,6 @@ records_fault image o first (Damaged at) is snapshot refused = InRecord record {
   snapshot = snapshot;
   refused = refused;
 }
-records_fault image o first OldForm is snapshot refused = absurd refused
 records_fault image o first Memory is snapshot refused = tt
 
 pub torn_record : (image : List ℕ) (o : Opened) (first library : Library) (at : ℕ) → o.torn ≡ Some at → IsOpened image o
@@ -99,18 +98,17 @@ torn_record image o first library at torn is snapshot folds = InTorn record {
   makes = record { first = first; snapshot = snapshot; folds = folds };
 }
 
--- ---- what is kept, and what is of another form
+-- ---- what is kept
 
-pub is_kept : (image : List ℕ) (o : Opened) (first library : Library) → o.torn ≡ None → o.form ≡ form_in_use → IsOpened image o
+pub is_kept : (image : List ℕ) (o : Opened) (first library : Library) → o.torn ≡ None → IsOpened image o
     → IsSnapshot o.form (header_of o) o.rows first → Folds o.form o.found first library
-    → IsKept image (record { library = library; journal = o.journal })
-is_kept image o first library whole form is snapshot folds = record {
+    → IsKeptBy o.form image (record { library = library; journal = o.journal })
+is_kept image o first library whole is snapshot folds = record {
   header = header_of o;
   text = o.rows;
   records = o.found;
-  gives = subst (λ (form : ℕ). Gives image o.journal (record { header = header_of o; form = form; rows = o.rows; records = o.found })) form
-      (opened_whole image o whole is);
-  makes = subst (λ (form : ℕ). Makes form (header_of o) o.rows o.found library) form (record { first = first; snapshot = snapshot; folds = folds });
+  gives = opened_whole image o whole is;
+  makes = record { first = first; snapshot = snapshot; folds = folds };
 }
 
 -- no record is torn
@@ -118,33 +116,16 @@ pub untorn : (torn : Option ℕ) → ((at : ℕ) → torn ≡ Some at → ⊥) �
 untorn None none = refl
 untorn (Some at) none = absurd (none at refl)
 
--- the state that was opened
-abbrev state_of : List ℕ → Opened → Library → StoreState
-state_of image o library = record {
-  archive = record { library = library; held = held_in image (media_start o.half) library.objects };
-  room = o.journal.room;
-  half = 4096 * o.half;
-}
+-- ---- what is answered in the form in use
 
-pub is_other : (image : List ℕ) (o : Opened) (first library : Library) → o.torn ≡ None → (o.form ≡ form_in_use → ⊥) → IsOpened image o
-    → IsSnapshot o.form (header_of o) o.rows first → Folds o.form o.found first library → StandsByOther image
-is_other image o first library whole other is snapshot folds =
-    let gives = opened_whole image o whole is in
-    record {
-      form = o.form;
-      other = other;
-      state = state_of image o (library_in o.form image (media_start o.half) library);
-      stands = record {
-        header = header_of o;
-        gate = o.journal.gate;
-        text = o.rows;
-        records = o.found;
-        reads = gives_reads image o.journal (contents_of o) gives;
-        made = library;
-        makes = record { first = first; snapshot = snapshot; folds = folds };
-        library = refl;
-        held = refl;
-        room = gives.half.room ∙ ap (λ start. start + 4096 * o.half) gives.active;
-        half = refl;
-      };
-    }
+-- what is kept by a half of another form is refused
+pub other_form : (image : List ℕ) (form : ℕ) (kept : StoreView) → (form ≡ form_in_use → ⊥) → IsKeptBy form image kept → StandsByOther image
+other_form image form kept other is =
+    record { form = form; other = other; state = state_read form image kept; stands = read_stands form image kept is }
+
+pub read_fault : (image : List ℕ) (fault : JournalFault) → ReadAnswer image (Err fault) → StoreAnswer image (Err fault)
+read_fault image journal.NotStore none = none
+read_fault image (journal.Damaged at) damage = damage
+read_fault image journal.OldForm fault = absurd fault
+read_fault image journal.Disk fault = tt
+read_fault image journal.Memory fault = tt

@@ -1,42 +1,71 @@
 -- What opening a store answers over an image of its file. Our own format.
-use Rattle.std.specs.Prelude.{◌≡◌, ◌≢◌, ◌+◌, ◌-◌, ℕ, List, ◌∷◌, ◌++◌, Result, Ok, Err}
+use Rattle.std.specs.Prelude.{◌≡◌, ◌≢◌, ◌+◌, ◌-◌, ◌*◌, ℕ, List, ◌∷◌, ◌++◌, Result, Ok, Err}
 use Rattle.disk_trait.specs.Forms.{form_in_use}
 use Rattle.media_rows.specs.declared.row.Row.{Row}
 use Rattle.media_rows.specs.Library.{Library}
+use Rattle.media_rows.specs.Media.{Archive}
 use Rattle.snapshot_rows.specs.Texts.{IsDamagedAt, SpellsRows}
 use Rattle.media_journal.specs.declared.header.Header.{Header}
 use Rattle.media_journal.specs.declared.record.Record.{Record}
 use Rattle.media_journal.specs.declared.fault.JournalFault.{JournalFault}
 use Rattle.media_journal.specs.declared.fault.JournalFault.TheVariants.{NotStore, Damaged, OldForm, Disk, Memory}
 use Rattle.media_journal.specs.File.{Reads, ReadsTorn, active_start}
-use Rattle.media_journal.specs.Journal.{Gives}
+use Rattle.media_journal.specs.Journal.{Contents, Gives, Position}
 use Rattle.media_journal.specs.Opening.{DamagedAt, IsStore}
-use Rattle.store_states.specs.Kept.{StoreView, half_of}
-use Rattle.store_states.specs.States.{Folds, IsSnapshot, Makes, StandsBy, StepOf, StoreState, blocks_before, held_in, media_start}
+use Rattle.store_states.specs.Kept.{StoreView}
+use Rattle.store_states.specs.States.{Folds, IsSnapshot, Makes, StandsBy, StepOf, StoreState, blocks_before, held_in, library_in, media_start}
 use Rattle.store_opening.specs.declared.opening.OpenedStore.{OpenedStore}
+use Rattle.store_opening.specs.declared.opening.ReadStore.{ReadStore}
 
 -- ---- what is kept of an image
 
--- The image gives the journal rows and records that make the library.
-pub record IsKept (image : List ℕ) (kept : StoreView) : Type 0 where
+-- what a half of a form holds
+abbrev pub contents_in : ℕ → Header → List ℕ → List Record → Contents
+contents_in form header text records =
+    record { header = header; form = form; rows = text; records = records }
+
+-- The image gives the journal, in a half of a form, rows and records that make the library.
+pub record IsKeptBy (form : ℕ) (image : List ℕ) (kept : StoreView) : Type 0 where
   pub header : Header
   pub text : List ℕ
   pub records : List Record
-  pub gives : Gives image kept.journal (half_of header text records)
-  pub makes : Makes form_in_use header text records kept.library
+  pub gives : Gives image kept.journal (contents_in form header text records)
+  pub makes : Makes form header text records kept.library
+
+-- the same in a half of the form in use
+abbrev pub IsKept : List ℕ → StoreView → Type 0
+IsKept = IsKeptBy form_in_use
 
 -- what a store keeps that was opened
 abbrev pub view_of_opened : OpenedStore → StoreView
 view_of_opened store = record { library = store.core.library; journal = store.journal }
 
+-- what a store keeps that was read
+abbrev pub view_of_read : ReadStore → StoreView
+view_of_read store = record { library = store.core.library; journal = store.journal }
+
 -- the library has the media blocks of its file: all but those before them
-abbrev pub HasItsBlocks : OpenedStore → Type 0
-HasItsBlocks store =
-    store.core.library.blocks ≡ store.journal.blocks - blocks_before store.journal.half
+abbrev pub HasItsBlocks : Library → Position → Type 0
+HasItsBlocks library journal = library.blocks ≡ journal.blocks - blocks_before journal.half
 
 -- the bytes in the image of the objects of what is kept
 abbrev pub bytes_in_image : List ℕ → StoreView → List (List ℕ)
 bytes_in_image image kept = held_in image (media_start kept.journal.half) kept.library.objects
+
+-- the archive of what is kept of an image, by a half of a form
+abbrev pub archive_read : ℕ → List ℕ → StoreView → Archive
+archive_read form image kept =
+    let area = media_start kept.journal.half in
+    let library = library_in form image area kept.library in
+    record { library = library; held = held_in image area library.objects }
+
+-- the state for which an image stands of which this is kept, by a half of a form
+abbrev pub state_read : ℕ → List ℕ → StoreView → StoreState
+state_read form image kept = record {
+  archive = archive_read form image kept;
+  room = kept.journal.room;
+  half = 4096 * kept.journal.half;
+}
 
 -- ---- where an image is damaged
 
@@ -141,3 +170,12 @@ StoreAnswer image (Err (Damaged at)) = IsStore image × StoreDamagedAt image at
 StoreAnswer image (Err OldForm) = StandsByOther image
 StoreAnswer image (Err Disk) = Unit {0}
 StoreAnswer image (Err Memory) = Unit {0}
+
+-- What reading answers over an image, by a half of whatever form.
+abbrev pub ReadAnswer : List ℕ → Result ReadStore JournalFault → Type 0
+ReadAnswer image (Ok store) = IsKeptBy store.form image (view_of_read store)
+ReadAnswer image (Err NotStore) = ¬ (IsStore image)
+ReadAnswer image (Err (Damaged at)) = IsStore image × StoreDamagedAt image at
+ReadAnswer image (Err OldForm) = ⊥
+ReadAnswer image (Err Disk) = Unit {0}
+ReadAnswer image (Err Memory) = Unit {0}

@@ -9,8 +9,6 @@ use media_journal::JournalFault;
 pub(crate) enum OpenFault {
     /// The file is no store from this offset on, in bytes.
     Damaged(u64),
-    /// The file stands for a state by a half of a form that isn't in use.
-    OldForm,
     /// There was no memory.
     Memory,
 }
@@ -23,7 +21,6 @@ impl From<OpenFault> for JournalFault {
     fn from(fault: OpenFault) -> Self {
         match fault {
             OpenFault::Damaged(at) => JournalFault::Damaged(at),
-            OpenFault::OldForm => JournalFault::OldForm,
             OpenFault::Memory => JournalFault::Memory,
         }
     }

@@ -8,4 +8,4 @@ mod records;
 mod rows;
 
 pub use crate::laws::{damaged_images_stand_for_none, kept_images_stand};
-pub use crate::opening::{OpenedStore, open_store};
+pub use crate::opening::{OpenedStore, ReadStore, open_store, read_store};

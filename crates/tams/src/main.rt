@@ -110,6 +110,7 @@ fn progress_word(words: &TextList) -> &'static str {
     match command {
         b"format" => "format",
         b"check" => "check",
+        b"migrate" => "migrate",
         b"work" => "work",
         _ => "opening",
     }

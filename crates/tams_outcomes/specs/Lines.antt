@@ -7,7 +7,7 @@ use Rattle.tams_outcomes.specs.declared.outcome.StoreCounts.{StoreCounts}
 use Rattle.tams_outcomes.specs.declared.outcome.WorkloadRun.{WorkloadRun}
 use Rattle.tams_outcomes.specs.declared.outcome.DamagedObject as damaged_object
 use Rattle.tams_outcomes.specs.declared.outcome.RunOutcome.{RunOutcome}
-use Rattle.tams_outcomes.specs.declared.outcome.RunOutcome.TheVariants.{Formatted, Checked, Worked, Served, Generated, Cut, BadWords, NotStore, AlreadyStore, TooSmall, Damaged, DamagedObject, OldForm, DiskFault, NoMemory, LinkFault}
+use Rattle.tams_outcomes.specs.declared.outcome.RunOutcome.TheVariants.{Formatted, Checked, Migrated, AlreadyMigrated, Worked, Served, Generated, Cut, BadWords, NotStore, AlreadyStore, TooSmall, Damaged, DamagedObject, OldForm, DiskFault, NoMemory, LinkFault}
 
 -- bytes within a line
 abbrev pub named : List ℕ → List ℕ → List ℕ → List ℕ
@@ -28,6 +28,12 @@ abbrev pub served_line : ℕ → ℕ → ℕ → List ℕ
 served_line requests changes skipped =
     numbered (codes "ok: ") requests (numbered (codes " requests, ") changes (changes_end skipped))
 
+-- the line of a store that was made: its blocks, those of a half, and those for media
+abbrev pub formatted_line : ℕ → ℕ → ℕ → List ℕ
+formatted_line blocks half media =
+    numbered (codes "formatted ") blocks (numbered (codes " blocks, ") half
+    (numbered (codes " per half, ") media (codes " for media\n")))
+
 -- the line of a store that was checked: how much it keeps
 abbrev pub checked_line : StoreCounts → List ℕ
 checked_line n =
@@ -35,6 +41,13 @@ checked_line n =
     (numbered (codes " segments, ") n.objects (numbered (codes " objects, ") n.requests
     (numbered (codes " requests, ") n.hooks
     (numbered (codes " hooks, ") n.events (codes " events\n"))))))
+
+-- the line of a store that was moved to the form in use: how many objects it has, and how long its
+-- rows are
+abbrev pub migrated_line : ℕ → ℕ → List ℕ
+migrated_line objects rows =
+    numbered (codes "migrated: ") objects (numbered (codes " objects, ") rows
+    (codes " bytes of rows\n"))
 
 -- the line of a run of generated requests: their two numbers, its answers and changes, and what the
 -- store keeps then
@@ -55,10 +68,10 @@ damaged_line damaged =
 
 -- the line of each end in the notes
 abbrev pub line_of : RunOutcome → List ℕ
-line_of (Formatted blocks half media) =
-    numbered (codes "formatted ") blocks (numbered (codes " blocks, ") half
-    (numbered (codes " per half, ") media (codes " for media\n")))
+line_of (Formatted blocks half media) = formatted_line blocks half media
 line_of (Checked counts) = checked_line counts
+line_of (Migrated objects rows) = migrated_line objects rows
+line_of AlreadyMigrated = codes "already migrated\n"
 line_of (Worked turns) = numbered (codes "worked: ") turns (codes " turns\n")
 line_of (Served requests changes skipped) = served_line requests changes skipped
 line_of (Generated run) = generated_line run

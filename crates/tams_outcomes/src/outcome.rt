@@ -1,6 +1,6 @@
 //! What a run ends with, and its line in the notes.
 ghost use Rattle.std.specs.Prelude.{◌≡◌, ◌++◌, is_ok};
-ghost use Rattle.tams_outcomes.specs.Lines.{TakesPart, checked_line, damaged_line, generated_line, line_of, served_line};
+ghost use Rattle.tams_outcomes.specs.Lines.{TakesPart, checked_line, damaged_line, formatted_line, generated_line, line_of, migrated_line, served_line};
 ghost use Rattle.tams_outcomes.specs.Parts.{line_by, part_by, shown_by};
 ghost use Rattle.tams_outcomes.specs.declared.outcome.Shown.TheVariants.{Bytes, Number};
 
@@ -52,6 +52,13 @@ pub enum RunOutcome {
     },
     /// The file has a store that keeps so much.
     Checked(StoreCounts),
+    /// A store was moved to the form in use: so many objects are stored, and so many bytes its rows have.
+    Migrated {
+        objects: u64,
+        rows: u64,
+    },
+    /// The store is of the form in use already.
+    AlreadyMigrated,
     /// So many turns changed something, before one that changed nothing.
     Worked(u64),
     /// All was heard and answered, with so many answers and changes, and so many turns skipped.
@@ -67,12 +74,14 @@ pub enum RunOutcome {
     BadWords,
     NotStore,
     AlreadyStore,
+    /// The file has no room for a store of these numbers, or a half of a store of form 1 none for its rows in the
+    /// form in use.
     TooSmall,
     /// The file stands for no library from this offset on, in bytes.
     Damaged(u64),
     /// The bytes of a stored object haven't the digest that is kept of them.
     DamagedObject(DamagedObject),
-    /// The file stands for a library in a form that isn't in use.
+    /// The file stands for a library in a form that isn't in use, so it has to be migrated first.
     OldForm,
     DiskFault,
     NoMemory,
@@ -89,6 +98,8 @@ impl RunOutcome {
         match self {
             RunOutcome::Formatted { .. }
             | RunOutcome::Checked(_)
+            | RunOutcome::Migrated { .. }
+            | RunOutcome::AlreadyMigrated
             | RunOutcome::Worked(_)
             | RunOutcome::Served { .. }
             | RunOutcome::Generated(_) => Status::Done,
@@ -116,15 +127,10 @@ impl RunOutcome {
                 blocks,
                 half,
                 media,
-            } => {
-                let parts = [
-                    part(b"formatted ", *blocks),
-                    part(b" blocks, ", *half),
-                    part(b" per half, ", *media),
-                ];
-                put_parts(notes, &parts, b" for media\n")
-            }
+            } => put_formatted(notes, *blocks, *half, *media),
             RunOutcome::Checked(counts) => put_checked(notes, *counts),
+            RunOutcome::Migrated { objects, rows } => put_migrated(notes, *objects, *rows),
+            RunOutcome::AlreadyMigrated => notes.put(b"already migrated\n"),
             RunOutcome::Worked(turns) => put_parts(
                 notes,
                 &[part(b"worked: ", *turns)],
@@ -151,6 +157,24 @@ impl RunOutcome {
     }
 }
 
+/// Puts the line of a store that was made.
+fn put_formatted<N: Sink>(
+    notes: &mut N,
+    blocks: u64,
+    half: u64,
+    media: u64,
+) -> Result<(), SinkFailed>
+    ensures { TakesPart (is_ok result) (N.tells notes.old) (formatted_line blocks half media)
+        (N.faults notes.old) (N.faults notes.new) (N.taken notes.old) (N.taken notes.new) }
+{
+    let parts = [
+        part(b"formatted ", blocks),
+        part(b" blocks, ", half),
+        part(b" per half, ", media),
+    ];
+    put_parts(notes, &parts, b" for media\n")
+}
+
 /// Puts the line of a store that was checked.
 fn put_checked<N: Sink>(notes: &mut N, counts: StoreCounts) -> Result<(), SinkFailed>
     ensures { TakesPart (is_ok result) (N.tells notes.old) (checked_line counts)
@@ -165,6 +189,15 @@ fn put_checked<N: Sink>(notes: &mut N, counts: StoreCounts) -> Result<(), SinkFa
         part(b" hooks, ", counts.events),
     ];
     put_parts(notes, &parts, b" events\n")
+}
+
+/// Puts the line of a store that was moved to the form in use.
+fn put_migrated<N: Sink>(notes: &mut N, objects: u64, rows: u64) -> Result<(), SinkFailed>
+    ensures { TakesPart (is_ok result) (N.tells notes.old) (migrated_line objects rows)
+        (N.faults notes.old) (N.faults notes.new) (N.taken notes.old) (N.taken notes.new) }
+{
+    let parts = [part(b"migrated: ", objects), part(b" objects, ", rows)];
+    put_parts(notes, &parts, b" bytes of rows\n")
 }
 
 /// Puts the line of a run that served.

@@ -9,6 +9,8 @@ use Rattle.store_commands.proofs.CheckEndLemmas.{check_only, check_refused, chec
 use Rattle.store_commands.specs.CheckEnds.{CheckEnds}
 use Rattle.store_commands.proofs.FormatEndLemmas.{format_only, format_refused, format_unlinked, format_untouched, format_words}
 use Rattle.store_commands.specs.FormatEnds.{FormatEnds}
+use Rattle.store_commands.proofs.MigrateEndLemmas.{migrate_only, migrate_refused, migrate_unlinked, migrate_untouched, migrate_words}
+use Rattle.store_commands.specs.MigrateEnds.{MigrateEnds}
 use Rattle.store_commands.proofs.ServeEndLemmas.{peers_rose, replay_linked, replay_linked_only}
 use Rattle.store_commands.specs.ServeEnds.{ReplayEnds, ServeEnds}
 use Rattle.store_commands.specs.Histories.{OnePeer}
@@ -26,7 +28,7 @@ use Rattle.tams_top.specs.Refusals.{RefusedFor}
 use Rattle.tams_words.proofs.WordTheorems.{one_command}
 use Rattle.tams_words.specs.Words.{IsCommand, IsNoCommand}
 use Rattle.tams_words.specs.declared.words.Invocation.{Invocation}
-use Rattle.tams_words.specs.declared.words.Invocation.TheVariants.{Format, Check, Work, Replay, Serve, Workload}
+use Rattle.tams_words.specs.declared.words.Invocation.TheVariants.{Format, Check, Migrate, Work, Replay, Serve, Workload}
 use Rattle.store_commands.proofs.WorkEndLemmas.{work_only, work_refused, work_unlinked, work_words}
 use Rattle.store_commands.specs.WorkEnds.{WorkEnds}
 use Rattle.store_commands.specs.WorkloadEnds.{WorkloadEnds}
@@ -49,6 +51,7 @@ module _ (run : RunSeen) (o : RunOutcome) where
   command_words (Format path blocks half id) ends s =
       format_words run.old run.new (record { blocks = blocks; half = half; id = id }) o ends.0.causes s
   command_words (Check path) ends s = check_words run.old run.new o ends.0.causes s
+  command_words (Migrate path) ends s = migrate_words run.old run.new o ends.0.causes s
   command_words (Work path) ends s = work_words run.old run.new o ends.causes s
   command_words (Replay path base) ends s = opened_words run.old run.new o ends.causes.file s
   command_words (Serve path port base connections) ends s = opened_words run.old run.new o ends.causes.file s
@@ -59,6 +62,7 @@ module _ (run : RunSeen) (o : RunOutcome) where
   command_refused damaged (Format path blocks half id) ends s =
       format_refused run.old run.new (record { blocks = blocks; half = half; id = id }) o ends.0.causes s
   command_refused damaged (Check path) ends s = check_refused run.old run.new damaged o ends.0.causes s
+  command_refused damaged (Migrate path) ends s = migrate_refused run.old run.new damaged o ends.0.causes s
   command_refused damaged (Work path) ends s = work_refused run.old run.new damaged o ends.causes s
   command_refused damaged (Replay path base) ends s = opened_refused run.old run.new damaged o ends.causes.file s
   command_refused damaged (Serve path port base connections) ends s = opened_refused run.old run.new damaged o ends.causes.file s
@@ -68,25 +72,28 @@ module _ (run : RunSeen) (o : RunOutcome) where
   command_unread : (command : Invocation) → CommandEnds command run o → exit_of o ≡ 2 → run.given ≡ run.begun
   command_unread (Format path blocks half id) ends s = ends.1
   command_unread (Check path) ends s = ends.1
+  command_unread (Migrate path) ends s = ends.1
   command_unread (Work path) ends s = ends.unread s
   command_unread (Replay path base) ends s = ends.causes.unread s
   command_unread (Serve path port base connections) ends s = ends.causes.unread s
   command_unread (Workload number count) ends s = ends.2
 
-  command_only : (command : Invocation) → CommandEnds command run o → run.old.shows ≡ true → RefusedFor run.old.seen command
+  command_only : RefusedStandForNone → (command : Invocation) → CommandEnds command run o → run.old.shows ≡ true → RefusedFor run.old.seen command
       → (exit_of o ≡ 2) ⊎ ((exit_of o ≡ 3) ⊎ (exit_of o ≡ 4))
-  command_only (Format path blocks half id) ends shows cause =
+  command_only damaged (Format path blocks half id) ends shows cause =
       format_only run.old run.new (record { blocks = blocks; half = half; id = id }) o ends.0.causes shows cause
-  command_only (Check path) ends shows cause = check_only run.old run.new o ends.0.causes shows cause
-  command_only (Work path) ends shows cause = work_only run.old run.new o ends.causes shows cause
-  command_only (Replay path base) ends shows cause = opened_only run.old run.new o ends.causes.file shows cause
-  command_only (Serve path port base connections) ends shows cause = opened_only run.old run.new o ends.causes.file shows cause
-  command_only (Workload number count) ends shows cause = absurd cause
+  command_only damaged (Check path) ends shows cause = check_only run.old run.new o ends.0.causes shows cause
+  command_only damaged (Migrate path) ends shows cause = migrate_only run.old run.new damaged o ends.0.causes shows cause
+  command_only damaged (Work path) ends shows cause = work_only run.old run.new o ends.causes shows cause
+  command_only damaged (Replay path base) ends shows cause = opened_only run.old run.new o ends.causes.file shows cause
+  command_only damaged (Serve path port base connections) ends shows cause = opened_only run.old run.new o ends.causes.file shows cause
+  command_only damaged (Workload number count) ends shows cause = absurd cause
 
   command_linked : (command : Invocation) → CommandEnds command run o → exit_of o ≡ 5 → Rose run.old.link.faults run.new.link.faults
   command_linked (Format path blocks half id) ends s =
       absurd (format_unlinked run.old run.new (record { blocks = blocks; half = half; id = id }) o ends.0.causes s)
   command_linked (Check path) ends s = absurd (check_unlinked run.old run.new o ends.0.causes s)
+  command_linked (Migrate path) ends s = absurd (migrate_unlinked run.old run.new o ends.0.causes s)
   command_linked (Work path) ends s = absurd (work_unlinked run.old run.new o ends.causes s)
   command_linked (Replay path base) ends s = replay_linked o run.old.link.faults run.new.link.faults ends.causes.link (link_fault_by o s)
   command_linked (Serve path port base connections) ends s = ends.causes.link (link_fault_by o s)
@@ -96,6 +103,7 @@ module _ (run : RunSeen) (o : RunOutcome) where
   command_closed : (command : Invocation) → CommandEnds command run o → run.old.link.under_way ≡ false → run.new.link.under_way ≡ false
   command_closed (Format path blocks half id) ends idle = stays_idle run.old run.new ends.0.link idle
   command_closed (Check path) ends idle = stays_idle run.old run.new ends.0.untouched.link idle
+  command_closed (Migrate path) ends idle = stays_idle run.old run.new ends.0.link idle
   command_closed (Work path) ends idle = stays_idle run.old run.new ends.link idle
   command_closed (Replay path base) ends idle = ends.closed idle
   command_closed (Serve path port base connections) ends idle = ends.closed idle
@@ -104,6 +112,7 @@ module _ (run : RunSeen) (o : RunOutcome) where
   command_dials : (command : Invocation) → CommandEnds command run o → run.new.link.dials ≡ run.old.link.dials
   command_dials (Format path blocks half id) ends = none_dialled run.old run.new ends.0.link
   command_dials (Check path) ends = none_dialled run.old run.new ends.0.untouched.link
+  command_dials (Migrate path) ends = none_dialled run.old run.new ends.0.link
   command_dials (Work path) ends = none_dialled run.old run.new ends.link
   command_dials (Replay path base) ends = ends.dials
   command_dials (Serve path port base connections) ends = ends.dials
@@ -164,7 +173,7 @@ module _ (words : List (List ℕ)) (run : RunSeen) (status : ℕ) (ends : EndsBy
   pub refusals_are_told : RefusedStandForNone → RefusalsAreTold words run status
   refusals_are_told damaged = record {
     refused = refused damaged;
-    refused_only = λ command is shows cause. rw ends.exit (command_only run o command (ends.command command is) shows cause);
+    refused_only = λ command is shows cause. rw ends.exit (command_only run o damaged command (ends.command command is) shows cause);
   }
 
   -- faults
@@ -191,6 +200,9 @@ module _ (words : List (List ℕ)) (run : RunSeen) (status : ℕ) (ends : EndsBy
 
   check_end : (path : List ℕ) → IsCommand words (Check path) → CheckEnds run.old run.new o × (run.given ≡ run.begun)
   check_end path is = ends.command (Check path) is
+
+  migrate_end : (path : List ℕ) → IsCommand words (Migrate path) → MigrateEnds run.old run.new o × (run.given ≡ run.begun)
+  migrate_end path is = ends.command (Migrate path) is
 
   workload_end : (number count : ℕ) → IsCommand words (Workload number count)
       → WorkloadEnds number count o × Untouched run.old run.new × (run.given ≡ run.begun)
@@ -229,6 +241,7 @@ module _ (words : List (List ℕ)) (run : RunSeen) (status : ℕ) (ends : EndsBy
   command_starved : (command : Invocation) → IsCommand words command → CommandEnds command run o → exit_of o ≡ 4 → StarvedSo
   command_starved (Format path blocks half id) it end s = inl (record { link = end.0.link; given_is = end.1 })
   command_starved (Check path) it end s = inl (record { link = end.0.untouched.link; given_is = end.1 })
+  command_starved (Migrate path) it end s = inl (record { link = end.0.link; given_is = end.1 })
   command_starved (Work path) it end s = inr (inl (path, it))
   command_starved (Replay path base) it end s =
       let is = no_memory_by o s in
@@ -256,6 +269,7 @@ module _ (words : List (List ℕ)) (run : RunSeen) (status : ℕ) (ends : EndsBy
   starving_is_told = record {
     starved_format = λ path blocks half id is s.
         format_untouched run.old run.new (record { blocks = blocks; half = half; id = id }) o (format_end path blocks half id is).0.causes (by 4 s);
+    starved_migrate = λ path is s. migrate_untouched run.old run.new o (migrate_end path is).0.causes (by 4 s);
     starved_serve = λ path base port connections is s. (serve_end path base port connections is).causes.memory (no_memory_by o (by 4 s));
     starved = starved;
   }
@@ -284,6 +298,7 @@ module _ (words : List (List ℕ)) (run : RunSeen) (status : ℕ) (ends : EndsBy
     untouched_workload = λ number count is. let end = workload_end number count is in (end.1, end.2);
     untouched_check = λ path is. let end = check_end path is in (end.0.untouched, end.1);
     nobody_formats = λ path blocks half id is. let end = format_end path blocks half id is in record { link = end.0.link; given_is = end.1 };
+    nobody_migrates = λ path is. let end = migrate_end path is in record { link = end.0.link; given_is = end.1 };
     nobody_works = λ path is. (work_end path is).link;
     closed = closed;
     dials = dials;
@@ -298,6 +313,8 @@ module _ (words : List (List ℕ)) (run : RunSeen) (status : ℕ) (ends : EndsBy
     checked = λ s shows path is from stands.
         (ends.line.0, rw ((check_end path is).0.line (by 0 s) shows from stands) at ends.line.1);
     whole = λ s shows path is from stands. (check_end path is).0.whole (by 0 s) shows from stands;
+    migrating = λ path is honest shows settled archive has p left. (migrate_end path is).0.moments.each honest shows settled archive has p left;
+    migrated = λ s shows path is archive has. (migrate_end path is).0.exit (by 0 s) shows archive has;
     generated = λ s number count is.
         let end = (workload_end number count is).0.line (by 0 s) in (end.0, end.1, (ends.line.0, rw end.2 at ends.line.1));
   }
@@ -322,5 +339,6 @@ module _ (words : List (List ℕ)) (run : RunSeen) (status : ℕ) (ends : EndsBy
     complete_format = λ path blocks half id is none. rw ends.exit ((format_end path blocks half id is).0.completeness none);
     complete_work = λ path is none. rw ends.exit ((work_end path is).completeness none);
     complete_check = λ path is none. rw ends.exit ((check_end path is).0.completeness none);
+    complete_migrate = λ path is none. rw ends.exit ((migrate_end path is).0.completeness none);
     complete_workload = λ number count is. rw ends.exit (workload_end number count is).0.completeness;
   }

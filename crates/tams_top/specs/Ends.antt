@@ -5,6 +5,7 @@ use Rattle.disk_trait.specs.Device.{Device}
 use Rattle.disk_trait.specs.Calls.{IsCounted}
 use Rattle.store_commands.specs.CheckEnds.{CheckEnds}
 use Rattle.store_commands.specs.FormatEnds.{FormatEnds}
+use Rattle.store_commands.specs.MigrateEnds.{MigrateEnds}
 use Rattle.store_commands.specs.ServeEnds.{ReplayEnds, ServeEnds}
 use Rattle.tams_outcomes.specs.Lines.{TakesPart, line_of}
 use Rattle.tams_outcomes.specs.Statuses.{exit_of, no_disk_fault}
@@ -13,7 +14,7 @@ use Rattle.tams_outcomes.specs.declared.outcome.RunOutcome.{RunOutcome}
 use Rattle.tams_outcomes.specs.declared.outcome.RunOutcome.TheVariants.{BadWords, NoMemory}
 use Rattle.tams_words.specs.Words.{IsCommand, IsNoCommand}
 use Rattle.tams_words.specs.declared.words.Invocation.{Invocation}
-use Rattle.tams_words.specs.declared.words.Invocation.TheVariants.{Format, Check, Work, Replay, Serve, Workload}
+use Rattle.tams_words.specs.declared.words.Invocation.TheVariants.{Format, Check, Migrate, Work, Replay, Serve, Workload}
 use Rattle.store_commands.specs.WorkEnds.{WorkEnds}
 use Rattle.store_commands.specs.WorkloadEnds.{WorkloadEnds}
 
@@ -40,13 +41,14 @@ abbrev pub PutsLine : NotesSeen → List ℕ → Type 0
 PutsLine notes line = (put : Bool)
     × TakesPart put notes.tells line notes.faults notes.faults_after notes.taken notes.taken_after
 
--- The ends of each command. `format`, `check` and `workload` are handed no clock, and `workload` no
--- site.
+-- The ends of each command. `format`, `check`, `migrate` and `workload` are handed no clock, and
+-- `workload` no site.
 abbrev pub CommandEnds : Invocation → RunSeen → RunOutcome → Type 0
 CommandEnds (Format path blocks half id) run o =
     FormatEnds record { blocks = blocks; half = half; id = id } run.old run.new o
     × (run.given ≡ run.begun)
 CommandEnds (Check path) run o = CheckEnds run.old run.new o × (run.given ≡ run.begun)
+CommandEnds (Migrate path) run o = MigrateEnds run.old run.new o × (run.given ≡ run.begun)
 CommandEnds (Work path) run o = WorkEnds run.old run.new run.clock run.begun run.given o
 CommandEnds (Replay path base) run o =
     ReplayEnds base run.old run.new run.clock run.begun run.given o

@@ -2,14 +2,17 @@
 use Rattle.std.specs.Prelude.{◌≡◌, ◌≢◌, ◌≤◌, ◌<◌, ◌⊎◌, ℕ, Bool, true, false, List}
 use Rattle.disk_trait.specs.Calls.{Rose}
 use Rattle.disk_trait.specs.Device.{Device, Left}
+use Rattle.disk_trait.specs.Forms.{form_in_use}
 use Rattle.media_journal.specs.declared.header.Header.{Header}
 use Rattle.media_journal.specs.File.{HasOpenHeader}
+use Rattle.media_rows.specs.Media.{Archive}
 use Rattle.store_commands.specs.CheckEnds.{counts_in}
 use Rattle.store_commands.specs.Formatting.{formatted_state}
 use Rattle.store_commands.specs.Probing.{AreWhole}
 use Rattle.store_commands.specs.Completeness.{AreServedWhole, IsServedWhole}
 use Rattle.store_commands.specs.Histories.{OnePeer, Replayed, ServedAll}
 use Rattle.store_commands.specs.Beginning.{BeginsFrom, beginning}
+use Rattle.store_migration.specs.Migration.{HasArchiveBy, HasEither}
 use Rattle.store_states.specs.States.{StandsFor, StoreState}
 use Rattle.tams_outcomes.specs.Lines.{checked_line, generated_line}
 use Rattle.tams_outcomes.specs.Statuses.{exit_of}
@@ -21,7 +24,7 @@ use Rattle.tams_top.specs.Ends.{EndsByWords, NotesSeen, PutsLine, RunSeen}
 use Rattle.tams_top.specs.Refusals.{RefusedFor}
 use Rattle.tams_words.specs.Words.{IsCommand, IsNoCommand}
 use Rattle.tams_words.specs.declared.words.Invocation.{Invocation}
-use Rattle.tams_words.specs.declared.words.Invocation.TheVariants.{Format, Check, Work, Replay, Serve, Workload}
+use Rattle.tams_words.specs.declared.words.Invocation.TheVariants.{Format, Check, Migrate, Work, Replay, Serve, Workload}
 use Rattle.store_commands.specs.Working.{WorkedOff}
 use Rattle.store_commands.specs.Generating.{IsWorkloadRun}
 
@@ -109,11 +112,13 @@ pub record LinkFaultsAreTold (words : List (List ℕ)) (run : RunSeen) (status :
   pub cut : (path base : List ℕ) (port connections : ℕ)
       → IsCommand words (Serve path port base connections) → status ≢ 6
 
--- Without memory `format` writes nothing, `serve` ends before it waits for a peer, and `replay`
--- there or with a request of its one connection.
+-- Without memory `format` and `migrate` write nothing, `serve` ends before it waits for a peer, and
+-- `replay` there or with a request of its one connection.
 pub record StarvingIsTold (words : List (List ℕ)) (run : RunSeen) (status : ℕ) : Type 0 where
   pub starved_format : (path : List ℕ) (blocks half id : ℕ)
       → IsCommand words (Format path blocks half id) → status ≡ 4 → Untouched run.old run.new
+  pub starved_migrate : (path : List ℕ) → IsCommand words (Migrate path) → status ≡ 4
+      → Untouched run.old run.new
   pub starved_serve : (path base : List ℕ) (port connections : ℕ)
       → IsCommand words (Serve path port base connections) → status ≡ 4
       → ServesNobody run.old run.new run.begun run.given
@@ -125,8 +130,8 @@ pub record StarvingIsTold (words : List (List ℕ)) (run : RunSeen) (status : �
 
 -- ---- what is touched
 
--- `workload` touches nothing of the outside, and `check` nothing but by reading; `format` and
--- `work` wait for no peer. No connection is left open, and nobody is dialled.
+-- `workload` touches nothing of the outside, and `check` nothing but by reading; `format`,
+-- `migrate` and `work` wait for no peer. No connection is left open, and nobody is dialled.
 pub record LittleIsTouched (words : List (List ℕ)) (run : RunSeen) (status : ℕ) : Type 0 where
   pub untouched_workload : (number count : ℕ) → IsCommand words (Workload number count)
       → Untouched run.old run.new × (run.given ≡ run.begun)
@@ -134,6 +139,8 @@ pub record LittleIsTouched (words : List (List ℕ)) (run : RunSeen) (status : �
       → Untouched run.old run.new × (run.given ≡ run.begun)
   pub nobody_formats : (path : List ℕ) (blocks half id : ℕ)
       → IsCommand words (Format path blocks half id)
+      → ServesNobody run.old run.new run.begun run.given
+  pub nobody_migrates : (path : List ℕ) → IsCommand words (Migrate path)
       → ServesNobody run.old run.new run.begun run.given
   pub nobody_works : (path : List ℕ) → IsCommand words (Work path) → run.new.link ≡ run.old.link
   pub closed : run.old.link.under_way ≡ false → run.new.link.under_way ≡ false
@@ -144,7 +151,9 @@ pub record LittleIsTouched (words : List (List ℕ)) (run : RunSeen) (status : �
 -- At status 0 of `format` the file stands for the empty library, and at each moment of it over a
 -- device without a store a crash leaves none, or that one. `check` of a file that stands for a
 -- state puts the counts of its library, each object of which is whole, and `workload` the numbers
--- of one run of its requests.
+-- of one run of its requests. At each moment of `migrate` over a file that stands for an archive,
+-- by a half of form 1 or of the form in use, a crash leaves that one, and at status 0 the file
+-- stands for it by a half of the form in use.
 pub record DoneIsTold (words : List (List ℕ)) (run : RunSeen) (status : ℕ) : Type 0 where
   pub formatted : status ≡ 0 → run.old.shows ≡ true → (path : List ℕ) (blocks half id : ℕ)
       → IsCommand words (Format path blocks half id) → StandsFor run.new.seen
@@ -160,6 +169,13 @@ pub record DoneIsTold (words : List (List ℕ)) (run : RunSeen) (status : ℕ) :
       → PutsLine run.notes (checked_line (counts_in from))
   pub whole : status ≡ 0 → run.old.shows ≡ true → (path : List ℕ) → IsCommand words (Check path)
       → (from : StoreState) → StandsFor run.old.seen from → AreWhole from.archive
+  pub migrating : (path : List ℕ) → IsCommand words (Migrate path) → run.old.honest ≡ true
+      → run.old.shows ≡ true → IsSettled run.old
+      → (archive : Archive) → HasEither run.old.seen archive
+      → (p : Left) → run.new.left_since run.old.moment p → HasEither p.image archive
+  pub migrated : status ≡ 0 → run.old.shows ≡ true → (path : List ℕ)
+      → IsCommand words (Migrate path) → (archive : Archive) → HasEither run.old.seen archive
+      → HasArchiveBy form_in_use run.new.seen archive
   pub generated : status ≡ 0 → (number count : ℕ) → IsCommand words (Workload number count)
       → (numbers : WorkloadRun) × IsWorkloadRun number count numbers
       × PutsLine run.notes (generated_line numbers)
@@ -182,8 +198,8 @@ pub record HistoriesAreTold (words : List (List ℕ)) (run : RunSeen) (status : 
 
 -- Where nothing failed over such a file, each request that was heard whole was answered by the
 -- machine, each answer was said whole, and the status is 0, or in `replay` 6 by the input alone.
--- `format`, `check` and `work` end with 0 then, or as the file refuses them, and `workload` with 0;
--- each of them may want memory.
+-- `format`, `check`, `migrate` and `work` end with 0 then, or as the file refuses them, and
+-- `workload` with 0; each of them may want memory.
 pub record WholeIsTold (words : List (List ℕ)) (run : RunSeen) (status : ℕ) : Type 0 where
   pub complete : (base : List ℕ) (from : StoreState)
       → IsReplayFrom base from words run.old run.clock run.begun
@@ -199,6 +215,8 @@ pub record WholeIsTold (words : List (List ℕ)) (run : RunSeen) (status : ℕ) 
   pub complete_work : (path : List ℕ) → IsCommand words (Work path) → NoneRose run.old run.new
       → (status ≡ 0) ⊎ ((status ≡ 2) ⊎ (status ≡ 4))
   pub complete_check : (path : List ℕ) → IsCommand words (Check path)
+      → NoneRose run.old run.new → (status ≡ 0) ⊎ ((status ≡ 2) ⊎ (status ≡ 4))
+  pub complete_migrate : (path : List ℕ) → IsCommand words (Migrate path)
       → NoneRose run.old run.new → (status ≡ 0) ⊎ ((status ≡ 2) ⊎ (status ≡ 4))
   pub complete_workload : (number count : ℕ) → IsCommand words (Workload number count)
       → (status ≡ 0) ⊎ (status ≡ 4)

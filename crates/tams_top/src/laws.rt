@@ -38,7 +38,8 @@ pub fn little_is_touched<X: Site>(before: &X, after: &X)
     ensures { OfRuns (X.device before.now) (X.device after.now) LittleIsTouched }
 {}
 
-/// What status 0 says of `format`, `check` and `workload`, and what a crash leaves of a run of `format`.
+/// What status 0 says of `format`, `check`, `migrate` and `workload`, and what a crash leaves of a run of `format` or
+/// `migrate`.
 pub fn done_is_told<X: Site>(before: &X, after: &X)
     ensures { OfRuns (X.device before.now) (X.device after.now) DoneIsTold }
 {}

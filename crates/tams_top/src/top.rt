@@ -5,7 +5,7 @@ ghost use Rattle.tams_top.specs.Within.{EndsWithCause};
 use disk_trait::{Memory, TextList};
 use site_edge::{Caller, Clock, Sink};
 use std::alloc::Global;
-use store_commands::{check, format, replay, serve, work, workload};
+use store_commands::{check, format, migrate, replay, serve, work, workload};
 use tams_outcomes::RunOutcome;
 use tams_words::{Invocation, read_words};
 
@@ -63,6 +63,7 @@ fn outcome_of<X: Caller, C: Clock>(
             ),
         ) => format(alloc, site, blocks, half, id),
         Ok(Some(Invocation::Check { path: _ })) => check(alloc, site),
+        Ok(Some(Invocation::Migrate { path: _ })) => migrate(alloc, site),
         Ok(Some(Invocation::Work { path: _ })) => work(alloc, site, clock),
         Ok(Some(Invocation::Replay { path: _, base })) => replay(alloc, site, clock, base),
         Ok(

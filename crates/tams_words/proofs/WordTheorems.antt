@@ -1,12 +1,12 @@
 -- Words spell at most one command.
 use Rattle.std.proofs.Common.{◌≡◌, ◌<◌, ◌^◌, ◌∙◌, ◌∷◌, [], ℕ, List, get_or, Some, codes, subst, sym, ap, arith}
 use Rattle.std.proofs.lemmas.Fmt.{decimal_injective}
-use Rattle.tams_words.specs.Words.{HasForm, IsNumber, IsNumberOrZero, IsFormat, IsCheck, IsWork, IsReplay, IsServe, IsWorkload, IsCommand}
+use Rattle.tams_words.specs.Words.{HasForm, IsNumber, IsNumberOrZero, IsFormat, IsCheck, IsMigrate, IsWork, IsReplay, IsServe, IsWorkload, IsCommand}
 use Rattle.tams_words.specs.Words.IsNumberOrZero.{Zero, Other}
 use Rattle.media_rows.specs.Ids.{id_of}
 use Rattle.tams_words.proofs.WordLemmas.{begins_as_number}
 use Rattle.tams_words.specs.declared.words.Invocation.{Invocation}
-use Rattle.tams_words.specs.declared.words.Invocation.TheVariants.{Format, Check, Work, Replay, Serve, Workload}
+use Rattle.tams_words.specs.declared.words.Invocation.TheVariants.{Format, Check, Migrate, Work, Replay, Serve, Workload}
 
 -- a word is one number at most
 one_number : (most : ℕ) (v w : List ℕ) (m n : ℕ) → most < 2 ^ 64 → v ≡ w → IsNumber most v m → IsNumber most w n → m ≡ n
@@ -35,6 +35,7 @@ one_id v w a b e p q = cc
 abbrev name_of : Invocation → List ℕ
 name_of (Format path blocks half id) = codes "format"
 name_of (Check path) = codes "check"
+name_of (Migrate path) = codes "migrate"
 name_of (Work path) = codes "work"
 name_of (Replay path base) = codes "replay"
 name_of (Serve path port base connections) = codes "serve"
@@ -44,6 +45,7 @@ name_of (Workload number count) = codes "workload"
 first_word : (words : List (List ℕ)) (a : Invocation) → IsCommand words a → get_or words 0 [] ≡ name_of a
 first_word words (Format p m h i) x = let f : IsFormat words p m h i = x.form in ap (λ (ws : List (List ℕ)). get_or ws 0 []) f.words_are
 first_word words (Check p) x = let f : IsCheck words p = x.form in ap (λ (ws : List (List ℕ)). get_or ws 0 []) f.words_are
+first_word words (Migrate p) x = let f : IsMigrate words p = x.form in ap (λ (ws : List (List ℕ)). get_or ws 0 []) f.words_are
 first_word words (Work p) x = let f : IsWork words p = x.form in ap (λ (ws : List (List ℕ)). get_or ws 0 []) f.words_are
 first_word words (Replay p b) x = let f : IsReplay words p b = x.form in ap (λ (ws : List (List ℕ)). get_or ws 0 []) f.words_are
 first_word words (Serve p m b k) x = let f : IsServe words p m b k = x.form in ap (λ (ws : List (List ℕ)). get_or ws 0 []) f.words_are
@@ -62,6 +64,11 @@ one_command words (Format p m h i) (Format q n k j) x y =
 one_command words (Check p) (Check q) x y =
     let f : IsCheck words p = x.form in
     let g : IsCheck words q = y.form in
+    let same = sym f.words_are ∙ g.words_are in
+    cc
+one_command words (Migrate p) (Migrate q) x y =
+    let f : IsMigrate words p = x.form in
+    let g : IsMigrate words q = y.form in
     let same = sym f.words_are ∙ g.words_are in
     cc
 one_command words (Work p) (Work q) x y =
@@ -104,6 +111,7 @@ not_workload number count none (Workload m n) x =
 not_workload number count none (Format p m h i) x =
     let f : IsFormat (codes "workload" ∷ number ∷ count ∷ []) p m h i = x in let e = f.words_are in cc
 not_workload number count none (Check p) x = let f : IsCheck (codes "workload" ∷ number ∷ count ∷ []) p = x in let e = f.words_are in cc
+not_workload number count none (Migrate p) x = let f : IsMigrate (codes "workload" ∷ number ∷ count ∷ []) p = x in let e = f.words_are in cc
 not_workload number count none (Work p) x = let f : IsWork (codes "workload" ∷ number ∷ count ∷ []) p = x in let e = f.words_are in cc
 not_workload number count none (Replay p b) x = let f : IsReplay (codes "workload" ∷ number ∷ count ∷ []) p b = x in let e = f.words_are in cc
 not_workload number count none (Serve p m b k) x =

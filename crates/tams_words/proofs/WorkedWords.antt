@@ -6,7 +6,7 @@ use Rattle.std.proofs.lemmas.Str.{IsUtf8-from_is_utf8}
 use Rattle.std.specs.Char.{encode_utf8}
 use Rattle.std.specs.Str.{chars, is_utf8}
 use Rattle.tams_words.specs.Words.{IsBase, IsBaseByte, IsNumber, IsPlainWord}
-use Rattle.tams_words.specs.Worked.{WordsAsWorked, check_line, replay_line, serve_line, work_line, worked_base, worked_path}
+use Rattle.tams_words.specs.Worked.{WordsAsWorked, check_line, migrate_line, replay_line, serve_line, work_line, worked_base, worked_path}
 
 plain : (word : List ℕ) → is_utf8 word ≡ true → 1 ≤ length word → slice_index word 0 ≢ 45 → IsPlainWord word
 plain word text some first = record { text = IsUtf8-from_is_utf8 word text; some = some; first = first }
@@ -14,6 +14,10 @@ plain word text some first = record { text = IsUtf8-from_is_utf8 word text; some
 check_plain : IsPlainWord (codes "check")
 unfolding is_utf8 chars encode_utf8
 check_plain = plain (codes "check") refl (omega arith) (λ e. omega (arith, e))
+
+migrate_plain : IsPlainWord (codes "migrate")
+unfolding is_utf8 chars encode_utf8
+migrate_plain = plain (codes "migrate") refl (omega arith) (λ e. omega (arith, e))
 
 work_plain : IsPlainWord (codes "work")
 unfolding is_utf8 chars encode_utf8
@@ -100,6 +104,9 @@ none = All-nil IsPlainWord
 check_words : All IsPlainWord check_line
 check_words = next (codes "check") (worked_path ∷ []) check_plain (next worked_path [] path_plain none)
 
+migrate_words : All IsPlainWord migrate_line
+migrate_words = next (codes "migrate") (worked_path ∷ []) migrate_plain (next worked_path [] path_plain none)
+
 work_words : All IsPlainWord work_line
 work_words = next (codes "work") (worked_path ∷ []) work_plain (next worked_path [] path_plain none)
 
@@ -118,6 +125,7 @@ serve_words =
 pub words_as_worked : WordsAsWorked
 words_as_worked = record {
   check = record { plain = check_words; form = record { words_are = refl } };
+  migrate = record { plain = migrate_words; form = record { words_are = refl } };
   work = record { plain = work_words; form = record { words_are = refl } };
   replay = record { plain = replay_words; form = record { words_are = refl; base_is = base_is } };
   serve = record {

@@ -20,6 +20,9 @@ format_words = codes "PATH" ∷ codes "BLOCKS" ∷ codes "HALF" ∷ codes "STORE
 abbrev pub check_words : List Text
 check_words = codes "PATH" ∷ []
 
+abbrev pub migrate_words : List Text
+migrate_words = codes "PATH" ∷ []
+
 abbrev pub work_words : List Text
 work_words = codes "PATH" ∷ []
 
@@ -44,6 +47,7 @@ tams_app = record {
   };
   subs = command_with (codes "format") format_words
       ∷ command_with (codes "check") check_words
+      ∷ command_with (codes "migrate") migrate_words
       ∷ command_with (codes "work") work_words
       ∷ command_with (codes "replay") replay_words
       ∷ command_with (codes "serve") serve_words
@@ -54,6 +58,7 @@ tams_app = record {
 abbrev pub command_word : CommandName → Text
 command_word name.Format = codes "format"
 command_word name.Check = codes "check"
+command_word name.Migrate = codes "migrate"
 command_word name.Work = codes "work"
 command_word name.Replay = codes "replay"
 command_word name.Serve = codes "serve"
@@ -63,6 +68,7 @@ command_word name.Workload = codes "workload"
 abbrev pub words_of : CommandName → List Text
 words_of name.Format = format_words
 words_of name.Check = check_words
+words_of name.Migrate = migrate_words
 words_of name.Work = work_words
 words_of name.Replay = replay_words
 words_of name.Serve = serve_words

@@ -4,7 +4,7 @@ use Rattle.std.specs.List.{starts_with}
 use Rattle.std.specs.Fmt.{decimal}
 use Rattle.media_rows.specs.Ids.{id_of}
 use Rattle.tams_words.specs.declared.words.Invocation.{Invocation}
-use Rattle.tams_words.specs.declared.words.Invocation.TheVariants.{Format, Check, Work, Replay, Serve, Workload}
+use Rattle.tams_words.specs.declared.words.Invocation.TheVariants.{Format, Check, Migrate, Work, Replay, Serve, Workload}
 use Rattle.tams_words.specs.declared.words.Wanted.{Wanted}
 use Rattle.tams_words.specs.declared.words.Wanted.TheVariants.{Nothing, Plain, Fresh, Listen, Dial}
 
@@ -61,6 +61,10 @@ pub record IsFormat (words : List (List ℕ)) (path : List ℕ) (blocks half id 
 pub record IsCheck (words : List (List ℕ)) (path : List ℕ) : Type 0 where
   pub words_are : words ≡ codes "check" ∷ path ∷ []
 
+-- migrate PATH
+pub record IsMigrate (words : List (List ℕ)) (path : List ℕ) : Type 0 where
+  pub words_are : words ≡ codes "migrate" ∷ path ∷ []
+
 -- work PATH
 pub record IsWork (words : List (List ℕ)) (path : List ℕ) : Type 0 where
   pub words_are : words ≡ codes "work" ∷ path ∷ []
@@ -92,6 +96,7 @@ pub record IsWorkload (words : List (List ℕ)) (number count : ℕ) : Type 0 wh
 abbrev pub HasForm : List (List ℕ) → Invocation → Type 0
 HasForm words (Format path blocks half id) = IsFormat words path blocks half id
 HasForm words (Check path) = IsCheck words path
+HasForm words (Migrate path) = IsMigrate words path
 HasForm words (Work path) = IsWork words path
 HasForm words (Replay path base) = IsReplay words path base
 HasForm words (Serve path port base connections) = IsServe words path port base connections
@@ -108,14 +113,15 @@ FormIs words (Some command) = HasForm words command
 FormIs words None = (command : Invocation) → HasForm words command → ⊥
 
 -- What the program opens for these words: a file of a length in bytes for `format`, a file that is
--- there for `check`, `work` and `replay`, that and a port for `serve`, and nothing for `workload`
--- and for words that are no command. No command asks yet for connections that it begins itself.
+-- there for `check`, `migrate`, `work` and `replay`, that and a port for `serve`, and nothing for
+-- `workload` and for words that are no command. No command asks yet for connections that it begins
+-- itself.
 abbrev pub WantedFor : List (List ℕ) → Wanted → Type 0
 WantedFor words Nothing = ((command : Invocation) → IsCommand words command → ⊥)
     ⊎ ((number count : ℕ) × IsCommand words (Workload number count))
 WantedFor words (Plain path) =
-    IsCommand words (Check path) ⊎ (IsCommand words (Work path)
-    ⊎ ((base : List ℕ) × IsCommand words (Replay path base)))
+    IsCommand words (Check path) ⊎ (IsCommand words (Migrate path)
+    ⊎ (IsCommand words (Work path) ⊎ ((base : List ℕ) × IsCommand words (Replay path base))))
 WantedFor words (Fresh path bytes) =
     (blocks half id : ℕ) × (bytes ≡ 4096 * blocks) × IsCommand words (Format path blocks half id)
 WantedFor words (Listen path port) =

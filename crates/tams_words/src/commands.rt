@@ -15,6 +15,7 @@ const VERSION: &str = "0.1.0";
 pub(crate) enum CommandName {
     Format,
     Check,
+    Migrate,
     Work,
     Replay,
     Serve,
@@ -30,6 +31,7 @@ impl CommandName {
         match word {
             "format" => Some(CommandName::Format),
             "check" => Some(CommandName::Check),
+            "migrate" => Some(CommandName::Migrate),
             "work" => Some(CommandName::Work),
             "replay" => Some(CommandName::Replay),
             "serve" => Some(CommandName::Serve),
@@ -43,7 +45,7 @@ impl CommandName {
         ensures { result ≡ length (words_of self) + 1 }
     {
         match self {
-            CommandName::Check | CommandName::Work => 2,
+            CommandName::Check | CommandName::Migrate | CommandName::Work => 2,
             CommandName::Replay | CommandName::Workload => 3,
             CommandName::Format | CommandName::Serve => 5,
         }
@@ -87,6 +89,13 @@ pub fn command_line<'a>(alloc: Global) -> Result<Command<'a>, AllocError>
         program,
         "check",
         "Reads the objects of a store, and counts what it keeps",
+        &[PATH],
+    )?;
+    let program = with_command(
+        alloc,
+        program,
+        "migrate",
+        "Moves a store of form 1 to form 2, with digests of its objects",
         &[PATH],
     )?;
     let program = with_command(

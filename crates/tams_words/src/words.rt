@@ -54,6 +54,10 @@ pub enum Invocation {
     Check {
         path: Text,
     },
+    /// Moves a store of form 1 to the form in use, in place.
+    Migrate {
+        path: Text,
+    },
     /// Makes turns until one changes nothing.
     Work {
         path: Text,
@@ -99,6 +103,7 @@ pub fn devices(alloc: Global, words: &TextList) -> Result<Wanted, Memory>
     match read_words(alloc, words)? {
         Some(Invocation::Format { path, blocks, .. }) => Ok(Wanted::Fresh(path, BLOCK * blocks)),
         Some(Invocation::Check { path }) => Ok(Wanted::Plain(path)),
+        Some(Invocation::Migrate { path }) => Ok(Wanted::Plain(path)),
         Some(Invocation::Work { path }) => Ok(Wanted::Plain(path)),
         Some(Invocation::Replay { path, .. }) => Ok(Wanted::Plain(path)),
         Some(Invocation::Serve { path, port, .. }) => Ok(Wanted::Listen(path, port)),
@@ -183,6 +188,9 @@ fn read_values(
             read_format(alloc, path, blocks, half, value(values, "STORE_ID"))
         }
         CommandName::Check => Ok(Some(Invocation::Check {
+            path: text(alloc, value(values, "PATH"))?,
+        })),
+        CommandName::Migrate => Ok(Some(Invocation::Migrate {
             path: text(alloc, value(values, "PATH"))?,
         })),
         CommandName::Work => Ok(Some(Invocation::Work {

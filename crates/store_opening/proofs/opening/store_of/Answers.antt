@@ -1,6 +1,6 @@
 use Rattle.std.proofs.lemmas.Result.{err_from_is_err_and}
 use Rattle.media_journal.specs.Opening.{header_of}
-use Rattle.store_opening.proofs.Opened.{is_other, records_fault, rows_fault, torn_record, untorn}
+use Rattle.store_opening.proofs.Opened.{is_kept, records_fault, rows_fault, torn_record, untorn}
 use Rattle.store_opening.proofs.opening.store_of.Goals as goal
 
 -- The rows make no library.
@@ -23,15 +23,15 @@ returns-in-Some-clause-answer c = λ image is.
     torn_record image c.args.opened c.in_ok-first.first.library c.in_ok-core.core.library c.in-Some.at c.in-Some.is is c.in_ok-first.ensures.ok
     (rw c.items.ensures at c.in_ok-core.ensures.folded)
 
--- All records apply, and the half is of another form.
-pub returns-then-opened-ne-FORM_IN_USE-clause-answer : goal.returns-then-opened-ne-FORM_IN_USE-clause-answer
-returns-then-opened-ne-FORM_IN_USE-clause-answer c = λ image is.
-    is_other image c.args.opened c.in_ok-first.first.library c.in_ok-core.core.library (untorn c.args.opened.torn c.in_default.not-Some) c.if-opened-ne-FORM_IN_USE.true is
-    c.in_ok-first.ensures.ok (rw c.items.ensures at c.in_ok-core.ensures.folded)
-
 -- The library of rows and records has the media blocks of its header's file.
 pub returns-clause-blocks : goal.returns-clause-blocks
 returns-clause-blocks c =
     let good = c.states_are_good.ensures.library c.args.opened.form (header_of c.args.opened) c.args.opened.rows c.args.opened.found c.in_ok-core.core.library
     (record { first = c.in_ok-first.first.library; snapshot = c.in_ok-first.ensures.ok; folds = rw c.items.ensures at c.in_ok-core.ensures.folded }) in
     rw (c.requires.blocks, c.requires.half) good.1.blocks
+
+-- All records apply, and none is torn.
+pub returns-clause-answer : goal.returns-clause-answer
+returns-clause-answer c = λ image is.
+    is_kept image c.args.opened c.in_ok-first.first.library c.in_ok-core.core.library (untorn c.args.opened.torn c.in_default.not-Some) is
+    c.in_ok-first.ensures.ok (rw c.items.ensures at c.in_ok-core.ensures.folded)

@@ -1,7 +1,7 @@
 use Rattle.std.proofs.Common.{◌≤◌, ◌+◌, ◌*◌, length, refl, ap, ◌∙◌, arith}
 use Rattle.std.proofs.lemmas.Bool.{le-leb}
 use Rattle.change_codec.specs.Fitting.{snapshot_size}
-use Rattle.store_plans.proofs.Spelled.{size_of, text_of}
+use Rattle.store_states.proofs.Snapshots.{size_of, text_of}
 use Rattle.store_plans.proofs.room.behind_rows.Goals as goal
 
 -- the rows are the text of the library, and there is room behind them

@@ -1,30 +1,30 @@
-use Rattle.std.proofs.Common.{◌≤◌, ◌∙◌, true, false, refl, ap, sym, subst, arith}
-use Rattle.std.specs.Prelude.{is_ok}
-use Rattle.std.proofs.lemmas.List.{length-take-le}
-use Rattle.std.proofs.lemmas.Result.{err_from_is_err_and}
-use Rattle.disk_trait.specs.Calls.{DiskReads, bytes_at}
-use Rattle.disk_trait.proofs.Theorems.{one_read, reads_twice}
-use Rattle.media_store.specs.Changes.{FileStands}
-use Rattle.media_store.proofs.Probing.{keeps_on, object_in, read_more}
+use Rattle.std.proofs.Common.{ap, subst, ◌∙◌}
+use Rattle.media_rows.specs.Good.{Good}
+use Rattle.store_states.proofs.Agreeing.{quiet_calls_keep}
+use Rattle.media_store.specs.Stores.{IsSoundStore, StoreSeen}
+use Rattle.media_store.proofs.Places.{extent_within, on_device}
+use Rattle.media_store.proofs.Probing.{reads_stand}
 use Rattle.media_store.proofs.store.Store.digest_at.Goals as goal
 
--- the read of a piece failed
-pub returns-in_err-get_piece-clause-reads : goal.returns-in_err-get_piece-clause-reads
-returns-in_err-get_piece-clause-reads g c =
-    let p = err_from_is_err_and c.from_residual.result c.from_residual.ensures.1 in
-    let piece = c.in_err-get_piece.ensures in
-    rw p.1 (reads_twice false _ _ _ c.pieces.invariant.reads (one_read false _ _ piece.call piece.seen piece.handed))
+pub extent_digest-requires : goal.extent_digest-requires
+extent_digest-requires g c =
+    let good = subst (λ (s : StoreSeen). Good s.kept.library) c.self.view_is c.keeps_good.ensures in
+    let store = subst (λ (s : StoreSeen). IsSoundStore s.kept) c.self.view_is
+    (c.self.invariant (ap (λ (s : StoreSeen). s.spent) c.self.view_is ∙ c.requires.unspent)).sound in
+    record {
+      device = rw c.area-area.ensures
+          (on_device c.args.self.now.kept c.args.extent _ store c.requires.device (extent_within c.args.self.now.kept.library c.args.extent good c.requires.stored));
+    }
 
-pub returns-in_err-get_piece-clause-keeps : goal.returns-in_err-get_piece-clause-keeps
-returns-in_err-get_piece-clause-keeps g c = keeps_on _ _ _ _ _ _ _ _ _ c.pieces.invariant (λ held agrees. (c.in_err-get_piece.ensures.keeps held agrees).agrees)
+-- reads leave all as it is
+pub returns-in-Ok-clause-keeps : goal.returns-in-Ok-clause-keeps
+returns-in-Ok-clause-keeps g c = λ held agrees. quiet_calls_keep _ _ _ held c.in-Ok.ensures.reads.time agrees
 
--- the room is that of the largest piece
-pub pieces-preserved : goal.pieces-preserved
-pieces-preserved g c =
-    let piece = c.in_ok-get_piece.ensures in
-    let size = length-take-le c.min-count.result c.pieces.room (omega (arith, c.min-count.ensures, c.min-count.array_long)) in
-    read_more _ _ _ _ _ _ _ _ _ c.pieces.invariant _ _ _ _ c.min-count.result refl (omega (arith, c.min-count.ensures, c.pieces-test.true)) piece.spent piece.kept
-    piece.put (one_read true _ _ piece.call piece.seen piece.handed)
-    (λ shows. piece.piece shows ∙ ap (bytes_at (object_in c.pieces.self.kept c.args.extent (g.D.Disk.device c.pieces.disk)) c.pieces.at) size) c.update.ensures
-    (λ held agrees. (piece.keeps held agrees).agrees)
-    (λ was. subst (FileStands (g.D.Disk.device c.get_piece.new.disk)) piece.kept (piece.stands was))
+pub returns-in-Err-clause-keeps : goal.returns-in-Err-clause-keeps
+returns-in-Err-clause-keeps g c = λ held agrees. quiet_calls_keep _ _ _ held c.in-Err.ensures.reads.time agrees
+
+pub returns-in-Ok-clause-stands : goal.returns-in-Ok-clause-stands
+returns-in-Ok-clause-stands g c = reads_stand _ _ _ _ c.in-Ok.ensures.reads
+
+pub returns-in-Err-clause-stands : goal.returns-in-Err-clause-stands
+returns-in-Err-clause-stands g c = reads_stand _ _ _ _ c.in-Err.ensures.reads

@@ -1,0 +1,3 @@
+mod Digesting
+mod Moving
+mod Migrating
