@@ -46,9 +46,12 @@ fn posted(alloc: Global, outbox: &Outbox, happened: &HappenedList) -> Result<Pos
     outbox.post_events(alloc, happened, 2, 0)
 }
 
-/// The number of events once the first one was delivered.
+/// The number of events once the first one of the first hook was delivered.
 fn after_delivery(alloc: Global, outbox: &Outbox) -> Result<u64, Memory> {
-    match outbox.first_of(1) {
+    let Some(hook) = outbox.next_hook(0) else {
+        return Ok(outbox.event_count());
+    };
+    match outbox.first_of(hook.serial) {
         Some(row) if outbox.waits_first(row.serial) => {
             Ok(outbox.delivered(alloc, row.serial)?.event_count())
         }

@@ -21,5 +21,6 @@ pub use crate::fields::read_length;
 pub use crate::framing::WireFault;
 pub use crate::head::{FeedSpan, MethodKind};
 pub use crate::laws::{a_byte_more_is_taken, feed_agrees, hearing_is_one, lines_are_whole};
+pub use crate::lines::{LinePlace, Looked, look};
 pub use crate::response::{FieldList, HeadField, write_response};
 pub use crate::stage::{FeedStep, Head};

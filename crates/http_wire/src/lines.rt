@@ -43,8 +43,8 @@ fn next_place(place: LinePlace, byte: u8) -> Option<LinePlace>
     }
 }
 
-/// Looks for the end of a head in bytes, from a place on.
-pub(crate) fn look(place: LinePlace, bytes: &[u8]) -> Looked
+/// Looks for the end of a head in bytes, from a place on (RFC 9112, sections 2.1 and 2.2).
+pub fn look(place: LinePlace, bytes: &[u8]) -> Looked
     ensures found { result ≡ looked place bytes.now }
     ensures inside { IsLookedIn result (length bytes.now) }
 {

@@ -6,5 +6,6 @@ mod Places
 mod Probing
 mod Storing
 pub mod Outcomes
+mod Delivering
 pub mod PutFacts
 mod PutReplies

@@ -2,6 +2,7 @@ pub mod Stores
 pub mod Changes
 pub mod Faults
 pub mod Turns
+pub mod Deliveries
 pub mod Pieces
 pub mod Probes
 pub mod Puts

@@ -1,15 +1,18 @@
 -- Words that the calls within this crate cite, and no other crate.
-use Rattle.std.specs.Prelude.{◌≡◌, ◌≤◌, ◌+◌, ◌&&◌, ℕ, Bool, true, false, List, ◌++◌, length, take, bytes_eq}
+use Rattle.std.specs.Prelude.{◌≡◌, ◌≤◌, ◌+◌, ◌&&◌, ℕ, Bool, true, false, List, ◌++◌, length, take, bytes_eq, Option, Some, None, IsFalse}
 use Rattle.media_rows.specs.declared.change.Change.{Change}
 use Rattle.media_rows.specs.declared.change.Change.TheVariants as changes
 use Rattle.media_rows.specs.declared.object.Extent.{Extent}
 use Rattle.media_rows.specs.declared.refusal.Refusal.{Refusal}
 use Rattle.media_rows.specs.declared.refusal.Refusal.TheVariants as refusals
 use Rattle.media_rows.specs.Library.{Library}
+use Rattle.change_codec.specs.Fitting.{State, fits}
 use Rattle.disk_trait.specs.Calls.{bytes_at}
 use Rattle.object_blobs.specs.Extents.{IsOnDevice, extent_bytes}
+use Rattle.store_plans.specs.declared.outcome.Planned.{Planned}
 use Rattle.store_plans.specs.declared.puts.PutPlan.{PutPlan}
 use Rattle.store_plans.specs.declared.puts.PutPlan.TheVariants.{Refused, Kept, Write}
+use Rattle.store_plans.specs.Plans.{IsStepPlan}
 use Rattle.store_writes.specs.Writes.{IsFree}
 
 -- The place of a put's bytes lies on a device of so many bytes, where the media blocks begin here,
@@ -50,3 +53,8 @@ is_put_refusal refusals.OtherBytes = true
 is_put_refusal refusals.JournalFull = true
 is_put_refusal refusals.MediaFull = true
 is_put_refusal other = false
+
+-- the plan of a change that applies, and none exactly where it doesn't fit
+abbrev pub IsPlannedIfFits : State → Change → Option Planned → Type 0
+IsPlannedIfFits journal change None = IsFalse (fits journal change)
+IsPlannedIfFits journal change (Some planned) = IsStepPlan journal (Some change) change planned

@@ -1,8 +1,9 @@
 //! The store of one file: its library with the bytes of its objects, opened, asked and changed. What a command,
-//! a turn or a put makes is planned first, with all memory that it takes, and then written.
+//! a turn, a put or a delivery makes is planned first, with all memory that it takes, and then written.
 #![tactic(auto)]
 
 mod commits;
+mod deliveries;
 mod fault;
 mod opening;
 mod pieces;

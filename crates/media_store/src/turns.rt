@@ -86,13 +86,13 @@ impl Store {
         }
     }
 
-    /// Writes the plan of a step that is due.
-    fn step<D: Disk>(
+    /// Writes the plan of a change that is due and fits, and answers this.
+    pub(crate) fn step<D: Disk, T: Copy>(
         &mut self,
         disk: &mut D,
         planned: Planned,
-        made: TurnMade,
-    ) -> Result<TurnMade, StoreFault>
+        made: T,
+    ) -> Result<T, StoreFault>
         requires unspent { IsFalse self.old.spent }
         requires idle { self.old.put ≡ None }
         requires device { size_of self.old.kept ≤ (D.device disk.old).size }

@@ -10,6 +10,8 @@ pub mod MigrateEndLemmas
 pub mod WorkEndLemmas
 mod TurnsLeft
 mod WorkingLemmas
+mod DeliverLemmas
+pub mod DeliverEndLemmas
 pub mod CompletenessLemmas
 pub mod ServeEndLemmas
 mod RunningLemmas

@@ -9,6 +9,8 @@ pub mod MigrateEnds
 pub mod Working
 pub mod WorkEnds
 pub mod Turning
+pub mod Delivering
+pub mod DeliverEnds
 pub mod Histories
 pub mod Completeness
 pub mod ServeEnds

@@ -1,8 +1,9 @@
-//! The commands of a store: `format`, `check`, `migrate`, `work`, `replay` and `serve`, and `workload`, each with the
-//! record of its ends; and what those that open a store share.
+//! The commands of a store: `format`, `check`, `migrate`, `work`, `deliver`, `replay` and `serve`, and `workload`, each
+//! with the record of its ends; and what those that open a store share.
 #![tactic(auto)]
 
 mod checking;
+mod delivering;
 mod formatting;
 mod generating;
 mod laws;
@@ -15,6 +16,7 @@ mod still_clock;
 mod working;
 
 pub use crate::checking::check;
+pub use crate::delivering::deliver;
 pub use crate::formatting::format;
 pub use crate::generating::workload;
 pub use crate::laws::fresh_files_stand;

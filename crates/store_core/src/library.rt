@@ -1,14 +1,17 @@
 //! The core and its looks.
-ghost use Rattle.std.specs.Prelude.{◌≡◌, ◌≤◌, ◌∷◌, ◌++◌, [], IfOk, OnOk, option_copied};
+ghost use Rattle.std.specs.Prelude.{◌≡◌, ◌≤◌, ◌∷◌, ◌++◌, [], IfOk, IfSome, OnOk, option_copied};
 ghost use Rattle.media_rows.specs.Good.{Good};
 ghost use Rattle.media_rows.specs.Library.{empty_library};
 ghost use Rattle.media_rows.specs.Objects.{free_place, object_of};
+ghost use Rattle.media_rows.specs.Outbox.{waiting_for};
+ghost use Rattle.shared_tree.specs.Pairs.{first};
 ghost use Rattle.store_core.specs.Prepared.{counts_of, stored_objects};
+ghost use Rattle.webhook_outbox.specs.Ordered.{IsLeastFor, IsNextHook, next_hook};
 
 use crate::Prepared;
 use core_parts::Parts;
 use disk_trait::{Duplicate, Listed, Memory, Text};
-use media_rows::{ObjectList, ObjectRow, ObjectState};
+use media_rows::{EventRow, HookRow, ObjectList, ObjectRow, ObjectState};
 use std::alloc::Global;
 use std::marker::Model;
 
@@ -90,6 +93,24 @@ impl Core {
         ensures { option_copied result ≡ object_of id.now self.now.library.objects }
     {
         self.parts.media().object(id)
+    }
+
+    /// The hook of least serial above this one; `None` exactly where there is none. It takes no memory.
+    pub fn next_hook(&self, after: u64) -> Option<&HookRow>
+        ensures next { option_copied result ≡ next_hook after self.now.library.outbox.hooks }
+        ensures least { IfSome result (λ row. IsNextHook after self.now.library.outbox.hooks row.now) }
+    {
+        self.parts.registry().outbox().next_hook(after)
+    }
+
+    /// The event of least serial that waits for the hook of this serial; `None` exactly where none does. It takes no
+    /// memory.
+    pub fn first_event(&self, hook: u64) -> Option<&EventRow>
+        ensures first { option_copied result ≡ first (waiting_for hook self.now.library.outbox.events) }
+        ensures least { IfSome result
+            (λ row. IsLeastFor hook self.now.library.outbox.events row.now) }
+    {
+        self.parts.registry().outbox().first_of(hook)
     }
 
     /// How much is kept. It takes no memory.

@@ -11,7 +11,7 @@ use Rattle.media_rows.specs.declared.object.ObjectRow.{ObjectRow}
 use Rattle.media_rows.specs.declared.object.ObjectState.TheVariants.{Stored}
 use Rattle.media_rows.specs.declared.reply.Reply.TheVariants as replies
 use Rattle.media_rows.specs.Answer.{Outcome, changed, stored_put, unchanged}
-use Rattle.media_rows.specs.Apply.{applied, turn}
+use Rattle.media_rows.specs.Apply.{applied, applies, turn}
 use Rattle.media_rows.specs.Digests.{digest_of}
 use Rattle.media_rows.specs.Library.{Library}
 use Rattle.media_rows.specs.Media.{Archive, answer_to, puts}
@@ -25,6 +25,8 @@ use Rattle.media_journal.specs.Journal.{Position}
 use Rattle.store_states.specs.Fitting.{FitsJournal, fitted}
 use Rattle.store_states.specs.Laws.{is_clear}
 use Rattle.store_states.specs.States.{IsTextOf}
+use Rattle.store_plans.specs.declared.changes.ChangePlan.{ChangePlan}
+use Rattle.store_plans.specs.declared.changes.ChangePlan.TheVariants as plans
 use Rattle.store_plans.specs.declared.outcome.Planned.{Planned}
 use Rattle.store_plans.specs.declared.puts.PutPlan.{PutPlan}
 use Rattle.store_plans.specs.declared.puts.StorePlan.{StorePlan}
@@ -120,6 +122,32 @@ TurnFits position Nothing = Unit {0}
 TurnFits position NoRoom = Unit {0}
 TurnFits position (Delete planned) = PlanFits position planned
 TurnFits position (Sweep planned) = PlanFits position planned
+
+-- ---- a change without a command
+
+-- a change that applies to the library doesn't fit
+pub record HasNoPlace (journal : State) (change : Change) : Type 0 where
+  pub applies : IsTrue (applies journal.library change)
+  pub full : IsFalse (fits journal change)
+
+-- a change applies and fits, and the plan makes it
+pub record IsMadePlan (journal : State) (change : Change) (planned : Planned) : Type 0 where
+  pub applies : IsTrue (applies journal.library change)
+  pub fits : IsTrue (fits journal change)
+  pub makes : MakesChange journal change planned
+  pub reply : planned.reply ≡ replies.Done
+
+-- what is planned of a change that comes without a command
+abbrev pub IsChangePlan : State → Change → ChangePlan → Type 0
+IsChangePlan journal change plans.Refused = IsFalse (applies journal.library change)
+IsChangePlan journal change plans.NoRoom = HasNoPlace journal change
+IsChangePlan journal change (plans.Made planned) = IsMadePlan journal change planned
+
+-- the record of such a change has its room
+abbrev pub ChangeFits : Position → ChangePlan → Type 0
+ChangeFits position plans.Refused = Unit {0}
+ChangeFits position plans.NoRoom = Unit {0}
+ChangeFits position (plans.Made planned) = PlanFits position planned
 
 -- ---- a put of an object's bytes
 

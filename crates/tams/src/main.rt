@@ -112,6 +112,7 @@ fn progress_word(words: &TextList) -> &'static str {
         b"check" => "check",
         b"migrate" => "migrate",
         b"work" => "work",
+        b"deliver" => "deliver",
         _ => "opening",
     }
 }

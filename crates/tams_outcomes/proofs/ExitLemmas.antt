@@ -4,7 +4,7 @@ use Rattle.tams_outcomes.specs.Statuses.{exit_of, number_of}
 use Rattle.tams_outcomes.specs.declared.status.Status.{Status}
 use Rattle.tams_outcomes.specs.declared.status.Status.TheVariants as status
 use Rattle.tams_outcomes.specs.declared.outcome.RunOutcome.{RunOutcome}
-use Rattle.tams_outcomes.specs.declared.outcome.RunOutcome.TheVariants.{Formatted, Checked, Migrated, AlreadyMigrated, Worked, Served, Generated, Cut, BadWords, NotStore, AlreadyStore, TooSmall, Damaged, DamagedObject, OldForm, DiskFault, NoMemory, LinkFault}
+use Rattle.tams_outcomes.specs.declared.outcome.RunOutcome.TheVariants.{Formatted, Checked, Migrated, AlreadyMigrated, Worked, Delivered, Served, Generated, Cut, BadWords, NotStore, AlreadyStore, TooSmall, Damaged, DamagedObject, OldForm, DiskFault, NoMemory, LinkFault}
 
 pub bad_words_by : (o : RunOutcome) → exit_of o ≡ 1 → o ≡ BadWords
 bad_words_by BadWords e = refl
@@ -32,6 +32,7 @@ exit_at_most (Checked counts) = omega arith
 exit_at_most (Migrated objects rows) = omega arith
 exit_at_most AlreadyMigrated = omega arith
 exit_at_most (Worked turns) = omega arith
+exit_at_most (Delivered delivered waiting full) = omega arith
 exit_at_most (Served requests changes skipped) = omega arith
 exit_at_most (Generated run) = omega arith
 exit_at_most BadWords = omega arith

@@ -1,5 +1,5 @@
 -- The line that each outcome puts into the notes, and what a sink took of a line.
-use Rattle.std.specs.Prelude.{◌≡◌, ℕ, zero, suc, Bool, true, List, ◌++◌, codes}
+use Rattle.std.specs.Prelude.{◌≡◌, ℕ, zero, suc, Bool, true, false, List, ◌++◌, codes}
 use Rattle.std.specs.Fmt.{decimal}
 use Rattle.disk_trait.specs.Calls.{IsCounted}
 use Rattle.site_edge.specs.Sinks.{Puts}
@@ -7,7 +7,7 @@ use Rattle.tams_outcomes.specs.declared.outcome.StoreCounts.{StoreCounts}
 use Rattle.tams_outcomes.specs.declared.outcome.WorkloadRun.{WorkloadRun}
 use Rattle.tams_outcomes.specs.declared.outcome.DamagedObject as damaged_object
 use Rattle.tams_outcomes.specs.declared.outcome.RunOutcome.{RunOutcome}
-use Rattle.tams_outcomes.specs.declared.outcome.RunOutcome.TheVariants.{Formatted, Checked, Migrated, AlreadyMigrated, Worked, Served, Generated, Cut, BadWords, NotStore, AlreadyStore, TooSmall, Damaged, DamagedObject, OldForm, DiskFault, NoMemory, LinkFault}
+use Rattle.tams_outcomes.specs.declared.outcome.RunOutcome.TheVariants.{Formatted, Checked, Migrated, AlreadyMigrated, Worked, Delivered, Served, Generated, Cut, BadWords, NotStore, AlreadyStore, TooSmall, Damaged, DamagedObject, OldForm, DiskFault, NoMemory, LinkFault}
 
 -- bytes within a line
 abbrev pub named : List ℕ → List ℕ → List ℕ → List ℕ
@@ -27,6 +27,17 @@ changes_end (suc n) = numbered (codes " changes, ") (suc n) (codes " turns skipp
 abbrev pub served_line : ℕ → ℕ → ℕ → List ℕ
 served_line requests changes skipped =
     numbered (codes "ok: ") requests (numbered (codes " requests, ") changes (changes_end skipped))
+
+-- the end of the line of a run that delivered
+abbrev pub events_end : Bool → List ℕ
+events_end true = codes " events, no room\n"
+events_end false = codes " events\n"
+
+-- the line of a run that delivered: its events, those that waited, and whether the journal had no
+-- room for the change of one
+abbrev pub delivered_line : ℕ → ℕ → Bool → List ℕ
+delivered_line delivered waiting full =
+    numbered (codes "delivered: ") delivered (numbered (codes " of ") waiting (events_end full))
 
 -- the line of a store that was made: its blocks, those of a half, and those for media
 abbrev pub formatted_line : ℕ → ℕ → ℕ → List ℕ
@@ -73,6 +84,7 @@ line_of (Checked counts) = checked_line counts
 line_of (Migrated objects rows) = migrated_line objects rows
 line_of AlreadyMigrated = codes "already migrated\n"
 line_of (Worked turns) = numbered (codes "worked: ") turns (codes " turns\n")
+line_of (Delivered delivered waiting full) = delivered_line delivered waiting full
 line_of (Served requests changes skipped) = served_line requests changes skipped
 line_of (Generated run) = generated_line run
 line_of BadWords = codes "bad words\n"

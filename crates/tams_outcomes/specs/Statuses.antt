@@ -3,7 +3,7 @@ use Rattle.std.specs.Prelude.{ℕ, Bool, true, false}
 use Rattle.tams_outcomes.specs.declared.status.Status.{Status}
 use Rattle.tams_outcomes.specs.declared.status.Status.TheVariants as status
 use Rattle.tams_outcomes.specs.declared.outcome.RunOutcome.{RunOutcome}
-use Rattle.tams_outcomes.specs.declared.outcome.RunOutcome.TheVariants.{Formatted, Checked, Migrated, AlreadyMigrated, Worked, Served, Generated, Cut, BadWords, NotStore, AlreadyStore, TooSmall, Damaged, DamagedObject, OldForm, DiskFault, NoMemory, LinkFault}
+use Rattle.tams_outcomes.specs.declared.outcome.RunOutcome.TheVariants.{Formatted, Checked, Migrated, AlreadyMigrated, Worked, Delivered, Served, Generated, Cut, BadWords, NotStore, AlreadyStore, TooSmall, Damaged, DamagedObject, OldForm, DiskFault, NoMemory, LinkFault}
 
 -- the number of each status
 abbrev pub number_of : Status → ℕ
@@ -23,6 +23,7 @@ status_of (Checked counts) = status.Done
 status_of (Migrated objects rows) = status.Done
 status_of AlreadyMigrated = status.Done
 status_of (Worked turns) = status.Done
+status_of (Delivered delivered waiting full) = status.Done
 status_of (Served requests changes skipped) = status.Done
 status_of (Generated run) = status.Done
 status_of BadWords = status.BadWords

@@ -1,6 +1,6 @@
 //! What a run ends with, and its line in the notes.
 ghost use Rattle.std.specs.Prelude.{◌≡◌, ◌++◌, is_ok};
-ghost use Rattle.tams_outcomes.specs.Lines.{TakesPart, checked_line, damaged_line, formatted_line, generated_line, line_of, migrated_line, served_line};
+ghost use Rattle.tams_outcomes.specs.Lines.{TakesPart, checked_line, damaged_line, delivered_line, formatted_line, generated_line, line_of, migrated_line, served_line};
 ghost use Rattle.tams_outcomes.specs.Parts.{line_by, part_by, shown_by};
 ghost use Rattle.tams_outcomes.specs.declared.outcome.Shown.TheVariants.{Bytes, Number};
 
@@ -61,6 +61,13 @@ pub enum RunOutcome {
     AlreadyMigrated,
     /// So many turns changed something, before one that changed nothing.
     Worked(u64),
+    /// So many events were delivered, of those that waited. It is full where the journal had no room for the change
+    /// of one.
+    Delivered {
+        delivered: u64,
+        waiting: u64,
+        full: bool,
+    },
     /// All was heard and answered, with so many answers and changes, and so many turns skipped.
     Served {
         requests: u64,
@@ -101,6 +108,7 @@ impl RunOutcome {
             | RunOutcome::Migrated { .. }
             | RunOutcome::AlreadyMigrated
             | RunOutcome::Worked(_)
+            | RunOutcome::Delivered { .. }
             | RunOutcome::Served { .. }
             | RunOutcome::Generated(_) => Status::Done,
             RunOutcome::BadWords => Status::BadWords,
@@ -136,6 +144,11 @@ impl RunOutcome {
                 &[part(b"worked: ", *turns)],
                 b" turns\n",
             ),
+            RunOutcome::Delivered {
+                delivered,
+                waiting,
+                full,
+            } => put_delivered(notes, *delivered, *waiting, *full),
             RunOutcome::Served {
                 requests,
                 changes,
@@ -198,6 +211,23 @@ fn put_migrated<N: Sink>(notes: &mut N, objects: u64, rows: u64) -> Result<(), S
 {
     let parts = [part(b"migrated: ", objects), part(b" objects, ", rows)];
     put_parts(notes, &parts, b" bytes of rows\n")
+}
+
+/// Puts the line of a run that delivered.
+fn put_delivered<N: Sink>(
+    notes: &mut N,
+    delivered: u64,
+    waiting: u64,
+    full: bool,
+) -> Result<(), SinkFailed>
+    ensures { TakesPart (is_ok result) (N.tells notes.old) (delivered_line delivered waiting full)
+        (N.faults notes.old) (N.faults notes.new) (N.taken notes.old) (N.taken notes.new) }
+{
+    let parts = [part(b"delivered: ", delivered), part(b" of ", waiting)];
+    if full {
+        return put_parts(notes, &parts, b" events, no room\n");
+    }
+    put_parts(notes, &parts, b" events\n")
 }
 
 /// Puts the line of a run that served.

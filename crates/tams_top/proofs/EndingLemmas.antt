@@ -2,6 +2,7 @@
 use Rattle.std.proofs.Common.{◌≡◌, ℕ, Bool, true, List, refl, sym, ap, subst, inl, inr}
 use Rattle.disk_trait.specs.Device.{IsDevice}
 use Rattle.store_commands.proofs.CheckEndLemmas.{check_starved}
+use Rattle.store_commands.proofs.DeliverEndLemmas.{deliver_starved}
 use Rattle.store_commands.proofs.FormatEndLemmas.{format_starved}
 use Rattle.store_commands.proofs.MigrateEndLemmas.{migrate_starved}
 use Rattle.store_commands.proofs.ServeEndLemmas.{replay_starved, serve_starved}
@@ -15,7 +16,7 @@ use Rattle.tams_top.specs.Within.{EndsBy, EndsWithCause}
 use Rattle.tams_words.proofs.WordTheorems.{one_command}
 use Rattle.tams_words.specs.Words.{IsCommand, IsNoCommand}
 use Rattle.tams_words.specs.declared.words.Invocation.{Invocation}
-use Rattle.tams_words.specs.declared.words.Invocation.TheVariants.{Format, Check, Migrate, Work, Replay, Serve, Workload}
+use Rattle.tams_words.specs.declared.words.Invocation.TheVariants.{Format, Check, Migrate, Work, Deliver, Replay, Serve, Workload}
 use Rattle.store_commands.proofs.WorkEndLemmas.{work_starved}
 use Rattle.store_commands.proofs.WorkloadEndLemmas.{workload_starved}
 
@@ -26,6 +27,7 @@ same_ends run o (Format path blocks half id) ends = ends
 same_ends run o (Check path) ends = ends
 same_ends run o (Migrate path) ends = ends
 same_ends run o (Work path) ends = ends
+same_ends run o (Deliver path) ends = ends
 same_ends run o (Replay path base) ends = ends
 same_ends run o (Serve path port base connections) ends = ends
 same_ends run o (Workload number count) ends = ends
@@ -38,6 +40,7 @@ starved_at run sound untouched (Format path blocks half id) given unread =
 starved_at run sound untouched (Check path) given unread = (check_starved run.old run.new untouched, unread)
 starved_at run sound untouched (Migrate path) given unread = (migrate_starved run.old run.new untouched, unread)
 starved_at run sound untouched (Work path) given unread = rw unread (work_starved run.old run.new run.clock run.begun sound untouched)
+starved_at run sound untouched (Deliver path) given unread = rw unread (deliver_starved run.old run.new run.clock run.begun sound untouched)
 starved_at run sound untouched (Replay path base) given unread = rw unread (replay_starved base run.old run.new run.clock run.begun sound untouched)
 starved_at run sound untouched (Serve path port base connections) given unread =
     rw unread (serve_starved base run.old run.new run.clock run.begun sound untouched connections)

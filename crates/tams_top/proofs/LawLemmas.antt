@@ -7,6 +7,8 @@ use Rattle.store_opening.specs.Laws.{RefusedStandForNone}
 use Rattle.store_states.specs.States.{StoreState}
 use Rattle.store_commands.proofs.CheckEndLemmas.{check_only, check_refused, check_unlinked, check_words}
 use Rattle.store_commands.specs.CheckEnds.{CheckEnds}
+use Rattle.store_commands.proofs.DeliverEndLemmas.{deliver_only, deliver_refused, deliver_unlinked, deliver_words}
+use Rattle.store_commands.specs.DeliverEnds.{DeliverEnds}
 use Rattle.store_commands.proofs.FormatEndLemmas.{format_only, format_refused, format_unlinked, format_untouched, format_words}
 use Rattle.store_commands.specs.FormatEnds.{FormatEnds}
 use Rattle.store_commands.proofs.MigrateEndLemmas.{migrate_only, migrate_refused, migrate_unlinked, migrate_untouched, migrate_words}
@@ -28,7 +30,7 @@ use Rattle.tams_top.specs.Refusals.{RefusedFor}
 use Rattle.tams_words.proofs.WordTheorems.{one_command}
 use Rattle.tams_words.specs.Words.{IsCommand, IsNoCommand}
 use Rattle.tams_words.specs.declared.words.Invocation.{Invocation}
-use Rattle.tams_words.specs.declared.words.Invocation.TheVariants.{Format, Check, Migrate, Work, Replay, Serve, Workload}
+use Rattle.tams_words.specs.declared.words.Invocation.TheVariants.{Format, Check, Migrate, Work, Deliver, Replay, Serve, Workload}
 use Rattle.store_commands.proofs.WorkEndLemmas.{work_only, work_refused, work_unlinked, work_words}
 use Rattle.store_commands.specs.WorkEnds.{WorkEnds}
 use Rattle.store_commands.specs.WorkloadEnds.{WorkloadEnds}
@@ -53,6 +55,7 @@ module _ (run : RunSeen) (o : RunOutcome) where
   command_words (Check path) ends s = check_words run.old run.new o ends.0.causes s
   command_words (Migrate path) ends s = migrate_words run.old run.new o ends.0.causes s
   command_words (Work path) ends s = work_words run.old run.new o ends.causes s
+  command_words (Deliver path) ends s = deliver_words run.old run.new o ends.causes s
   command_words (Replay path base) ends s = opened_words run.old run.new o ends.causes.file s
   command_words (Serve path port base connections) ends s = opened_words run.old run.new o ends.causes.file s
   command_words (Workload number count) ends s = unless_workload 1 (λ e. omega (arith, e)) (λ e. omega (arith, e)) ends.0.completeness s
@@ -64,6 +67,7 @@ module _ (run : RunSeen) (o : RunOutcome) where
   command_refused damaged (Check path) ends s = check_refused run.old run.new damaged o ends.0.causes s
   command_refused damaged (Migrate path) ends s = migrate_refused run.old run.new damaged o ends.0.causes s
   command_refused damaged (Work path) ends s = work_refused run.old run.new damaged o ends.causes s
+  command_refused damaged (Deliver path) ends s = deliver_refused run.old run.new damaged o ends.causes s
   command_refused damaged (Replay path base) ends s = opened_refused run.old run.new damaged o ends.causes.file s
   command_refused damaged (Serve path port base connections) ends s = opened_refused run.old run.new damaged o ends.causes.file s
   command_refused damaged (Workload number count) ends s =
@@ -74,6 +78,7 @@ module _ (run : RunSeen) (o : RunOutcome) where
   command_unread (Check path) ends s = ends.1
   command_unread (Migrate path) ends s = ends.1
   command_unread (Work path) ends s = ends.unread s
+  command_unread (Deliver path) ends s = ends.unread s
   command_unread (Replay path base) ends s = ends.causes.unread s
   command_unread (Serve path port base connections) ends s = ends.causes.unread s
   command_unread (Workload number count) ends s = ends.2
@@ -85,6 +90,7 @@ module _ (run : RunSeen) (o : RunOutcome) where
   command_only damaged (Check path) ends shows cause = check_only run.old run.new o ends.0.causes shows cause
   command_only damaged (Migrate path) ends shows cause = migrate_only run.old run.new damaged o ends.0.causes shows cause
   command_only damaged (Work path) ends shows cause = work_only run.old run.new o ends.causes shows cause
+  command_only damaged (Deliver path) ends shows cause = deliver_only run.old run.new o ends.causes shows cause
   command_only damaged (Replay path base) ends shows cause = opened_only run.old run.new o ends.causes.file shows cause
   command_only damaged (Serve path port base connections) ends shows cause = opened_only run.old run.new o ends.causes.file shows cause
   command_only damaged (Workload number count) ends shows cause = absurd cause
@@ -95,6 +101,7 @@ module _ (run : RunSeen) (o : RunOutcome) where
   command_linked (Check path) ends s = absurd (check_unlinked run.old run.new o ends.0.causes s)
   command_linked (Migrate path) ends s = absurd (migrate_unlinked run.old run.new o ends.0.causes s)
   command_linked (Work path) ends s = absurd (work_unlinked run.old run.new o ends.causes s)
+  command_linked (Deliver path) ends s = absurd (deliver_unlinked run.old run.new o ends.causes s)
   command_linked (Replay path base) ends s = replay_linked o run.old.link.faults run.new.link.faults ends.causes.link (link_fault_by o s)
   command_linked (Serve path port base connections) ends s = ends.causes.link (link_fault_by o s)
   command_linked (Workload number count) ends s =
@@ -105,18 +112,21 @@ module _ (run : RunSeen) (o : RunOutcome) where
   command_closed (Check path) ends idle = stays_idle run.old run.new ends.0.untouched.link idle
   command_closed (Migrate path) ends idle = stays_idle run.old run.new ends.0.link idle
   command_closed (Work path) ends idle = stays_idle run.old run.new ends.link idle
+  command_closed (Deliver path) ends idle = ends.closed idle
   command_closed (Replay path base) ends idle = ends.closed idle
   command_closed (Serve path port base connections) ends idle = ends.closed idle
   command_closed (Workload number count) ends idle = stays_idle run.old run.new ends.1.link idle
 
-  command_dials : (command : Invocation) → CommandEnds command run o → run.new.link.dials ≡ run.old.link.dials
-  command_dials (Format path blocks half id) ends = none_dialled run.old run.new ends.0.link
-  command_dials (Check path) ends = none_dialled run.old run.new ends.0.untouched.link
-  command_dials (Migrate path) ends = none_dialled run.old run.new ends.0.link
-  command_dials (Work path) ends = none_dialled run.old run.new ends.link
-  command_dials (Replay path base) ends = ends.dials
-  command_dials (Serve path port base connections) ends = ends.dials
-  command_dials (Workload number count) ends = none_dialled run.old run.new ends.1.link
+  command_dials : (command : Invocation) → ((path : List ℕ) → command ≢ Deliver path) → CommandEnds command run o
+      → run.new.link.dials ≡ run.old.link.dials
+  command_dials (Format path blocks half id) other ends = none_dialled run.old run.new ends.0.link
+  command_dials (Check path) other ends = none_dialled run.old run.new ends.0.untouched.link
+  command_dials (Migrate path) other ends = none_dialled run.old run.new ends.0.link
+  command_dials (Work path) other ends = none_dialled run.old run.new ends.link
+  command_dials (Deliver path) other ends = absurd (other path refl)
+  command_dials (Replay path base) other ends = ends.dials
+  command_dials (Serve path port base connections) other ends = ends.dials
+  command_dials (Workload number count) other ends = none_dialled run.old run.new ends.1.link
 
 module _ (words : List (List ℕ)) (run : RunSeen) (status : ℕ) (ends : EndsByWords words run status) where
   abbrev o : RunOutcome
@@ -198,6 +208,9 @@ module _ (words : List (List ℕ)) (run : RunSeen) (status : ℕ) (ends : EndsBy
   work_end : (path : List ℕ) → IsCommand words (Work path) → WorkEnds run.old run.new run.clock run.begun run.given o
   work_end path is = ends.command (Work path) is
 
+  deliver_end : (path : List ℕ) → IsCommand words (Deliver path) → DeliverEnds run.old run.new run.clock run.begun run.given o
+  deliver_end path is = ends.command (Deliver path) is
+
   check_end : (path : List ℕ) → IsCommand words (Check path) → CheckEnds run.old run.new o × (run.given ≡ run.begun)
   check_end path is = ends.command (Check path) is
 
@@ -220,6 +233,7 @@ module _ (words : List (List ℕ)) (run : RunSeen) (status : ℕ) (ends : EndsBy
     peers = λ path base port connections is s. (serve_end path base port connections is).causes.peers.rises (rw (link_fault_by o (by 5 s)) refl);
     peers_only = λ path base port connections is rose.
         ends.exit ∙ peers_rose o _ run.old.link.peer_faults run.new.link.peer_faults refl (serve_end path base port connections is).causes.peers.stays rose;
+    unlinked = λ path is s. deliver_unlinked run.old run.new o (deliver_end path is).causes (by 5 s);
     cut = λ path base port connections is s. (serve_end path base port connections is).causes.uncut (cut_by o (by 6 s));
   }
 
@@ -227,8 +241,9 @@ module _ (words : List (List ℕ)) (run : RunSeen) (status : ℕ) (ends : EndsBy
   abbrev StarvedSo : Type 0
   StarvedSo = ServesNobody run.old run.new run.begun run.given
       ⊎ (((path : List ℕ) × IsCommand words (Work path))
+      ⊎ (((path : List ℕ) × IsCommand words (Deliver path))
       ⊎ ((base : List ℕ) (from : StoreState) → IsReplayFrom base from words run.old run.clock run.begun
-      → OnePeer base (beginning from run.old run.begun) run.new run.given NoMemory))
+      → OnePeer base (beginning from run.old run.begun) run.new run.given NoMemory)))
 
   -- a base is that of the words
   same_base : (path base : List ℕ) (from : StoreState) → IsCommand words (Replay path base) → (other : List ℕ)
@@ -243,15 +258,16 @@ module _ (words : List (List ℕ)) (run : RunSeen) (status : ℕ) (ends : EndsBy
   command_starved (Check path) it end s = inl (record { link = end.0.untouched.link; given_is = end.1 })
   command_starved (Migrate path) it end s = inl (record { link = end.0.link; given_is = end.1 })
   command_starved (Work path) it end s = inr (inl (path, it))
+  command_starved (Deliver path) it end s = inr (inr (inl (path, it)))
   command_starved (Replay path base) it end s =
       let is = no_memory_by o s in
       elim (end.causes.memory is) [
         | inl nobody ↦ inl nobody
         | inr served ↦
-            inr (inr (λ other from replay.
+            inr (inr (inr (λ other from replay.
             subst (λ (word : List ℕ). OnePeer word (beginning from run.old run.begun) run.new run.given NoMemory)
             (sym (same_base path base from it other replay))
-            (subst (OnePeer base (beginning from run.old run.begun) run.new run.given) is (served from replay.begins))))
+            (subst (OnePeer base (beginning from run.old run.begun) run.new run.given) is (served from replay.begins)))))
       ]
   command_starved (Serve path port base connections) it end s = inl (end.causes.memory (no_memory_by o s))
   command_starved (Workload number count) it end s = inl (record { link = end.1.link; given_is = end.2 })
@@ -284,12 +300,14 @@ module _ (words : List (List ℕ)) (run : RunSeen) (status : ℕ) (ends : EndsBy
     ]
   ]
 
-  dials : run.new.link.dials ≡ run.old.link.dials
-  dials = elim ends.read [
+  dials : ((path : List ℕ) → ¬ (IsCommand words (Deliver path))) → run.new.link.dials ≡ run.old.link.dials
+  dials other = elim ends.read [
     | inl none ↦ none_dialled run.old run.new none.1.link
-    | inr other ↦ elim other [
+    | inr read ↦ elim read [
       | inl none ↦ none_dialled run.old run.new (ends.none none).untouched.link
-      | inr is ↦ command_dials run o is.0 (ends.command is.0 is.1)
+      | inr is ↦
+          command_dials run o is.0 (λ path same. other path (subst (λ (command : Invocation). IsCommand words command) same is.1))
+          (ends.command is.0 is.1)
     ]
   ]
 
@@ -300,6 +318,7 @@ module _ (words : List (List ℕ)) (run : RunSeen) (status : ℕ) (ends : EndsBy
     nobody_formats = λ path blocks half id is. let end = format_end path blocks half id is in record { link = end.0.link; given_is = end.1 };
     nobody_migrates = λ path is. let end = migrate_end path is in record { link = end.0.link; given_is = end.1 };
     nobody_works = λ path is. (work_end path is).link;
+    nobody_delivers = λ path is. (deliver_end path is).peers;
     closed = closed;
     dials = dials;
   }
@@ -325,6 +344,7 @@ module _ (words : List (List ℕ)) (run : RunSeen) (status : ℕ) (ends : EndsBy
     served = λ base from connections serve.
         (o, ends.exit, (serve_end serve.command.0 base serve.command.1 connections serve.command.2).history from serve.begins);
     worked = λ from work. (o, ends.exit, (work_end work.command.0 work.command.1).history from work.begins);
+    delivered = λ from deliver. (o, ends.exit, (deliver_end deliver.command.0 deliver.command.1).history from deliver.begins);
   }
 
   pub whole_is_told : WholeIsTold words run status
@@ -338,6 +358,7 @@ module _ (words : List (List ℕ)) (run : RunSeen) (status : ℕ) (ends : EndsBy
         (λ four. fed (ends.exit ∙ four)));
     complete_format = λ path blocks half id is none. rw ends.exit ((format_end path blocks half id is).0.completeness none);
     complete_work = λ path is none. rw ends.exit ((work_end path is).completeness none);
+    complete_deliver = λ path is none. rw ends.exit ((deliver_end path is).completeness none.disk);
     complete_check = λ path is none. rw ends.exit ((check_end path is).0.completeness none);
     complete_migrate = λ path is none. rw ends.exit ((migrate_end path is).0.completeness none);
     complete_workload = λ number count is. rw ends.exit (workload_end number count is).0.completeness;

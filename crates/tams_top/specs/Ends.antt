@@ -4,6 +4,7 @@ use Rattle.std.specs.Prelude.{◌≡◌, ◌⊎◌, ℕ, Bool, List}
 use Rattle.disk_trait.specs.Device.{Device}
 use Rattle.disk_trait.specs.Calls.{IsCounted}
 use Rattle.store_commands.specs.CheckEnds.{CheckEnds}
+use Rattle.store_commands.specs.DeliverEnds.{DeliverEnds}
 use Rattle.store_commands.specs.FormatEnds.{FormatEnds}
 use Rattle.store_commands.specs.MigrateEnds.{MigrateEnds}
 use Rattle.store_commands.specs.ServeEnds.{ReplayEnds, ServeEnds}
@@ -14,7 +15,7 @@ use Rattle.tams_outcomes.specs.declared.outcome.RunOutcome.{RunOutcome}
 use Rattle.tams_outcomes.specs.declared.outcome.RunOutcome.TheVariants.{BadWords, NoMemory}
 use Rattle.tams_words.specs.Words.{IsCommand, IsNoCommand}
 use Rattle.tams_words.specs.declared.words.Invocation.{Invocation}
-use Rattle.tams_words.specs.declared.words.Invocation.TheVariants.{Format, Check, Migrate, Work, Replay, Serve, Workload}
+use Rattle.tams_words.specs.declared.words.Invocation.TheVariants.{Format, Check, Migrate, Work, Deliver, Replay, Serve, Workload}
 use Rattle.store_commands.specs.WorkEnds.{WorkEnds}
 use Rattle.store_commands.specs.WorkloadEnds.{WorkloadEnds}
 
@@ -50,6 +51,8 @@ CommandEnds (Format path blocks half id) run o =
 CommandEnds (Check path) run o = CheckEnds run.old run.new o × (run.given ≡ run.begun)
 CommandEnds (Migrate path) run o = MigrateEnds run.old run.new o × (run.given ≡ run.begun)
 CommandEnds (Work path) run o = WorkEnds run.old run.new run.clock run.begun run.given o
+CommandEnds (Deliver path) run o =
+    DeliverEnds run.old run.new run.clock run.begun run.given o
 CommandEnds (Replay path base) run o =
     ReplayEnds base run.old run.new run.clock run.begun run.given o
 CommandEnds (Serve path port base connections) run o =

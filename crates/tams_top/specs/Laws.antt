@@ -24,7 +24,8 @@ use Rattle.tams_top.specs.Ends.{EndsByWords, NotesSeen, PutsLine, RunSeen}
 use Rattle.tams_top.specs.Refusals.{RefusedFor}
 use Rattle.tams_words.specs.Words.{IsCommand, IsNoCommand}
 use Rattle.tams_words.specs.declared.words.Invocation.{Invocation}
-use Rattle.tams_words.specs.declared.words.Invocation.TheVariants.{Format, Check, Migrate, Work, Replay, Serve, Workload}
+use Rattle.tams_words.specs.declared.words.Invocation.TheVariants.{Format, Check, Migrate, Work, Deliver, Replay, Serve, Workload}
+use Rattle.store_commands.specs.Delivering.{DeliveredOff}
 use Rattle.store_commands.specs.Working.{WorkedOff}
 use Rattle.store_commands.specs.Generating.{IsWorkloadRun}
 
@@ -62,6 +63,12 @@ pub record IsWorkFrom (from : StoreState) (words : List (List ℕ)) (old : Devic
   pub command : (path : List ℕ) × IsCommand words (Work path)
   pub begins : BeginsFrom from old clock begun
 
+-- They are a `deliver` over one.
+pub record IsDeliverFrom (from : StoreState) (words : List (List ℕ)) (old : Device) (clock : Bool)
+    (begun : List ℕ) : Type 0 where
+  pub command : (path : List ℕ) × IsCommand words (Deliver path)
+  pub begins : BeginsFrom from old clock begun
+
 -- They are a `serve` of so many connections over one.
 pub record IsServeFrom (base : List ℕ) (from : StoreState) (connections : ℕ)
     (words : List (List ℕ)) (old : Device) (clock : Bool) (begun : List ℕ) : Type 0 where
@@ -97,7 +104,8 @@ pub record DiskFaultsAreTold (words : List (List ℕ)) (run : RunSeen) (status :
   pub disk_only : run.old.faults < run.new.faults → status ≡ 3
 
 -- So does status 5 by the count of link faults in `replay`, and in `serve` by that of peer faults,
--- where waiting for a peer failed. Status 6 is never that of `serve`.
+-- where waiting for a peer failed. Status 5 is never that of `deliver`, and status 6 never that of
+-- `serve`.
 pub record LinkFaultsAreTold (words : List (List ℕ)) (run : RunSeen) (status : ℕ) : Type 0 where
   pub link : status ≡ 5 → Rose run.old.link.faults run.new.link.faults
   pub link_only : (path base : List ℕ) → IsCommand words (Replay path base)
@@ -109,6 +117,7 @@ pub record LinkFaultsAreTold (words : List (List ℕ)) (run : RunSeen) (status :
   pub peers_only : (path base : List ℕ) (port connections : ℕ)
       → IsCommand words (Serve path port base connections)
       → run.old.link.peer_faults < run.new.link.peer_faults → status ≡ 5
+  pub unlinked : (path : List ℕ) → IsCommand words (Deliver path) → status ≢ 5
   pub cut : (path base : List ℕ) (port connections : ℕ)
       → IsCommand words (Serve path port base connections) → status ≢ 6
 
@@ -124,14 +133,16 @@ pub record StarvingIsTold (words : List (List ℕ)) (run : RunSeen) (status : �
       → ServesNobody run.old run.new run.begun run.given
   pub starved : status ≡ 4 → ServesNobody run.old run.new run.begun run.given
       ⊎ (((path : List ℕ) × IsCommand words (Work path))
+      ⊎ (((path : List ℕ) × IsCommand words (Deliver path))
       ⊎ ((base : List ℕ) (from : StoreState)
       → IsReplayFrom base from words run.old run.clock run.begun
-      → OnePeer base (beginning from run.old run.begun) run.new run.given outcome.NoMemory))
+      → OnePeer base (beginning from run.old run.begun) run.new run.given outcome.NoMemory)))
 
 -- ---- what is touched
 
 -- `workload` touches nothing of the outside, and `check` nothing but by reading; `format`,
--- `migrate` and `work` wait for no peer. No connection is left open, and nobody is dialled.
+-- `migrate`, `work` and `deliver` wait for no peer. No connection is left open, and nobody is
+-- dialled but by `deliver`.
 pub record LittleIsTouched (words : List (List ℕ)) (run : RunSeen) (status : ℕ) : Type 0 where
   pub untouched_workload : (number count : ℕ) → IsCommand words (Workload number count)
       → Untouched run.old run.new × (run.given ≡ run.begun)
@@ -143,8 +154,11 @@ pub record LittleIsTouched (words : List (List ℕ)) (run : RunSeen) (status : �
   pub nobody_migrates : (path : List ℕ) → IsCommand words (Migrate path)
       → ServesNobody run.old run.new run.begun run.given
   pub nobody_works : (path : List ℕ) → IsCommand words (Work path) → run.new.link ≡ run.old.link
+  pub nobody_delivers : (path : List ℕ) → IsCommand words (Deliver path)
+      → run.new.link.peer_faults ≡ run.old.link.peer_faults
   pub closed : run.old.link.under_way ≡ false → run.new.link.under_way ≡ false
-  pub dials : run.new.link.dials ≡ run.old.link.dials
+  pub dials : ((path : List ℕ) → ¬ (IsCommand words (Deliver path)))
+      → run.new.link.dials ≡ run.old.link.dials
 
 -- ---- what is done
 
@@ -182,7 +196,8 @@ pub record DoneIsTold (words : List (List ℕ)) (run : RunSeen) (status : ℕ) :
 
 -- Over a file that stands for a state, one history from it gives all that a run of `replay` or
 -- `serve` heard, told and left, whatever failed, and how many bytes it handed to its device, unless
--- that failed; and so does one history of its turns for `work`. The outcome by it has the status.
+-- that failed; and so does one history of its turns for `work`, and one of its exchanges and marks
+-- for `deliver`. The outcome by it has the status.
 pub record HistoriesAreTold (words : List (List ℕ)) (run : RunSeen) (status : ℕ) : Type 0 where
   pub replayed : (base : List ℕ) (from : StoreState)
       → IsReplayFrom base from words run.old run.clock run.begun
@@ -195,11 +210,14 @@ pub record HistoriesAreTold (words : List (List ℕ)) (run : RunSeen) (status : 
   pub worked : (from : StoreState) → IsWorkFrom from words run.old run.clock run.begun
       → (o : RunOutcome) × (status ≡ exit_of o)
       × WorkedOff (beginning from run.old run.begun) run.new run.given o
+  pub delivered : (from : StoreState) → IsDeliverFrom from words run.old run.clock run.begun
+      → (o : RunOutcome) × (status ≡ exit_of o)
+      × DeliveredOff (beginning from run.old run.begun) run.old run.new run.given o
 
 -- Where nothing failed over such a file, each request that was heard whole was answered by the
 -- machine, each answer was said whole, and the status is 0, or in `replay` 6 by the input alone.
--- `format`, `check`, `migrate` and `work` end with 0 then, or as the file refuses them, and
--- `workload` with 0; each of them may want memory.
+-- `format`, `check`, `migrate`, `work` and `deliver` end with 0 then, or as the file refuses them,
+-- and `workload` with 0; each of them may want memory.
 pub record WholeIsTold (words : List (List ℕ)) (run : RunSeen) (status : ℕ) : Type 0 where
   pub complete : (base : List ℕ) (from : StoreState)
       → IsReplayFrom base from words run.old run.clock run.begun
@@ -214,6 +232,8 @@ pub record WholeIsTold (words : List (List ℕ)) (run : RunSeen) (status : ℕ) 
       → (status ≡ 0) ⊎ ((status ≡ 2) ⊎ (status ≡ 4))
   pub complete_work : (path : List ℕ) → IsCommand words (Work path) → NoneRose run.old run.new
       → (status ≡ 0) ⊎ ((status ≡ 2) ⊎ (status ≡ 4))
+  pub complete_deliver : (path : List ℕ) → IsCommand words (Deliver path)
+      → NoneRose run.old run.new → (status ≡ 0) ⊎ ((status ≡ 2) ⊎ (status ≡ 4))
   pub complete_check : (path : List ℕ) → IsCommand words (Check path)
       → NoneRose run.old run.new → (status ≡ 0) ⊎ ((status ≡ 2) ⊎ (status ≡ 4))
   pub complete_migrate : (path : List ℕ) → IsCommand words (Migrate path)

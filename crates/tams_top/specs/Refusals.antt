@@ -8,7 +8,7 @@ use Rattle.store_commands.specs.Formatting.{empty_rows}
 use Rattle.store_commands.specs.MigrateEnds.{RefusesMigrate}
 use Rattle.store_commands.specs.Opening.{StandsForNone}
 use Rattle.tams_words.specs.declared.words.Invocation.{Invocation}
-use Rattle.tams_words.specs.declared.words.Invocation.TheVariants.{Format, Check, Migrate, Work, Replay, Serve, Workload}
+use Rattle.tams_words.specs.declared.words.Invocation.TheVariants.{Format, Check, Migrate, Work, Deliver, Replay, Serve, Workload}
 
 -- There is a store already, or the numbers make none of the file's length; and the file stands for
 -- no state, or for `check` for one with an object that isn't whole. A `migrate` is refused where it
@@ -19,6 +19,7 @@ RefusedFor image (Format path blocks half id) = HasOpenHeader image
 RefusedFor image (Check path) = RefusesCheck image
 RefusedFor image (Migrate path) = RefusesMigrate image
 RefusedFor image (Work path) = StandsForNone image
+RefusedFor image (Deliver path) = StandsForNone image
 RefusedFor image (Replay path base) = StandsForNone image
 RefusedFor image (Serve path port base connections) = StandsForNone image
 RefusedFor image (Workload number count) = ⊥

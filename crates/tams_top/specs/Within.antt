@@ -3,6 +3,7 @@ use Rattle.std.specs.Prelude.{◌≡◌, ◌⊎◌, ℕ, Bool, List}
 use Rattle.disk_trait.specs.Device.{Device}
 use Rattle.disk_trait.specs.Calls.{IsCounted}
 use Rattle.store_commands.specs.CheckEnds.{CheckEnds}
+use Rattle.store_commands.specs.DeliverEnds.{DeliverEnds}
 use Rattle.store_commands.specs.FormatEnds.{FormatEnds}
 use Rattle.store_commands.specs.MigrateEnds.{MigrateEnds}
 use Rattle.store_commands.specs.ServeEnds.{ReplayEnds, ServeEnds}
@@ -12,7 +13,7 @@ use Rattle.tams_outcomes.specs.declared.outcome.RunOutcome.{RunOutcome}
 use Rattle.tams_outcomes.specs.declared.outcome.RunOutcome.TheVariants.{BadWords, NoMemory}
 use Rattle.tams_words.specs.Words.{IsCommand, IsNoCommand}
 use Rattle.tams_words.specs.declared.words.Invocation.{Invocation}
-use Rattle.tams_words.specs.declared.words.Invocation.TheVariants.{Format, Check, Migrate, Work, Replay, Serve, Workload}
+use Rattle.tams_words.specs.declared.words.Invocation.TheVariants.{Format, Check, Migrate, Work, Deliver, Replay, Serve, Workload}
 use Rattle.store_commands.specs.WorkEnds.{WorkEnds}
 use Rattle.store_commands.specs.WorkloadEnds.{WorkloadEnds}
 
@@ -23,6 +24,7 @@ EndsBy old new clock begun given o (Format path blocks half id) =
 EndsBy old new clock begun given o (Check path) = CheckEnds old new o × (given ≡ begun)
 EndsBy old new clock begun given o (Migrate path) = MigrateEnds old new o × (given ≡ begun)
 EndsBy old new clock begun given o (Work path) = WorkEnds old new clock begun given o
+EndsBy old new clock begun given o (Deliver path) = DeliverEnds old new clock begun given o
 EndsBy old new clock begun given o (Replay path base) =
     ReplayEnds base old new clock begun given o
 EndsBy old new clock begun given o (Serve path port base connections) =

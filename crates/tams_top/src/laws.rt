@@ -44,7 +44,7 @@ pub fn done_is_told<X: Site>(before: &X, after: &X)
     ensures { OfRuns (X.device before.now) (X.device after.now) DoneIsTold }
 {}
 
-/// The one history of a run of `replay`, `serve` or `work`.
+/// The one history of a run of `replay`, `serve`, `work` or `deliver`.
 pub fn histories_are_told<X: Site>(before: &X, after: &X)
     ensures { OfRuns (X.device before.now) (X.device after.now) HistoriesAreTold }
 {}

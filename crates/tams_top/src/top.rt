@@ -5,7 +5,7 @@ ghost use Rattle.tams_top.specs.Within.{EndsWithCause};
 use disk_trait::{Memory, TextList};
 use site_edge::{Caller, Clock, Sink};
 use std::alloc::Global;
-use store_commands::{check, format, migrate, replay, serve, work, workload};
+use store_commands::{check, deliver, format, migrate, replay, serve, work, workload};
 use tams_outcomes::RunOutcome;
 use tams_words::{Invocation, read_words};
 
@@ -65,6 +65,7 @@ fn outcome_of<X: Caller, C: Clock>(
         Ok(Some(Invocation::Check { path: _ })) => check(alloc, site),
         Ok(Some(Invocation::Migrate { path: _ })) => migrate(alloc, site),
         Ok(Some(Invocation::Work { path: _ })) => work(alloc, site, clock),
+        Ok(Some(Invocation::Deliver { path: _ })) => deliver(alloc, site, clock),
         Ok(Some(Invocation::Replay { path: _, base })) => replay(alloc, site, clock, base),
         Ok(
             Some(

@@ -10,9 +10,9 @@ use Rattle.clap.specs.Simple.{argument_words, built, entered, help_shape, label_
 use Rattle.clap.specs.Takes.{default_passes, entered_passes, is_valid, step_passes, word_passes, level_passes, positional_passes, settle_passes, turn_passes, walk_passes}
 use Rattle.clap.proofs.OnLiterals.{clap_on_literals}
 use Rattle.tams_words.specs.Commands.{IsNamed, tams_app, command_word, word_value, words_of}
-use Rattle.tams_words.specs.Words.{FormIs, HasForm, IsPlainWord, IsFormat, IsCheck, IsMigrate, IsWork, IsReplay, IsServe, IsWorkload}
+use Rattle.tams_words.specs.Words.{FormIs, HasForm, IsPlainWord, IsFormat, IsCheck, IsMigrate, IsWork, IsDeliver, IsReplay, IsServe, IsWorkload}
 use Rattle.tams_words.specs.declared.words.Invocation.{Invocation}
-use Rattle.tams_words.specs.declared.words.Invocation.TheVariants.{Format, Check, Migrate, Work, Replay, Serve, Workload}
+use Rattle.tams_words.specs.declared.words.Invocation.TheVariants.{Format, Check, Migrate, Work, Deliver, Replay, Serve, Workload}
 use Rattle.tams_words.specs.declared.commands.CommandName.{CommandName}
 use Rattle.tams_words.specs.declared.commands.CommandName.TheVariants as name
 
@@ -211,6 +211,11 @@ unfolding clap_on_literals plain_end has_places
 reads_work a plain = reads name.Work (a ∷ []) (leaf name.Work)
     (record { simple = refl; stopped = refl; leaf = refl; above = refl }) plain refl refl refl
 
+reads_deliver : (a : Text) → list_all begins_plain (a ∷ []) ≡ true → Reads name.Deliver (a ∷ [])
+unfolding clap_on_literals plain_end has_places
+reads_deliver a plain = reads name.Deliver (a ∷ []) (leaf name.Deliver)
+    (record { simple = refl; stopped = refl; leaf = refl; above = refl }) plain refl refl refl
+
 reads_replay : (a b : Text) → list_all begins_plain (a ∷ b ∷ []) ≡ true → Reads name.Replay (a ∷ b ∷ [])
 unfolding clap_on_literals plain_end has_places
 reads_replay a b plain = reads name.Replay (a ∷ b ∷ []) (leaf name.Replay)
@@ -247,6 +252,7 @@ reads_rest name.Format = four_words (λ rest. list_all begins_plain rest ≡ tru
 reads_rest name.Check = one_word (λ rest. list_all begins_plain rest ≡ true → Reads name.Check rest) reads_check
 reads_rest name.Migrate = one_word (λ rest. list_all begins_plain rest ≡ true → Reads name.Migrate rest) reads_migrate
 reads_rest name.Work = one_word (λ rest. list_all begins_plain rest ≡ true → Reads name.Work rest) reads_work
+reads_rest name.Deliver = one_word (λ rest. list_all begins_plain rest ≡ true → Reads name.Deliver rest) reads_deliver
 reads_rest name.Replay = two_words (λ rest. list_all begins_plain rest ≡ true → Reads name.Replay rest) reads_replay
 reads_rest name.Serve = four_words (λ rest. list_all begins_plain rest ≡ true → Reads name.Serve rest) reads_serve
 reads_rest name.Workload = two_words (λ rest. list_all begins_plain rest ≡ true → Reads name.Workload rest) reads_workload
@@ -299,7 +305,8 @@ has_values words n has none =
 
 -- how many words stand behind a name
 abbrev count_behind : Text → ℕ
-count_behind t = if bytes_eq t (codes "check") || (bytes_eq t (codes "migrate") || bytes_eq t (codes "work")) then 1
+count_behind t =
+    if bytes_eq t (codes "check") || (bytes_eq t (codes "migrate") || (bytes_eq t (codes "work") || bytes_eq t (codes "deliver"))) then 1
     else (if bytes_eq t (codes "format") || bytes_eq t (codes "serve") then 4 else 2)
 
 count_of_name : (n : CommandName) → count_behind (command_word n) ≡ length (words_of n)
@@ -307,6 +314,7 @@ count_of_name name.Format = refl
 count_of_name name.Check = refl
 count_of_name name.Migrate = refl
 count_of_name name.Work = refl
+count_of_name name.Deliver = refl
 count_of_name name.Replay = refl
 count_of_name name.Serve = refl
 count_of_name name.Workload = refl
@@ -330,6 +338,9 @@ of_command words (Migrate p) x =
 of_command words (Work p) x =
     let f : IsWork words p = x in
     record { name = name.Work; named = record { rest = _; words_are = f.words_are }; many = ap (λ (ws : List Text). length ws) f.words_are }
+of_command words (Deliver p) x =
+    let f : IsDeliver words p = x in
+    record { name = name.Deliver; named = record { rest = _; words_are = f.words_are }; many = ap (λ (ws : List Text). length ws) f.words_are }
 of_command words (Replay p b) x =
     let f : IsReplay words p b = x in
     record { name = name.Replay; named = record { rest = _; words_are = f.words_are }; many = ap (λ (ws : List Text). length ws) f.words_are }

@@ -1,12 +1,12 @@
 -- Words spell at most one command.
-use Rattle.std.proofs.Common.{◌≡◌, ◌<◌, ◌^◌, ◌∙◌, ◌∷◌, [], ℕ, List, get_or, Some, codes, subst, sym, ap, arith}
+use Rattle.std.proofs.Common.{◌≡◌, ◌<◌, ◌^◌, ◌∙◌, ◌∷◌, [], ℕ, List, get_or, length, Some, codes, subst, sym, ap, arith}
 use Rattle.std.proofs.lemmas.Fmt.{decimal_injective}
-use Rattle.tams_words.specs.Words.{HasForm, IsNumber, IsNumberOrZero, IsFormat, IsCheck, IsMigrate, IsWork, IsReplay, IsServe, IsWorkload, IsCommand}
+use Rattle.tams_words.specs.Words.{HasForm, IsNumber, IsNumberOrZero, IsFormat, IsCheck, IsMigrate, IsWork, IsDeliver, IsReplay, IsServe, IsWorkload, IsCommand}
 use Rattle.tams_words.specs.Words.IsNumberOrZero.{Zero, Other}
 use Rattle.media_rows.specs.Ids.{id_of}
 use Rattle.tams_words.proofs.WordLemmas.{begins_as_number}
 use Rattle.tams_words.specs.declared.words.Invocation.{Invocation}
-use Rattle.tams_words.specs.declared.words.Invocation.TheVariants.{Format, Check, Migrate, Work, Replay, Serve, Workload}
+use Rattle.tams_words.specs.declared.words.Invocation.TheVariants.{Format, Check, Migrate, Work, Deliver, Replay, Serve, Workload}
 
 -- a word is one number at most
 one_number : (most : ℕ) (v w : List ℕ) (m n : ℕ) → most < 2 ^ 64 → v ≡ w → IsNumber most v m → IsNumber most w n → m ≡ n
@@ -37,6 +37,7 @@ name_of (Format path blocks half id) = codes "format"
 name_of (Check path) = codes "check"
 name_of (Migrate path) = codes "migrate"
 name_of (Work path) = codes "work"
+name_of (Deliver path) = codes "deliver"
 name_of (Replay path base) = codes "replay"
 name_of (Serve path port base connections) = codes "serve"
 name_of (Workload number count) = codes "workload"
@@ -47,6 +48,7 @@ first_word words (Format p m h i) x = let f : IsFormat words p m h i = x.form in
 first_word words (Check p) x = let f : IsCheck words p = x.form in ap (λ (ws : List (List ℕ)). get_or ws 0 []) f.words_are
 first_word words (Migrate p) x = let f : IsMigrate words p = x.form in ap (λ (ws : List (List ℕ)). get_or ws 0 []) f.words_are
 first_word words (Work p) x = let f : IsWork words p = x.form in ap (λ (ws : List (List ℕ)). get_or ws 0 []) f.words_are
+first_word words (Deliver p) x = let f : IsDeliver words p = x.form in ap (λ (ws : List (List ℕ)). get_or ws 0 []) f.words_are
 first_word words (Replay p b) x = let f : IsReplay words p b = x.form in ap (λ (ws : List (List ℕ)). get_or ws 0 []) f.words_are
 first_word words (Serve p m b k) x = let f : IsServe words p m b k = x.form in ap (λ (ws : List (List ℕ)). get_or ws 0 []) f.words_are
 first_word words (Workload m n) x = let f : IsWorkload words m n = x.form in ap (λ (ws : List (List ℕ)). get_or ws 0 []) f.words_are
@@ -76,6 +78,11 @@ one_command words (Work p) (Work q) x y =
     let g : IsWork words q = y.form in
     let same = sym f.words_are ∙ g.words_are in
     cc
+one_command words (Deliver p) (Deliver q) x y =
+    let f : IsDeliver words p = x.form in
+    let g : IsDeliver words q = y.form in
+    let same = sym f.words_are ∙ g.words_are in
+    cc
 one_command words (Serve p m b h) (Serve q n d k) x y =
     let f : IsServe words p m b h = x.form in
     let g : IsServe words q n d k = y.form in
@@ -99,7 +106,7 @@ one_command words (Workload m h) (Workload n k) x y =
     cc
 one_command words _ _ x y =
     let same = sym (first_word words _ x) ∙ first_word words _ y in
-    cc
+    absurd (omega (arith, ap (λ (name : List ℕ). get_or name 0 0) same, ap (λ (name : List ℕ). length name) same))
 
 -- words of `workload` whose first number is none
 pub not_workload : (number count : List ℕ) → ((n : ℕ) → IsNumberOrZero 1000000 number n → ⊥) → (command : Invocation)
@@ -113,6 +120,7 @@ not_workload number count none (Format p m h i) x =
 not_workload number count none (Check p) x = let f : IsCheck (codes "workload" ∷ number ∷ count ∷ []) p = x in let e = f.words_are in cc
 not_workload number count none (Migrate p) x = let f : IsMigrate (codes "workload" ∷ number ∷ count ∷ []) p = x in let e = f.words_are in cc
 not_workload number count none (Work p) x = let f : IsWork (codes "workload" ∷ number ∷ count ∷ []) p = x in let e = f.words_are in cc
+not_workload number count none (Deliver p) x = let f : IsDeliver (codes "workload" ∷ number ∷ count ∷ []) p = x in let e = f.words_are in cc
 not_workload number count none (Replay p b) x = let f : IsReplay (codes "workload" ∷ number ∷ count ∷ []) p b = x in let e = f.words_are in cc
 not_workload number count none (Serve p m b k) x =
     let f : IsServe (codes "workload" ∷ number ∷ count ∷ []) p m b k = x in let e = f.words_are in cc

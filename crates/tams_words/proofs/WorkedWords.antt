@@ -6,7 +6,7 @@ use Rattle.std.proofs.lemmas.Str.{IsUtf8-from_is_utf8}
 use Rattle.std.specs.Char.{encode_utf8}
 use Rattle.std.specs.Str.{chars, is_utf8}
 use Rattle.tams_words.specs.Words.{IsBase, IsBaseByte, IsNumber, IsPlainWord}
-use Rattle.tams_words.specs.Worked.{WordsAsWorked, check_line, migrate_line, replay_line, serve_line, work_line, worked_base, worked_path}
+use Rattle.tams_words.specs.Worked.{WordsAsWorked, check_line, deliver_line, migrate_line, replay_line, serve_line, work_line, worked_base, worked_path}
 
 plain : (word : List ℕ) → is_utf8 word ≡ true → 1 ≤ length word → slice_index word 0 ≢ 45 → IsPlainWord word
 plain word text some first = record { text = IsUtf8-from_is_utf8 word text; some = some; first = first }
@@ -22,6 +22,10 @@ migrate_plain = plain (codes "migrate") refl (omega arith) (λ e. omega (arith, 
 work_plain : IsPlainWord (codes "work")
 unfolding is_utf8 chars encode_utf8
 work_plain = plain (codes "work") refl (omega arith) (λ e. omega (arith, e))
+
+deliver_plain : IsPlainWord (codes "deliver")
+unfolding is_utf8 chars encode_utf8
+deliver_plain = plain (codes "deliver") refl (omega arith) (λ e. omega (arith, e))
 
 replay_plain : IsPlainWord (codes "replay")
 unfolding is_utf8 chars encode_utf8
@@ -110,6 +114,9 @@ migrate_words = next (codes "migrate") (worked_path ∷ []) migrate_plain (next 
 work_words : All IsPlainWord work_line
 work_words = next (codes "work") (worked_path ∷ []) work_plain (next worked_path [] path_plain none)
 
+deliver_words : All IsPlainWord deliver_line
+deliver_words = next (codes "deliver") (worked_path ∷ []) deliver_plain (next worked_path [] path_plain none)
+
 replay_words : All IsPlainWord replay_line
 replay_words =
     next (codes "replay") (worked_path ∷ worked_base ∷ []) replay_plain
@@ -127,6 +134,7 @@ words_as_worked = record {
   check = record { plain = check_words; form = record { words_are = refl } };
   migrate = record { plain = migrate_words; form = record { words_are = refl } };
   work = record { plain = work_words; form = record { words_are = refl } };
+  deliver = record { plain = deliver_words; form = record { words_are = refl } };
   replay = record { plain = replay_words; form = record { words_are = refl; base_is = base_is } };
   serve = record {
     plain = serve_words;

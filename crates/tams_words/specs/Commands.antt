@@ -26,6 +26,9 @@ migrate_words = codes "PATH" ∷ []
 abbrev pub work_words : List Text
 work_words = codes "PATH" ∷ []
 
+abbrev pub deliver_words : List Text
+deliver_words = codes "PATH" ∷ []
+
 abbrev pub replay_words : List Text
 replay_words = codes "PATH" ∷ codes "BASE" ∷ []
 
@@ -49,6 +52,7 @@ tams_app = record {
       ∷ command_with (codes "check") check_words
       ∷ command_with (codes "migrate") migrate_words
       ∷ command_with (codes "work") work_words
+      ∷ command_with (codes "deliver") deliver_words
       ∷ command_with (codes "replay") replay_words
       ∷ command_with (codes "serve") serve_words
       ∷ command_with (codes "workload") workload_words ∷ [];
@@ -60,6 +64,7 @@ command_word name.Format = codes "format"
 command_word name.Check = codes "check"
 command_word name.Migrate = codes "migrate"
 command_word name.Work = codes "work"
+command_word name.Deliver = codes "deliver"
 command_word name.Replay = codes "replay"
 command_word name.Serve = codes "serve"
 command_word name.Workload = codes "workload"
@@ -70,6 +75,7 @@ words_of name.Format = format_words
 words_of name.Check = check_words
 words_of name.Migrate = migrate_words
 words_of name.Work = work_words
+words_of name.Deliver = deliver_words
 words_of name.Replay = replay_words
 words_of name.Serve = serve_words
 words_of name.Workload = workload_words

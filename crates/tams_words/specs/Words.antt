@@ -4,7 +4,7 @@ use Rattle.std.specs.List.{starts_with}
 use Rattle.std.specs.Fmt.{decimal}
 use Rattle.media_rows.specs.Ids.{id_of}
 use Rattle.tams_words.specs.declared.words.Invocation.{Invocation}
-use Rattle.tams_words.specs.declared.words.Invocation.TheVariants.{Format, Check, Migrate, Work, Replay, Serve, Workload}
+use Rattle.tams_words.specs.declared.words.Invocation.TheVariants.{Format, Check, Migrate, Work, Deliver, Replay, Serve, Workload}
 use Rattle.tams_words.specs.declared.words.Wanted.{Wanted}
 use Rattle.tams_words.specs.declared.words.Wanted.TheVariants.{Nothing, Plain, Fresh, Listen, Dial}
 
@@ -69,6 +69,10 @@ pub record IsMigrate (words : List (List ℕ)) (path : List ℕ) : Type 0 where
 pub record IsWork (words : List (List ℕ)) (path : List ℕ) : Type 0 where
   pub words_are : words ≡ codes "work" ∷ path ∷ []
 
+-- deliver PATH
+pub record IsDeliver (words : List (List ℕ)) (path : List ℕ) : Type 0 where
+  pub words_are : words ≡ codes "deliver" ∷ path ∷ []
+
 -- replay PATH BASE
 pub record IsReplay (words : List (List ℕ)) (path base : List ℕ) : Type 0 where
   pub words_are : words ≡ codes "replay" ∷ path ∷ base ∷ []
@@ -98,6 +102,7 @@ HasForm words (Format path blocks half id) = IsFormat words path blocks half id
 HasForm words (Check path) = IsCheck words path
 HasForm words (Migrate path) = IsMigrate words path
 HasForm words (Work path) = IsWork words path
+HasForm words (Deliver path) = IsDeliver words path
 HasForm words (Replay path base) = IsReplay words path base
 HasForm words (Serve path port base connections) = IsServe words path port base connections
 HasForm words (Workload number count) = IsWorkload words number count
@@ -113,9 +118,9 @@ FormIs words (Some command) = HasForm words command
 FormIs words None = (command : Invocation) → HasForm words command → ⊥
 
 -- What the program opens for these words: a file of a length in bytes for `format`, a file that is
--- there for `check`, `migrate`, `work` and `replay`, that and a port for `serve`, and nothing for
--- `workload` and for words that are no command. No command asks yet for connections that it begins
--- itself.
+-- there for `check`, `migrate`, `work` and `replay`, that and a port for `serve`, that and
+-- connections that it begins itself for `deliver`, and nothing for `workload` and for words that
+-- are no command
 abbrev pub WantedFor : List (List ℕ) → Wanted → Type 0
 WantedFor words Nothing = ((command : Invocation) → IsCommand words command → ⊥)
     ⊎ ((number count : ℕ) × IsCommand words (Workload number count))
@@ -126,7 +131,7 @@ WantedFor words (Fresh path bytes) =
     (blocks half id : ℕ) × (bytes ≡ 4096 * blocks) × IsCommand words (Format path blocks half id)
 WantedFor words (Listen path port) =
     (base : List ℕ) × (connections : ℕ) × IsCommand words (Serve path port base connections)
-WantedFor words (Dial path) = ⊥
+WantedFor words (Dial path) = IsCommand words (Deliver path)
 
 -- words that are no command
 abbrev pub IsNoCommand : List (List ℕ) → Type 0

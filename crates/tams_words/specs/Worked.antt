@@ -1,7 +1,7 @@
 -- Worked words: a command line of each command that opens a store, and what it spells.
 use Rattle.std.specs.Prelude.{ℕ, List, [], ◌∷◌, codes}
 use Rattle.tams_words.specs.Words.{IsCommand}
-use Rattle.tams_words.specs.declared.words.Invocation.TheVariants.{Check, Migrate, Work, Replay, Serve}
+use Rattle.tams_words.specs.declared.words.Invocation.TheVariants.{Check, Migrate, Work, Deliver, Replay, Serve}
 
 -- the path and the base in them
 abbrev pub worked_path : List ℕ
@@ -19,6 +19,9 @@ migrate_line = codes "migrate" ∷ worked_path ∷ []
 abbrev pub work_line : List (List ℕ)
 work_line = codes "work" ∷ worked_path ∷ []
 
+abbrev pub deliver_line : List (List ℕ)
+deliver_line = codes "deliver" ∷ worked_path ∷ []
+
 abbrev pub replay_line : List (List ℕ)
 replay_line = codes "replay" ∷ worked_path ∷ worked_base ∷ []
 
@@ -31,5 +34,6 @@ pub record WordsAsWorked : Type 0 where
   pub check : IsCommand check_line (Check worked_path)
   pub migrate : IsCommand migrate_line (Migrate worked_path)
   pub work : IsCommand work_line (Work worked_path)
+  pub deliver : IsCommand deliver_line (Deliver worked_path)
   pub replay : IsCommand replay_line (Replay worked_path worked_base)
   pub serve : IsCommand serve_line (Serve worked_path 8 worked_base 2)

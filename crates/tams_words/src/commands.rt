@@ -17,6 +17,7 @@ pub(crate) enum CommandName {
     Check,
     Migrate,
     Work,
+    Deliver,
     Replay,
     Serve,
     Workload,
@@ -33,6 +34,7 @@ impl CommandName {
             "check" => Some(CommandName::Check),
             "migrate" => Some(CommandName::Migrate),
             "work" => Some(CommandName::Work),
+            "deliver" => Some(CommandName::Deliver),
             "replay" => Some(CommandName::Replay),
             "serve" => Some(CommandName::Serve),
             "workload" => Some(CommandName::Workload),
@@ -45,7 +47,8 @@ impl CommandName {
         ensures { result ≡ length (words_of self) + 1 }
     {
         match self {
-            CommandName::Check | CommandName::Migrate | CommandName::Work => 2,
+            CommandName::Check | CommandName::Migrate | CommandName::Work | CommandName::Deliver =>
+                2,
             CommandName::Replay | CommandName::Workload => 3,
             CommandName::Format | CommandName::Serve => 5,
         }
@@ -103,6 +106,13 @@ pub fn command_line<'a>(alloc: Global) -> Result<Command<'a>, AllocError>
         program,
         "work",
         "Deletes and sweeps what is due, step by step",
+        &[PATH],
+    )?;
+    let program = with_command(
+        alloc,
+        program,
+        "deliver",
+        "Sends waiting events to their webhooks on this machine",
         &[PATH],
     )?;
     let program = with_command(

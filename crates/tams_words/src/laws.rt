@@ -12,7 +12,7 @@ pub fn bases_are_text()
     ensures { BasesAreText }
 {}
 
-/// What five command lines spell.
+/// What six command lines spell.
 pub fn words_as_worked()
     ensures { WordsAsWorked }
 {}

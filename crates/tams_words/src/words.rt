@@ -62,6 +62,10 @@ pub enum Invocation {
     Work {
         path: Text,
     },
+    /// Sends the waiting events of each hook, in their order, until one isn't accepted.
+    Deliver {
+        path: Text,
+    },
     /// Serves one connection, on standard input and output.
     Replay {
         path: Text,
@@ -105,6 +109,7 @@ pub fn devices(alloc: Global, words: &TextList) -> Result<Wanted, Memory>
         Some(Invocation::Check { path }) => Ok(Wanted::Plain(path)),
         Some(Invocation::Migrate { path }) => Ok(Wanted::Plain(path)),
         Some(Invocation::Work { path }) => Ok(Wanted::Plain(path)),
+        Some(Invocation::Deliver { path }) => Ok(Wanted::Dial(path)),
         Some(Invocation::Replay { path, .. }) => Ok(Wanted::Plain(path)),
         Some(Invocation::Serve { path, port, .. }) => Ok(Wanted::Listen(path, port)),
         Some(Invocation::Workload { .. }) | None => Ok(Wanted::Nothing),
@@ -194,6 +199,9 @@ fn read_values(
             path: text(alloc, value(values, "PATH"))?,
         })),
         CommandName::Work => Ok(Some(Invocation::Work {
+            path: text(alloc, value(values, "PATH"))?,
+        })),
+        CommandName::Deliver => Ok(Some(Invocation::Deliver {
             path: text(alloc, value(values, "PATH"))?,
         })),
         CommandName::Replay => read_replay(alloc, value(values, "PATH"), value(values, "BASE")),

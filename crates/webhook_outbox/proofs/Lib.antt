@@ -3,6 +3,7 @@ mod Addresses
 mod Dropping
 mod Found
 mod Listing
+mod Next
 mod Order
 mod Placing
 pub mod Posting

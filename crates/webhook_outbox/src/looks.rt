@@ -1,6 +1,6 @@
 //! Looks at versions by serials. Steps aren't anybody's.
-ghost use Rattle.std.specs.Prelude.{◌≡◌, ◌<◌, IfOk, option_copied, pos};
-ghost use Rattle.shared_tree.specs.Pairs.{first, value_at, values, values_of};
+ghost use Rattle.std.specs.Prelude.{◌≡◌, ◌<◌, IfOk, filter, option_copied, option_map, pos};
+ghost use Rattle.shared_tree.specs.Pairs.{first, is_above, value_at, values, values_of};
 ghost use Rattle.shared_tree.specs.Rows.{IsKeyedBy};
 ghost use Rattle.media_rows.specs.Outbox.{has_url, hook_of};
 ghost use Rattle.webhook_outbox.specs.Within.Slots.{HasSerials, event_key, hook_rows, slot_key};
@@ -29,6 +29,28 @@ fn looked_up<V: Drop, L: Ledger>(rows: &Version<V>, serial: u64, blank: Blank) -
 {
     let mut steps = Steps::<L>::new(blank);
     rows.get(key_of(serial), &mut steps)
+}
+
+/// The value of the least serial above this one.
+pub(crate) fn value_above<V: Drop>(rows: &Version<V>, serial: u64) -> Option<&V>
+    ensures { option_copied result
+        ≡ option_map (λ p. p.1) (first (filter (is_above (pos serial)) rows.now)) }
+{
+    above_looked_up::<V, Brand>(rows, serial, Blank::new(1))
+}
+
+fn above_looked_up<V: Drop, L: Ledger>(rows: &Version<V>, serial: u64, blank: Blank) -> Option<&V>
+    requires name { blank.name ≡ L.name }
+    requires parts { blank.parts ≡ L.parts }
+    requires one { 0 < L.parts }
+    ensures { option_copied result
+        ≡ option_map (λ p. p.1) (first (filter (is_above (pos serial)) rows.now)) }
+{
+    let mut steps = Steps::<L>::new(blank);
+    match rows.after(key_of(serial), &mut steps) {
+        Some((_, value)) => Some(value),
+        None => None,
+    }
 }
 
 /// The first of these events.

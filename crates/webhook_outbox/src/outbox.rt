@@ -6,14 +6,14 @@ ghost use Rattle.media_rows.specs.Refusals.{Restores};
 ghost use Rattle.media_rows.specs.Restoring.{can_restore_outbox, outbox_of};
 ghost use Rattle.shared_tree.specs.Pairs.{first};
 ghost use Rattle.webhook_outbox.specs.Delivered.{IsBehind, IsBehindHooks, counted};
-ghost use Rattle.webhook_outbox.specs.Ordered.{EventsRise, HooksRise, IsLeastFor};
+ghost use Rattle.webhook_outbox.specs.Ordered.{EventsRise, HooksRise, IsLeastFor, IsNextHook, next_hook};
 ghost use Rattle.webhook_outbox.specs.Within.Slots.{with_last_hook};
 ghost use Rattle.webhook_outbox.specs.Posting.{posted_within, shown_in};
 
 use crate::changes::{marked_row, with_row, with_slot, without_event};
 use crate::drops::drop_all;
 use crate::lists::{event_list, hook_list, shown_list};
-use crate::looks::{all_slots, first_waiting, hook_of, value_at};
+use crate::looks::{all_slots, first_waiting, hook_of, value_above, value_at};
 use crate::posts::post_all;
 use crate::restores::{are_urls_distinct, events_gathered, hooks_gathered};
 use disk_trait::{Duplicate, Memory, Text};
@@ -147,6 +147,16 @@ impl Outbox {
             (λ row. option_copied row ≡ hook_of url.now self.now.hooks) }
     {
         Ok(hook_of(&all_slots(alloc, &self.slots)?, url))
+    }
+
+    /// The hook of least serial above this one; `None` exactly where there is none. It takes no memory.
+    pub fn next_hook(&self, after: u64) -> Option<&HookRow>
+        ensures next { option_copied result ≡ next_hook after self.now.hooks }
+        ensures least { IfSome result (λ row. IsNextHook after self.now.hooks row.now) }
+    {
+        self.slots.keys_rise();
+        let slot = value_above(&self.slots, after)?;
+        Some(&slot.row)
     }
 
     /// The event of least serial that waits for the hook of this serial.

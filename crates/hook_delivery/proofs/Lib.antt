@@ -1,0 +1,6 @@
+pub mod Verdicts
+mod EventTexts
+mod Exchanges
+mod OneAnswer
+mod Targets
+mod Texts

@@ -1,0 +1,4 @@
+pub mod Exchanging
+pub mod Judging
+pub mod Posting
+pub mod Within
