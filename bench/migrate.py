@@ -46,16 +46,23 @@ def as_form_1(path):
         file.write(out.ljust(HALF * BLOCK, b"\0"))
 
 
+def memory_of(pid):
+    """The most KiB that a process had, or 0 once it has ended."""
+    with open(f"/proc/{pid}/status", encoding="ascii") as status:
+        return next((int(line.split()[1]) for line in status if line.startswith("VmHWM")), 0)
+
+
 def run(word, path):
-    """The seconds of a command over a store, what it tells, and the most KiB that it had."""
-    start = time.monotonic()
+    """The seconds of a command over a store, what it tells, and the most KiB that it had, as far as looks at it tell."""
+    start, memory = time.monotonic(), 0
     with subprocess.Popen([TAMS, word, path], stdout=subprocess.PIPE, stderr=subprocess.DEVNULL) as program:
-        told = program.stdout.read()
-        _, status, used = os.wait4(program.pid, 0)
-        program.returncode = os.waitstatus_to_exitcode(status)
+        while program.poll() is None:
+            memory = max(memory, memory_of(program.pid))
+            time.sleep(0.002)
+        seconds, told = time.monotonic() - start, program.stdout.read()
     if program.returncode:
         sys.exit(f"{word}: {told!r}")
-    return time.monotonic() - start, told, used.ru_maxrss
+    return seconds, told, memory
 
 
 def round_of(best, folder, objects, media):
