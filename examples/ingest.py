@@ -242,7 +242,7 @@ def timeline_of(pieces, flow_id, start, folder, is_video):
     shift = start - nanoseconds(starts[0])
     for piece, first, behind in zip(pieces, starts, starts[1:]):
         begin, end = nanoseconds(first) + shift, nanoseconds(behind) + shift
-        object_id = f'{flow_id}.{timestamp_text(begin).replace(":", ".")}'
+        object_id = f'{flow_id}.{timestamp_text(begin).replace(":", ".")}.ts'
         last_duration = end - begin - nanoseconds(piece.last - piece.first)
         if last_duration < 0:
             raise Failure('the times of the file go back; try --encode')

@@ -35,9 +35,10 @@ impl<'a> Shows<Text> for Addresses<'a> {
     }
 }
 
-/// The address of an object.
+/// The address of the bytes of an object, behind the base of the store: `/media/` and the object's id, each byte of which
+/// that isn't unreserved is escaped (RFC 3986, section 2.1).
 #[tactic(auto, unfolding(crate::specs::Addresses::media_address))]
-fn media_address(alloc: Global, base: &[u8], object: &[u8]) -> Result<String, Memory>
+pub fn media_address(alloc: Global, base: &[u8], object: &[u8]) -> Result<String, Memory>
     ensures { IfOk result
         (λ address. string_bytes address ≡ media_address base.now object.now) }
 {

@@ -17,6 +17,7 @@ mod sources;
 mod values;
 mod views;
 
+pub use crate::addresses::media_address;
 pub use crate::laws::{essence_stands, keys_rise};
 pub use crate::print::print_reply;
 pub use crate::requests::request_id;

@@ -66,6 +66,13 @@ impl Store {
         self.library.keeps_good();
     }
 
+    /// The library as it stands, for questions. It takes no memory.
+    pub fn core(&self) -> &Core
+        ensures { result.now.library ≡ self.now.kept.library }
+    {
+        &self.library
+    }
+
     /// The store's id.
     pub fn id(&self) -> u128
         ensures { result ≡ self.now.kept.library.id }

@@ -7,7 +7,7 @@ use Rattle.store_states.specs.States.{StandsFor, StoreState}
 use Rattle.tams_outcomes.specs.Statuses.{exit_of, no_disk_fault}
 use Rattle.tams_outcomes.specs.Touching.{IsDoneOrRefused, Untouched}
 use Rattle.tams_outcomes.specs.declared.outcome.RunOutcome.{RunOutcome}
-use Rattle.tams_outcomes.specs.declared.outcome.RunOutcome.TheVariants.{Formatted, Checked, Migrated, AlreadyMigrated, Worked, Delivered, Served, Generated, BadWords, NotStore, AlreadyStore, TooSmall, Damaged, DamagedObject, OldForm, DiskFault, NoMemory, LinkFault}
+use Rattle.tams_outcomes.specs.declared.outcome.RunOutcome.TheVariants.{Formatted, Checked, Migrated, AlreadyMigrated, Worked, Delivered, Served, Playlist, Generated, BadWords, NotStore, AlreadyStore, TooSmall, Damaged, DamagedObject, OldForm, DiskFault, NoMemory, LinkFault}
 use Rattle.tams_outcomes.proofs.TouchingLemmas.{no_disk}
 use Rattle.store_commands.proofs.OpeningLemmas.{damage_found, none_found, other_found}
 use Rattle.store_commands.specs.CheckEnds.{CheckCause, CheckEnds, RefusesCheck, counts_in}
@@ -61,6 +61,7 @@ module _ (old new : Device) where
   check_done (Formatted blocks half media) ends s shows from stands = absurd ends
   check_done (Worked turns) ends s shows from stands = absurd ends
   check_done (Delivered delivered waiting full) ends s shows from stands = absurd ends
+  check_done (Playlist objects) ends s shows from stands = absurd ends
   check_done (Migrated objects rows) ends s shows from stands = absurd ends
   check_done AlreadyMigrated ends s shows from stands = absurd ends
   check_done (Served requests changes skipped) ends s shows from stands = absurd ends
@@ -74,6 +75,7 @@ module _ (old new : Device) where
   check_probed (Formatted blocks half media) ends s shows from stands = absurd ends
   check_probed (Worked turns) ends s shows from stands = absurd ends
   check_probed (Delivered delivered waiting full) ends s shows from stands = absurd ends
+  check_probed (Playlist objects) ends s shows from stands = absurd ends
   check_probed (Migrated objects rows) ends s shows from stands = absurd ends
   check_probed AlreadyMigrated ends s shows from stands = absurd ends
   check_probed (Served requests changes skipped) ends s shows from stands = absurd ends

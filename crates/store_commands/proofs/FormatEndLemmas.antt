@@ -9,7 +9,7 @@ use Rattle.store_states.specs.States.{StandsFor}
 use Rattle.tams_outcomes.specs.Statuses.{exit_of, no_disk_fault}
 use Rattle.tams_outcomes.specs.Touching.{IsDoneOrRefused, Untouched}
 use Rattle.tams_outcomes.specs.declared.outcome.RunOutcome.{RunOutcome}
-use Rattle.tams_outcomes.specs.declared.outcome.RunOutcome.TheVariants.{Formatted, Checked, Migrated, AlreadyMigrated, Worked, Delivered, Served, Generated, BadWords, NotStore, AlreadyStore, TooSmall, Damaged, DamagedObject, OldForm, DiskFault, NoMemory, LinkFault}
+use Rattle.tams_outcomes.specs.declared.outcome.RunOutcome.TheVariants.{Formatted, Checked, Migrated, AlreadyMigrated, Worked, Delivered, Served, Playlist, Generated, BadWords, NotStore, AlreadyStore, TooSmall, Damaged, DamagedObject, OldForm, DiskFault, NoMemory, LinkFault}
 use Rattle.tams_outcomes.proofs.TouchingLemmas.{no_disk}
 use Rattle.store_commands.specs.FormatEnds.{FormatCause, FormatEnds, FormatMoments}
 use Rattle.store_commands.specs.Formatting.{empty_rows, formatted_state}
@@ -31,6 +31,7 @@ module _ (old new : Device) (h : Header) where
   format_done (Checked counts) ends s = absurd ends
   format_done (Worked turns) ends s = absurd ends
   format_done (Delivered delivered waiting full) ends s = absurd ends
+  format_done (Playlist objects) ends s = absurd ends
   format_done (Migrated objects rows) ends s = absurd ends
   format_done AlreadyMigrated ends s = absurd ends
   format_done (Served requests changes skipped) ends s = absurd ends

@@ -18,3 +18,5 @@ mod RunningLemmas
 mod ServedLemmas
 pub mod WorkloadEndLemmas
 mod WorkloadLemmas
+mod ManifestLemmas
+pub mod ManifestEndLemmas

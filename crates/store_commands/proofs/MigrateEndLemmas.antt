@@ -17,7 +17,7 @@ use Rattle.store_states.proofs.Standing.{one_state}
 use Rattle.tams_outcomes.specs.Statuses.{exit_of, no_disk_fault}
 use Rattle.tams_outcomes.specs.Touching.{IsDoneOrRefused, IsSettled, Untouched}
 use Rattle.tams_outcomes.specs.declared.outcome.RunOutcome.{RunOutcome}
-use Rattle.tams_outcomes.specs.declared.outcome.RunOutcome.TheVariants.{Formatted, Checked, Migrated, AlreadyMigrated, Worked, Delivered, Served, Generated, BadWords, NotStore, AlreadyStore, TooSmall, Damaged, DamagedObject, OldForm, DiskFault, NoMemory, LinkFault}
+use Rattle.tams_outcomes.specs.declared.outcome.RunOutcome.TheVariants.{Formatted, Checked, Migrated, AlreadyMigrated, Worked, Delivered, Served, Playlist, Generated, BadWords, NotStore, AlreadyStore, TooSmall, Damaged, DamagedObject, OldForm, DiskFault, NoMemory, LinkFault}
 use Rattle.tams_outcomes.proofs.TouchingLemmas.{no_disk}
 use Rattle.store_commands.specs.MigrateEnds.{MigrateCause, MigrateEnds, MigrateMoments, RefusesMigrate, migrated_outcome}
 use Rattle.store_commands.proofs.OpeningLemmas.{no_state, untouched_by}
@@ -100,6 +100,7 @@ module _ (old new : Device) where
   migrate_done (Checked counts) ends s shows archive has = absurd ends
   migrate_done (Worked turns) ends s shows archive has = absurd ends
   migrate_done (Delivered delivered waiting full) ends s shows archive has = absurd ends
+  migrate_done (Playlist objects) ends s shows archive has = absurd ends
   migrate_done (Served requests changes skipped) ends s shows archive has = absurd ends
   migrate_done (Generated run) ends s shows archive has = absurd ends
   migrate_done _ ends s shows archive has = absurd (omega (arith, s))

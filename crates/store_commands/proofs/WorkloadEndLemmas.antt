@@ -2,7 +2,7 @@
 use Rattle.std.proofs.Common.{◌≡◌, ◌⊎◌, ℕ, refl, inl, inr, arith}
 use Rattle.tams_outcomes.specs.Statuses.{exit_of}
 use Rattle.tams_outcomes.specs.declared.outcome.RunOutcome.{RunOutcome}
-use Rattle.tams_outcomes.specs.declared.outcome.RunOutcome.TheVariants.{Formatted, Checked, Migrated, AlreadyMigrated, Worked, Delivered, Served, Generated, NoMemory}
+use Rattle.tams_outcomes.specs.declared.outcome.RunOutcome.TheVariants.{Formatted, Checked, Migrated, AlreadyMigrated, Worked, Delivered, Served, Playlist, Generated, NoMemory}
 use Rattle.tams_outcomes.specs.declared.outcome.WorkloadRun.{WorkloadRun}
 use Rattle.store_commands.specs.WorkloadEnds.{WorkloadCause, WorkloadEnds}
 use Rattle.store_commands.specs.Generating.{IsWorkloadRun}
@@ -16,6 +16,7 @@ module _ (number count : ℕ) where
   workload_done (Checked counts) ends s = absurd ends
   workload_done (Worked turns) ends s = absurd ends
   workload_done (Delivered delivered waiting full) ends s = absurd ends
+  workload_done (Playlist objects) ends s = absurd ends
   workload_done (Migrated objects rows) ends s = absurd ends
   workload_done AlreadyMigrated ends s = absurd ends
   workload_done (Served requests changes skipped) ends s = absurd ends

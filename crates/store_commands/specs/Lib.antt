@@ -5,6 +5,7 @@ pub mod FormatEnds
 pub mod Fresh
 pub mod Probing
 pub mod CheckEnds
+pub mod ManifestEnds
 pub mod MigrateEnds
 pub mod Working
 pub mod WorkEnds

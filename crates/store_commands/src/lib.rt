@@ -1,4 +1,4 @@
-//! The commands of a store: `format`, `check`, `migrate`, `work`, `deliver`, `replay` and `serve`, and `workload`, each
+//! The commands of a store: `format`, `check`, `migrate`, `work`, `deliver`, `replay`, `serve` and `manifest`, and `workload`, each
 //! with the record of its ends; and what those that open a store share.
 #![tactic(auto)]
 
@@ -7,6 +7,7 @@ mod delivering;
 mod formatting;
 mod generating;
 mod laws;
+mod manifesting;
 mod migrating;
 mod opening;
 mod premises;
@@ -20,6 +21,7 @@ pub use crate::delivering::deliver;
 pub use crate::formatting::format;
 pub use crate::generating::workload;
 pub use crate::laws::fresh_files_stand;
+pub use crate::manifesting::manifest;
 pub use crate::migrating::migrate;
 pub use crate::opening::{line_counts, opening_outcome};
 pub use crate::premises::site_over;

@@ -30,7 +30,7 @@ fn main(rt: HostRuntime) -> ExitCode {
     };
     let status = match words_of(&rt) {
         Ok(words) => status_within(&rt, &words, Outlets::new(&rt, streams, &words)),
-        // Which command it was is not known, and the output of a `replay` has answers alone.
+        // Which command it was is not known, and the output of some has what they say to their peer alone.
         Err(Memory) => no_memory(&mut HostSink::error(streams.error)),
     };
     ExitCode::from(status)
@@ -47,7 +47,7 @@ fn status_within<
 >(rt: &R, words: &TextList, outlets: Outlets) -> u8 {
     match status_of(rt, words, outlets) {
         Ok(status) => status,
-        Err(Memory) => no_memory(&mut outlets.notes(begins_replay(words))),
+        Err(Memory) => no_memory(&mut outlets.notes(begins_speaking(words))),
     }
 }
 
@@ -64,7 +64,7 @@ fn status_of<
         return Ok(Status::Done.number());
     }
     let wanted = tams_top::devices(rt.alloc(), words)?;
-    let mut notes = outlets.notes(is_replay(&wanted, words));
+    let mut notes = outlets.notes(speaks(&wanted, words));
     let status = status_over(rt, words, &wanted, outlets, &mut notes);
     if status == Status::BadWords.number() {
         // The words were told to be wrong, which want of memory for more doesn't change.
@@ -113,6 +113,7 @@ fn progress_word(words: &TextList) -> &'static str {
         b"migrate" => "migrate",
         b"work" => "work",
         b"deliver" => "deliver",
+        b"manifest" => "manifest",
         _ => "opening",
     }
 }
@@ -199,15 +200,18 @@ fn words_of<R: Env + AllocGlobal>(rt: &R) -> Result<TextList, Memory> {
     }
 }
 
-/// Whether the words are a `replay`.
-fn is_replay(wanted: &Wanted, words: &TextList) -> bool {
-    matches!(wanted, Wanted::Plain(_)) && begins_replay(words)
+/// Whether the words are a command whose peer is standard input and output.
+fn speaks(wanted: &Wanted, words: &TextList) -> bool {
+    matches!(wanted, Wanted::Plain(_)) && begins_speaking(words)
 }
 
-/// Whether the first word is that of a `replay`.
-fn begins_replay(words: &TextList) -> bool {
+/// Whether the first word is that of such a command.
+fn begins_speaking(words: &TextList) -> bool {
     match words.items() {
-        [command, ..] => command.bytes() == b"replay".as_slice(),
+        [command, ..] => {
+            let command = command.bytes();
+            command == b"replay".as_slice() || command == b"manifest".as_slice()
+        }
         [] => false,
     }
 }

@@ -138,7 +138,8 @@ fn value_of<'a>(values: &ArgMatches<'a>, argument: &Arg<'_>) -> &'a str {
 fn right_word(id: &str) -> &'static str {
     match id {
         "BASE" => "http://s",
-        "STORE_ID" => "00000000-0000-4000-8000-000000000001",
+        "RANGE" => "_",
+        "STORE_ID" | "FLOW" => "00000000-0000-4000-8000-000000000001",
         _ => "1",
     }
 }

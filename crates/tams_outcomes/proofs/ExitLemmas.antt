@@ -3,8 +3,9 @@ use Rattle.std.proofs.Common.{◌≡◌, ◌≤◌, ◌∙◌, ℕ, zero, suc, r
 use Rattle.tams_outcomes.specs.Statuses.{exit_of, number_of}
 use Rattle.tams_outcomes.specs.declared.status.Status.{Status}
 use Rattle.tams_outcomes.specs.declared.status.Status.TheVariants as status
+use Rattle.tams_outcomes.specs.declared.outcome.PlaylistRefusal.{PlaylistRefusal}
 use Rattle.tams_outcomes.specs.declared.outcome.RunOutcome.{RunOutcome}
-use Rattle.tams_outcomes.specs.declared.outcome.RunOutcome.TheVariants.{Formatted, Checked, Migrated, AlreadyMigrated, Worked, Delivered, Served, Generated, Cut, BadWords, NotStore, AlreadyStore, TooSmall, Damaged, DamagedObject, OldForm, DiskFault, NoMemory, LinkFault}
+use Rattle.tams_outcomes.specs.declared.outcome.RunOutcome.TheVariants.{Formatted, Checked, Migrated, AlreadyMigrated, Worked, Delivered, Served, Playlist, NoPlaylist, Generated, Cut, BadWords, NotStore, AlreadyStore, TooSmall, Damaged, DamagedObject, OldForm, DiskFault, NoMemory, LinkFault}
 
 pub bad_words_by : (o : RunOutcome) → exit_of o ≡ 1 → o ≡ BadWords
 bad_words_by BadWords e = refl
@@ -26,7 +27,7 @@ pub cut_by : (o : RunOutcome) → exit_of o ≡ 6 → o ≡ Cut
 cut_by Cut e = refl
 cut_by _ e = absurd (omega (arith, e))
 
-pub exit_at_most : (o : RunOutcome) → exit_of o ≤ 6
+pub exit_at_most : (o : RunOutcome) → exit_of o ≤ 7
 exit_at_most (Formatted blocks half media) = omega arith
 exit_at_most (Checked counts) = omega arith
 exit_at_most (Migrated objects rows) = omega arith
@@ -34,6 +35,8 @@ exit_at_most AlreadyMigrated = omega arith
 exit_at_most (Worked turns) = omega arith
 exit_at_most (Delivered delivered waiting full) = omega arith
 exit_at_most (Served requests changes skipped) = omega arith
+exit_at_most (Playlist objects) = omega arith
+exit_at_most (NoPlaylist refusal) = omega arith
 exit_at_most (Generated run) = omega arith
 exit_at_most BadWords = omega arith
 exit_at_most NotStore = omega arith
@@ -46,6 +49,10 @@ exit_at_most DiskFault = omega arith
 exit_at_most NoMemory = omega arith
 exit_at_most LinkFault = omega arith
 exit_at_most Cut = omega arith
+
+pub named_by : (o : RunOutcome) → exit_of o ≡ 7 → (refusal : PlaylistRefusal) × (o ≡ NoPlaylist refusal)
+named_by (NoPlaylist refusal) e = (refusal, refl)
+named_by _ e = absurd (omega (arith, e))
 
 -- a status by its number
 abbrev status_at : ℕ → Status

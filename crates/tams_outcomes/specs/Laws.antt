@@ -2,12 +2,15 @@
 use Rattle.std.specs.Prelude.{◌≡◌, ◌≤◌}
 use Rattle.tams_outcomes.specs.Statuses.{exit_of, number_of}
 use Rattle.tams_outcomes.specs.declared.status.Status.{Status}
+use Rattle.tams_outcomes.specs.declared.outcome.PlaylistRefusal.{PlaylistRefusal}
 use Rattle.tams_outcomes.specs.declared.outcome.RunOutcome.{RunOutcome}
-use Rattle.tams_outcomes.specs.declared.outcome.RunOutcome.TheVariants.{BadWords, Cut, DiskFault, NoMemory, LinkFault}
+use Rattle.tams_outcomes.specs.declared.outcome.RunOutcome.TheVariants.{BadWords, Cut, DiskFault, NoMemory, NoPlaylist, LinkFault}
 
--- no outcome has the status of a named refusal
-abbrev pub NoneIsNamed : Type 0
-NoneIsNamed = (o : RunOutcome) → exit_of o ≤ 6
+-- The statuses are 0 to 7, and 7 is that of a playlist that isn't said.
+pub record NamedAreRefusals : Type 0 where
+  pub most : (o : RunOutcome) → exit_of o ≤ 7
+  pub named : (o : RunOutcome) → exit_of o ≡ 7
+      → (refusal : PlaylistRefusal) × (o ≡ NoPlaylist refusal)
 
 -- a number is that of one status at most
 abbrev pub StatusesDiffer : Type 0

@@ -6,8 +6,10 @@ use Rattle.site_edge.specs.Sinks.{Puts}
 use Rattle.tams_outcomes.specs.declared.outcome.StoreCounts.{StoreCounts}
 use Rattle.tams_outcomes.specs.declared.outcome.WorkloadRun.{WorkloadRun}
 use Rattle.tams_outcomes.specs.declared.outcome.DamagedObject as damaged_object
+use Rattle.tams_outcomes.specs.declared.outcome.PlaylistRefusal.{PlaylistRefusal}
+use Rattle.tams_outcomes.specs.declared.outcome.PlaylistRefusal.TheVariants as playlist
 use Rattle.tams_outcomes.specs.declared.outcome.RunOutcome.{RunOutcome}
-use Rattle.tams_outcomes.specs.declared.outcome.RunOutcome.TheVariants.{Formatted, Checked, Migrated, AlreadyMigrated, Worked, Delivered, Served, Generated, Cut, BadWords, NotStore, AlreadyStore, TooSmall, Damaged, DamagedObject, OldForm, DiskFault, NoMemory, LinkFault}
+use Rattle.tams_outcomes.specs.declared.outcome.RunOutcome.TheVariants.{Formatted, Checked, Migrated, AlreadyMigrated, Worked, Delivered, Served, Playlist, NoPlaylist, Generated, Cut, BadWords, NotStore, AlreadyStore, TooSmall, Damaged, DamagedObject, OldForm, DiskFault, NoMemory, LinkFault}
 
 -- bytes within a line
 abbrev pub named : List ℕ → List ℕ → List ℕ → List ℕ
@@ -77,6 +79,15 @@ damaged_line damaged =
     named (codes "damaged object ") damaged.object (named (codes ": kept ") damaged.kept
     (named (codes ", found ") damaged.found (codes "\n")))
 
+-- the line of a playlist that was said: how many objects it names
+abbrev pub playlist_line : ℕ → List ℕ
+playlist_line objects = numbered (codes "manifest: ") objects (codes " objects\n")
+
+-- the line of a playlist that isn't said
+abbrev pub no_playlist_line : PlaylistRefusal → List ℕ
+no_playlist_line playlist.NoFlow = codes "manifest refused: NoFlow\n"
+no_playlist_line playlist.NoPeer = codes "manifest refused: NoPeer\n"
+
 -- the line of each end in the notes
 abbrev pub line_of : RunOutcome → List ℕ
 line_of (Formatted blocks half media) = formatted_line blocks half media
@@ -86,6 +97,8 @@ line_of AlreadyMigrated = codes "already migrated\n"
 line_of (Worked turns) = numbered (codes "worked: ") turns (codes " turns\n")
 line_of (Delivered delivered waiting full) = delivered_line delivered waiting full
 line_of (Served requests changes skipped) = served_line requests changes skipped
+line_of (Playlist objects) = playlist_line objects
+line_of (NoPlaylist refusal) = no_playlist_line refusal
 line_of (Generated run) = generated_line run
 line_of BadWords = codes "bad words\n"
 line_of NotStore = codes "not a store\n"

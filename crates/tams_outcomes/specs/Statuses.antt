@@ -3,7 +3,7 @@ use Rattle.std.specs.Prelude.{ℕ, Bool, true, false}
 use Rattle.tams_outcomes.specs.declared.status.Status.{Status}
 use Rattle.tams_outcomes.specs.declared.status.Status.TheVariants as status
 use Rattle.tams_outcomes.specs.declared.outcome.RunOutcome.{RunOutcome}
-use Rattle.tams_outcomes.specs.declared.outcome.RunOutcome.TheVariants.{Formatted, Checked, Migrated, AlreadyMigrated, Worked, Delivered, Served, Generated, Cut, BadWords, NotStore, AlreadyStore, TooSmall, Damaged, DamagedObject, OldForm, DiskFault, NoMemory, LinkFault}
+use Rattle.tams_outcomes.specs.declared.outcome.RunOutcome.TheVariants.{Formatted, Checked, Migrated, AlreadyMigrated, Worked, Delivered, Served, Playlist, NoPlaylist, Generated, Cut, BadWords, NotStore, AlreadyStore, TooSmall, Damaged, DamagedObject, OldForm, DiskFault, NoMemory, LinkFault}
 
 -- the number of each status
 abbrev pub number_of : Status → ℕ
@@ -25,6 +25,8 @@ status_of AlreadyMigrated = status.Done
 status_of (Worked turns) = status.Done
 status_of (Delivered delivered waiting full) = status.Done
 status_of (Served requests changes skipped) = status.Done
+status_of (Playlist objects) = status.Done
+status_of (NoPlaylist refusal) = status.NamedRefusal
 status_of (Generated run) = status.Done
 status_of BadWords = status.BadWords
 status_of NotStore = status.Refused

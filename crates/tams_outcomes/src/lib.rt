@@ -7,5 +7,5 @@ mod outcome;
 mod status;
 
 pub use crate::laws::statuses_tell_outcomes;
-pub use crate::outcome::{DamagedObject, RunOutcome, StoreCounts, WorkloadRun};
+pub use crate::outcome::{DamagedObject, PlaylistRefusal, RunOutcome, StoreCounts, WorkloadRun};
 pub use crate::status::Status;

@@ -41,6 +41,15 @@ pub struct DamagedObject {
     pub found: Text,
 }
 
+/// Why no playlist was said.
+#[derive(Clone, Copy, Debug, PartialEq, Eq)]
+pub enum PlaylistRefusal {
+    /// The flow isn't kept.
+    NoFlow,
+    /// The flow is kept, and no peer came.
+    NoPeer,
+}
+
 /// How a run ended.
 #[derive(Drop)]
 pub enum RunOutcome {
@@ -74,6 +83,10 @@ pub enum RunOutcome {
         changes: u64,
         skipped: u64,
     },
+    /// The playlist of so many objects was said.
+    Playlist(u64),
+    /// No playlist was said.
+    NoPlaylist(PlaylistRefusal),
     /// Generated requests were answered.
     Generated(WorkloadRun),
     /// The input ended within a request.
@@ -110,6 +123,7 @@ impl RunOutcome {
             | RunOutcome::Worked(_)
             | RunOutcome::Delivered { .. }
             | RunOutcome::Served { .. }
+            | RunOutcome::Playlist(_)
             | RunOutcome::Generated(_) => Status::Done,
             RunOutcome::BadWords => Status::BadWords,
             RunOutcome::NotStore
@@ -122,6 +136,7 @@ impl RunOutcome {
             RunOutcome::NoMemory => Status::NoMemory,
             RunOutcome::LinkFault => Status::LinkFault,
             RunOutcome::Cut => Status::Cut,
+            RunOutcome::NoPlaylist(_) => Status::NamedRefusal,
         }
     }
 
@@ -154,6 +169,17 @@ impl RunOutcome {
                 changes,
                 skipped,
             } => put_served(notes, *requests, *changes, *skipped),
+            RunOutcome::Playlist(objects) => put_parts(
+                notes,
+                &[part(b"manifest: ", *objects)],
+                b" objects\n",
+            ),
+            RunOutcome::NoPlaylist(PlaylistRefusal::NoFlow) => {
+                notes.put(b"manifest refused: NoFlow\n")
+            }
+            RunOutcome::NoPlaylist(PlaylistRefusal::NoPeer) => {
+                notes.put(b"manifest refused: NoPeer\n")
+            }
             RunOutcome::Generated(run) => put_generated(notes, *run),
             RunOutcome::Damaged(at) => put_parts(notes, &[part(b"damaged at ", *at)], b"\n"),
             RunOutcome::DamagedObject(damaged) => put_damaged_object(notes, damaged),

@@ -18,7 +18,7 @@ pub enum Status {
     LinkFault,
     /// 6: the input ended within a request.
     Cut,
-    /// 7: a named refusal of `edit`, `manifest` or `follow`. No command answers it yet.
+    /// 7: a named refusal of `manifest`.
     NamedRefusal,
 }
 

@@ -1,9 +1,10 @@
 -- The end of a run by what came of its words gives the ends of whatever command they spell.
-use Rattle.std.proofs.Common.{◌≡◌, ℕ, Bool, true, List, refl, sym, ap, subst, inl, inr}
+use Rattle.std.proofs.Common.{◌≡◌, ℕ, List, sym, subst, inl, inr}
 use Rattle.disk_trait.specs.Device.{IsDevice}
 use Rattle.store_commands.proofs.CheckEndLemmas.{check_starved}
 use Rattle.store_commands.proofs.DeliverEndLemmas.{deliver_starved}
 use Rattle.store_commands.proofs.FormatEndLemmas.{format_starved}
+use Rattle.store_commands.proofs.ManifestEndLemmas.{manifest_starved}
 use Rattle.store_commands.proofs.MigrateEndLemmas.{migrate_starved}
 use Rattle.store_commands.proofs.ServeEndLemmas.{replay_starved, serve_starved}
 use Rattle.tams_outcomes.specs.Lines.{line_of}
@@ -16,7 +17,7 @@ use Rattle.tams_top.specs.Within.{EndsBy, EndsWithCause}
 use Rattle.tams_words.proofs.WordTheorems.{one_command}
 use Rattle.tams_words.specs.Words.{IsCommand, IsNoCommand}
 use Rattle.tams_words.specs.declared.words.Invocation.{Invocation}
-use Rattle.tams_words.specs.declared.words.Invocation.TheVariants.{Format, Check, Migrate, Work, Deliver, Replay, Serve, Workload}
+use Rattle.tams_words.specs.declared.words.Invocation.TheVariants.{Format, Check, Migrate, Work, Deliver, Replay, Serve, Manifest, Workload}
 use Rattle.store_commands.proofs.WorkEndLemmas.{work_starved}
 use Rattle.store_commands.proofs.WorkloadEndLemmas.{workload_starved}
 
@@ -30,6 +31,7 @@ same_ends run o (Work path) ends = ends
 same_ends run o (Deliver path) ends = ends
 same_ends run o (Replay path base) ends = ends
 same_ends run o (Serve path port base connections) ends = ends
+same_ends run o (Manifest path base flow range) ends = ends
 same_ends run o (Workload number count) ends = ends
 
 -- each command may find no memory before it begins
@@ -44,6 +46,8 @@ starved_at run sound untouched (Deliver path) given unread = rw unread (deliver_
 starved_at run sound untouched (Replay path base) given unread = rw unread (replay_starved base run.old run.new run.clock run.begun sound untouched)
 starved_at run sound untouched (Serve path port base connections) given unread =
     rw unread (serve_starved base run.old run.new run.clock run.begun sound untouched connections)
+starved_at run sound untouched (Manifest path base flow range) given unread =
+    (manifest_starved run.old run.new (record { base = base; flow = flow; range = range }) untouched, unread)
 starved_at run sound untouched (Workload number count) given unread = (workload_starved number count, untouched, unread)
 
 module _ (words : List (List ℕ)) (run : RunSeen) (o : RunOutcome) (sound : IsDevice run.old)

@@ -1,8 +1,6 @@
 -- What the status, the line and the words of a run say of its end.
-use Rattle.std.proofs.Common.{◌≡◌, ◌≢◌, ◌≤◌, ◌<◌, ◌⊎◌, ◌∙◌, ℕ, Bool, true, false, IsTrue, List, refl, sym, ap, subst, inl, inr, arith}
-use Rattle.disk_trait.specs.Device.{Link}
+use Rattle.std.proofs.Common.{◌≡◌, ◌≢◌, ◌≤◌, ◌<◌, ◌⊎◌, ◌∙◌, ℕ, Bool, true, false, IsTrue, List, Option, refl, sym, ap, subst, inl, inr, arith}
 use Rattle.disk_trait.specs.Calls.{Rose}
-use Rattle.media_journal.specs.declared.header.Header.{Header}
 use Rattle.store_opening.specs.Laws.{RefusedStandForNone}
 use Rattle.store_states.specs.States.{StoreState}
 use Rattle.store_commands.proofs.CheckEndLemmas.{check_only, check_refused, check_unlinked, check_words}
@@ -11,6 +9,9 @@ use Rattle.store_commands.proofs.DeliverEndLemmas.{deliver_only, deliver_refused
 use Rattle.store_commands.specs.DeliverEnds.{DeliverEnds}
 use Rattle.store_commands.proofs.FormatEndLemmas.{format_only, format_refused, format_unlinked, format_untouched, format_words}
 use Rattle.store_commands.specs.FormatEnds.{FormatEnds}
+use Rattle.store_commands.proofs.ManifestEndLemmas.{manifest_linked, manifest_only, manifest_refused, manifest_uncut, manifest_untouched, manifest_words}
+use Rattle.store_commands.specs.ManifestEnds.{ManifestEnds}
+use Rattle.tams_top.proofs.PlaylistLemmas.{is_told, link_rose, named_only}
 use Rattle.store_commands.proofs.MigrateEndLemmas.{migrate_only, migrate_refused, migrate_unlinked, migrate_untouched, migrate_words}
 use Rattle.store_commands.specs.MigrateEnds.{MigrateEnds}
 use Rattle.store_commands.proofs.ServeEndLemmas.{peers_rose, replay_linked, replay_linked_only}
@@ -23,14 +24,15 @@ use Rattle.tams_outcomes.proofs.TouchingLemmas.{none_dialled, stays_idle}
 use Rattle.tams_outcomes.specs.Statuses.{exit_of, no_disk_fault}
 use Rattle.tams_outcomes.specs.Touching.{ServesNobody, Untouched}
 use Rattle.tams_outcomes.specs.declared.outcome.RunOutcome.{RunOutcome}
-use Rattle.tams_outcomes.specs.declared.outcome.RunOutcome.TheVariants.{DiskFault, LinkFault, NoMemory}
+use Rattle.tams_outcomes.specs.declared.outcome.RunOutcome.TheVariants.{DiskFault, NoMemory}
 use Rattle.tams_top.specs.Ends.{CommandEnds, EndsByWords, RunSeen}
-use Rattle.tams_top.specs.Laws.{BadWordsAreTold, DiskFaultsAreTold, DoneIsTold, HistoriesAreTold, IsReplayFrom, LinkFaultsAreTold, LittleIsTouched, RefusalsAreTold, StarvingIsTold, StatusIsKnown, WholeIsTold}
+use Rattle.tams_top.specs.Laws.{BadWordsAreTold, DiskFaultsAreTold, DoneIsTold, HistoriesAreTold, IsReplayFrom, LinkFaultsAreTold, LittleIsTouched, PlaylistsAreTold, RefusalsAreTold, StarvingIsTold, StatusIsKnown, WholeIsTold}
 use Rattle.tams_top.specs.Refusals.{RefusedFor}
 use Rattle.tams_words.proofs.WordTheorems.{one_command}
 use Rattle.tams_words.specs.Words.{IsCommand, IsNoCommand}
+use Rattle.time_range.specs.declared.ranges.Span.{Span}
 use Rattle.tams_words.specs.declared.words.Invocation.{Invocation}
-use Rattle.tams_words.specs.declared.words.Invocation.TheVariants.{Format, Check, Migrate, Work, Deliver, Replay, Serve, Workload}
+use Rattle.tams_words.specs.declared.words.Invocation.TheVariants.{Format, Check, Migrate, Work, Deliver, Replay, Serve, Manifest, Workload}
 use Rattle.store_commands.proofs.WorkEndLemmas.{work_only, work_refused, work_unlinked, work_words}
 use Rattle.store_commands.specs.WorkEnds.{WorkEnds}
 use Rattle.store_commands.specs.WorkloadEnds.{WorkloadEnds}
@@ -58,6 +60,7 @@ module _ (run : RunSeen) (o : RunOutcome) where
   command_words (Deliver path) ends s = deliver_words run.old run.new o ends.causes s
   command_words (Replay path base) ends s = opened_words run.old run.new o ends.causes.file s
   command_words (Serve path port base connections) ends s = opened_words run.old run.new o ends.causes.file s
+  command_words (Manifest path base flow range) ends s = manifest_words run.old run.new o ends.0.causes s
   command_words (Workload number count) ends s = unless_workload 1 (λ e. omega (arith, e)) (λ e. omega (arith, e)) ends.0.completeness s
 
   command_refused : RefusedStandForNone → (command : Invocation) → CommandEnds command run o → exit_of o ≡ 2
@@ -70,6 +73,7 @@ module _ (run : RunSeen) (o : RunOutcome) where
   command_refused damaged (Deliver path) ends s = deliver_refused run.old run.new damaged o ends.causes s
   command_refused damaged (Replay path base) ends s = opened_refused run.old run.new damaged o ends.causes.file s
   command_refused damaged (Serve path port base connections) ends s = opened_refused run.old run.new damaged o ends.causes.file s
+  command_refused damaged (Manifest path base flow range) ends s = manifest_refused run.old run.new damaged o ends.0.causes s
   command_refused damaged (Workload number count) ends s =
       absurd (unless_workload 2 (λ e. omega (arith, e)) (λ e. omega (arith, e)) ends.0.completeness s)
 
@@ -81,6 +85,7 @@ module _ (run : RunSeen) (o : RunOutcome) where
   command_unread (Deliver path) ends s = ends.unread s
   command_unread (Replay path base) ends s = ends.causes.unread s
   command_unread (Serve path port base connections) ends s = ends.causes.unread s
+  command_unread (Manifest path base flow range) ends s = ends.1
   command_unread (Workload number count) ends s = ends.2
 
   command_only : RefusedStandForNone → (command : Invocation) → CommandEnds command run o → run.old.shows ≡ true → RefusedFor run.old.seen command
@@ -93,6 +98,7 @@ module _ (run : RunSeen) (o : RunOutcome) where
   command_only damaged (Deliver path) ends shows cause = deliver_only run.old run.new o ends.causes shows cause
   command_only damaged (Replay path base) ends shows cause = opened_only run.old run.new o ends.causes.file shows cause
   command_only damaged (Serve path port base connections) ends shows cause = opened_only run.old run.new o ends.causes.file shows cause
+  command_only damaged (Manifest path base flow range) ends shows cause = manifest_only run.old run.new o ends.0.causes shows cause
   command_only damaged (Workload number count) ends shows cause = absurd cause
 
   command_linked : (command : Invocation) → CommandEnds command run o → exit_of o ≡ 5 → Rose run.old.link.faults run.new.link.faults
@@ -104,6 +110,7 @@ module _ (run : RunSeen) (o : RunOutcome) where
   command_linked (Deliver path) ends s = absurd (deliver_unlinked run.old run.new o ends.causes s)
   command_linked (Replay path base) ends s = replay_linked o run.old.link.faults run.new.link.faults ends.causes.link (link_fault_by o s)
   command_linked (Serve path port base connections) ends s = ends.causes.link (link_fault_by o s)
+  command_linked (Manifest path base flow range) ends s = manifest_linked run.old run.new o ends.0.link s
   command_linked (Workload number count) ends s =
       absurd (unless_workload 5 (λ e. omega (arith, e)) (λ e. omega (arith, e)) ends.0.completeness s)
 
@@ -115,6 +122,7 @@ module _ (run : RunSeen) (o : RunOutcome) where
   command_closed (Deliver path) ends idle = ends.closed idle
   command_closed (Replay path base) ends idle = ends.closed idle
   command_closed (Serve path port base connections) ends idle = ends.closed idle
+  command_closed (Manifest path base flow range) ends idle = ends.0.closed idle
   command_closed (Workload number count) ends idle = stays_idle run.old run.new ends.1.link idle
 
   command_dials : (command : Invocation) → ((path : List ℕ) → command ≢ Deliver path) → CommandEnds command run o
@@ -126,6 +134,7 @@ module _ (run : RunSeen) (o : RunOutcome) where
   command_dials (Deliver path) other ends = absurd (other path refl)
   command_dials (Replay path base) other ends = ends.dials
   command_dials (Serve path port base connections) other ends = ends.dials
+  command_dials (Manifest path base flow range) other ends = ends.0.dials
   command_dials (Workload number count) other ends = none_dialled run.old run.new ends.1.link
 
 module _ (words : List (List ℕ)) (run : RunSeen) (status : ℕ) (ends : EndsByWords words run status) where
@@ -136,7 +145,7 @@ module _ (words : List (List ℕ)) (run : RunSeen) (status : ℕ) (ends : EndsBy
   by n s = sym ends.exit ∙ s
 
   pub status_is_known : StatusIsKnown words run status
-  status_is_known = subst (λ (n : ℕ). n ≤ 6) (sym ends.exit) (exit_at_most o)
+  status_is_known = subst (λ (n : ℕ). n ≤ 7) (sym ends.exit) (exit_at_most o)
 
   -- words that are no command
   bad_words : status ≡ 1 → IsNoCommand words × Untouched run.old run.new
@@ -221,6 +230,10 @@ module _ (words : List (List ℕ)) (run : RunSeen) (status : ℕ) (ends : EndsBy
       → WorkloadEnds number count o × Untouched run.old run.new × (run.given ≡ run.begun)
   workload_end number count is = ends.command (Workload number count) is
 
+  manifest_end : (path base : List ℕ) (flow : ℕ) (range : Option Span) → IsCommand words (Manifest path base flow range)
+      → ManifestEnds (record { base = base; flow = flow; range = range }) run.old run.new o × (run.given ≡ run.begun)
+  manifest_end path base flow range is = ends.command (Manifest path base flow range) is
+
   format_end : (path : List ℕ) (blocks half id : ℕ) → IsCommand words (Format path blocks half id)
       → FormatEnds (record { blocks = blocks; half = half; id = id }) run.old run.new o × (run.given ≡ run.begun)
   format_end path blocks half id is = ends.command (Format path blocks half id) is
@@ -270,6 +283,8 @@ module _ (words : List (List ℕ)) (run : RunSeen) (status : ℕ) (ends : EndsBy
             (subst (OnePeer base (beginning from run.old run.begun) run.new run.given) is (served from replay.begins)))))
       ]
   command_starved (Serve path port base connections) it end s = inl (end.causes.memory (no_memory_by o s))
+  command_starved (Manifest path base flow range) it end s =
+      inl (record { link = (manifest_untouched run.old run.new o end.0.causes s).link; given_is = end.1 })
   command_starved (Workload number count) it end s = inl (record { link = end.1.link; given_is = end.2 })
 
   starved : status ≡ 4 → StarvedSo
@@ -318,6 +333,7 @@ module _ (words : List (List ℕ)) (run : RunSeen) (status : ℕ) (ends : EndsBy
     nobody_formats = λ path blocks half id is. let end = format_end path blocks half id is in record { link = end.0.link; given_is = end.1 };
     nobody_migrates = λ path is. let end = migrate_end path is in record { link = end.0.link; given_is = end.1 };
     nobody_works = λ path is. (work_end path is).link;
+    unwritten = λ path base flow range is. let end = manifest_end path base flow range is in (end.0.unwritten, end.1);
     nobody_delivers = λ path is. (deliver_end path is).peers;
     closed = closed;
     dials = dials;
@@ -361,5 +377,25 @@ module _ (words : List (List ℕ)) (run : RunSeen) (status : ℕ) (ends : EndsBy
     complete_deliver = λ path is none. rw ends.exit ((deliver_end path is).completeness none.disk);
     complete_check = λ path is none. rw ends.exit ((check_end path is).0.completeness none);
     complete_migrate = λ path is none. rw ends.exit ((migrate_end path is).0.completeness none);
+    complete_manifest = λ path base flow range is none. rw ends.exit ((manifest_end path base flow range is).0.completeness none);
     complete_workload = λ number count is. rw ends.exit (workload_end number count is).0.completeness;
+  }
+
+  -- playlists
+  named : status ≡ 7 → (path base : List ℕ) × (flow : ℕ) × (range : Option Span) × IsCommand words (Manifest path base flow range)
+  named s =
+      let is = did 7 (λ e. omega (arith, e)) (λ e. omega (arith, e)) s in
+      named_only words run o is.0 is.1 (ends.command is.0 is.1) (by 7 s)
+
+  pub playlists_are_told : RefusedStandForNone → PlaylistsAreTold words run status
+  playlists_are_told damaged = record {
+    named = named;
+    told = λ path base flow range is shows from stands.
+        is_told run status (record { base = base; flow = flow; range = range }) from.archive.library o ends.exit ends.line
+        (λ s. (manifest_refused run.old run.new damaged o (manifest_end path base flow range is).0.causes s).1 shows from stands)
+        (manifest_end path base flow range is).0.causes ((manifest_end path base flow range is).0.told shows from stands);
+    link_only = λ path base flow range is rose.
+        rw ends.exit (link_rose o run.old.link.faults run.new.link.faults (manifest_end path base flow range is).0.link rose);
+    cut = λ path base flow range is s. manifest_uncut run.old run.new o (manifest_end path base flow range is).0.causes (by 6 s);
+    starved = λ path base flow range is s. manifest_untouched run.old run.new o (manifest_end path base flow range is).0.causes (by 4 s);
   }

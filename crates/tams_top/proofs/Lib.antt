@@ -1,2 +1,3 @@
 mod EndingLemmas
 pub mod LawLemmas
+mod PlaylistLemmas

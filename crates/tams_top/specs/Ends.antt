@@ -6,6 +6,7 @@ use Rattle.disk_trait.specs.Calls.{IsCounted}
 use Rattle.store_commands.specs.CheckEnds.{CheckEnds}
 use Rattle.store_commands.specs.DeliverEnds.{DeliverEnds}
 use Rattle.store_commands.specs.FormatEnds.{FormatEnds}
+use Rattle.store_commands.specs.ManifestEnds.{ManifestEnds}
 use Rattle.store_commands.specs.MigrateEnds.{MigrateEnds}
 use Rattle.store_commands.specs.ServeEnds.{ReplayEnds, ServeEnds}
 use Rattle.tams_outcomes.specs.Lines.{TakesPart, line_of}
@@ -15,7 +16,7 @@ use Rattle.tams_outcomes.specs.declared.outcome.RunOutcome.{RunOutcome}
 use Rattle.tams_outcomes.specs.declared.outcome.RunOutcome.TheVariants.{BadWords, NoMemory}
 use Rattle.tams_words.specs.Words.{IsCommand, IsNoCommand}
 use Rattle.tams_words.specs.declared.words.Invocation.{Invocation}
-use Rattle.tams_words.specs.declared.words.Invocation.TheVariants.{Format, Check, Migrate, Work, Deliver, Replay, Serve, Workload}
+use Rattle.tams_words.specs.declared.words.Invocation.TheVariants.{Format, Check, Migrate, Work, Deliver, Replay, Serve, Manifest, Workload}
 use Rattle.store_commands.specs.WorkEnds.{WorkEnds}
 use Rattle.store_commands.specs.WorkloadEnds.{WorkloadEnds}
 
@@ -42,8 +43,8 @@ abbrev pub PutsLine : NotesSeen → List ℕ → Type 0
 PutsLine notes line = (put : Bool)
     × TakesPart put notes.tells line notes.faults notes.faults_after notes.taken notes.taken_after
 
--- The ends of each command. `format`, `check`, `migrate` and `workload` are handed no clock, and
--- `workload` no site.
+-- The ends of each command. `format`, `check`, `migrate`, `manifest` and `workload` are handed no
+-- clock, and `workload` no site.
 abbrev pub CommandEnds : Invocation → RunSeen → RunOutcome → Type 0
 CommandEnds (Format path blocks half id) run o =
     FormatEnds record { blocks = blocks; half = half; id = id } run.old run.new o
@@ -57,6 +58,9 @@ CommandEnds (Replay path base) run o =
     ReplayEnds base run.old run.new run.clock run.begun run.given o
 CommandEnds (Serve path port base connections) run o =
     ServeEnds base run.old run.new run.clock run.begun run.given connections o
+CommandEnds (Manifest path base flow range) run o =
+    ManifestEnds record { base = base; flow = flow; range = range } run.old run.new o
+    × (run.given ≡ run.begun)
 CommandEnds (Workload number count) run o =
     WorkloadEnds number count o × Untouched run.old run.new × (run.given ≡ run.begun)
 

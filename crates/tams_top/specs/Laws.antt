@@ -1,9 +1,8 @@
 -- Laws of the ends of a run: what its status, its line and its words say.
-use Rattle.std.specs.Prelude.{◌≡◌, ◌≢◌, ◌≤◌, ◌<◌, ◌⊎◌, ℕ, Bool, true, false, List}
+use Rattle.std.specs.Prelude.{◌≡◌, ◌≢◌, ◌≤◌, ◌<◌, ◌⊎◌, ℕ, Bool, true, false, List, Option, None, IsSome}
 use Rattle.disk_trait.specs.Calls.{Rose}
 use Rattle.disk_trait.specs.Device.{Device, Left}
 use Rattle.disk_trait.specs.Forms.{form_in_use}
-use Rattle.media_journal.specs.declared.header.Header.{Header}
 use Rattle.media_journal.specs.File.{HasOpenHeader}
 use Rattle.media_rows.specs.Media.{Archive}
 use Rattle.store_commands.specs.CheckEnds.{counts_in}
@@ -24,9 +23,17 @@ use Rattle.tams_top.specs.Ends.{EndsByWords, NotesSeen, PutsLine, RunSeen}
 use Rattle.tams_top.specs.Refusals.{RefusedFor}
 use Rattle.tams_words.specs.Words.{IsCommand, IsNoCommand}
 use Rattle.tams_words.specs.declared.words.Invocation.{Invocation}
-use Rattle.tams_words.specs.declared.words.Invocation.TheVariants.{Format, Check, Migrate, Work, Deliver, Replay, Serve, Workload}
+use Rattle.tams_words.specs.declared.words.Invocation.TheVariants.{Format, Check, Migrate, Work, Deliver, Replay, Serve, Manifest, Workload}
 use Rattle.store_commands.specs.Delivering.{DeliveredOff}
+use Rattle.store_commands.specs.ManifestEnds.{WritesNothing}
 use Rattle.store_commands.specs.Working.{WorkedOff}
+use Rattle.hls_manifest.specs.Manifests.{counted}
+use Rattle.media_rows.specs.Catalog.{flow_of}
+use Rattle.media_rows.specs.Library.{Library}
+use Rattle.store_manifest.specs.Telling.{HasToldPart, HasToldWhole, PlaylistAsked, named_in, playlist_in}
+use Rattle.tams_outcomes.specs.Lines.{no_playlist_line, playlist_line}
+use Rattle.tams_outcomes.specs.declared.outcome.PlaylistRefusal.TheVariants.{NoFlow, NoPeer}
+use Rattle.time_range.specs.declared.ranges.Span.{Span}
 use Rattle.store_commands.specs.Generating.{IsWorkloadRun}
 
 -- What is said of each run from one device to another, by its words, by what it met and left, and
@@ -77,9 +84,9 @@ pub record IsServeFrom (base : List ℕ) (from : StoreState) (connections : ℕ)
 
 -- ---- statuses
 
--- the statuses are 0 to 6
+-- the statuses are 0 to 7
 abbrev pub StatusIsKnown : List (List ℕ) → RunSeen → ℕ → Type 0
-StatusIsKnown words run status = status ≤ 6
+StatusIsKnown words run status = status ≤ 7
 
 -- Status 1 is that of words that are no command. Nothing was touched, and only want of memory comes
 -- before it.
@@ -103,8 +110,8 @@ pub record DiskFaultsAreTold (words : List (List ℕ)) (run : RunSeen) (status :
   pub disk : status ≡ 3 → Rose run.old.faults run.new.faults
   pub disk_only : run.old.faults < run.new.faults → status ≡ 3
 
--- So does status 5 by the count of link faults in `replay`, and in `serve` by that of peer faults,
--- where waiting for a peer failed. Status 5 is never that of `deliver`, and status 6 never that of
+-- So does status 5 by the count of link faults in `replay` and `manifest`, and in `serve` by that of
+-- peer faults, where waiting for a peer failed. Status 5 is never that of `deliver`, and status 6 never that of
 -- `serve`.
 pub record LinkFaultsAreTold (words : List (List ℕ)) (run : RunSeen) (status : ℕ) : Type 0 where
   pub link : status ≡ 5 → Rose run.old.link.faults run.new.link.faults
@@ -141,7 +148,7 @@ pub record StarvingIsTold (words : List (List ℕ)) (run : RunSeen) (status : �
 -- ---- what is touched
 
 -- `workload` touches nothing of the outside, and `check` nothing but by reading; `format`,
--- `migrate`, `work` and `deliver` wait for no peer. No connection is left open, and nobody is
+-- `migrate`, `work` and `deliver` wait for no peer, and `manifest` writes nothing. No connection is left open, and nobody is
 -- dialled but by `deliver`.
 pub record LittleIsTouched (words : List (List ℕ)) (run : RunSeen) (status : ℕ) : Type 0 where
   pub untouched_workload : (number count : ℕ) → IsCommand words (Workload number count)
@@ -154,6 +161,9 @@ pub record LittleIsTouched (words : List (List ℕ)) (run : RunSeen) (status : �
   pub nobody_migrates : (path : List ℕ) → IsCommand words (Migrate path)
       → ServesNobody run.old run.new run.begun run.given
   pub nobody_works : (path : List ℕ) → IsCommand words (Work path) → run.new.link ≡ run.old.link
+  pub unwritten : (path base : List ℕ) (flow : ℕ) (range : Option Span)
+      → IsCommand words (Manifest path base flow range)
+      → WritesNothing run.old run.new × (run.given ≡ run.begun)
   pub nobody_delivers : (path : List ℕ) → IsCommand words (Deliver path)
       → run.new.link.peer_faults ≡ run.old.link.peer_faults
   pub closed : run.old.link.under_way ≡ false → run.new.link.under_way ≡ false
@@ -216,8 +226,9 @@ pub record HistoriesAreTold (words : List (List ℕ)) (run : RunSeen) (status : 
 
 -- Where nothing failed over such a file, each request that was heard whole was answered by the
 -- machine, each answer was said whole, and the status is 0, or in `replay` 6 by the input alone.
--- `format`, `check`, `migrate`, `work` and `deliver` end with 0 then, or as the file refuses them,
--- and `workload` with 0; each of them may want memory.
+-- `format`, `check`, `migrate`, `work`, `deliver` and `manifest` end with 0 then, or as the file
+-- refuses them, `manifest` also with a refusal by name, and `workload` with 0; each of them may want
+-- memory.
 pub record WholeIsTold (words : List (List ℕ)) (run : RunSeen) (status : ℕ) : Type 0 where
   pub complete : (base : List ℕ) (from : StoreState)
       → IsReplayFrom base from words run.old run.clock run.begun
@@ -238,5 +249,51 @@ pub record WholeIsTold (words : List (List ℕ)) (run : RunSeen) (status : ℕ) 
       → NoneRose run.old run.new → (status ≡ 0) ⊎ ((status ≡ 2) ⊎ (status ≡ 4))
   pub complete_migrate : (path : List ℕ) → IsCommand words (Migrate path)
       → NoneRose run.old run.new → (status ≡ 0) ⊎ ((status ≡ 2) ⊎ (status ≡ 4))
+  pub complete_manifest : (path base : List ℕ) (flow : ℕ) (range : Option Span)
+      → IsCommand words (Manifest path base flow range) → NoneRose run.old run.new
+      → ((status ≡ 0) ⊎ ((status ≡ 2) ⊎ (status ≡ 4))) ⊎ (status ≡ 7)
   pub complete_workload : (number count : ℕ) → IsCommand words (Workload number count)
       → (status ≡ 0) ⊎ (status ≡ 4)
+
+-- ---- playlists
+
+-- What came of a `manifest` over a file that stands for a state. At status 0 a peer was told the
+-- playlist of the whole objects of the flow within the range, and the line has their number; at
+-- status 5 it was told a prefix of it at most. At status 7 either the flow isn't kept, and nothing
+-- was touched, or it is kept and nobody came, and the line says which.
+pub record IsPlaylistTold (run : RunSeen) (status : ℕ) (library : Library) (asked : PlaylistAsked)
+    : Type 0 where
+  pub said : status ≡ 0
+      → (run.old.tells ≡ true → HasToldWhole (playlist_in library asked)
+      run.old.link.connections run.new.link.connections)
+      × PutsLine run.notes (playlist_line (counted (named_in library asked)))
+  pub part : status ≡ 5 → run.old.tells ≡ true → HasToldPart (playlist_in library asked)
+      run.old.link.connections run.new.link.connections
+  pub refused : status ≡ 7
+      → ((flow_of asked.flow library.catalog.flows ≡ None) × Untouched run.old run.new
+      × PutsLine run.notes (no_playlist_line NoFlow))
+      ⊎ (IsSome (flow_of asked.flow library.catalog.flows)
+      × (run.old.tells ≡ true → Rose run.old.link.closed run.new.link.closed)
+      × PutsLine run.notes (no_playlist_line NoPeer))
+  pub unknown : flow_of asked.flow library.catalog.flows ≡ None
+      → (status ≡ 3) ⊎ ((status ≡ 4) ⊎ (status ≡ 7))
+
+-- Status 7 is that of `manifest` alone. `manifest` ends with 3, 4 or 5 where the count of link
+-- faults rose, never with 6, and without memory it touches nothing.
+pub record PlaylistsAreTold (words : List (List ℕ)) (run : RunSeen) (status : ℕ) : Type 0 where
+  pub named : status ≡ 7 → (path base : List ℕ) × (flow : ℕ) × (range : Option Span)
+      × IsCommand words (Manifest path base flow range)
+  pub told : (path base : List ℕ) (flow : ℕ) (range : Option Span)
+      → IsCommand words (Manifest path base flow range) → run.old.shows ≡ true
+      → (from : StoreState) → StandsFor run.old.seen from
+      → IsPlaylistTold run status from.archive.library
+      record { base = base; flow = flow; range = range }
+  pub link_only : (path base : List ℕ) (flow : ℕ) (range : Option Span)
+      → IsCommand words (Manifest path base flow range)
+      → run.old.link.faults < run.new.link.faults
+      → (status ≡ 3) ⊎ ((status ≡ 4) ⊎ (status ≡ 5))
+  pub cut : (path base : List ℕ) (flow : ℕ) (range : Option Span)
+      → IsCommand words (Manifest path base flow range) → status ≢ 6
+  pub starved : (path base : List ℕ) (flow : ℕ) (range : Option Span)
+      → IsCommand words (Manifest path base flow range) → status ≡ 4
+      → Untouched run.old run.new

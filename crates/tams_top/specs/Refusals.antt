@@ -1,6 +1,5 @@
 -- Why a file refuses a command.
 use Rattle.std.specs.Prelude.{◌⊎◌, ℕ, List, length}
-use Rattle.media_journal.specs.declared.header.Header.{Header}
 use Rattle.media_journal.specs.File.{HasOpenHeader}
 use Rattle.media_journal.specs.Formatting.{FitsStore}
 use Rattle.store_commands.specs.CheckEnds.{RefusesCheck}
@@ -8,7 +7,7 @@ use Rattle.store_commands.specs.Formatting.{empty_rows}
 use Rattle.store_commands.specs.MigrateEnds.{RefusesMigrate}
 use Rattle.store_commands.specs.Opening.{StandsForNone}
 use Rattle.tams_words.specs.declared.words.Invocation.{Invocation}
-use Rattle.tams_words.specs.declared.words.Invocation.TheVariants.{Format, Check, Migrate, Work, Deliver, Replay, Serve, Workload}
+use Rattle.tams_words.specs.declared.words.Invocation.TheVariants.{Format, Check, Migrate, Work, Deliver, Replay, Serve, Manifest, Workload}
 
 -- There is a store already, or the numbers make none of the file's length; and the file stands for
 -- no state, or for `check` for one with an object that isn't whole. A `migrate` is refused where it
@@ -22,4 +21,5 @@ RefusedFor image (Work path) = StandsForNone image
 RefusedFor image (Deliver path) = StandsForNone image
 RefusedFor image (Replay path base) = StandsForNone image
 RefusedFor image (Serve path port base connections) = StandsForNone image
+RefusedFor image (Manifest path base flow range) = StandsForNone image
 RefusedFor image (Workload number count) = ⊥

@@ -5,6 +5,7 @@ use Rattle.disk_trait.specs.Calls.{IsCounted}
 use Rattle.store_commands.specs.CheckEnds.{CheckEnds}
 use Rattle.store_commands.specs.DeliverEnds.{DeliverEnds}
 use Rattle.store_commands.specs.FormatEnds.{FormatEnds}
+use Rattle.store_commands.specs.ManifestEnds.{ManifestEnds}
 use Rattle.store_commands.specs.MigrateEnds.{MigrateEnds}
 use Rattle.store_commands.specs.ServeEnds.{ReplayEnds, ServeEnds}
 use Rattle.tams_outcomes.specs.Statuses.{no_disk_fault}
@@ -13,7 +14,7 @@ use Rattle.tams_outcomes.specs.declared.outcome.RunOutcome.{RunOutcome}
 use Rattle.tams_outcomes.specs.declared.outcome.RunOutcome.TheVariants.{BadWords, NoMemory}
 use Rattle.tams_words.specs.Words.{IsCommand, IsNoCommand}
 use Rattle.tams_words.specs.declared.words.Invocation.{Invocation}
-use Rattle.tams_words.specs.declared.words.Invocation.TheVariants.{Format, Check, Migrate, Work, Deliver, Replay, Serve, Workload}
+use Rattle.tams_words.specs.declared.words.Invocation.TheVariants.{Format, Check, Migrate, Work, Deliver, Replay, Serve, Manifest, Workload}
 use Rattle.store_commands.specs.WorkEnds.{WorkEnds}
 use Rattle.store_commands.specs.WorkloadEnds.{WorkloadEnds}
 
@@ -29,6 +30,8 @@ EndsBy old new clock begun given o (Replay path base) =
     ReplayEnds base old new clock begun given o
 EndsBy old new clock begun given o (Serve path port base connections) =
     ServeEnds base old new clock begun given connections o
+EndsBy old new clock begun given o (Manifest path base flow range) =
+    ManifestEnds record { base = base; flow = flow; range = range } old new o × (given ≡ begun)
 EndsBy old new clock begun given o (Workload number count) =
     WorkloadEnds number count o × Untouched old new × (given ≡ begun)
 

@@ -1,11 +1,11 @@
 //! Laws of the ends of a run, from a site as it was before to one as it was left. Each function does nothing but
 //! call laws that it needs.
-ghost use Rattle.tams_top.specs.Laws.{OfRuns, StatusIsKnown, BadWordsAreTold, RefusalsAreTold, DiskFaultsAreTold, LinkFaultsAreTold, StarvingIsTold, LittleIsTouched, DoneIsTold, HistoriesAreTold, WholeIsTold};
+ghost use Rattle.tams_top.specs.Laws.{OfRuns, StatusIsKnown, BadWordsAreTold, RefusalsAreTold, DiskFaultsAreTold, LinkFaultsAreTold, StarvingIsTold, LittleIsTouched, DoneIsTold, PlaylistsAreTold, HistoriesAreTold, WholeIsTold};
 
 use site_edge::Site;
 use store_opening::damaged_images_stand_for_none;
 
-/// The statuses are 0 to 6.
+/// The statuses are 0 to 7.
 pub fn statuses_are_known<X: Site>(before: &X, after: &X)
     ensures { OfRuns (X.device before.now) (X.device after.now) StatusIsKnown }
 {}
@@ -43,6 +43,13 @@ pub fn little_is_touched<X: Site>(before: &X, after: &X)
 pub fn done_is_told<X: Site>(before: &X, after: &X)
     ensures { OfRuns (X.device before.now) (X.device after.now) DoneIsTold }
 {}
+
+/// What a run of `manifest` told its peer, and how it ended.
+pub fn playlists_are_told<X: Site>(before: &X, after: &X)
+    ensures { OfRuns (X.device before.now) (X.device after.now) PlaylistsAreTold }
+{
+    damaged_images_stand_for_none();
+}
 
 /// The one history of a run of `replay`, `serve`, `work` or `deliver`.
 pub fn histories_are_told<X: Site>(before: &X, after: &X)

@@ -5,7 +5,7 @@ ghost use Rattle.tams_top.specs.Within.{EndsWithCause};
 use disk_trait::{Memory, TextList};
 use site_edge::{Caller, Clock, Sink};
 use std::alloc::Global;
-use store_commands::{check, deliver, format, migrate, replay, serve, work, workload};
+use store_commands::{check, deliver, format, manifest, migrate, replay, serve, work, workload};
 use tams_outcomes::RunOutcome;
 use tams_words::{Invocation, read_words};
 
@@ -77,6 +77,16 @@ fn outcome_of<X: Caller, C: Clock>(
                 },
             ),
         ) => serve(alloc, site, clock, base, connections),
+        Ok(
+            Some(
+                Invocation::Manifest {
+                    path: _,
+                    base,
+                    flow,
+                    range,
+                },
+            ),
+        ) => manifest(alloc, site, &base, flow, &range),
         Ok(Some(Invocation::Workload { number, count })) => workload(alloc, number, count),
     }
 }

@@ -10,9 +10,9 @@ use Rattle.clap.specs.Simple.{argument_words, built, entered, help_shape, label_
 use Rattle.clap.specs.Takes.{default_passes, entered_passes, is_valid, step_passes, word_passes, level_passes, positional_passes, settle_passes, turn_passes, walk_passes}
 use Rattle.clap.proofs.OnLiterals.{clap_on_literals}
 use Rattle.tams_words.specs.Commands.{IsNamed, tams_app, command_word, word_value, words_of}
-use Rattle.tams_words.specs.Words.{FormIs, HasForm, IsPlainWord, IsFormat, IsCheck, IsMigrate, IsWork, IsDeliver, IsReplay, IsServe, IsWorkload}
+use Rattle.tams_words.specs.Words.{FormIs, HasForm, IsPlainWord, IsFormat, IsCheck, IsMigrate, IsWork, IsDeliver, IsReplay, IsServe, IsManifest, IsWorkload}
 use Rattle.tams_words.specs.declared.words.Invocation.{Invocation}
-use Rattle.tams_words.specs.declared.words.Invocation.TheVariants.{Format, Check, Migrate, Work, Deliver, Replay, Serve, Workload}
+use Rattle.tams_words.specs.declared.words.Invocation.TheVariants.{Format, Check, Migrate, Work, Deliver, Replay, Serve, Manifest, Workload}
 use Rattle.tams_words.specs.declared.commands.CommandName.{CommandName}
 use Rattle.tams_words.specs.declared.commands.CommandName.TheVariants as name
 
@@ -226,6 +226,11 @@ unfolding clap_on_literals plain_end has_places
 reads_serve a b c d plain = reads name.Serve (a ∷ b ∷ c ∷ d ∷ []) (leaf name.Serve)
     (record { simple = refl; stopped = refl; leaf = refl; above = refl }) plain refl refl refl
 
+reads_manifest : (a b c d : Text) → list_all begins_plain (a ∷ b ∷ c ∷ d ∷ []) ≡ true → Reads name.Manifest (a ∷ b ∷ c ∷ d ∷ [])
+unfolding clap_on_literals plain_end has_places
+reads_manifest a b c d plain = reads name.Manifest (a ∷ b ∷ c ∷ d ∷ []) (leaf name.Manifest)
+    (record { simple = refl; stopped = refl; leaf = refl; above = refl }) plain refl refl refl
+
 reads_workload : (a b : Text) → list_all begins_plain (a ∷ b ∷ []) ≡ true → Reads name.Workload (a ∷ b ∷ [])
 unfolding clap_on_literals plain_end has_places
 reads_workload a b plain = reads name.Workload (a ∷ b ∷ []) (leaf name.Workload)
@@ -255,6 +260,7 @@ reads_rest name.Work = one_word (λ rest. list_all begins_plain rest ≡ true �
 reads_rest name.Deliver = one_word (λ rest. list_all begins_plain rest ≡ true → Reads name.Deliver rest) reads_deliver
 reads_rest name.Replay = two_words (λ rest. list_all begins_plain rest ≡ true → Reads name.Replay rest) reads_replay
 reads_rest name.Serve = four_words (λ rest. list_all begins_plain rest ≡ true → Reads name.Serve rest) reads_serve
+reads_rest name.Manifest = four_words (λ rest. list_all begins_plain rest ≡ true → Reads name.Manifest rest) reads_manifest
 reads_rest name.Workload = two_words (λ rest. list_all begins_plain rest ≡ true → Reads name.Workload rest) reads_workload
 
 -- ---- plain words
@@ -307,7 +313,7 @@ has_values words n has none =
 abbrev count_behind : Text → ℕ
 count_behind t =
     if bytes_eq t (codes "check") || (bytes_eq t (codes "migrate") || (bytes_eq t (codes "work") || bytes_eq t (codes "deliver"))) then 1
-    else (if bytes_eq t (codes "format") || bytes_eq t (codes "serve") then 4 else 2)
+    else (if bytes_eq t (codes "format") || (bytes_eq t (codes "serve") || bytes_eq t (codes "manifest")) then 4 else 2)
 
 count_of_name : (n : CommandName) → count_behind (command_word n) ≡ length (words_of n)
 count_of_name name.Format = refl
@@ -317,6 +323,7 @@ count_of_name name.Work = refl
 count_of_name name.Deliver = refl
 count_of_name name.Replay = refl
 count_of_name name.Serve = refl
+count_of_name name.Manifest = refl
 count_of_name name.Workload = refl
 
 -- the words are those of a command
@@ -347,6 +354,9 @@ of_command words (Replay p b) x =
 of_command words (Serve p m b k) x =
     let f : IsServe words p m b k = x in
     record { name = name.Serve; named = record { rest = _; words_are = f.words_are }; many = ap (λ (ws : List Text). length ws) f.words_are }
+of_command words (Manifest p b i r) x =
+    let f : IsManifest words p b i r = x in
+    record { name = name.Manifest; named = record { rest = _; words_are = f.words_are }; many = ap (λ (ws : List Text). length ws) f.words_are }
 of_command words (Workload m n) x =
     let f : IsWorkload words m n = x in
     record { name = name.Workload; named = record { rest = _; words_are = f.words_are }; many = ap (λ (ws : List Text). length ws) f.words_are }

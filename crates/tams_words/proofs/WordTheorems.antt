@@ -1,12 +1,14 @@
 -- Words spell at most one command.
-use Rattle.std.proofs.Common.{◌≡◌, ◌<◌, ◌^◌, ◌∙◌, ◌∷◌, [], ℕ, List, get_or, length, Some, codes, subst, sym, ap, arith}
+use Rattle.std.proofs.Common.{◌≡◌, ◌<◌, ◌^◌, ◌∙◌, ◌∷◌, [], ℕ, List, Option, get_or, length, Some, codes, subst, sym, ap, arith}
 use Rattle.std.proofs.lemmas.Fmt.{decimal_injective}
-use Rattle.tams_words.specs.Words.{HasForm, IsNumber, IsNumberOrZero, IsFormat, IsCheck, IsMigrate, IsWork, IsDeliver, IsReplay, IsServe, IsWorkload, IsCommand}
+use Rattle.tams_words.specs.Words.{HasForm, IsNumber, IsNumberOrZero, IsFormat, IsCheck, IsMigrate, IsWork, IsDeliver, IsReplay, IsServe, IsManifest, IsWorkload, IsCommand}
 use Rattle.tams_words.specs.Words.IsNumberOrZero.{Zero, Other}
 use Rattle.media_rows.specs.Ids.{id_of}
+use Rattle.time_range.specs.Spelled.{range_in}
+use Rattle.time_range.specs.declared.ranges.Span.{Span}
 use Rattle.tams_words.proofs.WordLemmas.{begins_as_number}
 use Rattle.tams_words.specs.declared.words.Invocation.{Invocation}
-use Rattle.tams_words.specs.declared.words.Invocation.TheVariants.{Format, Check, Migrate, Work, Deliver, Replay, Serve, Workload}
+use Rattle.tams_words.specs.declared.words.Invocation.TheVariants.{Format, Check, Migrate, Work, Deliver, Replay, Serve, Manifest, Workload}
 
 -- a word is one number at most
 one_number : (most : ℕ) (v w : List ℕ) (m n : ℕ) → most < 2 ^ 64 → v ≡ w → IsNumber most v m → IsNumber most w n → m ≡ n
@@ -31,6 +33,10 @@ one_number_or_zero most v w m n small e (Other a) (Other b) = one_number most v 
 one_id : (v w : List ℕ) (a b : ℕ) → v ≡ w → id_of v ≡ Some a → id_of w ≡ Some b → a ≡ b
 one_id v w a b e p q = cc
 
+-- and one range at most
+one_range : (v w : List ℕ) (a b : Option Span) → v ≡ w → range_in v ≡ Some a → range_in w ≡ Some b → a ≡ b
+one_range v w a b e p q = cc
+
 -- the name of a command
 abbrev name_of : Invocation → List ℕ
 name_of (Format path blocks half id) = codes "format"
@@ -40,6 +46,7 @@ name_of (Work path) = codes "work"
 name_of (Deliver path) = codes "deliver"
 name_of (Replay path base) = codes "replay"
 name_of (Serve path port base connections) = codes "serve"
+name_of (Manifest path base flow range) = codes "manifest"
 name_of (Workload number count) = codes "workload"
 
 -- its first word is its name
@@ -51,6 +58,7 @@ first_word words (Work p) x = let f : IsWork words p = x.form in ap (λ (ws : Li
 first_word words (Deliver p) x = let f : IsDeliver words p = x.form in ap (λ (ws : List (List ℕ)). get_or ws 0 []) f.words_are
 first_word words (Replay p b) x = let f : IsReplay words p b = x.form in ap (λ (ws : List (List ℕ)). get_or ws 0 []) f.words_are
 first_word words (Serve p m b k) x = let f : IsServe words p m b k = x.form in ap (λ (ws : List (List ℕ)). get_or ws 0 []) f.words_are
+first_word words (Manifest p b i r) x = let f : IsManifest words p b i r = x.form in ap (λ (ws : List (List ℕ)). get_or ws 0 []) f.words_are
 first_word words (Workload m n) x = let f : IsWorkload words m n = x.form in ap (λ (ws : List (List ℕ)). get_or ws 0 []) f.words_are
 
 pub one_command : (words : List (List ℕ)) (a b : Invocation) → IsCommand words a → IsCommand words b → a ≡ b
@@ -97,6 +105,15 @@ one_command words (Replay p b) (Replay q d) x y =
     let g : IsReplay words q d = y.form in
     let same = sym f.words_are ∙ g.words_are in
     cc
+one_command words (Manifest p b i r) (Manifest q d j s) x y =
+    let f : IsManifest words p b i r = x.form in
+    let g : IsManifest words q d j s = y.form in
+    let same = sym f.words_are ∙ g.words_are in
+    let paths : p ≡ q = cc in
+    let bases : b ≡ d = cc in
+    let flows : i ≡ j = one_id f.flow_word g.flow_word i j (cc) f.flow_is g.flow_is in
+    let ranges : r ≡ s = one_range f.range_word g.range_word r s (cc) f.range_is g.range_is in
+    cc
 one_command words (Workload m h) (Workload n k) x y =
     let f : IsWorkload words m h = x.form in
     let g : IsWorkload words n k = y.form in
@@ -122,5 +139,6 @@ not_workload number count none (Migrate p) x = let f : IsMigrate (codes "workloa
 not_workload number count none (Work p) x = let f : IsWork (codes "workload" ∷ number ∷ count ∷ []) p = x in let e = f.words_are in cc
 not_workload number count none (Deliver p) x = let f : IsDeliver (codes "workload" ∷ number ∷ count ∷ []) p = x in let e = f.words_are in cc
 not_workload number count none (Replay p b) x = let f : IsReplay (codes "workload" ∷ number ∷ count ∷ []) p b = x in let e = f.words_are in cc
+not_workload number count none (Manifest p b i r) x = let f : IsManifest (codes "workload" ∷ number ∷ count ∷ []) p b i r = x in let e = f.words_are in cc
 not_workload number count none (Serve p m b k) x =
     let f : IsServe (codes "workload" ∷ number ∷ count ∷ []) p m b k = x in let e = f.words_are in cc

@@ -1,12 +1,16 @@
 -- What the worked words spell.
-use Rattle.std.proofs.Common.{◌≡◌, ◌≢◌, ◌≤◌, ◌+◌, ℕ, true, List, [], ◌∷◌, length, slice_index, codes, All, refl, sym, inl, arith}
+use Rattle.std.proofs.Common.{◌≡◌, ◌≢◌, ◌≤◌, ◌+◌, ℕ, true, List, [], ◌∷◌, length, slice_index, codes, Some, All, refl, sym, inl, arith}
 use Rattle.std.proofs.lemmas.Fmt.{decimal_digit}
 use Rattle.std.proofs.lemmas.List.Elements.{All-cons, All-nil}
 use Rattle.std.proofs.lemmas.Str.{IsUtf8-from_is_utf8}
 use Rattle.std.specs.Char.{encode_utf8}
 use Rattle.std.specs.Str.{chars, is_utf8}
+use Rattle.uuid.specs.Text.{by_index}
+use Rattle.media_rows.specs.Ids.{id_of}
+use Rattle.time_range.specs.Points.{eternity}
+use Rattle.time_range.specs.Spelled.{range_in}
 use Rattle.tams_words.specs.Words.{IsBase, IsBaseByte, IsNumber, IsPlainWord}
-use Rattle.tams_words.specs.Worked.{WordsAsWorked, check_line, deliver_line, migrate_line, replay_line, serve_line, work_line, worked_base, worked_path}
+use Rattle.tams_words.specs.Worked.{WordsAsWorked, check_line, deliver_line, manifest_line, migrate_line, replay_line, serve_line, work_line, worked_base, worked_path}
 
 plain : (word : List ℕ) → is_utf8 word ≡ true → 1 ≤ length word → slice_index word 0 ≢ 45 → IsPlainWord word
 plain word text some first = record { text = IsUtf8-from_is_utf8 word text; some = some; first = first }
@@ -26,6 +30,26 @@ work_plain = plain (codes "work") refl (omega arith) (λ e. omega (arith, e))
 deliver_plain : IsPlainWord (codes "deliver")
 unfolding is_utf8 chars encode_utf8
 deliver_plain = plain (codes "deliver") refl (omega arith) (λ e. omega (arith, e))
+
+manifest_plain : IsPlainWord (codes "manifest")
+unfolding is_utf8 chars encode_utf8
+manifest_plain = plain (codes "manifest") refl (omega arith) (λ e. omega (arith, e))
+
+flow_plain : IsPlainWord (codes "00000000-0000-0000-0000-000000000001")
+unfolding is_utf8 chars encode_utf8
+flow_plain = plain (codes "00000000-0000-0000-0000-000000000001") refl (omega arith) (λ e. omega (arith, e))
+
+flow_read : id_of (codes "00000000-0000-0000-0000-000000000001") ≡ Some 1
+unfolding id_of by_index
+flow_read = refl
+
+range_read : range_in (codes "_") ≡ Some eternity
+unfolding range_in
+range_read = refl
+
+range_plain : IsPlainWord (codes "_")
+unfolding is_utf8 chars encode_utf8
+range_plain = plain (codes "_") refl (omega arith) (λ e. omega (arith, e))
 
 replay_plain : IsPlainWord (codes "replay")
 unfolding is_utf8 chars encode_utf8
@@ -129,6 +153,14 @@ serve_words =
     (next (codes "8") (worked_base ∷ codes "2" ∷ []) port_plain
     (next worked_base (codes "2" ∷ []) base_plain (next (codes "2") [] connections_plain none))))
 
+manifest_words : All IsPlainWord manifest_line
+manifest_words =
+    let flow = codes "00000000-0000-0000-0000-000000000001" in
+    next (codes "manifest") (worked_path ∷ worked_base ∷ flow ∷ codes "_" ∷ []) manifest_plain
+    (next worked_path (worked_base ∷ flow ∷ codes "_" ∷ []) path_plain
+    (next worked_base (flow ∷ codes "_" ∷ []) base_plain
+    (next flow (codes "_" ∷ []) flow_plain (next (codes "_") [] range_plain none))))
+
 pub words_as_worked : WordsAsWorked
 words_as_worked = record {
   check = record { plain = check_words; form = record { words_are = refl } };
@@ -145,6 +177,17 @@ words_as_worked = record {
       port_is = digit 65535 8 (omega arith) (omega arith) (omega arith);
       base_is = base_is;
       connections_is = digit 1000000000 2 (omega arith) (omega arith) (omega arith);
+    };
+  };
+  manifest = record {
+    plain = manifest_words;
+    form = record {
+      flow_word = codes "00000000-0000-0000-0000-000000000001";
+      range_word = codes "_";
+      words_are = refl;
+      base_is = base_is;
+      flow_is = flow_read;
+      range_is = range_read;
     };
   };
 }

@@ -35,6 +35,9 @@ replay_words = codes "PATH" ∷ codes "BASE" ∷ []
 abbrev pub serve_words : List Text
 serve_words = codes "PATH" ∷ codes "PORT" ∷ codes "BASE" ∷ codes "CONNECTIONS" ∷ []
 
+abbrev pub manifest_words : List Text
+manifest_words = codes "PATH" ∷ codes "BASE" ∷ codes "FLOW" ∷ codes "RANGE" ∷ []
+
 abbrev pub workload_words : List Text
 workload_words = codes "NUMBER" ∷ codes "COUNT" ∷ []
 
@@ -55,6 +58,7 @@ tams_app = record {
       ∷ command_with (codes "deliver") deliver_words
       ∷ command_with (codes "replay") replay_words
       ∷ command_with (codes "serve") serve_words
+      ∷ command_with (codes "manifest") manifest_words
       ∷ command_with (codes "workload") workload_words ∷ [];
 }
 
@@ -67,6 +71,7 @@ command_word name.Work = codes "work"
 command_word name.Deliver = codes "deliver"
 command_word name.Replay = codes "replay"
 command_word name.Serve = codes "serve"
+command_word name.Manifest = codes "manifest"
 command_word name.Workload = codes "workload"
 
 -- the names of its other words
@@ -78,6 +83,7 @@ words_of name.Work = work_words
 words_of name.Deliver = deliver_words
 words_of name.Replay = replay_words
 words_of name.Serve = serve_words
+words_of name.Manifest = manifest_words
 words_of name.Workload = workload_words
 
 -- the words begin with the command's name

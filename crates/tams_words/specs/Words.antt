@@ -3,8 +3,10 @@ use Rattle.std.specs.Prelude.{◌≡◌, ◌≢◌, IsUtf8, ◌≤◌, ◌*◌, 
 use Rattle.std.specs.List.{starts_with}
 use Rattle.std.specs.Fmt.{decimal}
 use Rattle.media_rows.specs.Ids.{id_of}
+use Rattle.time_range.specs.Spelled.{range_in}
+use Rattle.time_range.specs.declared.ranges.Span.{Span}
 use Rattle.tams_words.specs.declared.words.Invocation.{Invocation}
-use Rattle.tams_words.specs.declared.words.Invocation.TheVariants.{Format, Check, Migrate, Work, Deliver, Replay, Serve, Workload}
+use Rattle.tams_words.specs.declared.words.Invocation.TheVariants.{Format, Check, Migrate, Work, Deliver, Replay, Serve, Manifest, Workload}
 use Rattle.tams_words.specs.declared.words.Wanted.{Wanted}
 use Rattle.tams_words.specs.declared.words.Wanted.TheVariants.{Nothing, Plain, Fresh, Listen, Dial}
 
@@ -88,6 +90,16 @@ pub record IsServe (words : List (List ℕ)) (path : List ℕ) (port : ℕ) (bas
   pub base_is : IsBase base
   pub connections_is : IsNumber 1000000000 connections_word connections
 
+-- manifest PATH BASE FLOW RANGE
+pub record IsManifest (words : List (List ℕ)) (path base : List ℕ) (flow : ℕ)
+    (range : Option Span) : Type 0 where
+  pub flow_word : List ℕ
+  pub range_word : List ℕ
+  pub words_are : words ≡ codes "manifest" ∷ path ∷ base ∷ flow_word ∷ range_word ∷ []
+  pub base_is : IsBase base
+  pub flow_is : id_of flow_word ≡ Some flow
+  pub range_is : range_in range_word ≡ Some range
+
 -- workload NUMBER COUNT
 pub record IsWorkload (words : List (List ℕ)) (number count : ℕ) : Type 0 where
   pub number_word : List ℕ
@@ -105,6 +117,7 @@ HasForm words (Work path) = IsWork words path
 HasForm words (Deliver path) = IsDeliver words path
 HasForm words (Replay path base) = IsReplay words path base
 HasForm words (Serve path port base connections) = IsServe words path port base connections
+HasForm words (Manifest path base flow range) = IsManifest words path base flow range
 HasForm words (Workload number count) = IsWorkload words number count
 
 -- the words are in the command set, and spell this command
@@ -118,15 +131,17 @@ FormIs words (Some command) = HasForm words command
 FormIs words None = (command : Invocation) → HasForm words command → ⊥
 
 -- What the program opens for these words: a file of a length in bytes for `format`, a file that is
--- there for `check`, `migrate`, `work` and `replay`, that and a port for `serve`, that and
--- connections that it begins itself for `deliver`, and nothing for `workload` and for words that
--- are no command
+-- there for `check`, `migrate`, `work`, `replay` and `manifest`, that and a port for `serve`, that
+-- and connections that it begins itself for `deliver`, and nothing for `workload` and for words
+-- that are no command
 abbrev pub WantedFor : List (List ℕ) → Wanted → Type 0
 WantedFor words Nothing = ((command : Invocation) → IsCommand words command → ⊥)
     ⊎ ((number count : ℕ) × IsCommand words (Workload number count))
 WantedFor words (Plain path) =
     IsCommand words (Check path) ⊎ (IsCommand words (Migrate path)
-    ⊎ (IsCommand words (Work path) ⊎ ((base : List ℕ) × IsCommand words (Replay path base))))
+    ⊎ (IsCommand words (Work path) ⊎ (((base : List ℕ) × IsCommand words (Replay path base))
+    ⊎ ((base : List ℕ) × (flow : ℕ) × (range : Option Span)
+    × IsCommand words (Manifest path base flow range)))))
 WantedFor words (Fresh path bytes) =
     (blocks half id : ℕ) × (bytes ≡ 4096 * blocks) × IsCommand words (Format path blocks half id)
 WantedFor words (Listen path port) =

@@ -1,7 +1,8 @@
 -- Worked words: a command line of each command that opens a store, and what it spells.
 use Rattle.std.specs.Prelude.{ℕ, List, [], ◌∷◌, codes}
+use Rattle.time_range.specs.Points.{eternity}
 use Rattle.tams_words.specs.Words.{IsCommand}
-use Rattle.tams_words.specs.declared.words.Invocation.TheVariants.{Check, Migrate, Work, Deliver, Replay, Serve}
+use Rattle.tams_words.specs.declared.words.Invocation.TheVariants.{Check, Migrate, Work, Deliver, Replay, Serve, Manifest}
 
 -- the path and the base in them
 abbrev pub worked_path : List ℕ
@@ -29,6 +30,12 @@ replay_line = codes "replay" ∷ worked_path ∷ worked_base ∷ []
 abbrev pub serve_line : List (List ℕ)
 serve_line = codes "serve" ∷ worked_path ∷ codes "8" ∷ worked_base ∷ codes "2" ∷ []
 
+-- of all segments of the flow 00000000-0000-0000-0000-000000000001
+abbrev pub manifest_line : List (List ℕ)
+manifest_line =
+    codes "manifest" ∷ worked_path ∷ worked_base
+    ∷ codes "00000000-0000-0000-0000-000000000001" ∷ codes "_" ∷ []
+
 -- each spells its command
 pub record WordsAsWorked : Type 0 where
   pub check : IsCommand check_line (Check worked_path)
@@ -37,3 +44,4 @@ pub record WordsAsWorked : Type 0 where
   pub deliver : IsCommand deliver_line (Deliver worked_path)
   pub replay : IsCommand replay_line (Replay worked_path worked_base)
   pub serve : IsCommand serve_line (Serve worked_path 8 worked_base 2)
+  pub manifest : IsCommand manifest_line (Manifest worked_path worked_base 1 eternity)

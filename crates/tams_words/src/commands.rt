@@ -20,6 +20,7 @@ pub(crate) enum CommandName {
     Deliver,
     Replay,
     Serve,
+    Manifest,
     Workload,
 }
 
@@ -37,6 +38,7 @@ impl CommandName {
             "deliver" => Some(CommandName::Deliver),
             "replay" => Some(CommandName::Replay),
             "serve" => Some(CommandName::Serve),
+            "manifest" => Some(CommandName::Manifest),
             "workload" => Some(CommandName::Workload),
             _ => None,
         }
@@ -50,7 +52,7 @@ impl CommandName {
             CommandName::Check | CommandName::Migrate | CommandName::Work | CommandName::Deliver =>
                 2,
             CommandName::Replay | CommandName::Workload => 3,
-            CommandName::Format | CommandName::Serve => 5,
+            CommandName::Format | CommandName::Serve | CommandName::Manifest => 5,
         }
     }
 }
@@ -132,6 +134,18 @@ pub fn command_line<'a>(alloc: Global) -> Result<Command<'a>, AllocError>
             ("PORT", "The port, 1 to 65,535"),
             BASE,
             ("CONNECTIONS", "How many connections, 1 to 1,000,000,000"),
+        ],
+    )?;
+    let program = with_command(
+        alloc,
+        program,
+        "manifest",
+        "Says the playlist of a flow's whole objects within a range, for players (HLS)",
+        &[
+            PATH,
+            BASE,
+            ("FLOW", "The flow's id, a UUID"),
+            ("RANGE", "The range, as [0:0_10:0) or _ for all"),
         ],
     )?;
     with_command(

@@ -12,7 +12,7 @@ pub fn bases_are_text()
     ensures { BasesAreText }
 {}
 
-/// What six command lines spell.
+/// What seven command lines spell.
 pub fn words_as_worked()
     ensures { WordsAsWorked }
 {}

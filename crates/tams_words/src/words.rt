@@ -14,6 +14,7 @@ use disk_trait::{Memory, Text, TextList, same_bytes};
 use media_rows::read_id;
 use std::alloc::Global;
 use std::str;
+use time_range::{TimeRange, read_range};
 
 /// Bytes of the shortest address, and of the longest.
 const LEAST_BASE: usize = 8;
@@ -78,6 +79,13 @@ pub enum Invocation {
         base: Text,
         connections: u64,
     },
+    /// Says the playlist of a flow's whole objects within a range, behind a base of their addresses.
+    Manifest {
+        path: Text,
+        base: Text,
+        flow: u128,
+        range: TimeRange,
+    },
     /// Serves one connection with requests that are generated from two numbers, over a store in memory.
     Workload {
         number: u64,
@@ -112,6 +120,7 @@ pub fn devices(alloc: Global, words: &TextList) -> Result<Wanted, Memory>
         Some(Invocation::Deliver { path }) => Ok(Wanted::Dial(path)),
         Some(Invocation::Replay { path, .. }) => Ok(Wanted::Plain(path)),
         Some(Invocation::Serve { path, port, .. }) => Ok(Wanted::Listen(path, port)),
+        Some(Invocation::Manifest { path, .. }) => Ok(Wanted::Plain(path)),
         Some(Invocation::Workload { .. }) | None => Ok(Wanted::Nothing),
     }
 }
@@ -211,6 +220,12 @@ fn read_values(
             let base = value(values, "BASE");
             read_serve(alloc, path, port, base, value(values, "CONNECTIONS"))
         }
+        CommandName::Manifest => {
+            let path = value(values, "PATH");
+            let base = value(values, "BASE");
+            let flow = value(values, "FLOW");
+            read_manifest(alloc, path, base, flow, value(values, "RANGE"))
+        }
         CommandName::Workload => {
             Ok(read_workload(value(values, "NUMBER"), value(values, "COUNT")))
         }
@@ -300,6 +315,34 @@ fn read_replay(alloc: Global, path: &str, base: &str) -> Result<Option<Invocatio
     Ok(Some(Invocation::Replay {
         path: text(alloc, path)?,
         base: text(alloc, base)?,
+    }))
+}
+
+/// The command that the four words behind `manifest` spell by their forms.
+fn read_manifest(
+    alloc: Global,
+    path: &str,
+    base: &str,
+    flow: &str,
+    range: &str,
+) -> Result<Option<Invocation>, Memory>
+    ensures { IfOk result
+        (FormIs (codes "manifest" ∷ path.now ∷ base.now ∷ flow.now ∷ range.now ∷ [])) }
+{
+    let Some(flow) = read_id(flow.as_bytes()) else {
+        return Ok(None);
+    };
+    let Ok(range) = read_range(range.as_bytes()) else {
+        return Ok(None);
+    };
+    if !is_base(base.as_bytes()) {
+        return Ok(None);
+    }
+    Ok(Some(Invocation::Manifest {
+        path: text(alloc, path)?,
+        base: text(alloc, base)?,
+        flow,
+        range,
     }))
 }
 

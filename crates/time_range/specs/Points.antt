@@ -1,6 +1,7 @@
 -- Points of the time line, and timeranges as sets of points. A point is a whole number of half
 -- nanoseconds: the instant n is the point 2 n, and the open gap after it is the point 2 n + 1.
 use Rattle.std.specs.Prelude.{ℤ, pos, neg_ℤ, ◌+ℤ◌, ◌-ℤ◌, ◌≤ℤ◌, int_le, Bool, ◌&&◌, Option, Some, None, IfSome, MatchOption}
+use Rattle.std.specs.Int.{int_div_euclid}
 use Rattle.time_range.specs.declared.ranges.Span.{Span}
 
 -- the largest magnitude of a timestamp, in nanoseconds
@@ -19,6 +20,14 @@ is_nanos nanos = int_le (neg_ℤ limit) nanos && int_le nanos limit
 -- the point of the instant that is this many nanoseconds from zero
 abbrev pub instant : ℤ → ℤ
 instant nanos = nanos +ℤ nanos
+
+-- the instant of a first point, in nanoseconds: half of the point, rounded down
+abbrev pub low_instant : ℤ → ℤ
+low_instant point = int_div_euclid point (pos 2)
+
+-- the instant of a last point, in nanoseconds: half of the point, rounded up
+abbrev pub high_instant : ℤ → ℤ
+high_instant point = int_div_euclid (point +ℤ pos 1) (pos 2)
 
 -- a point at which a range may begin: a timestamp's instant, or the gap after it
 pub record IsLow (p : ℤ) : Type 0 where

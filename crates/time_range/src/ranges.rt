@@ -1,6 +1,7 @@
 //! Timeranges: sets of points between two ends, or no point at all.
 ghost use Rattle.std.specs.Prelude.{◌≡◌, ℤ, pos, ◌+ℤ◌, ◌≤ℤ◌, ◌↔◌, Option, IsTrue, IsFalse, IsSome, IsNone, IfSome};
-ghost use Rattle.time_range.specs.Points.{instant, From, UpTo, IsLow, IsHigh, Has, Overlap, Covers, IsFirst, IsLast, IsBounded, low_of, high_of, StaysWithin, eternity};
+ghost use Rattle.std.specs.Option.{option_map};
+ghost use Rattle.time_range.specs.Points.{instant, From, UpTo, IsLow, IsHigh, Has, Overlap, Covers, IsFirst, IsLast, IsBounded, low_of, high_of, low_instant, high_instant, StaysWithin, eternity};
 ghost use Rattle.time_range.specs.Ends.{low_point, high_point, span_between, Above, Below, Between, IsEndWithin, ReachesDown, ReachesUp};
 ghost use Rattle.time_range.specs.Spelling.{low_end, high_end};
 ghost use Rattle.time_range.specs.declared.ranges.Span.{Span};
@@ -134,6 +135,20 @@ impl TimeRange {
         ensures within { IfSome result IsHigh }
     {
         self.span?.high
+    }
+
+    /// The instant of the first point, in nanoseconds: of the gap after an instant, that instant.
+    pub fn low_instant(&self) -> Option<i128>
+        ensures { result ≡ option_map low_instant (low_of self.now) }
+    {
+        Some(self.low()?.div_euclid(2))
+    }
+
+    /// The instant of the last point, in nanoseconds: of the gap before an instant, that instant.
+    pub fn high_instant(&self) -> Option<i128>
+        ensures { result ≡ option_map high_instant (high_of self.now) }
+    {
+        Some((self.high()? + 1).div_euclid(2))
     }
 
     /// The low and the high end; `None` for never. An end that stands at an open gap excludes the

@@ -2,7 +2,7 @@ use Rattle.std.proofs.Common.{◌∙◌, ◌≡◌, ap, codes, true}
 use Rattle.std.proofs.lemmas.Result.{IfOk-weaker}
 use Rattle.clap.specs.Words.{App, Shape, app_of, new_app, with_subcommand}
 use Rattle.clap.specs.Simple.{app_of_fields, on_top}
-use Rattle.tams_words.specs.Commands.{command_with, format_words, check_words, migrate_words, work_words, deliver_words, replay_words, serve_words, workload_words}
+use Rattle.tams_words.specs.Commands.{command_with, format_words, check_words, migrate_words, work_words, deliver_words, replay_words, serve_words, manifest_words, workload_words}
 use Rattle.tams_words.proofs.commands.command_line.Goals as goal
 
 -- The program has its settings and then the commands, one after another.
@@ -20,5 +20,6 @@ returns c =
     let delivers = c.in_ok-program-5.ensures ∙ ap (λ (a : App). with_subcommand a (command_with (codes "deliver") deliver_words)) works in
     let replays = c.in_ok-program-6.ensures ∙ ap (λ (a : App). with_subcommand a (command_with (codes "replay") replay_words)) delivers in
     let serves = c.in_ok-program-7.ensures ∙ ap (λ (a : App). with_subcommand a (command_with (codes "serve") serve_words)) replays in
-    IfOk-weaker c.with_command-8.result _ _ (λ r added. added
-    ∙ ap (λ (a : App). with_subcommand a (command_with (codes "workload") workload_words)) serves) c.with_command-8.ensures
+    let manifests = c.in_ok-program-8.ensures ∙ ap (λ (a : App). with_subcommand a (command_with (codes "manifest") manifest_words)) serves in
+    IfOk-weaker c.with_command-9.result _ _ (λ r added. added
+    ∙ ap (λ (a : App). with_subcommand a (command_with (codes "workload") workload_words)) manifests) c.with_command-9.ensures

@@ -1,0 +1,7 @@
+mod EditLemmas
+mod EndLemmas
+mod KeptPieces
+mod PairLemmas
+mod ShowLemmas
+mod TakenLemmas
+mod WorkedEdit

@@ -1,0 +1,14 @@
+mod AddressLemmas
+mod DurationLemmas
+mod EntryLemmas
+mod FilterLemmas
+mod LineLemmas
+mod ListingLemmas
+mod ManifestLemmas
+mod NamingLemmas
+mod NumberLemmas
+mod ProgressLemmas
+mod ReadingLemmas
+mod StandardFacts
+mod TargetLemmas
+mod TimingLemmas

@@ -1,0 +1,6 @@
+pub mod Entries
+pub mod Laws
+pub mod Manifests
+pub mod Playlists
+pub mod Progress
+pub mod Reading

@@ -1,0 +1,12 @@
+mod CutLemmas
+mod FlowLemmas
+mod Given
+mod ListLemmas
+mod OneCut
+mod PageLemmas
+mod PieceLemmas
+mod PlaceLemmas
+mod Rows
+mod Settled
+mod Three
+mod Times

@@ -1,0 +1,3 @@
+mod CutLemmas
+mod OrderLemmas
+mod ReadLemmas

@@ -1,0 +1,6 @@
+mod CountLemmas
+mod PieceLemmas
+mod RangeLemmas
+mod RateLemmas
+mod SampleLemmas
+mod WorkedLemmas

@@ -1,0 +1,2 @@
+-- Words for the contracts of private functions.
+pub mod Sampling
